@@ -1,0 +1,56 @@
+-- The fate of a datagram of an access port that serves one provisioned circuit: the first case that holds.
+use Rattle.std.specs.Prelude.{◌≡◌, ℕ, ◌-◌, ◌≤◌, Bool, true, false, List, [], ◌∷◌, ◌++◌, length, take, drop}
+use Rattle.byteorder.specs.Endian.{big_bytes}
+use Rattle.bng_base.specs.declared.fate.DropCause.{DropCause}
+use Rattle.bng_base.specs.declared.fate.DropCause.TheVariants.{Malformed, NoSession, NotOpen, Expired, Spoofed, TooBig, Exceeded, LinkFailed, WantOfMemory}
+use Rattle.bng_base.specs.declared.fate.Fate.{Fate}
+use Rattle.bng_base.specs.declared.fate.Fate.TheVariants.{Forwarded, Consumed, Dropped}
+use Rattle.bng_base.specs.declared.item.Item.{Item}
+use Rattle.bng_base.specs.declared.ipv4.Ipv4.{Ipv4}
+use Rattle.bng_base.specs.declared.settings.AccessPort.{AccessPort}
+use Rattle.bng_base.specs.declared.settings.Static.{Static}
+use Rattle.bng_base.specs.Ipv4Grammar.{IsIpv4}
+use Rattle.bng_base.specs.Lowering.{lowered}
+
+-- The octets before the PPP protocol of a PPPoE session frame to the port: destination and source, EtherType 8864,
+-- version and type 11, code 00, SESSION_ID and LENGTH (RFC 2516 section 4).
+abbrev pub session_header : AccessPort → Static → ℕ → List ℕ
+session_header port circuit len =
+    port.mac.0 ++ circuit.mac.0 ++ (136 ∷ 100 ∷ 17 ∷ 0 ∷ []) ++ big_bytes 2 circuit.session.0 ++ big_bytes 2 len
+
+-- A whole frame of the circuit, whose LENGTH counts all octets after it, with PPP protocol 0021 (RFC 1661 section 2)
+-- and the IPv4 packet v, whose TTL is at least 2.
+pub record IsCircuitFrame (port : AccessPort) (circuit : Static) (bytes : List ℕ) (v : Ipv4) : Type 0 where
+  pub header : take 20 bytes ≡ session_header port circuit (length bytes - 20)
+  pub protocol : take 2 (drop 20 bytes) ≡ 0 ∷ 33 ∷ []
+  pub packet : IsIpv4 v (drop 22 bytes)
+  pub alive : 2 ≤ v.ttl
+
+-- the datagram is whole, it came from the port's other end, and it is a frame of the circuit
+pub record Says (port : AccessPort) (circuit : Static) (item : Item) (v : Ipv4) : Type 0 where
+  pub whole : item.cut ≡ false
+  pub sender : item.from ≡ port.peer
+  pub frame : IsCircuitFrame port circuit item.frame.payload v
+
+-- the packet that forwarding makes of a frame with the packet v: octets past its total length are cut off
+abbrev pub forwarded_packet : Item → Ipv4 → List ℕ
+forwarded_packet item v = take v.total (lowered (drop 22 item.frame.payload))
+
+-- it says a packet whose source is the circuit's address
+pub record Conforms (port : AccessPort) (circuit : Static) (item : Item) (v : Ipv4) : Type 0 where
+  pub says : Says port circuit item v
+  pub source : v.src ≡ circuit.address
+
+-- The fate, where sent is what this packet's own send answered.
+abbrev pub FateOf : AccessPort → Static → Item → Bool → Fate → Type 0
+FateOf port circuit item sent Forwarded = (v : Ipv4) × Conforms port circuit item v × (sent ≡ true)
+FateOf port circuit item sent Consumed = ⊥
+FateOf port circuit item sent (Dropped Malformed) = (v : Ipv4) → ¬ Says port circuit item v
+FateOf port circuit item sent (Dropped NoSession) = ⊥
+FateOf port circuit item sent (Dropped NotOpen) = ⊥
+FateOf port circuit item sent (Dropped Expired) = ⊥
+FateOf port circuit item sent (Dropped Spoofed) = (v : Ipv4) × Says port circuit item v × ¬ (v.src ≡ circuit.address)
+FateOf port circuit item sent (Dropped TooBig) = ⊥
+FateOf port circuit item sent (Dropped Exceeded) = ⊥
+FateOf port circuit item sent (Dropped LinkFailed) = (v : Ipv4) × Conforms port circuit item v × (sent ≡ false)
+FateOf port circuit item sent (Dropped WantOfMemory) = ⊥

@@ -1,0 +1,10 @@
+pub mod Packet
+pub mod Pieces
+pub mod Causes
+pub mod Told
+pub mod Stretch
+pub mod Chain
+pub mod Checksum
+pub mod Ipv4Grammar
+pub mod Lowering
+pub mod FateOf

@@ -1,0 +1,42 @@
+ghost use Rattle.std.specs.Prelude.{◌≡◌, ◌≤◌, length};
+
+use crate::frame::{Frame, LONGEST, ROOM};
+use std::marker::Model;
+
+/// A frame of which contracts see the payload alone.
+#[derive(Drop)]
+pub struct Octets {
+    frame: Frame,
+}
+
+impl Model for Octets {
+    ghost use Rattle.std.specs.Prelude.{List, ℕ};
+
+    ghost Value = { List ℕ };
+
+    ghost view = { λ o. o.frame.payload };
+}
+
+impl Octets {
+    pub fn of(frame: Frame) -> Octets
+        ensures { result ≡ frame.payload }
+    {
+        Octets { frame }
+    }
+
+    pub fn copied(bytes: &[u8]) -> Octets
+        requires { length bytes.now ≤ LONGEST }
+        ensures { result ≡ bytes.now }
+    {
+        let mut frame = Frame::new();
+        frame.set(bytes);
+        Octets { frame }
+    }
+
+    pub fn as_slice(&self) -> &[u8]
+        ensures octets { result.now ≡ self.now }
+        ensures fits { length self.now ≤ ROOM }
+    {
+        self.frame.payload()
+    }
+}
