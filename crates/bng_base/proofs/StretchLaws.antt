@@ -13,10 +13,10 @@ or_false : (a : Bool) → (a || false) ≡ a
 or_false true = refl
 or_false false = refl
 
-plant_assoc : (a b c : PlantStretch) → plant_joined (plant_joined a b) c ≡ plant_joined a (plant_joined b c)
+pub plant_assoc : (a b c : PlantStretch) → plant_joined (plant_joined a b) c ≡ plant_joined a (plant_joined b c)
 plant_assoc a b c = rw (append_assoc a.heard b.heard c.heard, append_assoc a.taken b.taken c.taken, append_assoc a.sent b.sent c.sent, or_assoc a.failed b.failed c.failed)
 
-plant_right : (a : PlantStretch) → plant_joined a plant_none ≡ a
+pub plant_right : (a : PlantStretch) → plant_joined a plant_none ≡ a
 plant_right a = rw (append-nil a.heard, append-nil a.taken, append-nil a.sent, or_false a.failed)
 
 pub joined_assoc : (a b c : Stretch) → joined (joined a b) c ≡ joined a (joined b c)

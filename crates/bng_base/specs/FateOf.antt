@@ -1,6 +1,6 @@
 -- The fate of a datagram of an access port that serves one provisioned circuit: the first case that holds.
-use Rattle.std.specs.Prelude.{◌≡◌, ℕ, ◌-◌, ◌≤◌, Bool, true, false, List, [], ◌∷◌, ◌++◌, length, take, drop}
-use Rattle.byteorder.specs.Endian.{big_bytes}
+use Rattle.std.specs.Prelude.{◌≡◌, ℕ, ◌+◌, ◌≤◌, Bool, true, false, List, [], ◌∷◌, length, take, drop, slice_range}
+use Rattle.byteorder.specs.Endian.{big_from}
 use Rattle.bng_base.specs.declared.fate.DropCause.{DropCause}
 use Rattle.bng_base.specs.declared.fate.DropCause.TheVariants.{Malformed, NoSession, NotOpen, Expired, Spoofed, TooBig, Exceeded, LinkFailed, WantOfMemory}
 use Rattle.bng_base.specs.declared.fate.Fate.{Fate}
@@ -22,17 +22,21 @@ pub record Arrival : Type 0 where
 abbrev pub arrival_of : Item → Arrival
 arrival_of item = record { from = item.from; cut = item.cut; octets = item.frame.payload }
 
--- The octets before the PPP protocol of a PPPoE session frame to the port: destination and source, EtherType 8864,
--- version and type 11, code 00, SESSION_ID and LENGTH (RFC 2516 section 4).
-abbrev pub session_header : AccessPort → Static → ℕ → List ℕ
-session_header port circuit len =
-    port.mac.0 ++ circuit.mac.0 ++ (136 ∷ 100 ∷ 17 ∷ 0 ∷ []) ++ big_bytes 2 circuit.session.0 ++ big_bytes 2 len
+-- What stands before the IPv4 packet in a frame of the circuit that comes to the port: destination and source,
+-- EtherType 8864, version and type 11, code 00, SESSION_ID and LENGTH, which counts all octets after it (RFC 2516
+-- section 4), and PPP protocol 0021 (RFC 1661 section 2).
+pub record HasHeader (port : AccessPort) (circuit : Static) (bytes : List ℕ) : Type 0 where
+  pub long : 22 ≤ length bytes
+  pub destination : slice_range bytes 0 6 ≡ port.mac.0
+  pub source : slice_range bytes 6 12 ≡ circuit.mac.0
+  pub session_data : slice_range bytes 12 16 ≡ 136 ∷ 100 ∷ 17 ∷ 0 ∷ []
+  pub session : big_from 16 2 bytes ≡ circuit.session.0
+  pub len : 20 + big_from 18 2 bytes ≡ length bytes
+  pub protocol : big_from 20 2 bytes ≡ 33
 
--- A whole frame of the circuit, whose LENGTH counts all octets after it, with PPP protocol 0021 (RFC 1661 section 2)
--- and the IPv4 packet v, whose TTL is at least 2.
+-- a frame of the circuit with the IPv4 packet v, whose TTL is at least 2
 pub record IsCircuitFrame (port : AccessPort) (circuit : Static) (bytes : List ℕ) (v : Ipv4) : Type 0 where
-  pub header : take 20 bytes ≡ session_header port circuit (length bytes - 20)
-  pub protocol : take 2 (drop 20 bytes) ≡ 0 ∷ 33 ∷ []
+  pub header : HasHeader port circuit bytes
   pub packet : IsIpv4 v (drop 22 bytes)
   pub alive : 2 ≤ v.ttl
 
