@@ -1,0 +1,91 @@
+-- One datagram more, of a role that is read.
+use Rattle.std.proofs.Common.{◌≡◌, ℕ, ◌+◌, Bool, true, false, ◌||◌, List, [], ◌∷◌, ◌++◌, map, cond, refl, sym, ap, subst, ◌∙◌, arith}
+use Rattle.std.specs.List.{filter, list_any, sum_by}
+use Rattle.std.proofs.lemmas.List.{map-append}
+use Rattle.std.proofs.lemmas.List.Elements.{filter-append}
+use Rattle.std.proofs.lemmas.List.Folds.{list_any-append}
+use Rattle.bng_base.specs.declared.outside.Role.{Role}
+use Rattle.bng_base.specs.declared.outside.Role.TheVariants.{Access, Control}
+use Rattle.bng_base.specs.declared.outside.Received.TheVariants.{Got}
+use Rattle.bng_base.specs.declared.outside.Datagram.{Datagram}
+use Rattle.bng_base.specs.declared.outside.Heard.{Heard}
+use Rattle.bng_base.specs.declared.outside.Heard.TheVariants.{Receive}
+use Rattle.bng_base.specs.FateOf.{Arrival}
+use Rattle.bng_base.specs.Told.{PlantTold}
+use Rattle.bng_base.specs.Stretch.{PlantStretch, plant_joined, ExtendsPlant}
+use Rattle.bng_base.proofs.StretchLaws.{plant_more}
+use Rattle.bng_desk.specs.declared.config.Config.{Config}
+use Rattle.bng_desk.specs.Reading.{is_empty, receives, taken_in, receiving}
+use Rattle.bng_desk.specs.Control.{Heeded, is_answered, is_unanswered, stopping, heeding, answering}
+use Rattle.bng_desk.specs.Access.{Handled, went, failed_to_go, to_core, handling, forwarding}
+
+abbrev made : List Heard → List Datagram → List Datagram → Bool → PlantStretch
+made h t s f = record { heard = h; taken = t; sent = s; failed = f }
+
+same : (a b : PlantStretch) → a.heard ≡ b.heard → a.taken ≡ b.taken → a.sent ≡ b.sent → a.failed ≡ b.failed → a ≡ b
+same a b h t s f =
+    ap (λ (x : List Heard). made x a.taken a.sent a.failed) h
+    ∙ ap (λ (x : List Datagram). made b.heard x a.sent a.failed) t
+    ∙ ap (λ (x : List Datagram). made b.heard b.taken x a.failed) s
+    ∙ ap (λ (x : Bool). made b.heard b.taken b.sent x) f
+
+abbrev as_datagram : Role → Arrival → Datagram
+as_datagram role a = record { role = role; peer = a.from; octets = a.octets }
+
+or_end : (b : Bool) → b ≡ (b || false)
+or_end true = refl
+or_end false = refl
+
+map_kept : {X : Type 0} (f : X → Datagram) (x : X) (b : Bool) → cond b (f x ∷ []) [] ≡ map f (cond b (x ∷ []) [])
+map_kept f x true = refl
+map_kept f x false = refl
+
+mapped_more : {X Y Z : Type 0} (f : Y → Z) (a : X → Y) (xs : List X) (x : X) → map f (map a xs) ++ f (a x) ∷ [] ≡ map f (map a (xs ++ x ∷ []))
+mapped_more f a xs x = sym (ap (map f) (map-append a xs (x ∷ [])) ∙ map-append f (map a xs) (a x ∷ []))
+
+kept_more : {X : Type 0} (f : X → Datagram) (p : X → Bool) (xs : List X) (x : X) → map f (filter p xs) ++ cond (p x) (f x ∷ []) [] ≡ map f (filter p (xs ++ x ∷ []))
+kept_more f p xs x =
+    ap (λ (ds : List Datagram). map f (filter p xs) ++ ds) (map_kept f x (p x))
+    ∙ sym (ap (map f) (filter-append p xs (x ∷ [])) ∙ map-append f (filter p xs) (cond (p x) (x ∷ []) []))
+
+any_more : {X : Type 0} (p : X → Bool) (xs : List X) (x : X) → (list_any p xs || p x) ≡ list_any p (xs ++ x ∷ [])
+any_more p xs x = ap (λ (b : Bool). list_any p xs || b) (or_end (p x)) ∙ sym (list_any-append p xs (x ∷ []))
+
+pub any_pushed : {X : Type 0} (p : X → Bool) (xs : List X) (x : X) → list_any p (xs ++ x ∷ []) ≡ (list_any p xs || p x)
+any_pushed p xs x = sym (any_more p xs x)
+
+heeding_more : (hs : List Heeded) (h : Heeded)
+    → plant_joined (heeding hs) (plant_joined (receiving Control (Got h.arrival.from h.arrival.cut) h.arrival.octets) (answering h)) ≡ heeding (hs ++ h ∷ [])
+heeding_more hs h = same _ _
+    (mapped_more (λ (a : Arrival). Receive Control (Got a.from a.cut)) (λ (k : Heeded). k.arrival) hs h)
+    (mapped_more (λ (a : Arrival). as_datagram Control a) (λ (k : Heeded). k.arrival) hs h)
+    (kept_more stopping is_answered hs h)
+    (any_more is_unanswered hs h)
+
+-- a datagram of Control was taken and answered
+pub one_heeded : (p₀ p₁ p₂ p₃ : PlantTold) (hs : List Heeded) (h : Heeded) → ExtendsPlant p₀ p₁ (heeding hs)
+    → ExtendsPlant p₁ p₂ (receiving Control (Got h.arrival.from h.arrival.cut) h.arrival.octets) → ExtendsPlant p₂ p₃ (answering h) → ExtendsPlant p₀ p₃ (heeding (hs ++ h ∷ []))
+one_heeded p₀ p₁ p₂ p₃ hs h so_far taken answered =
+    subst (λ (s : PlantStretch). ExtendsPlant p₀ p₃ s) (heeding_more hs h)
+    (plant_more p₀ p₁ p₃ (heeding hs) (plant_joined (receiving Control (Got h.arrival.from h.arrival.cut) h.arrival.octets) (answering h)) so_far
+    (plant_more p₁ p₂ p₃ (receiving Control (Got h.arrival.from h.arrival.cut) h.arrival.octets) (answering h) taken answered))
+
+handling_more : (config : Config) (hs : List Handled) (h : Handled)
+    → plant_joined (handling config hs) (plant_joined (receiving (Access 1) (Got h.arrival.from h.arrival.cut) h.arrival.octets) (forwarding config h)) ≡ handling config (hs ++ h ∷ [])
+handling_more config hs h = same _ _
+    (mapped_more (λ (a : Arrival). Receive (Access 1) (Got a.from a.cut)) (λ (k : Handled). k.arrival) hs h)
+    (mapped_more (λ (a : Arrival). as_datagram (Access 1) a) (λ (k : Handled). k.arrival) hs h)
+    (kept_more (to_core config) went hs h)
+    (any_more failed_to_go hs h)
+
+-- a datagram of the access port was taken and handled
+pub one_handled : (config : Config) (p₀ p₁ p₂ p₃ : PlantTold) (hs : List Handled) (h : Handled) → ExtendsPlant p₀ p₁ (handling config hs)
+    → ExtendsPlant p₁ p₂ (receiving (Access 1) (Got h.arrival.from h.arrival.cut) h.arrival.octets) → ExtendsPlant p₂ p₃ (forwarding config h) → ExtendsPlant p₀ p₃ (handling config (hs ++ h ∷ []))
+one_handled config p₀ p₁ p₂ p₃ hs h so_far taken forwarded =
+    subst (λ (s : PlantStretch). ExtendsPlant p₀ p₃ s) (handling_more config hs h)
+    (plant_more p₀ p₁ p₃ (handling config hs) (plant_joined (receiving (Access 1) (Got h.arrival.from h.arrival.cut) h.arrival.octets) (forwarding config h)) so_far
+    (plant_more p₁ p₂ p₃ (receiving (Access 1) (Got h.arrival.from h.arrival.cut) h.arrival.octets) (forwarding config h) taken forwarded))
+
+pub never_empty : {X : Type 0} (xs : List X) (x : X) → false ≡ is_empty (xs ++ x ∷ [])
+never_empty [] x = refl
+never_empty (y ∷ xs) x = refl

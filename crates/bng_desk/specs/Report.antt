@@ -1,0 +1,54 @@
+-- The report.
+use Rattle.std.specs.Prelude.{ℕ, ◌/◌, ◌%◌, ◌^◌, List, [], ◌∷◌, ◌++◌, codes}
+use Rattle.std.specs.Fmt.{decimal}
+use Rattle.bng_base.specs.declared.address.Ip4.{Ip4}
+use Rattle.bng_base.specs.declared.fate.DropCause.{DropCause}
+use Rattle.bng_base.specs.declared.fate.DropCause.TheVariants.{Malformed, NoSession, NotOpen, Expired, Spoofed, TooBig, Exceeded, LinkFailed, WantOfMemory}
+use Rattle.bng_desk.specs.declared.drops.Drops.{Drops}
+
+-- four decimal numbers, the most significant octet first, parted by dots (RFC 1123 section 2.1)
+abbrev pub address_text : Ip4 → List ℕ
+address_text a =
+    decimal (a.0 / 2 ^ 24) ++ codes "." ++ decimal (a.0 / 2 ^ 16 % 256) ++ codes "."
+    ++ decimal (a.0 / 2 ^ 8 % 256) ++ codes "." ++ decimal (a.0 % 256)
+
+-- the drops, by the number of the cause
+abbrev pub by_number : Drops → List ℕ
+by_number d =
+    d.malformed ∷ d.no_session ∷ d.not_open ∷ d.expired ∷ d.spoofed ∷ d.too_big ∷ d.exceeded ∷ d.link_failed ∷ d.want_of_memory ∷ []
+
+-- the causes, by number
+abbrev pub causes : List DropCause
+causes =
+    Malformed ∷ NoSession ∷ NotOpen ∷ Expired ∷ Spoofed ∷ TooBig ∷ Exceeded ∷ LinkFailed ∷ WantOfMemory ∷ []
+
+abbrev pub cause_name : DropCause → List ℕ
+cause_name Malformed = codes "Malformed"
+cause_name NoSession = codes "NoSession"
+cause_name NotOpen = codes "NotOpen"
+cause_name Expired = codes "Expired"
+cause_name Spoofed = codes "Spoofed"
+cause_name TooBig = codes "TooBig"
+cause_name Exceeded = codes "Exceeded"
+cause_name LinkFailed = codes "LinkFailed"
+cause_name WantOfMemory = codes "WantOfMemory"
+
+-- octets in and out, and the end of the line
+abbrev pub quantities : ℕ → ℕ → List ℕ
+quantities input output = codes " in=" ++ decimal input ++ codes " out=" ++ decimal output ++ codes "\n"
+
+abbrev pub drop_line : DropCause → ℕ → List ℕ
+drop_line cause items = codes "drop " ++ cause_name cause ++ codes " " ++ decimal items ++ codes "\n"
+
+-- a line for each cause with its number of items
+abbrev pub drop_lines : List DropCause → List ℕ → List ℕ
+drop_lines _ [] = []
+drop_lines [] (items ∷ others) = []
+drop_lines (cause ∷ more) (items ∷ others) = drop_line cause items ++ drop_lines more others
+
+-- the total, the circuit, and what was dropped by each cause
+abbrev pub report_text : Ip4 → ℕ → ℕ → List ℕ → List ℕ
+report_text address input output drops =
+    codes "total" ++ quantities input output
+    ++ (codes "static " ++ address_text address ++ quantities input output)
+    ++ drop_lines causes drops

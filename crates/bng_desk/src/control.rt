@@ -1,0 +1,81 @@
+ghost use Rattle.std.specs.Prelude.{◌≡◌, ◌||◌};
+ghost use Rattle.bng_desk.specs.Control.{is_stop, Answers, Heeds};
+
+use crate::calls::{receive, send};
+use crate::reading::Ended;
+use bng_base::{Frame, Peer, Received, Role};
+use bng_plant::Plant;
+
+/// How many datagrams of Control a turn takes.
+const CONTROL_MOST: usize = 8;
+
+/// What the reading of Control came to.
+#[derive(Clone, Copy, PartialEq, Eq, Debug)]
+pub struct Heeding {
+    pub ended: Ended,
+    /// A `stop` was taken.
+    pub stop: bool,
+    /// Nothing was taken.
+    pub idle: bool,
+}
+
+// `stop`, with or without a line end, from 127.0.0.0/8.
+fn stops(from: Peer, cut: bool, text: &[u8]) -> bool
+    ensures { result ≡ is_stop (record { from = from; cut = cut; octets = text.now }) }
+{
+    !cut && (from.ip.0 / 16_777_216 == 127
+        && (text == b"stop".as_slice() || text == b"stop\n".as_slice()))
+}
+
+// Answers a `stop`, and says whether it is one.
+fn answer<P: Plant>(plant: &mut P, from: Peer, cut: bool, text: &[u8]) -> bool
+    ensures { Answers (P.told plant.old) (P.told plant.new) (record { from = from; cut = cut; octets = text.now }) result }
+{
+    if !stops(from, cut, text) {
+        return false;
+    }
+    let _sent = send(plant, Role::Control, from, b"stopping\n");
+    true
+}
+
+fn either(a: bool, b: bool) -> bool
+    ensures { result ≡ (a || b) }
+{
+    a || b
+}
+
+/// Takes datagrams of Control until Empty, Failed or the number of a turn, and answers each `stop` as it is taken.
+pub(crate) fn heed<P: Plant>(plant: &mut P, frame: &mut Frame) -> Heeding
+    ensures { Heeds (P.told plant.old) (P.told plant.new) result }
+{
+    let mut stop = false;
+    let mut idle = true;
+    for _taken in 0..CONTROL_MOST {
+        match receive(plant, Role::Control, frame) {
+            Received::Got { from, cut } => {
+                let stops = answer(plant, from, cut, frame.payload());
+                stop = either(stop, stops);
+                idle = false;
+            }
+            Received::Empty => {
+                return Heeding {
+                    ended: Ended::Dry,
+                    stop,
+                    idle,
+                };
+            }
+            Received::Failed => {
+                return Heeding {
+                    ended: Ended::Broken,
+                    stop,
+                    idle,
+                };
+            }
+        }
+    }
+    Heeding {
+        ended: Ended::Full,
+        stop,
+        idle,
+    }
+}

@@ -1,0 +1,7 @@
+/// How the reading of a role ended: at its number, at an empty answer, or at a failed one.
+#[derive(Clone, Copy, PartialEq, Eq, Debug)]
+pub enum Ended {
+    Full,
+    Dry,
+    Broken,
+}

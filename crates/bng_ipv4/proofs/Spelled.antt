@@ -1,0 +1,71 @@
+-- What write writes is the spelling, and the spelling is in the grammar.
+use Rattle.std.proofs.Common.{◌≡◌, ℕ, zero, suc, ◌+◌, ◌*◌, ◌-◌, ◌/◌, ◌%◌, ◌^◌, ◌<◌, ◌≤◌, List, [], ◌∷◌, ◌++◌, length, refl, sym, ap, ◌∙◌, append_assoc, arith}
+use Rattle.std.specs.Prelude.{fold, replicate}
+use Rattle.std.proofs.lemmas.List.{take_at, length-append, length-replicate, replicate-append-replicate}
+use Rattle.byteorder.specs.Endian.{big_bytes}
+use Rattle.bng_base.specs.declared.ipv4.Ipv4.{Ipv4}
+use Rattle.bng_base.specs.Checksum.{end_around, words, ones_sum}
+use Rattle.bng_base.specs.Ipv4Grammar.{IsIpv4}
+use Rattle.bng_ipv4.specs.Spelling.{fields, header, spelling}
+use Rattle.bng_ipv4.proofs.Sums.{IsBytes, IsBytes-nil, IsBytes-cons, cells_fit, word-of, fold-le, fold-complement}
+
+pub spelled : (v : Ipv4) (s : ℕ) → 20 ≤ v.header → v.header ≤ v.total
+    → s ≡ fold end_around (fold end_around 0 (words (fields v 0))) (words (replicate (v.header - 20) 0))
+    → fields v (65535 - s) ++ replicate (v.total - 20) 0 ≡ spelling v
+unfolding spelling
+spelled v s whole holds e =
+    let size : (v.header - 20) + (v.total - v.header) ≡ v.total - 20 = omega arith in
+    let zeros : replicate (v.header - 20) 0 ++ replicate (v.total - v.header) 0 ≡ replicate (v.total - 20) 0 =
+    replicate-append-replicate (v.header - 20) (v.total - v.header) 0 ∙ ap (λ (n : ℕ). replicate n 0) size in
+    ap (λ (n : ℕ). fields v (65535 - n) ++ replicate (v.total - 20) 0) e
+    ∙ ap (λ (r : List ℕ). fields v (65535 - ones_sum (header v 0)) ++ r) (sym zeros)
+    ∙ sym (append_assoc (fields v (65535 - ones_sum (header v 0))) (replicate (v.header - 20) 0) (replicate (v.total - v.header) 0))
+
+IsBytes-zeros : (n : ℕ) → IsBytes (replicate n 0)
+IsBytes-zeros zero = IsBytes-nil
+IsBytes-zeros (suc n) = IsBytes-cons 0 (replicate n 0) (omega arith) (IsBytes-zeros n)
+
+IsBytes-append : (xs ys : List ℕ) → IsBytes xs → IsBytes ys → IsBytes (xs ++ ys)
+IsBytes-append [] ys p q = q
+IsBytes-append (x ∷ xs) ys p q = IsBytes-cons x (xs ++ ys) (p 0) (IsBytes-append xs ys (λ i. p (suc i)) q)
+
+IsBytes-number : (n : ℕ) → IsBytes (big_bytes 4 n)
+IsBytes-number n =
+    let b3 : n / 256 ^ 3 % 256 < 256 = omega arith in
+    let b2 : n / 256 ^ 2 % 256 < 256 = omega arith in
+    let b1 : n / 256 % 256 < 256 = omega arith in
+    let b0 : n % 256 < 256 = omega arith in
+    cells_fit (big_bytes 4 n) (b3, (b2, (b1, (b0, tt))))
+
+pub spelling-IsIpv4 : (v : Ipv4) (bytes : List ℕ) → v.ttl < 256 → v.total < 2 ^ 16 → v.src.0 < 2 ^ 32 → v.dst.0 < 2 ^ 32 → IsIpv4 v bytes → IsIpv4 v (spelling v)
+unfolding spelling
+spelling-IsIpv4 v bytes ttl total src dst h =
+    let sum = 65535 - ones_sum (header v 0) in
+    let ten : List ℕ = (64 + v.header / 4) ∷ 0 ∷ (v.total / 256 % 256) ∷ (v.total % 256) ∷ 0 ∷ 0 ∷ 0 ∷ 0 ∷ v.ttl ∷ 0 ∷ [] in
+    let low : v.header ≤ 60 = omega (arith, h.header) in
+    let first : 64 + v.header / 4 < 256 = omega arith in
+    let high : v.total / 256 % 256 < 256 = omega arith in
+    let last : v.total % 256 < 256 = omega arith in
+    let none : 0 < 256 = omega arith in
+    let ten_fits : IsBytes ten = cells_fit ten (first, (none, (high, (last, (none, (none, (none, (none, (ttl, (none, tt)))))))))) in
+    let start = fold end_around 0 (words ten) in
+    let tail = big_bytes 4 v.src.0 ++ big_bytes 4 v.dst.0 ++ replicate (v.header - 20) 0 in
+    let tail_fits : IsBytes tail = IsBytes-append (big_bytes 4 v.src.0 ++ big_bytes 4 v.dst.0) (replicate (v.header - 20) 0) (IsBytes-append (big_bytes 4 v.src.0) (big_bytes 4 v.dst.0) (IsBytes-number v.src.0) (IsBytes-number v.dst.0)) (IsBytes-zeros (v.header - 20)) in
+    let made : fold end_around (end_around start ((sum / 256 % 256) * 256 + sum % 256)) (words tail) ≡ 65535 =
+    ap (λ (n : ℕ). fold end_around (end_around start n) (words tail)) (word-of sum (omega arith))
+    ∙ fold-complement tail start tail_fits (fold-le ten 0 ten_fits (omega arith)) in
+    let options : length (replicate {A = ℕ} (v.header - 20) 0) ≡ v.header - 20 = length-replicate (v.header - 20) 0 in
+    let size : length (header v sum) ≡ v.header = omega (arith, options, h.whole_header) in
+    record {
+      long = omega arith;
+      version = omega (arith, h.header);
+      header = omega (arith, h.header);
+      whole_header = h.whole_header;
+      total = omega arith;
+      holds_header = h.holds_header;
+      is_there = omega (arith, length-append (header v sum) (replicate (v.total - v.header) 0), length-replicate {A = ℕ} (v.total - v.header) 0, h.holds_header);
+      ttl = refl;
+      src = omega arith;
+      dst = omega arith;
+      sum = ap ones_sum (take_at (header v sum) (replicate (v.total - v.header) 0) v.header size) ∙ made;
+    }
