@@ -8,3 +8,5 @@ pub mod Checksum
 pub mod Ipv4Grammar
 pub mod Lowering
 pub mod FateOf
+pub mod PppGrammar
+pub mod PppoeGrammar

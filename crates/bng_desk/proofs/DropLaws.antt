@@ -16,7 +16,7 @@ counted cause fates f = omega (arith, sum_by-append (λ (x : Fate). cond (is_dro
 abbrev made : ℕ → ℕ → ℕ → ℕ → ℕ → ℕ → ℕ → ℕ → ℕ → Drops
 made x0 x1 x2 x3 x4 x5 x6 x7 x8 = record { malformed = x0; no_session = x1; not_open = x2; expired = x3; spoofed = x4; too_big = x5; exceeded = x6; link_failed = x7; want_of_memory = x8 }
 
-same : (a b : Drops) → a.malformed ≡ b.malformed → a.no_session ≡ b.no_session → a.not_open ≡ b.not_open → a.expired ≡ b.expired → a.spoofed ≡ b.spoofed → a.too_big ≡ b.too_big → a.exceeded ≡ b.exceeded → a.link_failed ≡ b.link_failed → a.want_of_memory ≡ b.want_of_memory → a ≡ b
+pub same : (a b : Drops) → a.malformed ≡ b.malformed → a.no_session ≡ b.no_session → a.not_open ≡ b.not_open → a.expired ≡ b.expired → a.spoofed ≡ b.spoofed → a.too_big ≡ b.too_big → a.exceeded ≡ b.exceeded → a.link_failed ≡ b.link_failed → a.want_of_memory ≡ b.want_of_memory → a ≡ b
 same a b e0 e1 e2 e3 e4 e5 e6 e7 e8 =
     ap (λ (x : ℕ). made x a.no_session a.not_open a.expired a.spoofed a.too_big a.exceeded a.link_failed a.want_of_memory) e0
     ∙ ap (λ (x : ℕ). made b.malformed x a.not_open a.expired a.spoofed a.too_big a.exceeded a.link_failed a.want_of_memory) e1

@@ -1,0 +1,4 @@
+pub mod FileLaws
+pub mod PartsLaws
+pub mod ReaderLaws
+pub mod RoundLaws

@@ -1,0 +1,3 @@
+pub mod TableLaws
+pub mod TimerLaws
+pub mod StepLaws

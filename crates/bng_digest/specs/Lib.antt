@@ -1,0 +1,3 @@
+pub mod Authentication
+pub mod Mixing
+pub mod Hiding

@@ -1,0 +1,101 @@
+-- What follows of the causes of the statuses.
+use Rattle.std.proofs.Common.{◌≡◌, ℕ, ◌≤◌, ◌⊎◌, ⊎_elim, inl, inr, List, [], ◌∷◌, ◌++◌, ◌≢◌, length, Option, Some, None, IsSome, IsErrAnd, refl, sym, ap, subst, ◌∙◌, arith, length-append}
+use Rattle.std.proofs.lemmas.Bool.{false≢true}
+use Rattle.std.proofs.lemmas.Bool.Decides.{eqb_tells}
+use Rattle.std.proofs.lemmas.Option.{same_Some}
+use Rattle.bng_base.specs.Causes.{Rose}
+use Rattle.bng_base.specs.Told.{FilesTold, Grows, told_more}
+use Rattle.bng_desk.specs.declared.config.Config.{Config}
+use Rattle.bng_gate.specs.declared.configuration.fault.Fault.{Fault}
+use Rattle.bng_gate.specs.declared.texts.Opening.{Opening}
+use Rattle.bng_gate.specs.declared.texts.Opening.TheVariants.{Configuration, Control, Core, Access}
+use Rattle.bng_gate.proofs.Exclusive.{no_fault}
+use Rattle.bng_gate.specs.Words.{Serves}
+use Rattle.bng_gate.specs.Configuration.{IsRead, HasFault}
+use Rattle.bng_gate.specs.Run.{World, Prepares, FailsToRead, Opens, Fails, IsUnopened, IsUnwritten, RunEnds, IsFaultless}
+
+-- the statuses, one by one
+by_status : (status : ℕ) (Q : Type 0) → status ≤ 5 → (status ≡ 0 → Q) → (status ≡ 1 → Q) → (status ≡ 2 → Q) → (status ≡ 3 → Q) → (status ≡ 4 → Q) → (status ≡ 5 → Q) → Q
+by_status status Q le q0 q1 q2 q3 q4 q5 =
+    ⊎_elim (λ t. q0 t.1) (λ f0.
+    ⊎_elim (λ t. q1 t.1) (λ f1.
+    ⊎_elim (λ t. q2 t.1) (λ f2.
+    ⊎_elim (λ t. q3 t.1) (λ f3.
+    ⊎_elim (λ t. q4 t.1) (λ f4.
+    let n0 : status ≢ 0 = f0.1 in let n1 : status ≢ 1 = f1.1 in let n2 : status ≢ 2 = f2.1 in let n3 : status ≢ 3 = f3.1 in let n4 : status ≢ 4 = f4.1 in
+    q5 (omega arith))
+    (eqb_tells status 4)) (eqb_tells status 3)) (eqb_tells status 2)) (eqb_tells status 1)) (eqb_tells status 0)
+
+-- who opens a file has words that serve it
+fails_serves : (words : List (List ℕ)) (old new : World) (what : Opening) → Fails words old new what → (name : List ℕ) × Serves words name
+fails_serves words old new Configuration f = (f.0.name, f.0.command)
+fails_serves words old new Control f = (f.1.opens.name, f.1.opens.command)
+fails_serves words old new Core f = (f.1.opens.name, f.1.opens.command)
+fails_serves words old new Access f = (f.1.opens.name, f.1.opens.command)
+
+pub no_command : (words : List (List ℕ)) (old new : World) (status : ℕ) → RunEnds words old new status → ((name : List ℕ) → ¬ Serves words name) → (status ≡ 1) ⊎ (status ≡ 5)
+no_command words old new status r none =
+    by_status status ((status ≡ 1) ⊎ (status ≡ 5)) r.no_other
+        (λ s. let x = r.served s in absurd (none x.prepares.opens.name x.prepares.opens.command))
+        (λ s. inl s)
+        (λ s. let x = r.refused s in absurd (none x.faulty.opens.name x.faulty.opens.command))
+        (λ s. let x = r.unopened s in let y = fails_serves words old new x.what x.fails in absurd (none y.0 y.1))
+        (λ s. let x = r.starved s in absurd (none x.name x.command))
+        (λ s. inr s)
+
+one_more : {X : Type 0} (xs : List X) (x : X) → xs ≡ xs ++ x ∷ [] → ⊥
+one_more xs x e = omega (arith, ap length e, length-append xs (x ∷ []))
+
+same_last : {X : Type 0} (xs : List X) (x y : X) → xs ++ x ∷ [] ≡ xs ++ y ∷ [] → x ≡ y
+same_last [] x y e = cc
+same_last (z ∷ xs) x y e = let rest : xs ++ x ∷ [] ≡ xs ++ y ∷ [] = cc in same_last xs x y rest
+
+-- the text that was read is one
+one_text : (old new : Option (List (List ℕ))) (a b : List ℕ) → IsSome old → Grows old new (a ∷ []) → Grows old new (b ∷ []) → a ≡ b
+one_text None new a b some p q = absurd (false≢true some)
+one_text (Some xs) new a b some p q = same_last xs a b (same_Some (xs ++ a ∷ []) (xs ++ b ∷ []) (sym p ∙ q))
+
+unread : (old new : Option (List (List ℕ))) (a : List ℕ) → IsSome old → Grows old new (a ∷ []) → new ≡ old → ⊥
+unread None new a some p same = false≢true some
+unread (Some xs) new a some p same = one_more xs a (same_Some xs (xs ++ a ∷ []) (sym same ∙ p))
+
+-- a configuration that was read has no fault
+read_well : (words : List (List ℕ)) (old new : FilesTold) (config : Config) (text : List ℕ) (fault : Fault) → Prepares words old new config → IsSome old.contents
+    → Grows old.contents new.contents (text ∷ []) → HasFault text fault → ⊥
+read_well words old new config text fault p some grew broken =
+    no_fault p.text config fault p.read (subst (λ (t : List ℕ). HasFault t fault) (one_text old.contents new.contents text p.text some grew p.opens.content) broken)
+
+fails_read : (words : List (List ℕ)) (old new : World) (what : Opening) (text : List ℕ) (fault : Fault) → Fails words old new what → IsSome old.files.contents
+    → Grows old.files.contents new.files.contents (text ∷ []) → HasFault text fault → ⊥
+fails_read words old new Configuration text fault f some grew broken = unread old.files.contents new.files.contents text some grew f.0.contents
+fails_read words old new Control text fault f some grew broken = read_well words old.files new.files f.0 text fault f.1 some grew broken
+fails_read words old new Core text fault f some grew broken = read_well words old.files new.files f.0 text fault f.1 some grew broken
+fails_read words old new Access text fault f some grew broken = read_well words old.files new.files f.0 text fault f.1 some grew broken
+
+pub faulty : (words : List (List ℕ)) (old new : World) (status : ℕ) → RunEnds words old new status → IsSome old.files.contents → (text : List ℕ) (fault : Fault)
+    → Grows old.files.contents new.files.contents (text ∷ []) → HasFault text fault → (status ≡ 2) ⊎ (status ≡ 4) ⊎ (status ≡ 5)
+faulty words old new status r some text fault grew broken =
+    by_status status ((status ≡ 2) ⊎ (status ≡ 4) ⊎ (status ≡ 5)) r.no_other
+        (λ s. let x = r.served s in absurd (read_well words old.files new.files x.config text fault x.prepares some grew broken))
+        (λ s. let x = r.usage s in absurd (unread old.files.contents new.files.contents text some grew (ap (λ (f : FilesTold). f.contents) x.command.unread)))
+        (λ s. inl s)
+        (λ s. let x = r.unopened s in absurd (fails_read words old new x.what text fault x.fails some grew broken))
+        (λ s. inr (inl s))
+        (λ s. inr (inr s))
+
+fails_rose : (words : List (List ℕ)) (old new : World) (what : Opening) → Fails words old new what → IsFaultless old new → ⊥
+fails_rose words old new Configuration f none = none.files f.0.rose
+fails_rose words old new Control f none = none.plant f.2.rose
+fails_rose words old new Core f none = none.plant f.2.rose
+fails_rose words old new Access f none = none.plant f.2.rose
+
+pub complete : (words : List (List ℕ)) (old new : World) (status : ℕ) → RunEnds words old new status → (name : List ℕ) → Serves words name
+    → ((text : List ℕ) (fault : Fault) → Grows old.files.contents new.files.contents (text ∷ []) → ¬ HasFault text fault) → IsFaultless old new → (status ≡ 0) ⊎ (status ≡ 4)
+complete words old new status r name serves sound none =
+    by_status status ((status ≡ 0) ⊎ (status ≡ 4)) r.no_other
+        (λ s. inl s)
+        (λ s. let x = r.usage s in absurd (x.command.none name serves))
+        (λ s. let x = r.refused s in absurd (sound x.faulty.text x.fault x.faulty.opens.content x.faulty.broken))
+        (λ s. let x = r.unopened s in absurd (fails_rose words old new x.what x.fails none))
+        (λ s. inr s)
+        (λ s. absurd (⊎_elim (λ o. none.out o) (λ e. none.err e) (r.unwritten s)))

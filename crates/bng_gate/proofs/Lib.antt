@@ -1,0 +1,11 @@
+pub mod KeyTexts
+pub mod Numbers
+pub mod Addresses
+pub mod Octets
+pub mod Faults
+pub mod Exclusive
+pub mod Turns
+pub mod Laws
+pub mod Ends
+pub mod Headlines
+pub mod Causes

@@ -1,0 +1,19 @@
+use Rattle.bng_gate.specs.Words.{texts}
+use Rattle.bng_gate.specs.Run.{World}
+use Rattle.bng_gate.proofs.Causes.{no_command, faulty, complete}
+use Rattle.bng_gate.proofs.Headlines.{headline}
+use Rattle.bng_gate.proofs.top.run.Goals as goal
+
+pub returns-clause-headline : goal.returns-clause-headline
+returns-clause-headline g c = λ done.
+    let served = c.run_to_end.ensures.served done in
+    (served.config, served.prepares, headline served.config _ _ served.runs)
+
+pub returns-clause-no_command : goal.returns-clause-no_command
+returns-clause-no_command g c = no_command _ _ _ _ c.run_to_end.ensures
+
+pub returns-clause-faulty : goal.returns-clause-faulty
+returns-clause-faulty g c = faulty _ _ _ _ c.run_to_end.ensures
+
+pub returns-clause-complete : goal.returns-clause-complete
+returns-clause-complete g c = complete _ _ _ _ c.run_to_end.ensures

@@ -1,0 +1,10 @@
+pub mod Words
+pub mod Address
+pub mod Keys
+pub mod Parts
+pub mod Configuration
+pub mod Texts
+pub mod Taken
+pub mod Serving
+pub mod Run
+pub mod Headline

@@ -1,0 +1,38 @@
+-- What is written where a run fails.
+use Rattle.std.specs.Prelude.{ℕ, List, ◌++◌, codes}
+use Rattle.bng_gate.specs.declared.configuration.fault.Fault.{Fault}
+use Rattle.bng_gate.specs.declared.texts.Opening.{Opening}
+use Rattle.bng_gate.specs.declared.texts.Opening.TheVariants.{Configuration, Control, Core, Access}
+use Rattle.bng_gate.specs.declared.texts.Refusal.{Refusal}
+use Rattle.bng_gate.specs.declared.texts.Refusal.TheVariants.{Usage, Refused, CannotOpen, OutOfMemory, OutputFailed}
+use Rattle.bng_gate.specs.Keys.{fault_text}
+
+abbrev pub usage_text : List ℕ
+usage_text =
+    codes "usage: bng serve CONFIG [--trace FILE] [--rounds N] | check CONFIG | exercise N [--workers W] | audit FILE\n"
+
+abbrev pub refused_text : Fault → List ℕ
+refused_text fault = codes "bng: config: " ++ fault_text fault ++ codes "\n"
+
+abbrev pub opening_name : Opening → List ℕ
+opening_name Configuration = codes "configuration"
+opening_name Control = codes "control"
+opening_name Core = codes "core"
+opening_name Access = codes "access 1"
+
+abbrev pub cannot_open_text : Opening → List ℕ
+cannot_open_text what = codes "bng: cannot open " ++ opening_name what ++ codes "\n"
+
+abbrev pub refusal_text : Refusal → List ℕ
+refusal_text Usage = usage_text
+refusal_text (Refused fault) = refused_text fault
+refusal_text (CannotOpen what) = cannot_open_text what
+refusal_text OutOfMemory = codes "bng: out of memory\n"
+refusal_text OutputFailed = codes "bng: output failed\n"
+
+abbrev pub status_of : Refusal → ℕ
+status_of Usage = 1
+status_of (Refused fault) = 2
+status_of (CannotOpen what) = 3
+status_of OutOfMemory = 4
+status_of OutputFailed = 5

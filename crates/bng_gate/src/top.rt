@@ -1,0 +1,206 @@
+//! The top call.
+ghost use Rattle.std.specs.Prelude.{◌≡◌, ◌⊎◌, ℕ, List, [], ◌∷◌, IsSome, OnOk, IfOk, IfErr};
+ghost use Rattle.bng_base.specs.Told.{Grows};
+ghost use Rattle.bng_desk.specs.declared.config.Config.{Config as Settings};
+ghost use Rattle.bng_gate.specs.declared.configuration.fault.Fault.{Fault as Rule};
+ghost use Rattle.bng_gate.specs.Configuration.{HasFault};
+ghost use Rattle.bng_gate.specs.Headline.{Headline};
+ghost use Rattle.bng_gate.specs.Words.{Serves};
+ghost use Rattle.bng_gate.specs.Words.{texts as words_of};
+ghost use Rattle.bng_gate.specs.Run.{Prepares, IsUnprepared, Binds, FailsAt, Runs, IsUnserved, Told, RunEnds, IsFaultless};
+
+use crate::configuration::{self, ConfigError};
+use crate::serving::serve;
+use crate::texts::{self, Opening, Refusal};
+use crate::words;
+use bng_base::Role;
+use bng_desk::{Config, Desk};
+use bng_plant::{Bound, Clock, Entropy, FileError, Files, Gate, Plant, Sink, Trace, Wrote};
+use std::alloc::Global;
+use std::sync::Wait;
+use std::thread::Threads;
+
+/// Done.
+const DONE: u8 = 0;
+
+/// A text could not be written.
+const OUTPUT_FAILED: u8 = 5;
+
+/// The most turns that a run makes.
+const TURNS_MOST: u64 = 1 << 40;
+
+// Reads the configuration that the words name.
+fn prepare<F: Files>(
+    alloc: Global,
+    words: &Vec<String>,
+    files: &mut F,
+) -> Result<Config, Refusal>
+    ensures prepared { IfOk result (λ config. Prepares (words_of words.now.items) (F.told files.old) (F.told files.new) config) }
+    ensures refused { IfErr result (λ refusal. IsUnprepared (words_of words.now.items) (F.told files.old) (F.told files.new) refusal) }
+{
+    let Some(name) = words::read(words) else {
+        return Err(Refusal::Usage);
+    };
+    let text = match files.read(alloc, name) {
+        Ok(text) => text,
+        Err(FileError::Failed) => return Err(Refusal::CannotOpen(Opening::Configuration)),
+        Err(FileError::OutOfMemory) => return Err(Refusal::OutOfMemory),
+    };
+    match configuration::read(alloc, text.as_slice()) {
+        Ok(config) => Ok(config),
+        Err(ConfigError::Refused(fault)) => Err(Refusal::Refused(fault)),
+        Err(ConfigError::OutOfMemory) => Err(Refusal::OutOfMemory),
+    }
+}
+
+// Binds one role after the other, and says which could not be bound.
+fn bind_all<P: Plant>(config: &Config, plant: &mut P) -> Result<(), Opening>
+    ensures bound { OnOk result (Binds config.now 3 (P.told plant.old) (P.told plant.new)) }
+    ensures failed { IfErr result (λ what. FailsAt config.now (P.told plant.old) (P.told plant.new) what) }
+{
+    if plant.bind(Role::Control, config.control_local, None) == Bound::Failed {
+        return Err(Opening::Control);
+    }
+    if plant.bind(Role::Core, config.core_local, Some(config.core_peer)) == Bound::Failed {
+        return Err(Opening::Core);
+    }
+    let port = &config.access;
+    if plant.bind(Role::Access(1), port.local, Some(port.peer)) == Bound::Failed {
+        return Err(Opening::Access);
+    }
+    Ok(())
+}
+
+// Serves a configuration, from the binds to the report.
+fn serve_all<R, P: Plant, C: Clock, T: Trace, O: Sink, G>(
+    rt: &R,
+    alloc: Global,
+    config: Config,
+    plant: &mut P,
+    clock: &mut C,
+    trace: &mut T,
+    out: &mut O,
+    gate: &G,
+) -> Result<(), Refusal>
+where
+    R: Threads + Wait + Sync,
+    G: Gate + Sync,
+    ensures served { OnOk result (Runs config
+        (record { plant = P.told plant.old; clock = C.told clock.old; trace = T.told trace.old })
+        (record { plant = P.told plant.new; clock = C.told clock.new; trace = T.told trace.new })
+        (O.told out.old) (O.told out.new)) }
+    ensures refused { IfErr result (λ refusal. IsUnserved config
+        (record { plant = P.told plant.old; clock = C.told clock.old; trace = T.told trace.old })
+        (record { plant = P.told plant.new; clock = C.told clock.new; trace = T.told trace.new })
+        (O.told out.old) (O.told out.new) refusal) }
+{
+    if let Err(what) = bind_all(&config, plant) {
+        return Err(Refusal::CannotOpen(what));
+    }
+    let now = clock.now();
+    let wall = clock.wall();
+    let Ok(mut desk) = Desk::open(alloc, config, TURNS_MOST, [0; 32], now, wall) else {
+        return Err(Refusal::OutOfMemory);
+    };
+    serve(rt, alloc, &mut desk, plant, clock, trace, gate);
+    let mut report = Vec::new(alloc);
+    if desk.report(alloc, &mut report).is_err() {
+        return Err(Refusal::OutOfMemory);
+    }
+    match out.write(report.as_slice()) {
+        Wrote::Ok => Ok(()),
+        Wrote::Failed => Err(Refusal::OutputFailed),
+    }
+}
+
+// Writes the line of a refusal, and answers its status. Where that fails, the status is another.
+fn refuse<X: Sink>(err: &mut X, refusal: Refusal) -> u8
+    ensures { Told (X.told err.old) (X.told err.new) refusal result }
+{
+    match err.write(texts::line(refusal).as_bytes()) {
+        Wrote::Ok => texts::status(refusal),
+        Wrote::Failed => OUTPUT_FAILED,
+    }
+}
+
+// The same, without what follows from the turns.
+fn run_to_end<R, P: Plant, C: Clock, E: Entropy, F: Files, T: Trace, O: Sink, X: Sink, G>(
+    rt: &R,
+    alloc: Global,
+    words: &Vec<String>,
+    files: &mut F,
+    plant: &mut P,
+    clock: &mut C,
+    _entropy: &mut E,
+    trace: &mut T,
+    out: &mut O,
+    err: &mut X,
+    gate: &G,
+) -> u8
+where
+    R: Threads + Wait + Sync,
+    G: Gate + Sync,
+    ensures { RunEnds (words_of words.now.items)
+        (record { files = F.told files.old; plant = P.told plant.old; clock = C.told clock.old; entropy = E.told _entropy.old; trace = T.told trace.old; out = O.told out.old; err = X.told err.old })
+        (record { files = F.told files.new; plant = P.told plant.new; clock = C.told clock.new; entropy = E.told _entropy.new; trace = T.told trace.new; out = O.told out.new; err = X.told err.new })
+        result }
+{
+    let config = match prepare(alloc, words, files) {
+        Ok(config) => config,
+        Err(refusal) => return refuse(err, refusal),
+    };
+    match serve_all(rt, alloc, config, plant, clock, trace, out, gate) {
+        Ok(()) => DONE,
+        Err(refusal) => refuse(err, refusal),
+    }
+}
+
+/// The program: reads the words, serves, and answers the status with which it ends. The words stand without the
+/// program's name.
+pub fn run<R, P: Plant, C: Clock, E: Entropy, F: Files, T: Trace, O: Sink, X: Sink, G>(
+    rt: &R,
+    alloc: Global,
+    words: &Vec<String>,
+    files: &mut F,
+    plant: &mut P,
+    clock: &mut C,
+    entropy: &mut E,
+    trace: &mut T,
+    out: &mut O,
+    err: &mut X,
+    gate: &G,
+) -> u8
+where
+    R: Threads + Wait + Sync,
+    G: Gate + Sync,
+
+    // What each status says of the run.
+    ensures ends { RunEnds (words_of words.now.items)
+        (record { files = F.told files.old; plant = P.told plant.old; clock = C.told clock.old; entropy = E.told entropy.old; trace = T.told trace.old; out = O.told out.old; err = X.told err.old })
+        (record { files = F.told files.new; plant = P.told plant.new; clock = C.told clock.new; entropy = E.told entropy.new; trace = T.told trace.new; out = O.told out.new; err = X.told err.new })
+        result }
+
+    // With status 0: the packets sent to the core, their sources, the fates, and the octets and drops printed.
+    ensures headline { result ≡ 0 → (config : Settings) × Prepares (words_of words.now.items) (F.told files.old) (F.told files.new) config × Headline config
+        (record { files = F.told files.old; plant = P.told plant.old; clock = C.told clock.old; entropy = E.told entropy.old; trace = T.told trace.old; out = O.told out.old; err = X.told err.old })
+        (record { files = F.told files.new; plant = P.told plant.new; clock = C.told clock.new; entropy = E.told entropy.new; trace = T.told trace.new; out = O.told out.new; err = X.told err.new }) }
+
+    // Words that are no command give status 1, if the line can be written.
+    ensures no_command { ((name : List ℕ) → ¬ Serves (words_of words.now.items) name) → (result ≡ 1) ⊎ (result ≡ 5) }
+
+    // A configuration that was read and has a fault gives status 2, if there is memory and the line can be written.
+    ensures faulty { IsSome (F.told files.old).contents → (text : List ℕ) (fault : Rule) → Grows (F.told files.old).contents (F.told files.new).contents (text ∷ []) → HasFault text fault
+        → (result ≡ 2) ⊎ (result ≡ 4) ⊎ (result ≡ 5) }
+
+    // Where no count rose, words that serve a configuration without a fault give status 0, if there is memory.
+    ensures complete { (name : List ℕ) → Serves (words_of words.now.items) name
+        → ((text : List ℕ) (fault : Rule) → Grows (F.told files.old).contents (F.told files.new).contents (text ∷ []) → ¬ HasFault text fault)
+        → IsFaultless
+            (record { files = F.told files.old; plant = P.told plant.old; clock = C.told clock.old; entropy = E.told entropy.old; trace = T.told trace.old; out = O.told out.old; err = X.told err.old })
+            (record { files = F.told files.new; plant = P.told plant.new; clock = C.told clock.new; entropy = E.told entropy.new; trace = T.told trace.new; out = O.told out.new; err = X.told err.new })
+        → (result ≡ 0) ⊎ (result ≡ 4) }
+{
+    run_to_end(
+        rt, alloc, words, files, plant, clock, entropy, trace, out, err, gate,
+    )
+}

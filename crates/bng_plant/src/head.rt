@@ -1,0 +1,7 @@
+/// A round without its lists: its number, its moment in milliseconds and its second on the wall.
+#[derive(Clone, Copy, PartialEq, Eq, Debug)]
+pub struct Head {
+    pub number: u64,
+    pub moment: u64,
+    pub wall: u64,
+}

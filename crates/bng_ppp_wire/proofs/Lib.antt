@@ -1,0 +1,4 @@
+pub mod Exactly
+pub mod OptionLaws
+pub mod OptionSteps
+pub mod ListingExact

@@ -1,0 +1,5 @@
+pub mod TagLaws
+pub mod TagSteps
+pub mod Scanning
+pub mod Judging
+pub mod Spelled

@@ -1,0 +1,4 @@
+pub mod View
+pub mod Front
+pub mod Scan
+pub mod Frame

@@ -1,0 +1,14 @@
+//! Codes of PPPoE frames (RFC 2516 sections 4 and 5).
+
+/// Active Discovery Initiation.
+pub const PADI: u8 = 0x09;
+/// Active Discovery Offer.
+pub const PADO: u8 = 0x07;
+/// Active Discovery Request.
+pub const PADR: u8 = 0x19;
+/// Active Discovery Session-confirmation.
+pub const PADS: u8 = 0x65;
+/// Active Discovery Terminate.
+pub const PADT: u8 = 0xa7;
+/// A frame of the session stage.
+pub const SESSION_DATA: u8 = 0x00;

@@ -1,0 +1,100 @@
+/* Two tools for lab/bench. `loop` forwards as the gateway does, but looks at nothing: one recvfrom and one sendto a
+   packet, and a poll where nothing is there. `load` sends frames and counts the packets that come back. */
+#define _GNU_SOURCE
+#include <arpa/inet.h>
+#include <errno.h>
+#include <fcntl.h>
+#include <poll.h>
+#include <stdio.h>
+#include <stdlib.h>
+#include <string.h>
+#include <sys/socket.h>
+#include <time.h>
+
+enum { FRONT = 22, BATCH = 32, WINDOW = 64, LONGEST = 4096 };
+
+static struct sockaddr_in loopback(const char *port) {
+    struct sockaddr_in end = {.sin_family = AF_INET, .sin_port = htons((unsigned short)atoi(port))};
+    end.sin_addr.s_addr = htonl(INADDR_LOOPBACK);
+    return end;
+}
+
+static int bound(const char *port) {
+    struct sockaddr_in end = loopback(port);
+    int fd = socket(AF_INET, SOCK_DGRAM | SOCK_NONBLOCK, 0);
+    if (fd < 0 || bind(fd, (struct sockaddr *)&end, sizeof end) < 0) {
+        perror("bench: bind");
+        exit(1);
+    }
+    return fd;
+}
+
+/* loop ACCESS CORE CORE_PEER CONTROL: until a datagram comes at CONTROL */
+static int forward(char **ports) {
+    int access = bound(ports[0]), core = bound(ports[1]), control = bound(ports[3]);
+    struct sockaddr_in peer = loopback(ports[2]), from;
+    struct pollfd waits[2] = {{access, POLLIN, 0}, {control, POLLIN, 0}};
+    char room[LONGEST];
+    while (!(waits[1].revents & POLLIN)) {
+        socklen_t length = sizeof from;
+        ssize_t count = recvfrom(access, room, sizeof room, 0, (struct sockaddr *)&from, &length);
+        if (count < 0)
+            poll(waits, 2, 100);
+        else if (count > FRONT)
+            sendto(core, room + FRONT, (size_t)count - FRONT, 0, (struct sockaddr *)&peer, sizeof peer);
+    }
+    return 0;
+}
+
+static double seconds(void) {
+    struct timespec now;
+    clock_gettime(CLOCK_MONOTONIC, &now);
+    return (double)now.tv_sec + 1e-9 * (double)now.tv_nsec;
+}
+
+/* load ACCESS_FD CORE_FD ACCESS SECONDS, the frame on standard input: prints the packets that came back, those that
+   did not, and the seconds */
+static int load(char **words) {
+    int access = atoi(words[0]), core = atoi(words[1]);
+    struct sockaddr_in to = loopback(words[2]);
+    static char frame[LONGEST], rooms[BATCH][LONGEST];
+    size_t length = fread(frame, 1, sizeof frame, stdin);
+    struct iovec out = {frame, length}, ins[BATCH];
+    struct mmsghdr sends[BATCH] = {0}, gets[BATCH] = {0};
+    for (int at = 0; at < BATCH; at++) {
+        ins[at] = (struct iovec){rooms[at], LONGEST};
+        sends[at].msg_hdr = (struct msghdr){.msg_name = &to, .msg_namelen = sizeof to, .msg_iov = &out, .msg_iovlen = 1};
+        gets[at].msg_hdr = (struct msghdr){.msg_iov = &ins[at], .msg_iovlen = 1};
+    }
+    long came = 0, lost = 0, away = 0;
+    double start = seconds(), limit = atof(words[3]), now = start;
+    while (now - start < limit || away > 0) {
+        if (now - start < limit && away + BATCH <= WINDOW) {
+            int count = sendmmsg(access, sends, BATCH, 0);
+            away += count > 0 ? count : 0;
+        }
+        int count = recvmmsg(core, gets, BATCH, MSG_DONTWAIT, NULL);
+        if (count > 0) {
+            came += count;
+            away -= count;
+        } else if (away + BATCH > WINDOW || now - start >= limit) {
+            struct pollfd wait = {core, POLLIN, 0};
+            if (poll(&wait, 1, 200) == 0) {
+                lost += away;
+                away = 0;
+            }
+        }
+        now = seconds();
+    }
+    printf("%ld %ld %.6f\n", came, lost, now - start);
+    return 0;
+}
+
+int main(int count, char **words) {
+    if (count == 6 && strcmp(words[1], "loop") == 0)
+        return forward(words + 2);
+    if (count == 6 && strcmp(words[1], "load") == 0)
+        return load(words + 2);
+    fprintf(stderr, "usage: bench loop ACCESS CORE CORE_PEER CONTROL | bench load ACCESS_FD CORE_FD ACCESS SECONDS\n");
+    return 1;
+}

@@ -1,0 +1,178 @@
+"""Starts the gateway on the loopback with one static subscriber, and plays the parties around it."""
+
+import os
+import shutil
+import socket
+import subprocess
+import tempfile
+import time
+
+HOME = os.path.dirname(os.path.dirname(os.path.abspath(__file__)))
+CRATE = os.path.join(HOME, "crates", "bng_gate")
+PROGRAM = os.path.join(CRATE, "out", "bng_gate")
+LOOPBACK = "127.0.0.1"
+
+CONFIGURATION = """\
+[core]
+local = "127.0.0.1:{core}"
+peer = "127.0.0.1:{core_peer}"
+[control]
+local = "127.0.0.1:{control}"
+[[access]]
+local = "127.0.0.1:{access}"
+peer = "127.0.0.1:{access_peer}"
+mac = "02:00:00:00:00:fe"
+[[static]]
+mac = "02:00:00:00:00:01"
+session = 1025
+address = "10.0.0.2"
+"""
+
+USAGE = "usage: bng serve CONFIG [--trace FILE] [--rounds N] | check CONFIG | exercise N [--workers W] | audit FILE"
+
+CAUSES = "Malformed NoSession NotOpen Expired Spoofed TooBig Exceeded LinkFailed WantOfMemory".split()
+
+
+def header_sum(header):
+    """The checksum of an IPv4 header whose own field is 0 (RFC 791, RFC 1071)."""
+    total = sum(int.from_bytes(header[at:at + 2], "big") for at in range(0, len(header), 2))
+    while total > 0xFFFF:
+        total = (total & 0xFFFF) + (total >> 16)
+    return total ^ 0xFFFF
+
+
+def packet(source="10.0.0.2", destination="192.0.2.1", length=84, ttl=64, number=1):
+    """An IPv4 packet with a right header sum (RFC 791), by default the one of the examples."""
+    header = bytearray.fromhex("45000000 00000000 00010000")
+    header[2:4] = length.to_bytes(2, "big")
+    header[4:6] = number.to_bytes(2, "big")
+    header[8] = ttl
+    header += socket.inet_aton(source) + socket.inet_aton(destination)
+    header[10:12] = header_sum(header).to_bytes(2, "big")
+    return bytes(header) + bytes(at % 256 for at in range(length - 20))
+
+
+def frame(payload, port="0200000000fe", subscriber="020000000001", session=1025, length=None):
+    """An Ethernet frame of a PPPoE session with an IPv4 packet (RFC 2516, RFC 1661)."""
+    length = len(payload) + 2 if length is None else length
+    front = bytes.fromhex(port + subscriber + "88641100")
+    return front + session.to_bytes(2, "big") + length.to_bytes(2, "big") + b"\x00\x21" + payload
+
+
+def report(total=0, **drops):
+    """The report after serving: input octets of the one subscriber, and the packets dropped by cause."""
+    lines = [f"total in={total} out=0", f"static 10.0.0.2 in={total} out=0"]
+    lines += [f"drop {cause} {drops.get(cause, 0)}" for cause in CAUSES]
+    return "".join(line + "\n" for line in lines)
+
+
+def newest(*places):
+    """When the newest file or folder below these was changed."""
+    times = [0.0]
+    for place in places:
+        for folder, _, names in os.walk(place):
+            times += [os.path.getmtime(os.path.join(folder, name)) for name in names + ["."]]
+    return max(times)
+
+
+def is_built():
+    """Whether the built program is there and not older than its sources."""
+    if not os.access(PROGRAM, os.X_OK):
+        return False
+    crates = os.path.join(HOME, "crates")
+    sources = [os.path.join(crates, crate, part) for crate in os.listdir(crates) for part in ("src", "specs")]
+    listed = os.path.getmtime(os.path.join(HOME, "crates.txt"))
+    return max(newest(*sources), listed) <= os.path.getmtime(PROGRAM)
+
+
+def udp():
+    """A socket of the loopback on a port that the system picks, which waits five seconds at most."""
+    end = socket.socket(socket.AF_INET, socket.SOCK_DGRAM)
+    end.bind((LOOPBACK, 0))
+    end.settimeout(5)
+    return end
+
+
+def bound_ports():
+    """The local UDP ports that are bound here, by the system's own list."""
+    with open("/proc/net/udp", encoding="ascii") as table:
+        return {int(line.split()[1].split(":")[1], 16) for line in table.readlines()[1:]}
+
+
+class Lab:
+    """A folder and the sockets of all parties. `access`, `core`, `control` and `stranger` are ours; `ports` has the
+    gateway's ends. Leaving it ends what it started."""
+
+    def __enter__(self):
+        self.folder = tempfile.mkdtemp(prefix="bng-lab-")
+        self.access, self.core, self.control, self.stranger = (udp() for _ in range(4))
+        held = {name: udp() for name in ("access", "core", "control")}
+        self.ports = {name: end.getsockname()[1] for name, end in held.items()}
+        for end in held.values():
+            end.close()
+        self.program = None
+        self.configuration = self.write(
+            "lab.toml",
+            CONFIGURATION.format(
+                **self.ports,
+                core_peer=self.core.getsockname()[1],
+                access_peer=self.access.getsockname()[1],
+            ),
+        )
+        return self
+
+    def __exit__(self, *_):
+        if self.program is not None and self.program.poll() is None:
+            os.killpg(self.program.pid, 9)
+            self.program.wait()
+        for end in (self.access, self.core, self.control, self.stranger):
+            end.close()
+        shutil.rmtree(self.folder, ignore_errors=True)
+
+    def write(self, name, text):
+        path = os.path.join(self.folder, name)
+        with open(path, "w", encoding="utf-8") as file:
+            file.write(text)
+        return path
+
+    def start(self, command, patience=10, **streams):
+        """Starts `command` on the configuration, and waits until the gateway has its sockets."""
+        pipes = {"stdin": subprocess.DEVNULL, "stdout": subprocess.PIPE, "stderr": subprocess.PIPE, **streams}
+        self.program = subprocess.Popen(command, start_new_session=True, **pipes)
+        end = time.monotonic() + patience
+        while not bound_ports().issuperset(self.ports.values()):
+            if self.program.poll() is not None:
+                text = self.program.stderr.read().decode(errors="replace") if self.program.stderr else ""
+                raise RuntimeError(f"the gateway ended with status {self.program.returncode}: {text}")
+            if time.monotonic() > end:
+                raise RuntimeError(f"the gateway had no sockets after {patience} seconds")
+            time.sleep(0.02)
+
+    def send(self, octets, end=None, to="access"):
+        """Sends from one of our sockets, by default the subscriber's side, to an end of the gateway."""
+        (end or self.access).sendto(octets, (LOOPBACK, self.ports[to]))
+
+    def receive(self, end):
+        """The next datagram and the port that it came from, or None after the socket's patience."""
+        try:
+            octets, sender = end.recvfrom(65535)
+            return octets, sender[1]
+        except socket.timeout:
+            return None, None
+
+    def stop(self):
+        """Sends `stop`, and returns the answer."""
+        self.send(b"stop", self.control, "control")
+        return self.receive(self.control)[0]
+
+    def end(self, patience=20):
+        """Waits for the program's end: its status, standard output and standard error."""
+        out, err = self.program.communicate(timeout=patience)
+        return self.program.returncode, (out or b"").decode(), (err or b"").decode(errors="replace")
+
+
+def run(command, patience=20, **streams):
+    """Runs a program that ends by itself: its status, standard output and standard error."""
+    pipes = {"stdin": subprocess.DEVNULL, "stdout": subprocess.PIPE, "stderr": subprocess.PIPE, **streams}
+    done = subprocess.run(command, timeout=patience, check=False, **pipes)
+    return done.returncode, (done.stdout or b"").decode(), (done.stderr or b"").decode(errors="replace")

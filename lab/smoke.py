@@ -1,0 +1,126 @@
+"""Runs the real program over real sockets of the loopback, with good and bad input, and compares what it says."""
+
+import os
+import subprocess
+import sys
+
+from gateway import CRATE, PROGRAM, USAGE, Lab, frame, is_built, packet, report, run
+
+PACKET = packet()
+LOWERED = bytes.fromhex("45000054 00010000 3f01afa5 0a000002 c0000201") + PACKET[20:]
+
+
+class Checks:
+    """Counts what is as it should be, and prints what is not."""
+
+    passed = failed = 0
+
+    def same(self, what, got, want):
+        if got == want:
+            self.passed += 1
+            print(f"ok     {what}")
+        else:
+            self.failed += 1
+            print(f"FAILED {what}\n  got  {got!r}\n  want {want!r}")
+
+
+def forwards_one_packet(checks, command, patience):
+    with Lab() as lab:
+        lab.start(command(lab.configuration), patience)
+        lab.send(frame(PACKET))
+        checks.same("the core gets the packet, TTL lowered", lab.receive(lab.core), (LOWERED, lab.ports["core"]))
+        checks.same("stop is answered", lab.stop(), b"stopping\n")
+        status, out, err = lab.end()
+        checks.same("the report has its 84 octets", out, report(84))
+        checks.same("the status is 0", status, 0)
+        return err
+
+
+def drops_and_counts_bad_input(checks, command, patience):
+    bad_sum = bytearray(PACKET)
+    bad_sum[11] ^= 1
+    malformed = {
+        "no octets": b"",
+        "a frame cut short": frame(PACKET)[:16],
+        "a wrong header sum": frame(bytes(bad_sum)),
+        "a PPPoE length past the frame's end": frame(PACKET, length=1000),
+        "a frame to another MAC": frame(PACKET, port="0200000000ff"),
+        "a datagram of 5,000 octets": frame(packet(length=4978)),
+    }
+    with Lab() as lab:
+        lab.start(command(lab.configuration), patience)
+        for octets in malformed.values():
+            lab.send(octets)
+        lab.send(frame(PACKET), lab.stranger)
+        lab.send(frame(packet("10.0.0.3")))
+        lab.send(b"what?", lab.stranger, "control")
+        lab.send(frame(PACKET))
+        lab.send(frame(packet(length=1400, ttl=2, number=2)))
+        checks.same("bad input goes nowhere", lab.receive(lab.core)[0], LOWERED)
+        lowered = packet(length=1400, ttl=1, number=2)
+        checks.same("1,400 octets are forwarded", lab.receive(lab.core)[0], lowered)
+        checks.same("stop is answered again", lab.stop(), b"stopping\n")
+        status, out, _ = lab.end()
+        want = report(1484, Malformed=len(malformed) + 1, Spoofed=1)
+        checks.same("each bad frame is counted under its cause", out, want)
+        checks.same("bad input does not change the status", status, 0)
+
+
+def refuses_bad_beginnings(checks):
+    with Lab() as lab:
+        missing = os.path.join(lab.folder, "missing.toml")
+        unopened = (3, "", "bng: cannot open configuration\n")
+        checks.same("a missing configuration", run([PROGRAM, "serve", missing]), unopened)
+        checks.same("a folder as configuration", run([PROGRAM, "serve", lab.folder]), unopened)
+        long = lab.write("long.toml", "#" * 1_048_577)
+        checks.same("more than 1 MiB", run([PROGRAM, "serve", long]), (2, "", "bng: config: C1 text\n"))
+        checks.same("no end of text", run([PROGRAM, "serve", "/dev/zero"]), (2, "", "bng: config: C1 text\n"))
+        broken = lab.write("broken.toml", "[core\n")
+        checks.same("no TOML", run([PROGRAM, "serve", broken]), (2, "", "bng: config: C2 text\n"))
+        usage = (1, "", USAGE + "\n")
+        for words in ([], ["--help"], ["serve"], ["serve", "a", "b"], ["serve", b"\xff"]):
+            checks.same(f"the words {words}", run([PROGRAM, *words]), usage)
+        with open(lab.configuration, encoding="utf-8") as file:
+            ours = lab.control.getsockname()[1]
+            taken = lab.write("taken.toml", file.read().replace(f":{lab.ports['control']}\"", f":{ours}\""))
+        unbound = (3, "", "bng: cannot open control\n")
+        checks.same("a port that is taken", run([PROGRAM, "serve", taken]), unbound)
+
+
+def says_when_nobody_takes_its_report(checks):
+    with Lab() as lab, open("/dev/full", "wb") as full:
+        lab.start([PROGRAM, "serve", lab.configuration], stdout=full)
+        lab.stop()
+        status, _, err = lab.end()
+        checks.same("a report that cannot be written", (status, err), (5, "bng: output failed\n"))
+
+
+def try_all(checks):
+    if is_built():
+        print(f"smoke: runs {PROGRAM}")
+        built = lambda configuration: [PROGRAM, "serve", configuration]
+        err = forwards_one_packet(checks, built, 10)
+        checks.same("nothing is said on standard error", err, "")
+        drops_and_counts_bad_input(checks, built, 10)
+        refuses_bad_beginnings(checks)
+        says_when_nobody_takes_its_report(checks)
+    else:
+        print("smoke: the built program is missing or older than its sources: runs under rt try, and only twice")
+        os.chdir(CRATE)
+        tried = lambda file: ["rt", "try", "--seconds", "30", "--data", f"lab.toml={file}", "--", "serve", "lab.toml"]
+        forwards_one_packet(checks, tried, 300)
+        drops_and_counts_bad_input(checks, tried, 300)
+
+
+def main():
+    checks = Checks()
+    try:
+        try_all(checks)
+    except (RuntimeError, OSError, subprocess.TimeoutExpired) as error:
+        checks.same("the run came to its end", str(error), "no error")
+    print(f"{checks.passed} passed, {checks.failed} failed")
+    return 1 if checks.failed else 0
+
+
+if __name__ == "__main__":
+    sys.exit(main())
