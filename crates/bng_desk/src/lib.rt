@@ -17,3 +17,6 @@ pub use crate::config::Config;
 pub use crate::desk::{Desk, DeskError, DeskState, Turned};
 pub use crate::drops::Drops;
 pub use crate::reading::Ended;
+
+#[cfg(test)]
+mod tests;

@@ -36,12 +36,12 @@ fails_serves words old new Access f = (f.1.opens.name, f.1.opens.command)
 pub no_command : (words : List (List ℕ)) (old new : World) (status : ℕ) → RunEnds words old new status → ((name : List ℕ) → ¬ Serves words name) → (status ≡ 1) ⊎ (status ≡ 5)
 no_command words old new status r none =
     by_status status ((status ≡ 1) ⊎ (status ≡ 5)) r.no_other
-        (λ s. let x = r.served s in absurd (none x.prepares.opens.name x.prepares.opens.command))
-        (λ s. inl s)
-        (λ s. let x = r.refused s in absurd (none x.faulty.opens.name x.faulty.opens.command))
-        (λ s. let x = r.unopened s in let y = fails_serves words old new x.what x.fails in absurd (none y.0 y.1))
-        (λ s. let x = r.starved s in absurd (none x.name x.command))
-        (λ s. inr s)
+    (λ s. let x = r.served s in absurd (none x.prepares.opens.name x.prepares.opens.command))
+    (λ s. inl s)
+    (λ s. let x = r.refused s in absurd (none x.faulty.opens.name x.faulty.opens.command))
+    (λ s. let x = r.unopened s in let y = fails_serves words old new x.what x.fails in absurd (none y.0 y.1))
+    (λ s. let x = r.starved s in absurd (none x.name x.command))
+    (λ s. inr s)
 
 one_more : {X : Type 0} (xs : List X) (x : X) → xs ≡ xs ++ x ∷ [] → ⊥
 one_more xs x e = omega (arith, ap length e, length-append xs (x ∷ []))
@@ -76,12 +76,12 @@ pub faulty : (words : List (List ℕ)) (old new : World) (status : ℕ) → RunE
     → Grows old.files.contents new.files.contents (text ∷ []) → HasFault text fault → (status ≡ 2) ⊎ (status ≡ 4) ⊎ (status ≡ 5)
 faulty words old new status r some text fault grew broken =
     by_status status ((status ≡ 2) ⊎ (status ≡ 4) ⊎ (status ≡ 5)) r.no_other
-        (λ s. let x = r.served s in absurd (read_well words old.files new.files x.config text fault x.prepares some grew broken))
-        (λ s. let x = r.usage s in absurd (unread old.files.contents new.files.contents text some grew (ap (λ (f : FilesTold). f.contents) x.command.unread)))
-        (λ s. inl s)
-        (λ s. let x = r.unopened s in absurd (fails_read words old new x.what text fault x.fails some grew broken))
-        (λ s. inr (inl s))
-        (λ s. inr (inr s))
+    (λ s. let x = r.served s in absurd (read_well words old.files new.files x.config text fault x.prepares some grew broken))
+    (λ s. let x = r.usage s in absurd (unread old.files.contents new.files.contents text some grew (ap (λ (f : FilesTold). f.contents) x.command.unread)))
+    (λ s. inl s)
+    (λ s. let x = r.unopened s in absurd (fails_read words old new x.what text fault x.fails some grew broken))
+    (λ s. inr (inl s))
+    (λ s. inr (inr s))
 
 fails_rose : (words : List (List ℕ)) (old new : World) (what : Opening) → Fails words old new what → IsFaultless old new → ⊥
 fails_rose words old new Configuration f none = none.files f.0.rose
@@ -93,9 +93,9 @@ pub complete : (words : List (List ℕ)) (old new : World) (status : ℕ) → Ru
     → ((text : List ℕ) (fault : Fault) → Grows old.files.contents new.files.contents (text ∷ []) → ¬ HasFault text fault) → IsFaultless old new → (status ≡ 0) ⊎ (status ≡ 4)
 complete words old new status r name serves sound none =
     by_status status ((status ≡ 0) ⊎ (status ≡ 4)) r.no_other
-        (λ s. inl s)
-        (λ s. let x = r.usage s in absurd (x.command.none name serves))
-        (λ s. let x = r.refused s in absurd (sound x.faulty.text x.fault x.faulty.opens.content x.faulty.broken))
-        (λ s. let x = r.unopened s in absurd (fails_rose words old new x.what x.fails none))
-        (λ s. inr s)
-        (λ s. absurd (⊎_elim (λ o. none.out o) (λ e. none.err e) (r.unwritten s)))
+    (λ s. inl s)
+    (λ s. let x = r.usage s in absurd (x.command.none name serves))
+    (λ s. let x = r.refused s in absurd (sound x.faulty.text x.fault x.faulty.opens.content x.faulty.broken))
+    (λ s. let x = r.unopened s in absurd (fails_rose words old new x.what x.fails none))
+    (λ s. inr s)
+    (λ s. absurd (⊎_elim (λ o. none.out o) (λ e. none.err e) (r.unwritten s)))

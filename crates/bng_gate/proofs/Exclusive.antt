@@ -27,7 +27,7 @@ all_sound document c h StaticMac = sound_of IsMac c.circuit.mac h.static_mac
 all_sound document c h StaticSession = sound_of IsSession c.circuit.session h.static_session
 all_sound document c h StaticAddress = sound_of IsAddress c.circuit.address h.static_address
 
-one_document : (text : List ℕ) (a b : Members) → IsDocument text a → IsDocument text b → a ≡ b
+pub one_document : (text : List ℕ) (a b : Members) → IsDocument text a → IsDocument text b → a ≡ b
 one_document text a b p q = same_Some a b (sym p.parsed ∙ q.parsed)
 
 -- two ways to cut a list at its first element that fails are one

@@ -79,7 +79,7 @@ all_fates d d' [] run = All-nil (IsHandled d.config)
 all_fates d d' (None ∷ turns) run = subst (λ (c : Config). All (IsHandled c) (all_handled turns)) (step_config d run.0 None run.1) (all_fates run.0 d' turns run.2)
 all_fates d d' (Some t ∷ turns) run =
     All-append (IsHandled d.config) t.access (all_handled turns) run.1.0.handled
-        (subst (λ (c : Config). All (IsHandled c) (all_handled turns)) (step_config d run.0 (Some t) run.1) (all_fates run.0 d' turns run.2))
+    (subst (λ (c : Config). All (IsHandled c) (all_handled turns)) (step_config d run.0 (Some t) run.1) (all_fates run.0 d' turns run.2))
 
 on_access_1-append : (a b : List Datagram) → on_access_1 (a ++ b) ≡ on_access_1 a ++ on_access_1 b
 on_access_1-append a b = filter-append (λ d. is_access_1 d.role) a b

@@ -4,6 +4,7 @@ pub mod Addresses
 pub mod Octets
 pub mod Faults
 pub mod Exclusive
+pub mod OneReading
 pub mod Turns
 pub mod Laws
 pub mod Ends

@@ -98,6 +98,18 @@ pub record Configures (document : Data) (c : Config) : Type 0 where
   pub user : c.circuit.user.items ≡ []
   pub profile : c.circuit.profile ≡ 0
 
+-- two configurations agree at the keys that are read
+pub record SameKeys (a b : Config) : Type 0 where
+  pub control_local : a.control_local ≡ b.control_local
+  pub core_local : a.core_local ≡ b.core_local
+  pub core_peer : a.core_peer ≡ b.core_peer
+  pub access_local : a.access.local ≡ b.access.local
+  pub access_peer : a.access.peer ≡ b.access.peer
+  pub access_mac : a.access.mac ≡ b.access.mac
+  pub static_mac : a.circuit.mac ≡ b.circuit.mac
+  pub static_session : a.circuit.session ≡ b.circuit.session
+  pub static_address : a.circuit.address ≡ b.circuit.address
+
 -- the text is UTF-8, and is TOML for these members
 pub record IsDocument (text : List ℕ) (members : Members) : Type 0 where
   pub utf8 : IsUtf8 text

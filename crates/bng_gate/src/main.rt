@@ -5,12 +5,11 @@ mod configuration;
 mod real;
 mod serving;
 mod start;
+#[cfg(test)]
+mod tests;
 mod texts;
 mod top;
 mod words;
-
-#[cfg(test)]
-mod tests;
 
 use crate::real::{
     RealClock, RealEntropy, RealFiles, RealGate, RealPlant, RealTrace, StandardSink,

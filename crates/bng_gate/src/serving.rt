@@ -27,7 +27,8 @@ pub fn serve<R, P: Plant, C: Clock, T: Trace, G>(
     clock: &mut C,
     trace: &mut T,
     gate: &G,
-) where
+)
+where
     R: Threads + Wait + Sync,
     G: Gate + Sync,
     requires turns { desk.old.turns ≡ 0 }

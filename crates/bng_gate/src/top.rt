@@ -30,11 +30,7 @@ const OUTPUT_FAILED: u8 = 5;
 const TURNS_MOST: u64 = 1 << 40;
 
 // Reads the configuration that the words name.
-fn prepare<F: Files>(
-    alloc: Global,
-    words: &Vec<String>,
-    files: &mut F,
-) -> Result<Config, Refusal>
+fn prepare<F: Files>(alloc: Global, words: &Vec<String>, files: &mut F) -> Result<Config, Refusal>
     ensures prepared { IfOk result (λ config. Prepares (words_of words.now.items) (F.told files.old) (F.told files.new) config) }
     ensures refused { IfErr result (λ refusal. IsUnprepared (words_of words.now.items) (F.told files.old) (F.told files.new) refusal) }
 {
@@ -196,8 +192,8 @@ where
     ensures complete { (name : List ℕ) → Serves (words_of words.now.items) name
         → ((text : List ℕ) (fault : Rule) → Grows (F.told files.old).contents (F.told files.new).contents (text ∷ []) → ¬ HasFault text fault)
         → IsFaultless
-            (record { files = F.told files.old; plant = P.told plant.old; clock = C.told clock.old; entropy = E.told entropy.old; trace = T.told trace.old; out = O.told out.old; err = X.told err.old })
-            (record { files = F.told files.new; plant = P.told plant.new; clock = C.told clock.new; entropy = E.told entropy.new; trace = T.told trace.new; out = O.told out.new; err = X.told err.new })
+        (record { files = F.told files.old; plant = P.told plant.old; clock = C.told clock.old; entropy = E.told entropy.old; trace = T.told trace.old; out = O.told out.old; err = X.told err.old })
+        (record { files = F.told files.new; plant = P.told plant.new; clock = C.told clock.new; entropy = E.told entropy.new; trace = T.told trace.new; out = O.told out.new; err = X.told err.new })
         → (result ≡ 0) ⊎ (result ≡ 4) }
 {
     run_to_end(

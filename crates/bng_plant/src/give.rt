@@ -1,5 +1,5 @@
 //! What a script gives.
-ghost use Rattle.std.specs.Prelude.{◌≡◌, ◌≤◌, ◌<◌, ◌+◌, ◌++◌, length, take, map, if◌then◌else◌, IsTrue, IsSomeAnd, slice_get};
+ghost use Rattle.std.specs.Prelude.{◌≡◌, ◌≤◌, ◌<◌, ◌+◌, ◌++◌, ◌↔◌, length, take, map, if◌then◌else◌, IsTrue, IsSomeAnd, slice_get};
 ghost use Rattle.bng_base.specs.Told.{taken_by};
 ghost use Rattle.bng_plant.specs.Arrival.{datagram_of, is_got, IsFor, IsGiven};
 
@@ -15,7 +15,7 @@ pub fn give(
     into: &mut Frame,
 ) -> Received
     ensures answers { ¬ (result ≡ Received.Failed) }
-    ensures empty { result ≡ Received.Empty → ¬ IsSomeAnd (slice_get script.now next.old) (IsFor role waited.old) }
+    ensures empty { (result ≡ Received.Empty) ↔ ¬ IsSomeAnd (slice_get script.now next.old) (IsFor role waited.old) }
     ensures got { IsTrue (is_got result) → IsSomeAnd (slice_get script.now next.old) (IsGiven role waited.old result into.new) }
     ensures told { map datagram_of (take next.new script.now) ≡ map datagram_of (take next.old script.now) ++ taken_by role result into.new.payload }
     ensures next { next.new ≡ (if is_got result then next.old + 1 else next.old) }

@@ -38,7 +38,7 @@ impl MemoryClock {
         })
     }
 
-    /// What it answered, in order. Nothing where it has stopped telling.
+    /// What it answered, in order. `None` where it has stopped telling.
     pub fn answers(&self) -> Option<&[ClockAnswer]>
         ensures silent { result ≡ None → (told_by self.now).answers ≡ None }
         ensures answers { IfSome result (λ answers. (told_by self.now).answers ≡ Some answers.now) }

@@ -60,6 +60,7 @@ impl Entropy for MemoryEntropy {
         ensures failed { (result ≡ Seeded.Failed) ↔ IsTrue (not (goes_on (held_by self.old).calls (nat_lt (held_by self.old).given (length (held_by self.old).seeds)))) }
         ensures next { IfSome (seed_of result) (λ octets. slice_get (held_by self.old).seeds (held_by self.old).given ≡ Some octets) }
         ensures unfailing { (held_by self.old).calls.fail_at ≡ [] → (held_by self.old).given < length (held_by self.old).seeds → ¬ (result ≡ Seeded.Failed) }
+        ensures uncounted { ¬ (result ≡ Seeded.Failed) → (told_by self.new).faults ≡ (told_by self.old).faults }
         ensures held { held_by self.new ≡ held_after result (held_by self.old) }
     {
         if !self.failing.goes_on(self.given < self.seeds.len()) {

@@ -78,6 +78,7 @@ impl Files for MemoryFiles {
         // It answers Failed exactly where it is to fail, goes past its room, or no file has the name.
         ensures failed { IsErrOf result FileError.Failed ↔ IsTrue (not (goes_on (held_by self.old).calls (nat_lt 0 (held_by self.old).reads && is_some (place (held_by self.old) name.now)))) }
         ensures unfailing { (held_by self.old).calls.fail_at ≡ [] → 0 < (held_by self.old).reads → IsSome (place (held_by self.old) name.now) → ¬ IsErrOf result FileError.Failed }
+        ensures uncounted { ¬ IsErrOf result FileError.Failed → (told_by self.new).faults ≡ (told_by self.old).faults }
         ensures held { held_by self.new ≡ after_read (is_ok result) (held_by self.old) }
     {
         let room = has_room(&self.reads);

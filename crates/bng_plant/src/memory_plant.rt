@@ -34,7 +34,8 @@ impl MemoryPlant {
     /// A plant that gives the arrivals of the script one after the other, each to the next receive of its role, and
     /// that answers Empty otherwise. Binds, receives and sends are its calls: those with the numbers of `fail_at`
     /// fail, the first being 1. `room` is how many binds, how many receives and waits, and how many sends it keeps. A
-    /// bind or a send past it fails; a receive or a wait past it is not told, and nothing is from then on.
+    /// bind or a send past it fails, and so does a send of more than 4,160 octets; a receive or a wait past it is not
+    /// told, and neither are those after it.
     pub fn new(
         alloc: Global,
         script: Vec<Arrival>,
@@ -63,7 +64,7 @@ impl MemoryPlant {
         self.bound.as_slice()
     }
 
-    /// The answers of the receives and the waits, in order. Nothing where it has stopped telling.
+    /// The answers of the receives and the waits, in order. `None` where it has stopped telling.
     pub fn heard(&self) -> Option<&[Heard]>
         ensures silent { result ≡ None → (told_by self.now).heard ≡ None }
         ensures heard { IfSome result (λ heard. (told_by self.now).heard ≡ Some heard.now) }
@@ -117,6 +118,7 @@ impl Plant for MemoryPlant {
         // It fails exactly where it is to fail or goes past the room.
         ensures ok { (result ≡ Bound.Ok) ↔ IsTrue (goes_on (held_by self.old).calls (nat_lt 0 (held_by self.old).binds)) }
         ensures unfailing { (held_by self.old).calls.fail_at ≡ [] → 0 < (held_by self.old).binds → result ≡ Bound.Ok }
+        ensures uncounted { result ≡ Bound.Ok → (told_by self.new).faults ≡ (told_by self.old).faults }
         ensures held { held_by self.new ≡ after_bind result (held_by self.old) }
     {
         if !self.failing.goes_on(has_room(&self.bound)) {
@@ -135,8 +137,9 @@ impl Plant for MemoryPlant {
         // It fails exactly where it is to fail.
         ensures failed { (result ≡ Received.Failed) ↔ IsTrue (is_due (held_by self.old).calls) }
         ensures unfailing { (held_by self.old).calls.fail_at ≡ [] → ¬ (result ≡ Received.Failed) }
+        ensures uncounted { IsTrue (not (is_due (held_by self.old).calls)) → (told_by self.new).faults ≡ (told_by self.old).faults }
         // Otherwise it is Empty exactly where the script gives nothing, and what the script gives is what is taken.
-        ensures empty { result ≡ Received.Empty → ¬ IsSomeAnd (slice_get (held_by self.old).script (held_by self.old).next) (IsFor role (held_by self.old).waited) }
+        ensures empty { (result ≡ Received.Empty) ↔ (IsTrue (not (is_due (held_by self.old).calls)) × ¬ IsSomeAnd (slice_get (held_by self.old).script (held_by self.old).next) (IsFor role (held_by self.old).waited)) }
         ensures got { IsTrue (is_got result) → IsSomeAnd (slice_get (held_by self.old).script (held_by self.old).next) (IsGiven role (held_by self.old).waited result into.new) }
         ensures kept { IsTrue (not (is_got result)) → into.new ≡ into.old }
         // While there is room, it tells.
@@ -165,6 +168,7 @@ impl Plant for MemoryPlant {
         // It fails exactly where it is to fail or goes past the room: of datagrams, or of 4,160 octets.
         ensures ok { (result ≡ Sending.Sent) ↔ IsTrue (goes_on (held_by self.old).calls (nat_lt 0 (held_by self.old).sends && nat_le (length bytes.now) ROOM)) }
         ensures unfailing { (held_by self.old).calls.fail_at ≡ [] → 0 < (held_by self.old).sends → length bytes.now ≤ ROOM → result ≡ Sending.Sent }
+        ensures uncounted { result ≡ Sending.Sent → (told_by self.new).faults ≡ (told_by self.old).faults }
         ensures held { held_by self.new ≡ after_send result (held_by self.old) }
     {
         if !self.failing.goes_on(can_keep(&self.sent, bytes)) {
@@ -183,7 +187,7 @@ impl Plant for MemoryPlant {
         ensures heard { GrowsIfTold (told_by self.old).heard (told_by self.new).heard (Wait ms ∷ []) }
         ensures taken { (told_by self.new).taken ≡ (told_by self.old).taken }
         ensures sent { (told_by self.new).sent ≡ (told_by self.old).sent }
-        ensures faults { (told_by self.old).faults ≡ (told_by self.new).faults }
+        ensures uncounted { (told_by self.new).faults ≡ (told_by self.old).faults }
         ensures later { (told_by self.old).faults ≤ (told_by self.new).faults }
         // While there is room, it tells.
         ensures telling { 0 < (held_by self.old).hears → Grows (told_by self.old).heard (told_by self.new).heard (Wait ms ∷ []) }

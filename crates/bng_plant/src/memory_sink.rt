@@ -68,6 +68,7 @@ impl Sink for MemorySink {
         // It fails exactly where it is to fail or goes past its room.
         ensures ok { (result ≡ Wrote.Ok) ↔ IsTrue (goes_on (held_by self.old).calls (nat_le (length text.now) (held_by self.old).room)) }
         ensures unfailing { (held_by self.old).calls.fail_at ≡ [] → length text.now ≤ (held_by self.old).room → result ≡ Wrote.Ok }
+        ensures uncounted { result ≡ Wrote.Ok → (told_by self.new).faults ≡ (told_by self.old).faults }
         // What it appends.
         ensures front { Grows (told_by self.old).bytes (told_by self.new).bytes (take (written (held_by self.old) (length text.now)) text.now) }
         ensures held { held_by self.new ≡ record { calls = one_more (held_by self.old).calls; room = (held_by self.old).room - written (held_by self.old) (length text.now) } }

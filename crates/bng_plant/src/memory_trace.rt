@@ -100,6 +100,7 @@ impl Trace for MemoryTrace {
         // It fails exactly where it is to fail.
         ensures ok { (result ≡ Noted.Ok) ↔ IsTrue (not (is_due (held_by self.old).calls)) }
         ensures unfailing { (held_by self.old).calls.fail_at ≡ [] → result ≡ Noted.Ok }
+        ensures uncounted { result ≡ Noted.Ok → (told_by self.new).faults ≡ (told_by self.old).faults }
         ensures held { held_by self.new ≡ after_start (held_by self.old) }
     {
         if self.failing.goes_on(true) {
@@ -115,6 +116,7 @@ impl Trace for MemoryTrace {
         // It fails exactly where it is to fail or goes past the room.
         ensures ok { (result ≡ Noted.Ok) ↔ IsTrue (goes_on (held_by self.old).calls (fits round.now (held_by self.old).room)) }
         ensures unfailing { (held_by self.old).calls.fail_at ≡ [] → IsTrue (fits round.now (held_by self.old).room) → result ≡ Noted.Ok }
+        ensures uncounted { result ≡ Noted.Ok → (told_by self.new).faults ≡ (told_by self.old).faults }
         ensures held { held_by self.new ≡ after_note round.now result (held_by self.old) }
     {
         if !self.failing.goes_on(self.rounds.fits(round)) {

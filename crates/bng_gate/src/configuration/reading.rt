@@ -8,7 +8,7 @@ ghost use Rattle.bng_base.specs.declared.address.Peer.{Peer as End};
 ghost use Rattle.bng_base.specs.declared.address.SessionNo.{SessionNo as Number};
 ghost use Rattle.bng_desk.specs.declared.config.Config.{Config as Settings};
 ghost use Rattle.bng_gate.specs.declared.configuration.fault.Fault.{Fault as Rule};
-ghost use Rattle.bng_gate.specs.Configuration.{longest_text, StandsAt, IsPeer, IsAddress, IsMac, IsSession, IsFirstFault, Configures, IsRead, HasFault, IsFaultOrMemory};
+ghost use Rattle.bng_gate.specs.Configuration.{longest_text, StandsAt, IsPeer, IsAddress, IsMac, IsSession, IsFirstFault, Configures, IsRead, HasFault, IsFaultOrMemory, SameKeys};
 
 use crate::configuration::fault::{ConfigError, Fault, Key};
 use crate::configuration::find::{integer_at, text_at};
@@ -31,7 +31,8 @@ pub fn read(alloc: Global, text: &[u8]) -> Result<Config, ConfigError>
     ensures found { IfOk result (λ c. IsRead text.now c) }
     ensures refused { IfErr result (λ e. (fault : Rule) → e ≡ ConfigError.Refused fault → HasFault text.now fault) }
 
-    // What the text says is answered, unless memory runs out.
+    // What the text says is one configuration or one fault, and is answered, unless memory runs out.
+    ensures same { (c : Settings) → IsRead text.now c → IfOk result (λ answer. SameKeys answer c) }
     ensures read { (c : Settings) → IsRead text.now c → IfErr result (λ e. e ≡ ConfigError.OutOfMemory) }
     ensures faulty { (fault : Rule) → HasFault text.now fault → IsErrAnd result (IsFaultOrMemory fault) }
     ensures too_long { (result ≡ Err (ConfigError.Refused Fault.TooLong)) ↔ (longest_text < length text.now) }

@@ -4,8 +4,16 @@ use crate::configuration::{Fault, Key};
 #[test]
 fn a_run_that_fails_says_so_in_one_line(rt: HostRuntime) {
     let rows = [
-        (Refusal::Refused(Fault::TooLong), 2, "bng: config: C1 text\n"),
-        (Refusal::Refused(Fault::NotToml), 2, "bng: config: C2 text\n"),
+        (
+            Refusal::Refused(Fault::TooLong),
+            2,
+            "bng: config: C1 text\n",
+        ),
+        (
+            Refusal::Refused(Fault::NotToml),
+            2,
+            "bng: config: C2 text\n",
+        ),
         (
             Refusal::Refused(Fault::OutsideForm(Key::StaticSession)),
             2,
@@ -16,7 +24,11 @@ fn a_run_that_fails_says_so_in_one_line(rt: HostRuntime) {
             3,
             "bng: cannot open configuration\n",
         ),
-        (Refusal::CannotOpen(Opening::Core), 3, "bng: cannot open core\n"),
+        (
+            Refusal::CannotOpen(Opening::Core),
+            3,
+            "bng: cannot open core\n",
+        ),
         (Refusal::OutOfMemory, 4, "bng: out of memory\n"),
         (Refusal::OutputFailed, 5, "bng: output failed\n"),
     ];

@@ -2,7 +2,13 @@ use Rattle.std.proofs.Common.{ap, inl, arith}
 use Rattle.bng_gate.specs.declared.configuration.fault.Fault.TheVariants.{OutsideForm}
 use Rattle.bng_gate.specs.declared.configuration.fault.ConfigError.TheVariants.{Refused}
 use Rattle.bng_gate.proofs.Exclusive.{no_fault, one_fault, read_of, fault_of}
+use Rattle.bng_gate.proofs.OneReading.{one_reading}
 use Rattle.bng_gate.proofs.configuration.reading.read.Goals as goal
+
+pub returns-in-Ok-configuration_of-clause-same : goal.returns-in-Ok-configuration_of-clause-same
+returns-in-Ok-configuration_of-clause-same c other said =
+    let read = read_of c.args.text.now c.in-Ok.table (omega arith) c.in-Ok.ensures.ok c.in-Ok-configuration_of.config c.in-Ok-configuration_of.ensures.found in
+    one_reading _ _ other read said
 
 pub returns-in-Ok-configuration_of-clause-faulty : goal.returns-in-Ok-configuration_of-clause-faulty
 returns-in-Ok-configuration_of-clause-faulty c fault bad =
