@@ -63,8 +63,8 @@ static int load(char **words) {
     struct mmsghdr sends[BATCH] = {0}, gets[BATCH] = {0};
     for (int at = 0; at < BATCH; at++) {
         ins[at] = (struct iovec){rooms[at], LONGEST};
-        sends[at].msg_hdr = (struct msghdr){.msg_name = &to, .msg_namelen = sizeof to, .msg_iov = &out, .msg_iovlen = 1};
-        gets[at].msg_hdr = (struct msghdr){.msg_iov = &ins[at], .msg_iovlen = 1};
+        sends[at].msg_hdr = (struct msghdr){&to, sizeof to, &out, 1, NULL, 0, 0};
+        gets[at].msg_hdr = (struct msghdr){NULL, 0, &ins[at], 1, NULL, 0, 0};
     }
     long came = 0, lost = 0, away = 0;
     double start = seconds(), limit = atof(words[3]), now = start;

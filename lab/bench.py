@@ -1,6 +1,7 @@
 """Measures what the real program forwards from a subscriber to the core, beside a plain loop in C, both over sockets of
 the loopback, in turns on the same machine. The numbers are of this machine and this moment; the ratios say more."""
 
+import collections
 import os
 import shutil
 import statistics
@@ -24,33 +25,41 @@ class Spent:
         self.seconds = (int(fields[11]) + int(fields[12])) / TICKS
 
 
+# One run at one size: packets a second, processor microseconds and page faults a packet, packets that came and that
+# did not.
+Run = collections.namedtuple("Run", "pace used faults came lost")
+
+
 def measure(tool, lab, size, seconds):
-    """One run at one size: packets a second, processor microseconds and page faults a packet, and packets lost."""
     before = Spent(lab.program.pid)
     ends = (lab.access.fileno(), lab.core.fileno())
     command = [tool, "load", *map(str, ends), str(lab.ports["access"]), str(seconds)]
+    octets = frame(packet(length=size))
     done = subprocess.run(
-        command, input=frame(packet(length=size)), stdout=subprocess.PIPE, pass_fds=ends, timeout=seconds + 20, check=True
+        command, input=octets, stdout=subprocess.PIPE, pass_fds=ends, timeout=seconds + 20, check=True
     )
     came, lost, took = done.stdout.split()
     after = Spent(lab.program.pid)
     count = max(int(came), 1)
     used = (after.seconds - before.seconds) * 1e6 / count
-    return count / float(took), used, (after.faults - before.faults) / count, int(lost)
+    faults = (after.faults - before.faults) / count
+    return Run(int(came) / float(took), used, faults, int(came), int(lost))
+
+
+def median(runs):
+    return Run(*map(statistics.median, zip(*runs)))
 
 
 def table(results):
     """The medians of each size."""
-    print("octets       plain C         bng   ratio    C us/packet  bng us/packet   ratio   page faults/packet   lost")
-    for size, (plain, ours) in results.items():
-        c = [statistics.median(column) for column in zip(*plain)]
-        b = [statistics.median(column) for column in zip(*ours)]
-        lost = sum(run[3] for run in ours)
-        print(
-            f"{size:6} {c[0]:11,.0f}/s {b[0]:9,.0f}/s {b[0] / c[0]:7.2f} {c[1]:14.2f} {b[1]:14.2f} "
-            f"{c[1] / max(b[1], 0.01):7.2f} {c[2]:9.4f} {b[2]:10.4f} {lost:6}"
-        )
-    print("A ratio is ours to plain C's in packets for the same wall time, and for the same processor time.")
+    print("          packets/s                    us/packet                    page faults/packet")
+    print("octets      plain C        bng  ratio    plain C     bng  ratio      plain C     bng   lost")
+    for size, runs in results.items():
+        plain, ours = map(median, runs)
+        pace = f"{plain.pace:11,.0f} {ours.pace:10,.0f} {ours.pace / max(plain.pace, 1):6.2f}"
+        used = f"{plain.used:10.2f} {ours.used:7.2f} {plain.used / max(ours.used, 0.01):6.2f}"
+        print(f"{size:6} {pace} {used} {plain.faults:12.4f} {ours.faults:7.4f} {sum(run.lost for run in runs[1]):6}")
+    print("A ratio is ours to plain C's: in packets for the same wall time, and for the same processor time.")
 
 
 def main(rounds=5, seconds=1.0):
@@ -66,19 +75,26 @@ def main(rounds=5, seconds=1.0):
         ports = [plain.ports["access"], plain.ports["core"], plain.core.getsockname()[1], plain.ports["control"]]
         plain.start([tool, "loop", *map(str, ports)])
         results = {size: ([], []) for size in SIZES}
-        print(f"{rounds} runs of {seconds} s at each size, in turns; {os.cpu_count()} processors, load {os.getloadavg()[0]:.1f}")
+        octets = lost = 0
+        machine = f"{os.cpu_count()} processors, load {os.getloadavg()[0]:.1f}"
+        print(f"{rounds} runs of {seconds} s at each size, in turns; {machine}")
         for size in SIZES:
-            for lab in (plain, ours):
-                measure(tool, lab, size, 0.2)
-            for _ in range(rounds):
+            for turn in range(rounds + 1):
                 for lab, runs in zip((plain, ours), results[size]):
-                    runs.append(measure(tool, lab, size, seconds))
+                    # The first turn warms up.
+                    run = measure(tool, lab, size, seconds if turn else 0.2)
+                    if turn:
+                        runs.append(run)
+                    if lab is ours:
+                        octets += size * run.came
+                        lost += run.lost
         for lab in (plain, ours):
             lab.send(b"stop", lab.control, "control")
         plain.end()
         status, out, _ = ours.end()
         table(results)
-        print(out.splitlines()[0])
+        said = int(out.split("total in=")[1].split()[0])
+        print(f"The report says {said:,} octets, and {octets:,} came, {lost} packets lost on the way.")
         return status
 
 

@@ -17,7 +17,7 @@ def words(octets):
 def show(title, lines):
     print(f"\n{title}")
     for line in lines:
-        print(f"    {line}")
+        print(f"    {line}", flush=True)
 
 
 def show_header(octets):

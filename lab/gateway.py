@@ -1,5 +1,6 @@
 """Starts the gateway on the loopback with one static subscriber, and plays the parties around it."""
 
+import itertools
 import os
 import shutil
 import socket
@@ -85,10 +86,10 @@ def is_built():
     return max(newest(*sources), listed) <= os.path.getmtime(PROGRAM)
 
 
-def udp():
+def udp(address=LOOPBACK):
     """A socket of the loopback on a port that the system picks, which waits five seconds at most."""
     end = socket.socket(socket.AF_INET, socket.SOCK_DGRAM)
-    end.bind((LOOPBACK, 0))
+    end.bind((address, 0))
     end.settimeout(5)
     return end
 
@@ -159,6 +160,11 @@ class Lab:
             return octets, sender[1]
         except socket.timeout:
             return None, None
+
+    def receive_all(self, end, count):
+        """So many datagrams, or those before the first that does not come."""
+        came = (self.receive(end)[0] for _ in range(count))
+        return list(itertools.takewhile(lambda octets: octets is not None, came))
 
     def stop(self):
         """Sends `stop`, and returns the answer."""

@@ -4,7 +4,7 @@ import os
 import subprocess
 import sys
 
-from gateway import CRATE, PROGRAM, USAGE, Lab, frame, is_built, packet, report, run
+from gateway import CRATE, PROGRAM, USAGE, Lab, frame, is_built, packet, report, run, udp
 
 PACKET = packet()
 LOWERED = bytes.fromhex("45000054 00010000 3f01afa5 0a000002 c0000201") + PACKET[20:]
@@ -66,6 +66,45 @@ def drops_and_counts_bad_input(checks, command, patience):
         checks.same("bad input does not change the status", status, 0)
 
 
+def forwards_bursts_in_order(checks, command, patience):
+    numbers = range(1, 1001)
+    burst = 125
+    with Lab() as lab, udp("127.0.0.2") as operator:
+        lab.start(command(lab.configuration), patience)
+        came = []
+        for first in range(0, len(numbers), burst):
+            for number in numbers[first:first + burst]:
+                lab.send(frame(packet(length=20, number=number)))
+            came += lab.receive_all(lab.core, burst)
+        want = [packet(length=20, ttl=63, number=number) for number in numbers]
+        checks.same("1,000 packets in bursts come in order", came == want, True)
+        lab.send(b"stop\n", operator, "control")
+        answer = lab.receive(operator)
+        checks.same("a line end and another loopback address will do", answer, (b"stopping\n", lab.ports["control"]))
+        status, out, _ = lab.end()
+        checks.same("each of the 1,000 is counted once", (status, out), (0, report(20 * len(numbers))))
+
+
+def refuses_bad_configurations(checks):
+    with Lab() as lab:
+        with open(lab.configuration, encoding="utf-8") as file:
+            good = file.read()
+        local, peer = (f'"127.0.0.1:{port}"' for port in (lab.ports["core"], lab.access.getsockname()[1]))
+        faults = {
+            "core.local": (local, "9000"),
+            "access.1.peer": (peer, '"127.0.0.1:0"'),
+            "access.1.mac": ("02:00:00:00:00:fe", "02:00:00:00:00:FE"),
+            "static.1.address": ("10.0.0.2", "10.0.0.256"),
+        }
+        for key, (right, wrong) in faults.items():
+            bad = lab.write("bad.toml", good.replace(right, wrong))
+            checks.same(f"the key {key}", run([PROGRAM, "serve", bad]), (2, "", f"bng: config: C5 {key}\n"))
+        ours = lab.control.getsockname()[1]
+        taken = lab.write("taken.toml", good.replace(f":{lab.ports['control']}\"", f":{ours}\""))
+        unbound = (3, "", "bng: cannot open control\n")
+        checks.same("a port that is taken", run([PROGRAM, "serve", taken]), unbound)
+
+
 def refuses_bad_beginnings(checks):
     with Lab() as lab:
         missing = os.path.join(lab.folder, "missing.toml")
@@ -76,15 +115,11 @@ def refuses_bad_beginnings(checks):
         checks.same("more than 1 MiB", run([PROGRAM, "serve", long]), (2, "", "bng: config: C1 text\n"))
         checks.same("no end of text", run([PROGRAM, "serve", "/dev/zero"]), (2, "", "bng: config: C1 text\n"))
         broken = lab.write("broken.toml", "[core\n")
-        checks.same("no TOML", run([PROGRAM, "serve", broken]), (2, "", "bng: config: C2 text\n"))
+        for file in (broken, PROGRAM):
+            checks.same("no TOML", run([PROGRAM, "serve", file]), (2, "", "bng: config: C2 text\n"))
         usage = (1, "", USAGE + "\n")
         for words in ([], ["--help"], ["serve"], ["serve", "a", "b"], ["serve", b"\xff"]):
             checks.same(f"the words {words}", run([PROGRAM, *words]), usage)
-        with open(lab.configuration, encoding="utf-8") as file:
-            ours = lab.control.getsockname()[1]
-            taken = lab.write("taken.toml", file.read().replace(f":{lab.ports['control']}\"", f":{ours}\""))
-        unbound = (3, "", "bng: cannot open control\n")
-        checks.same("a port that is taken", run([PROGRAM, "serve", taken]), unbound)
 
 
 def says_when_nobody_takes_its_report(checks):
@@ -102,7 +137,9 @@ def try_all(checks):
         err = forwards_one_packet(checks, built, 10)
         checks.same("nothing is said on standard error", err, "")
         drops_and_counts_bad_input(checks, built, 10)
+        forwards_bursts_in_order(checks, built, 10)
         refuses_bad_beginnings(checks)
+        refuses_bad_configurations(checks)
         says_when_nobody_takes_its_report(checks)
     else:
         print("smoke: the built program is missing or older than its sources: runs under rt try, and only twice")
