@@ -1,15 +1,15 @@
 //! The meter.
 ghost use Rattle.std.specs.Prelude.{◌≡◌, ◌+◌, ◌-◌, ◌*◌, ◌≤◌, ◌∷◌, ◌++◌, ℕ, List, []};
 ghost use mathlib.Core.Logic.{◌↔◌};
-ghost use Rattle.bng_meter.specs.Bucket.{Offer, started, arrived, filled, colour_of, without, taken, after, colours};
+ghost use Rattle.bng_meter.specs.Bucket.{Buckets, Offer, started, arrived, filled, colour_of, without, taken, after, colours};
 
 use crate::colour::Colour;
 use crate::level;
 use bng_base::Rate;
 use std::marker::Model;
 
-/// A meter of one direction of a term. Clauses see its rate, the moment of its start and that of its last packet in milliseconds, and the
-/// tokens in its buckets.
+/// A meter of one direction of a term. Clauses see its rate, the moment of its start and that of its last packet in
+/// milliseconds, and the tokens in its buckets.
 #[derive(Clone, Copy)]
 pub struct Meter {
     rate: Rate,
@@ -46,18 +46,21 @@ impl Meter {
         }
     }
 
-    /// Colours a packet of so many octets at that moment, which is not before that of the last packet, and takes its tokens. RFC 2697
-    /// section 3, colour-blind.
+    /// Colours a packet of so many octets at that moment, which is not before that of the last packet, and takes its
+    /// tokens. RFC 2697 section 3, colour-blind.
     pub fn take(&mut self, now: u64, octets: u32) -> Colour
         requires { self.old.last ≤ now }
         // Token n has come by t milliseconds after the start exactly where CIR * t >= 1000 * n.
-        ensures arrivals { (n : ℕ) → (n ≤ arrived self.old.rate (now - self.old.start)) ↔ (1000 * n ≤ self.old.rate.cir * (now - self.old.start)) }
+        ensures arrivals { let t = now - self.old.start in
+            (n : ℕ) → (n ≤ arrived self.old.rate t) ↔ (1000 * n ≤ self.old.rate.cir * t) }
         ensures kept { self.new ≡ record self.old { last = now; committed = self.new.committed; excess = self.new.excess } }
         ensures colour { result ≡ colour_of (filled self.old now) octets }
         ensures buckets { self.new ≡ taken self.old (now, octets) }
         // So the meter is where the definition is after each list of packets, and its colours are the definition's.
-        ensures history { (rate : _) (start : ℕ) (offers : List Offer) → self.old ≡ after (started rate start) offers → self.new ≡ after (started rate start) (offers ++ (now, octets) ∷ []) }
-        ensures told { (rate : _) (start : ℕ) (offers : List Offer) → self.old ≡ after (started rate start) offers → colours (started rate start) (offers ++ (now, octets) ∷ []) ≡ colours (started rate start) offers ++ result ∷ [] }
+        ensures history { (b : Buckets) (offers : List Offer) → self.old ≡ after b offers
+            → self.new ≡ after b (offers ++ (now, octets) ∷ []) }
+        ensures told { (b : Buckets) (offers : List Offer) → self.old ≡ after b offers
+            → colours b (offers ++ (now, octets) ∷ []) ≡ colours b offers ++ result ∷ [] }
     {
         self.fill(now);
         self.spend(octets as u64)

@@ -31,7 +31,8 @@ impl Model for Profiles {
 
     ghost view = { λ p. record { names = map (λ n. n.items) p.names.items; books = p.books.items } };
 
-    ghost invariant = { λ p. (length p.names.items ≡ length p.books.items) × (length p.books.items ≤ 16) × AreDifferent (map (λ n. n.items) p.names.items) };
+    ghost invariant = { λ p. (length p.names.items ≡ length p.books.items) × (length p.books.items ≤ 16)
+        × AreDifferent (map (λ n. n.items) p.names.items) };
 }
 
 impl Profiles {
@@ -85,14 +86,16 @@ impl Profiles {
         self.books[profile as usize]
     }
 
-    /// Counts a packet of so many octets (its IPv4 total length) in the book of the profile at that place.
+    /// Counts a packet of so many octets (its IPv4 total length) in the book of the profile at that place, input (from the
+    /// subscriber) or output. Condition: no sum of the book is above 2^63.
     pub fn pass(&mut self, profile: u8, input: bool, octets: u16)
         requires profile { profile < length self.old.books }
         requires octets { octets ≤ 4096 }
         requires sums { (b : _) → slice_get self.old.books profile ≡ Some b → IsBelow b }
         ensures names { self.new.names ≡ self.old.names }
         ensures places { length self.new.books ≡ length self.old.books }
-        ensures books { (b : _) → slice_get self.old.books profile ≡ Some b → self.new.books ≡ slice_set self.old.books profile (passed b input octets) }
+        ensures books { (b : _) → slice_get self.old.books profile ≡ Some b
+            → self.new.books ≡ slice_set self.old.books profile (passed b input octets) }
     {
         let place = profile as usize;
         self.books[place] = count::passed(self.books[place], input, octets);
@@ -105,9 +108,11 @@ impl Profiles {
         requires held { (b : _) → slice_get self.old.books profile ≡ Some b → Holds b input octets }
         ensures names { self.new.names ≡ self.old.names }
         ensures places { length self.new.books ≡ length self.old.books }
-        ensures books { (b : _) → slice_get self.old.books profile ≡ Some b → self.new.books ≡ slice_set self.old.books profile (taken_off b input octets) }
+        ensures books { (b : _) → slice_get self.old.books profile ≡ Some b
+            → self.new.books ≡ slice_set self.old.books profile (taken_off b input octets) }
         // It undoes `pass`.
-        ensures undone { (b : _) → slice_get self.old.books profile ≡ Some (passed b input octets) → slice_get self.new.books profile ≡ Some b }
+        ensures undone { (b : _) → slice_get self.old.books profile ≡ Some (passed b input octets)
+            → slice_get self.new.books profile ≡ Some b }
     {
         let place = profile as usize;
         self.books[place] = count::taken_off(self.books[place], input, octets);

@@ -1,0 +1,4 @@
+pub mod Fitting
+pub mod Short
+pub mod Sending
+pub mod Sizes

@@ -1,0 +1,22 @@
+//! The Internet Protocol Control Protocol's options, by RFC 1332 section 3 and RFC 1877 section 1.
+//!
+//! [`judge`] says how a peer's Configure-Request is answered. [`IpcpAsk`] is the gateway's own side: it writes its
+//! Configure-Request and takes the replies to it. Packets and replies are those of RFC 1661 section 5. No call takes
+//! memory.
+#![tactic(auto)]
+
+mod ask;
+mod asked;
+mod judgement;
+mod made;
+pub mod option;
+mod reply;
+mod taken;
+#[cfg(test)]
+mod tests;
+
+pub use crate::ask::IpcpAsk;
+pub use crate::asked::{IpcpOptions, SentRequest};
+pub use crate::judgement::{Class, IpcpRules, Judged, judge};
+pub use crate::made::MadeOpt;
+pub use crate::taken::Taken;

@@ -1,0 +1,5 @@
+pub mod Made
+pub mod Judgement
+pub mod Asked
+pub mod Ask
+pub mod Reply

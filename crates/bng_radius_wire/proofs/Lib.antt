@@ -1,0 +1,9 @@
+pub mod Progress
+pub mod Exact
+pub mod Steps
+pub mod Spelled
+pub mod Walks
+pub mod Digested
+pub mod Checks
+pub mod Signs
+pub mod SignedReplies

@@ -1,0 +1,5 @@
+pub mod Attributes
+pub mod Grammar
+pub mod Digests
+pub mod Places
+pub mod Signing

@@ -1,0 +1,4 @@
+mod checks;
+mod reads;
+mod signs;
+mod writes;
