@@ -1,0 +1,3 @@
+pub mod Exclusive
+pub mod Trimmed
+pub mod Tables

@@ -1,0 +1,4 @@
+pub mod Cases
+pub mod Packets
+pub mod Fates
+pub mod Arrived

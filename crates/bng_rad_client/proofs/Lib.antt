@@ -1,0 +1,4 @@
+pub mod Counts
+pub mod Ages
+pub mod Numbers
+pub mod Lanes

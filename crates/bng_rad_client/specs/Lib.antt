@@ -1,0 +1,7 @@
+pub mod Table
+pub mod Due
+pub mod Replies
+pub mod Asking
+pub mod Sends
+pub mod State
+pub mod DueRequests
