@@ -1,5 +1,5 @@
 -- How the fate of a datagram follows from that of its packet.
-use Rattle.std.proofs.Common.{◌≡◌, ℕ, ◌≤◌, ◌⊎◌, inl, inr, Bool, true, false, Option, Some, None, List, [], ◌∷◌, refl, sym, ap, subst, ◌∙◌, arith}
+use Rattle.std.proofs.Common.{◌≡◌, ℕ, ◌≤◌, ◌⊎◌, inl, inr, Bool, true, false, Option, Some, None, List, [], ◌∷◌, refl, sym, ap, subst, ◌∙◌}
 use Rattle.std.proofs.lemmas.Bool.{true≢false}
 use Rattle.bng_base.specs.declared.address.Ip4.{Ip4}
 use Rattle.bng_base.specs.declared.address.Peer.{Peer}
@@ -14,8 +14,7 @@ use Rattle.bng_base.specs.FateOf.{Arrival}
 use Rattle.bng_base.specs.Ipv4Grammar.{IsIpv4}
 use Rattle.bng_base.specs.PppoeGrammar.{PppoeFrame}
 use Rattle.bng_pppoe_wire.proofs.Judging.{one_layout}
-use Rattle.bng_forward.specs.declared.view.TermView.{TermView}
-use Rattle.bng_forward.specs.Cases.{Case, drops, consumes, FirstOf}
+use Rattle.bng_forward.specs.Cases.{Case, drops, FirstOf}
 use Rattle.bng_forward.specs.Packets.{HasPacket, HasNoPacket, UpFate, DownFate, malformed, expired, spoofed}
 use Rattle.bng_forward.specs.Fates.{IsFrame, NamesSession, circuit_of, Carries, term_of, HasNoCircuit, IsData, HasData, AccessFate, IsCorePacket, holder_of, HasNoHolder, IsDelivery, HasDelivery, CoreFate, after_send}
 

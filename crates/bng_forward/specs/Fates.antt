@@ -11,7 +11,7 @@ use Rattle.bng_base.specs.declared.settings.AccessPort.{AccessPort}
 use Rattle.bng_base.specs.declared.settings.Static.{Static}
 use Rattle.bng_base.specs.FateOf.{Arrival}
 use Rattle.bng_base.specs.Ipv4Grammar.{IsIpv4}
-use Rattle.bng_base.specs.PppGrammar.{PppFrame, IsPpp}
+use Rattle.bng_base.specs.PppGrammar.{IsPpp}
 use Rattle.bng_base.specs.PppoeGrammar.{PppoeFrame, IsPppoe, HasFewTags, padi}
 use Rattle.bng_forward.specs.declared.view.TermView.{TermView}
 use Rattle.bng_forward.specs.Cases.{Case, drops, consumes, FirstOf}

@@ -1,5 +1,5 @@
 -- The fate of a packet of a term, and the packet that is sent on for it.
-use Rattle.std.specs.Prelude.{◌≡◌, ℕ, ◌-◌, ◌≤◌, Bool, true, false, List, [], ◌∷◌, Result, Ok, Err, length, take}
+use Rattle.std.specs.Prelude.{◌≡◌, ℕ, ◌-◌, ◌≤◌, false, List, [], ◌∷◌, Result, Ok, Err, length, take}
 use Rattle.bng_base.specs.declared.fate.DropCause.{DropCause}
 use Rattle.bng_base.specs.declared.fate.DropCause.TheVariants.{Malformed, NotOpen, Expired, Spoofed}
 use Rattle.bng_base.specs.declared.fate.Fate.{Fate}

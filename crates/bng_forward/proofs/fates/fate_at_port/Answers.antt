@@ -1,5 +1,4 @@
-use Rattle.std.proofs.Common.{◌≡◌, sym, subst, ◌∙◌}
-use Rattle.std.proofs.lemmas.Bool.{true≢false}
+use Rattle.std.proofs.Common.{sym, subst}
 use Rattle.bng_base.specs.declared.fate.Fate.{Fate}
 use Rattle.bng_pppoe_wire.specs.View.{frame_of}
 use Rattle.bng_forward.specs.declared.view.TermView.{TermView}

@@ -1,10 +1,10 @@
-use Rattle.std.proofs.Common.{◌≡◌, sym, subst}
+use Rattle.std.proofs.Common.{sym, subst}
 use Rattle.bng_base.specs.declared.fate.Fate.{Fate}
 use Rattle.bng_forward.specs.declared.view.TermView.{TermView}
 use Rattle.bng_forward.specs.Arrived.{as_arrival}
 use Rattle.bng_forward.specs.Packets.{DownFate, fate_of}
 use Rattle.bng_forward.specs.Fates.{CoreFate, term_of}
-use Rattle.bng_forward.proofs.Tables.{core_no_session, core_delivery}
+use Rattle.bng_forward.proofs.Tables.{core_delivery}
 use Rattle.bng_forward.proofs.fates.fate_of_core.Goals as goal
 
 pub returns : goal.returns

@@ -1,4 +1,4 @@
-use Rattle.std.proofs.Common.{◌≡◌, ℕ, List, subst}
+use Rattle.std.proofs.Common.{ℕ, List, subst}
 use Rattle.bng_base.specs.declared.fate.Fate.TheVariants.{Dropped}
 use Rattle.bng_forward.specs.Packets.{UpFate}
 use Rattle.bng_forward.proofs.Exclusive.{up_once}
