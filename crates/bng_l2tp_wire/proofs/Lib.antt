@@ -1,0 +1,5 @@
+pub mod Exactly
+pub mod AvpLaws
+pub mod AvpSteps
+pub mod Exact
+pub mod Spelled

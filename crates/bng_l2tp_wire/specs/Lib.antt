@@ -1,0 +1,4 @@
+pub mod Avps
+pub mod Messages
+pub mod View
+pub mod Reading
