@@ -16,9 +16,13 @@ pub record Heeded : Type 0 where
   pub arrival : Arrival
   pub answered : Bool
 
+-- from 127.0.0.0/8
+abbrev pub is_near : Arrival → Bool
+is_near a = a.from.ip.0 / 16777216 == 127
+
 -- `stop`, with or without a line end, from 127.0.0.0/8
 abbrev pub is_stop : Arrival → Bool
-is_stop a = not a.cut && ((a.from.ip.0 / 16777216 == 127) && (bytes_eq a.octets (codes "stop") || bytes_eq a.octets (codes "stop\n")))
+is_stop a = not a.cut && (is_near a && (bytes_eq a.octets (codes "stop") || bytes_eq a.octets (codes "stop\n")))
 
 abbrev pub stops : Heeded → Bool
 stops h = is_stop h.arrival
@@ -28,21 +32,25 @@ abbrev pub has_stop : List Heeded → Bool
 has_stop heeded = list_any stops heeded
 
 abbrev pub is_answered : Heeded → Bool
-is_answered h = stops h && h.answered
+is_answered h = is_near h.arrival && h.answered
 
 abbrev pub is_unanswered : Heeded → Bool
-is_unanswered h = stops h && not h.answered
+is_unanswered h = is_near h.arrival && not h.answered
 
--- each stop is answered `stopping`, once
-abbrev pub stopping : Heeded → Datagram
-stopping h = record { role = Control; peer = h.arrival.from; octets = codes "stopping\n" }
+-- a stop is answered `stopping`, and all else `unknown`
+abbrev pub reply_text : Arrival → List ℕ
+reply_text a = if is_stop a then codes "stopping\n" else codes "unknown\n"
+
+-- each datagram from 127.0.0.0/8 is answered, once
+abbrev pub reply : Heeded → Datagram
+reply h = record { role = Control; peer = h.arrival.from; octets = reply_text h.arrival }
 
 -- what these datagrams and the answers to them add to what the plant tells
 abbrev pub heeding : List Heeded → PlantStretch
 heeding heeded = record {
   heard = receives Control (map (λ h. h.arrival) heeded);
   taken = taken_in Control (map (λ h. h.arrival) heeded);
-  sent = map stopping (filter is_answered heeded);
+  sent = map reply (filter is_answered heeded);
   failed = list_any is_unanswered heeded;
 }
 
@@ -52,9 +60,9 @@ control_stretch heeded ended = plant_joined (heeding heeded) (ending_stretch Con
 
 -- what the answer to one datagram adds
 abbrev pub answering : Heeded → PlantStretch
-answering h = record { heard = []; taken = []; sent = if is_answered h then stopping h ∷ [] else []; failed = is_unanswered h }
+answering h = record { heard = []; taken = []; sent = if is_answered h then reply h ∷ [] else []; failed = is_unanswered h }
 
--- a datagram was answered where it is a stop
+-- a datagram of Control was answered, or is of another sender
 pub record Answers (old new : PlantTold) (a : Arrival) (stop : Bool) : Type 0 where
   pub answered : Bool
   pub told : ExtendsPlant old new (answering (record { arrival = a; answered = answered }))

@@ -1,7 +1,11 @@
+pub mod Rules
 pub mod Counting
 pub mod Reading
 pub mod Control
-pub mod Access
+pub mod Handled
+pub mod Charging
+pub mod Data
 pub mod Model
 pub mod Report
 pub mod Turn
+pub mod Handling

@@ -4,7 +4,10 @@ use Rattle.std.specs.Fmt.{decimal}
 use Rattle.bng_base.specs.declared.address.Ip4.{Ip4}
 use Rattle.bng_base.specs.declared.fate.DropCause.{DropCause}
 use Rattle.bng_base.specs.declared.fate.DropCause.TheVariants.{Malformed, NoSession, NotOpen, Expired, Spoofed, TooBig, Exceeded, LinkFailed, WantOfMemory}
+use Rattle.bng_base.specs.declared.settings.Static.{Static}
 use Rattle.bng_desk.specs.declared.drops.Drops.{Drops}
+use Rattle.bng_desk.specs.declared.traffic.Traffic.{Traffic}
+use Rattle.bng_desk.specs.Model.{input_of, output_of}
 
 -- four decimal numbers, the most significant octet first, parted by dots (RFC 1123 section 2.1)
 abbrev pub address_text : Ip4 → List ℕ
@@ -37,6 +40,16 @@ cause_name WantOfMemory = codes "WantOfMemory"
 abbrev pub quantities : ℕ → ℕ → List ℕ
 quantities input output = codes " in=" ++ decimal input ++ codes " out=" ++ decimal output ++ codes "\n"
 
+-- the octets of a circuit
+abbrev pub static_line : Ip4 → Traffic → List ℕ
+static_line address t = codes "static " ++ address_text address ++ quantities t.input t.output
+
+-- a line for each circuit
+abbrev pub static_lines : List Static → List Traffic → List ℕ
+static_lines [] traffic = []
+static_lines (s ∷ ss) [] = []
+static_lines (s ∷ ss) (t ∷ ts) = static_line s.address t ++ static_lines ss ts
+
 abbrev pub drop_line : DropCause → ℕ → List ℕ
 drop_line cause items = codes "drop " ++ cause_name cause ++ codes " " ++ decimal items ++ codes "\n"
 
@@ -46,9 +59,9 @@ drop_lines _ [] = []
 drop_lines [] (items ∷ others) = []
 drop_lines (cause ∷ more) (items ∷ others) = drop_line cause items ++ drop_lines more others
 
--- the total, the circuit, and what was dropped by each cause
-abbrev pub report_text : Ip4 → ℕ → ℕ → List ℕ → List ℕ
-report_text address input output drops =
-    codes "total" ++ quantities input output
-    ++ (codes "static " ++ address_text address ++ quantities input output)
+-- the total of the circuits, each circuit, and what was dropped by each cause
+abbrev pub report_text : List Static → List Traffic → List ℕ → List ℕ
+report_text circuits traffic drops =
+    codes "total" ++ quantities (input_of traffic) (output_of traffic)
+    ++ static_lines circuits traffic
     ++ drop_lines causes drops

@@ -4,39 +4,39 @@ use Rattle.bng_base.specs.declared.outside.Heard.{Heard}
 use Rattle.bng_base.specs.declared.outside.Heard.TheVariants.{Wait}
 use Rattle.bng_base.specs.declared.outside.ClockAnswer.TheVariants.{Now, Wall}
 use Rattle.bng_base.specs.Stretch.{Outside, PlantStretch, plant_joined, Stretch, Extends, no_stretch}
-use Rattle.bng_desk.specs.declared.config.Config.{Config}
 use Rattle.bng_desk.specs.declared.desk.Turned.{Turned}
 use Rattle.bng_desk.specs.declared.desk.Turned.TheVariants.{Ok, WantOfMemory}
 use Rattle.bng_desk.specs.declared.reading.Ended.{Ended}
 use Rattle.bng_desk.specs.Counting.{drops_of, plus}
 use Rattle.bng_desk.specs.Reading.{EndsRight, is_empty}
 use Rattle.bng_desk.specs.Control.{Heeded, has_stop, control_stretch}
-use Rattle.bng_desk.specs.Access.{Handled, IsHandled, octets_of, access_stretch}
+use Rattle.bng_desk.specs.Charging.{charged_all}
+use Rattle.bng_desk.specs.Data.{DataReading, IsReading, data_roles, data_stretch, all_handled, fates_of, is_quiet}
 use Rattle.bng_desk.specs.Model.{Desk, is_over}
 
--- the moments, and for each role what was taken from it and how its reading ended
+-- the moments, what was taken from Control and how its reading ended, and the readings of the other roles
 pub record Turn : Type 0 where
   pub moment : ℕ
   pub wall : ℕ
   pub control : List Heeded
   pub control_end : Ended
-  pub access : List Handled
-  pub access_end : Ended
+  pub data : List DataReading
 
--- Control is read at most 8 times and then the access port at most 224 times, and each datagram of it has its fate.
+-- Control is read at most 8 times, then the access ports in their order, which share 224 receives, and then the core, at most
+-- 224 times; each datagram of a port and of the core has its fate.
 pub record IsTurn (d : Desk) (t : Turn) : Type 0 where
   pub moment : d.moment ≤ t.moment
   pub control : EndsRight 8 (length t.control) t.control_end
-  pub access : EndsRight 224 (length t.access) t.access_end
-  pub handled : All (IsHandled d.config) t.access
+  pub roles : map (λ r. r.role) t.data ≡ data_roles d.config
+  pub data : All (IsReading d.config) t.data
 
 -- the desk that a turn leaves
 abbrev pub after : Desk → Turn → Desk
 after d t = record d {
   turns = d.turns + 1;
   stopped = d.stopped || has_stop t.control;
-  input = d.input + octets_of t.access;
-  drops = plus d.drops (drops_of (map (λ h. h.fate) t.access));
+  traffic = charged_all d.traffic (all_handled t.data);
+  drops = plus d.drops (drops_of (fates_of (all_handled t.data)));
   moment = t.moment;
 }
 
@@ -54,16 +54,16 @@ abbrev pub waiting_stretch : Bool → PlantStretch
 waiting_stretch idle = record { heard = waits idle; taken = []; sent = []; failed = false }
 
 -- what the phases of a turn add to what the plant tells, in their order
-abbrev pub plant_stretch : Config → Turn → PlantStretch
-plant_stretch config t =
+abbrev pub plant_stretch : Turn → PlantStretch
+plant_stretch t =
     plant_joined (control_stretch t.control t.control_end)
-    (plant_joined (access_stretch config t.access t.access_end)
-    (waiting_stretch (is_empty t.control && is_empty t.access)))
+    (plant_joined (data_stretch t.data)
+    (waiting_stretch (is_empty t.control && is_quiet t.data)))
 
 -- what a turn adds to what the outside tells
-abbrev pub stretch_of : Config → Option Turn → Stretch
-stretch_of config None = no_stretch
-stretch_of config (Some t) = record { plant = plant_stretch config t; answers = Now t.moment ∷ Wall t.wall ∷ []; rounds = []; unnoted = false }
+abbrev pub stretch_of : Option Turn → Stretch
+stretch_of None = no_stretch
+stretch_of (Some t) = record { plant = plant_stretch t; answers = Now t.moment ∷ Wall t.wall ∷ []; rounds = []; unnoted = false }
 
 -- what the call answers
 abbrev pub turned_of : Option Turn → Turned
@@ -75,7 +75,7 @@ pub record MakesTurn (d d' : Desk) (o o' : Outside) (result : Turned) : Type 0 w
   pub turn : Option Turn
   pub answer : result ≡ turned_of turn
   pub step : Step d turn d'
-  pub told : Extends o o' (stretch_of d.config turn)
+  pub told : Extends o o' (stretch_of turn)
   pub moment : d'.moment ≤ o'.clock.last
 
 -- when serving is over, it does nothing

@@ -1,5 +1,5 @@
-ghost use Rattle.std.specs.Prelude.{◌≡◌, ◌||◌};
-ghost use Rattle.bng_desk.specs.Control.{is_stop, Answers, Heeds};
+ghost use Rattle.std.specs.Prelude.{◌≡◌, ◌||◌, ℕ, Bool, List};
+ghost use Rattle.bng_desk.specs.Control.{is_near, is_stop, Answers, Heeds};
 
 use crate::calls::{receive, send};
 use crate::reading::Ended;
@@ -19,23 +19,32 @@ pub struct Heeding {
     pub idle: bool,
 }
 
+// From 127.0.0.0/8.
+fn is_near(from: Peer) -> bool
+    ensures { (cut : Bool) (octets : List ℕ) → result ≡ is_near (record { from = from; cut = cut; octets = octets }) }
+{
+    from.ip.0 / 16_777_216 == 127
+}
+
 // `stop`, with or without a line end, from 127.0.0.0/8.
-fn stops(from: Peer, cut: bool, text: &[u8]) -> bool
+fn is_stop(from: Peer, cut: bool, text: &[u8]) -> bool
     ensures { result ≡ is_stop (record { from = from; cut = cut; octets = text.now }) }
 {
     !cut && (from.ip.0 / 16_777_216 == 127
         && (text == b"stop".as_slice() || text == b"stop\n".as_slice()))
 }
 
-// Answers a `stop`, and says whether it is one.
+// Answers a datagram from 127.0.0.0/8, and says whether it is a `stop`.
 fn answer<P: Plant>(plant: &mut P, from: Peer, cut: bool, text: &[u8]) -> bool
     ensures { Answers (P.told plant.old) (P.told plant.new) (record { from = from; cut = cut; octets = text.now }) result }
 {
-    if !stops(from, cut, text) {
-        return false;
+    let stop = is_stop(from, cut, text);
+    if !is_near(from) {
+        return stop;
     }
-    let _sent = send(plant, Role::Control, from, b"stopping\n");
-    true
+    let reply: &[u8] = if stop { b"stopping\n" } else { b"unknown\n" };
+    let _sent = send(plant, Role::Control, from, reply);
+    stop
 }
 
 fn either(a: bool, b: bool) -> bool
@@ -44,7 +53,7 @@ fn either(a: bool, b: bool) -> bool
     a || b
 }
 
-/// Takes datagrams of Control until Empty, Failed or the number of a turn, and answers each `stop` as it is taken.
+/// Takes datagrams of Control until Empty, Failed or the number of a turn, and answers each from 127.0.0.0/8 as it is taken.
 pub(crate) fn heed<P: Plant>(plant: &mut P, frame: &mut Frame) -> Heeding
     ensures { Heeds (P.told plant.old) (P.told plant.new) result }
 {

@@ -1,15 +1,18 @@
-ghost use Rattle.std.specs.Prelude.{◌≡◌, ◌≤◌, ◌^◌, ◌||◌, ◌&&◌, ◌++◌, true, false, IfOk, OnOk, OnErr, if◌then◌else◌};
+ghost use Rattle.std.specs.Prelude.{◌≡◌, ◌≤◌, ◌^◌, ◌||◌, ◌&&◌, ◌++◌, true, false, IfOk, OnOk, OnErr, if◌then◌else◌, length, replicate};
 ghost use Rattle.bng_base.specs.Stretch.{ExtendsPlant};
+ghost use Rattle.bng_desk.specs.Charging.{no_traffic};
 ghost use Rattle.bng_desk.specs.Counting.{no_drops};
 ghost use Rattle.bng_desk.specs.Model.{is_over};
+ghost use Rattle.bng_desk.specs.Rules.{KeepsRules};
 ghost use Rattle.bng_desk.specs.Report.{by_number, report_text};
 ghost use Rattle.bng_desk.specs.Turn.{MakesTurn, DoesNothing, waiting_stretch};
 
-use crate::access::handle_all;
 use crate::config::Config;
 use crate::control::heed;
-use crate::drops::{Drops, NO_DROPS};
+use crate::data::read_data;
+use crate::drops::NO_DROPS;
 use crate::report::report;
+use crate::traffic::{NO_TRAFFIC, Sums, Traffic};
 use bng_base::Frame;
 use bng_plant::{Clock, Gate, Plant, Trace};
 use std::alloc::Global;
@@ -45,15 +48,14 @@ pub enum Turned {
 }
 
 /// The desk. Contracts see what it serves, how many turns it made of how many, whether it was told to stop, the
-/// octets that went to the core, the drops, and the last moment that it was given.
+/// octets that each circuit carried, the drops, and the last moment that it was given.
 #[derive(Drop)]
 pub struct Desk {
     config: Config,
     rounds: u64,
     turns: u64,
     stopped: bool,
-    input: u64,
-    drops: Drops,
+    sums: Sums,
     moment: u64,
 }
 
@@ -62,9 +64,9 @@ impl Model for Desk {
 
     ghost Value = { Seen };
 
-    ghost view = { λ d. record { config = d.config; rounds = d.rounds; turns = d.turns; stopped = d.stopped; input = d.input; drops = d.drops; moment = d.moment } };
+    ghost view = { λ d. record { config = d.config; rounds = d.rounds; turns = d.turns; stopped = d.stopped; traffic = d.sums.traffic.items; drops = d.sums.drops; moment = d.moment } };
 
-    ghost invariant = { λ d. IsKept d.rounds d.turns d.input d.drops };
+    ghost invariant = { λ d. IsKept d.config d.rounds d.turns d.sums.traffic.items d.sums.drops };
 }
 
 // Waits where nothing was taken.
@@ -88,11 +90,21 @@ fn either(a: bool, b: bool) -> bool
     a || b
 }
 
+// One traffic for each circuit, with nothing carried yet.
+fn fresh_traffic(alloc: Global, circuits: usize) -> Result<Vec<Traffic>, DeskError>
+    ensures { IfOk result (λ traffic. traffic.items ≡ replicate circuits no_traffic) }
+{
+    match vec![in alloc; NO_TRAFFIC; circuits] {
+        Ok(traffic) => Ok(traffic),
+        Err(_) => Err(DeskError::OutOfMemory),
+    }
+}
+
 impl Desk {
     /// A desk that serves this configuration for so many turns at most, 1 to 2^40. `now` is the moment of the opening
     /// in milliseconds and `wall` its second on the wall; `seed` is for random octets.
     pub fn open(
-        _alloc: Global,
+        alloc: Global,
         config: Config,
         rounds: u64,
         _seed: [u8; 32],
@@ -101,17 +113,24 @@ impl Desk {
     ) -> Result<Desk, DeskError>
         requires some { 1 ≤ rounds }
         requires most { rounds ≤ 2 ^ 40 }
-        ensures { IfOk result (λ d. d ≡ record { config = config; rounds = rounds; turns = 0; stopped = false; input = 0; drops = no_drops; moment = now }) }
+        requires rules { KeepsRules config }
+        ensures { IfOk result (λ d. d ≡ record { config = config; rounds = rounds; turns = 0; stopped = false; traffic = replicate (length config.statics) no_traffic; drops = no_drops; moment = now }) }
     {
-        Ok(Desk {
-            config,
-            rounds,
-            turns: 0,
-            stopped: false,
-            input: 0,
-            drops: NO_DROPS,
-            moment: now,
-        })
+        let circuits = config.statics.as_slice().len();
+        match fresh_traffic(alloc, circuits) {
+            Ok(traffic) => Ok(Desk {
+                config,
+                rounds,
+                turns: 0,
+                stopped: false,
+                sums: Sums {
+                    drops: NO_DROPS,
+                    traffic,
+                },
+                moment: now,
+            }),
+            Err(error) => Err(error),
+        }
     }
 
     /// Whether the desk serves, or where it stands in ending.
@@ -132,13 +151,14 @@ impl Desk {
         self.stopped = true;
     }
 
-    /// Appends the report: the octets in and out, the circuit's, and the drops by cause.
+    /// Appends the report: the octets in and out of all circuits and of each, and the drops by cause.
     pub fn report(&self, alloc: Global, out: &mut Vec<u8>) -> Result<(), DeskError>
-        ensures appended { OnOk result (out.new.items ≡ out.old.items ++ report_text self.now.config.circuit.address self.now.input 0 (by_number self.now.drops)) }
+        ensures appended { OnOk result (out.new.items ≡ out.old.items ++ report_text self.now.config.statics self.now.traffic (by_number self.now.drops)) }
         ensures kept { OnErr result (out.new.items ≡ out.old.items) }
     {
-        let drops = self.drops.by_number();
-        let Ok(text) = report(alloc, self.config.circuit.address, self.input, 0, &drops) else {
+        let drops = self.sums.drops.by_number();
+        let circuits = self.config.statics.as_slice();
+        let Ok(text) = report(alloc, circuits, self.sums.traffic.as_slice(), &drops) else {
             return Err(DeskError::OutOfMemory);
         };
         match out.extend_from_slice(text.as_bytes()) {
@@ -147,9 +167,9 @@ impl Desk {
         }
     }
 
-    /// One turn: it reads Control and then the access port, answers each `stop`, gives each datagram of the port its
-    /// fate, and hands each conforming packet to the core; where nothing was taken it waits. When serving is over it
-    /// does nothing.
+    /// One turn: it reads Control, then the access ports and then the core, answers each word from 127.0.0.0/8, gives each
+    /// datagram of a port and of the core its fate, and hands each packet that may pass to the core or to its circuit;
+    /// where nothing was taken it waits. When serving is over it does nothing.
     pub fn turn<R, P: Plant, C: Clock, T: Trace, G>(
         &mut self,
         _rt: &R,
@@ -177,11 +197,10 @@ impl Desk {
         let now = clock.now();
         let _wall = clock.wall();
         let heeding = heed(plant, &mut frame);
-        let handling = handle_all(&self.config, plant, &mut frame, &mut self.drops);
-        let idle = both(heeding.idle, handling.idle);
+        let quiet = read_data(&self.config, plant, &mut frame, &mut self.sums);
+        let idle = both(heeding.idle, quiet);
         wait_if(plant, idle);
         self.turns += 1;
-        self.input += handling.octets;
         self.stopped = either(self.stopped, heeding.stop);
         self.moment = now;
         Turned::Ok

@@ -1,7 +1,9 @@
-ghost use Rattle.std.specs.Prelude.{◌≡◌, ◌++◌, IfOk, OnOk, string_bytes};
-ghost use Rattle.bng_desk.specs.Report.{address_text, report_text, drop_line, quantities, cause_name};
+ghost use Rattle.std.specs.Prelude.{◌≡◌, ◌++◌, ◌<◌, ◌^◌, IfOk, OnOk, string_bytes};
+ghost use Rattle.bng_desk.specs.Model.{input_of, output_of};
+ghost use Rattle.bng_desk.specs.Report.{address_text, report_text, static_line, static_lines, drop_line, drop_lines, causes, quantities, cause_name};
 
-use bng_base::{DropCause, Ip4};
+use crate::traffic::Traffic;
+use bng_base::{DropCause, Ip4, Static};
 use std::alloc::{AllocError, Global};
 
 /// The causes, by number.
@@ -17,26 +19,55 @@ const CAUSES: [DropCause; 9] = [
     DropCause::WantOfMemory,
 ];
 
-/// The report: the total, the circuit of this address, and the items dropped by each cause. `input` and `output` are
-/// octets, and `drops` is by the number of the cause.
+/// The report: the total of the circuits, a line for each circuit, and the items dropped by each cause. `drops` is by the
+/// number of the cause. There is one traffic for each circuit.
 pub(crate) fn report(
     alloc: Global,
-    address: Ip4,
-    input: u64,
-    output: u64,
+    circuits: &[Static],
+    traffic: &[Traffic],
     drops: &[u64; 9],
 ) -> Result<String, AllocError>
-    ensures { IfOk result (λ text. string_bytes text ≡ report_text address input output drops.now) }
+    requires input { input_of traffic.now < 2 ^ 64 }
+    requires output { output_of traffic.now < 2 ^ 64 }
+    ensures { IfOk result (λ text. string_bytes text ≡ report_text circuits.now traffic.now drops.now) }
 {
+    let input = traffic.iter().map(|t| t.input).sum();
+    let output = traffic.iter().map(|t| t.output).sum();
     let mut text = String::from_str(alloc, "total")?;
     push_quantities(&mut text, input, output)?;
-    text.push_str("static ")?;
-    push_address(&mut text, address)?;
-    push_quantities(&mut text, input, output)?;
-    for (number, items) in drops.iter().enumerate() {
-        push_drop_line(&mut text, CAUSES[number], *items)?;
-    }
+    push_static_lines(&mut text, circuits, traffic)?;
+    push_drop_lines(&mut text, drops)?;
     Ok(text)
+}
+
+fn push_static_lines(
+    text: &mut String,
+    circuits: &[Static],
+    traffic: &[Traffic],
+) -> Result<(), AllocError>
+    ensures { OnOk result (string_bytes text.new ≡ string_bytes text.old ++ static_lines circuits.now traffic.now) }
+{
+    for (circuit, carried) in circuits.iter().zip(traffic.iter()) {
+        push_static_line(text, circuit.address, *carried)?;
+    }
+    Ok(())
+}
+
+fn push_static_line(text: &mut String, address: Ip4, carried: Traffic) -> Result<(), AllocError>
+    ensures { OnOk result (string_bytes text.new ≡ string_bytes text.old ++ static_line address carried) }
+{
+    text.push_str("static ")?;
+    push_address(text, address)?;
+    push_quantities(text, carried.input, carried.output)
+}
+
+fn push_drop_lines(text: &mut String, drops: &[u64; 9]) -> Result<(), AllocError>
+    ensures { OnOk result (string_bytes text.new ≡ string_bytes text.old ++ drop_lines causes drops.now) }
+{
+    for (number, items) in drops.iter().enumerate() {
+        push_drop_line(text, CAUSES[number], *items)?;
+    }
+    Ok(())
 }
 
 fn push_quantities(text: &mut String, input: u64, output: u64) -> Result<(), AllocError>

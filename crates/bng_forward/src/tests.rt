@@ -1,6 +1,9 @@
 ghost use Rattle.std.specs.Prelude.{◌≤◌, length};
 
-use crate::{Arrived, TermView, access_fate, core_fate, down, up};
+use crate::{
+    Arrived, Opened, TermView, access_fate, core_fate, down, open_frame, open_packet, put_in_frame,
+    up,
+};
 use arrayvec::ArrayVec;
 use bng_base::{AccessPort, DropCause, Fate, Frame, Ip4, Mac, Peer, SessionNo, Static};
 use std::process::Abort;
@@ -28,6 +31,12 @@ const FRAME: [u8; 60] = [
     2, 0, 0, 0, 0, 0xfe, 2, 0, 0, 0, 0, 1, 0x88, 0x64, 0x11, 0, 4, 1, 0, 0x16, 0, 0x21, 0x45, 0, 0,
     0x14, 0, 2, 0, 0, 2, 0x11, 0xec, 0xd4, 10, 0, 0, 2, 192, 0, 2, 1, 0, 0, 0, 0, 0, 0, 0, 0, 0, 0,
     0, 0, 0, 0, 0, 0, 0, 0,
+];
+
+// DOWN_SENT in a frame of session 1025
+const FRAME_SENT: [u8; 42] = [
+    2, 0, 0, 0, 0, 1, 2, 0, 0, 0, 0, 0xfe, 0x88, 0x64, 0x11, 0, 4, 1, 0, 0x16, 0, 0x21, 0x45, 0, 0,
+    0x14, 0, 2, 0, 0, 1, 0x11, 0xed, 0xd4, 192, 0, 2, 1, 10, 0, 0, 2,
 ];
 
 // a PADT of session 1025
@@ -131,19 +140,22 @@ fn circuits() -> [Static; 1] {
     }]
 }
 
-// the fate of octets from the other end of the access port, whose packet was sent
-fn fate_at_access(octets: &[u8]) -> Fate {
-    let port = AccessPort {
+fn access_port() -> AccessPort {
+    AccessPort {
         local: port_end(9010),
         peer: port_end(9011),
         mac: Mac([2, 0, 0, 0, 0, 0xfe]),
-    };
+    }
+}
+
+// the fate of octets from the other end of the access port, whose packet was sent
+fn fate_at_access(octets: &[u8]) -> Fate {
     let arrived = Arrived {
         from: port_end(9011),
         cut: false,
         octets,
     };
-    access_fate(&[port], &circuits(), 1, &arrived, true)
+    access_fate(&[access_port()], &circuits(), 1, &arrived, true)
 }
 
 #[test]
@@ -201,4 +213,38 @@ fn each_datagram_of_the_core_has_its_fate(rt: HostRuntime) {
         };
         assert_eq!(rt; core_fate(core, &circuits(), &arrived, sent), fate);
     }
+}
+
+const PASSES: Opened = Opened::Passes {
+    place: 0,
+    octets: 20,
+};
+
+#[test]
+fn a_padded_frame_is_opened_to_its_packet(rt: HostRuntime) {
+    let mut frame = frame_of(&FRAME);
+    let ports = [access_port()];
+    let opened = open_frame(&ports, &circuits(), 1, port_end(9011), false, &mut frame);
+    assert_eq!(rt; opened, PASSES);
+    assert_eq!(rt; frame.payload(), UP_SENT.as_slice());
+    frame.set(&PADI);
+    let opened = open_frame(&ports, &circuits(), 1, port_end(9011), false, &mut frame);
+    assert_eq!(rt; opened, Opened::Ends(Fate::Consumed));
+    let opened = open_frame(&ports, &circuits(), 1, port_end(9011), true, &mut frame);
+    assert_eq!(rt; opened, Opened::Ends(Fate::Dropped(DropCause::Malformed)));
+}
+
+#[test]
+fn a_packet_of_the_core_becomes_a_frame_of_its_circuit(rt: HostRuntime) {
+    let core = port_end(9001);
+    let mut frame = frame_of(&DOWN);
+    let opened = open_packet(core, &circuits(), core, false, &mut frame);
+    assert_eq!(rt; opened, PASSES);
+    assert_eq!(rt; frame.payload(), DOWN_SENT.as_slice());
+    let [circuit] = circuits();
+    put_in_frame(&access_port(), &circuit, &mut frame);
+    assert_eq!(rt; frame.payload(), FRAME_SENT.as_slice());
+    frame.set(&DOWN_SENT);
+    let opened = open_packet(core, &circuits(), core, false, &mut frame);
+    assert_eq!(rt; opened, Opened::Ends(Fate::Dropped(DropCause::Expired)));
 }

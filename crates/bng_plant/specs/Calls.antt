@@ -1,10 +1,13 @@
 -- What the calls of the outside add to what it tells.
-use Rattle.std.specs.Prelude.{◌≤◌, ℕ, List, [], ◌∷◌, Option, length, take, nat_le, if◌then◌else◌}
+use Rattle.std.specs.Prelude.{◌≡◌, ◌≤◌, ℕ, List, [], ◌∷◌, Option, length, take, nat_le, if◌then◌else◌}
 use Rattle.bng_base.specs.declared.address.Peer.{Peer}
 use Rattle.bng_base.specs.declared.outside.Role.{Role}
 use Rattle.bng_base.specs.declared.outside.Role.TheVariants.{Access, Core, Tunnel, Auth, Acct, Coa, Control}
 use Rattle.bng_base.specs.declared.outside.Datagram.{Datagram}
 use Rattle.bng_base.specs.declared.outside.Bind.{Bind}
+use Rattle.bng_base.specs.declared.outside.Received.{Received}
+use Rattle.bng_base.specs.declared.outside.Received.TheVariants.{Got, Empty, Failed}
+use Rattle.bng_base.specs.Packet.{Packet}
 use Rattle.bng_base.specs.declared.round.RoundRecord.{RoundRecord}
 use Rattle.bng_plant.specs.declared.answers.Bound.{Bound}
 use Rattle.bng_plant.specs.declared.answers.Bound.TheVariants.{Ok as BoundOk, Failed as BoundFailed}
@@ -27,6 +30,12 @@ send_most Auth = 4160
 send_most Acct = 4160
 send_most Coa = 4160
 send_most Control = 4160
+
+-- a frame that a receive filled has all its headroom
+abbrev pub IsFilled : Received → Packet → Type 0
+IsFilled (Got from cut) frame = frame.headroom ≡ 64
+IsFilled Empty frame = Unit {0}
+IsFilled Failed frame = Unit {0}
 
 -- what a bind adds
 abbrev pub binds : Role → Peer → Bound → List Bind

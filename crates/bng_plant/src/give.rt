@@ -2,6 +2,7 @@
 ghost use Rattle.std.specs.Prelude.{◌≡◌, ◌≤◌, ◌<◌, ◌+◌, ◌++◌, ◌↔◌, length, take, map, if◌then◌else◌, IsTrue, IsSomeAnd, slice_get};
 ghost use Rattle.bng_base.specs.Told.{taken_by};
 ghost use Rattle.bng_plant.specs.Arrival.{datagram_of, is_got, IsFor, IsGiven};
+ghost use Rattle.bng_plant.specs.Calls.{IsFilled};
 
 use crate::arrival::Arrival;
 use bng_base::{Frame, Received, Role};
@@ -15,6 +16,7 @@ pub fn give(
     into: &mut Frame,
 ) -> Received
     ensures answers { ¬ (result ≡ Received.Failed) }
+    ensures filled { IsFilled result into.new }
     ensures empty { (result ≡ Received.Empty) ↔ ¬ IsSomeAnd (slice_get script.now next.old) (IsFor role waited.old) }
     ensures got { IsTrue (is_got result) → IsSomeAnd (slice_get script.now next.old) (IsGiven role waited.old result into.new) }
     ensures told { map datagram_of (take next.new script.now) ≡ map datagram_of (take next.old script.now) ++ taken_by role result into.new.payload }

@@ -3,7 +3,7 @@ ghost use Rattle.bng_base.specs.Causes.{HasCause};
 ghost use Rattle.bng_base.specs.Told.{Grows, GrowsIfTold, taken_by};
 ghost use Rattle.bng_base.specs.declared.outside.Heard.TheVariants.{Receive, Wait};
 ghost use Rattle.bng_plant.specs.Arrival.{datagram_of, is_got, IsFor, IsGiven};
-ghost use Rattle.bng_plant.specs.Calls.{binds, sends, send_most};
+ghost use Rattle.bng_plant.specs.Calls.{IsFilled, binds, sends, send_most};
 ghost use Rattle.bng_plant.specs.Failing.{is_due, goes_on};
 
 use crate::answers::{Bound, Sending};
@@ -129,6 +129,7 @@ impl Plant for MemoryPlant {
     }
 
     fn recv(&mut self, role: Role, into: &mut Frame) -> Received
+        ensures filled { IsFilled result into.new }
         ensures bound { (told_by self.new).bound ≡ (told_by self.old).bound }
         ensures heard { GrowsIfTold (told_by self.old).heard (told_by self.new).heard (Receive role result ∷ []) }
         ensures taken { Grows (told_by self.old).taken (told_by self.new).taken (taken_by role result into.new.payload) }

@@ -3,7 +3,7 @@ ghost use Rattle.bng_base.specs.declared.outside.Heard.TheVariants.{Receive, Wai
 ghost use Rattle.bng_base.specs.declared.outside.ClockAnswer.TheVariants.{Now, Wall};
 ghost use Rattle.bng_base.specs.Causes.{HasCause};
 ghost use Rattle.bng_base.specs.Told.{PlantTold, ClockTold, EntropyTold, FilesTold, TraceTold, SinkTold, Grows, GrowsIfTold, taken_by};
-ghost use Rattle.bng_plant.specs.Calls.{send_most, binds, sends, seeds, notes, writes};
+ghost use Rattle.bng_plant.specs.Calls.{send_most, IsFilled, binds, sends, seeds, notes, writes};
 
 use crate::answers::{Bound, FileError, Noted, Seeded, Sending, Wrote};
 use bng_base::{Frame, Peer, Received, Role, RoundRecord};
@@ -21,8 +21,9 @@ pub trait Plant {
         ensures sent { (told self.new).sent ≡ (told self.old).sent }
         ensures cause { HasCause (told self.old).faults (told self.new).faults (result ≡ Bound.Failed) };
 
-    /// Takes the next datagram of a role into the frame, where one is there.
+    /// Takes the next datagram of a role into the frame, where one is there. The frame then has all its headroom.
     fn recv(&mut self, role: Role, into: &mut Frame) -> Received
+        ensures filled { IsFilled result into.new }
         ensures bound { (told self.new).bound ≡ (told self.old).bound }
         ensures heard { GrowsIfTold (told self.old).heard (told self.new).heard (Receive role result ∷ []) }
         ensures taken { Grows (told self.old).taken (told self.new).taken (taken_by role result into.new.payload) }
