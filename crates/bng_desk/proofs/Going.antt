@@ -14,7 +14,7 @@ use Rattle.bng_base.specs.FateOf.{Arrival}
 use Rattle.bng_base.specs.Told.{PlantTold}
 use Rattle.bng_base.specs.Stretch.{PlantStretch, plant_joined, ExtendsPlant}
 use Rattle.bng_base.proofs.StretchLaws.{plant_more}
-use Rattle.bng_desk.specs.declared.config.Config.{Config}
+use Rattle.bng_config.specs.declared.config.Config.{Config}
 use Rattle.bng_desk.specs.Reading.{is_empty, receives, taken_in, receiving}
 use Rattle.bng_desk.specs.Control.{Heeded, is_answered, is_unanswered, stopping, heeding, answering}
 use Rattle.bng_desk.specs.Access.{Handled, went, failed_to_go, to_core, handling, forwarding}

@@ -7,7 +7,7 @@ use Rattle.bng_base.specs.declared.outside.Role.TheVariants.{Access, Core, Tunne
 use Rattle.bng_base.specs.FateOf.{Arrival}
 use Rattle.bng_base.specs.Told.{PlantTold}
 use Rattle.bng_base.specs.Stretch.{PlantStretch, plant_none, plant_joined, ExtendsPlant}
-use Rattle.bng_desk.specs.declared.config.Config.{Config}
+use Rattle.bng_config.specs.declared.config.Config.{Config}
 use Rattle.bng_desk.specs.declared.reading.Ended.{Ended}
 use Rattle.bng_desk.specs.declared.drops.Drops.{Drops}
 use Rattle.bng_desk.specs.declared.traffic.Traffic.{Traffic}

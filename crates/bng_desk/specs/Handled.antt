@@ -14,7 +14,7 @@ use Rattle.bng_base.specs.Stretch.{ExtendsPlant}
 use Rattle.bng_forward.specs.Fates.{IsPort, AccessFate, CoreFate}
 use Rattle.bng_forward.specs.Framed.{circuit_frame}
 use Rattle.bng_forward.specs.Opened.{PassesUp, PassesDown}
-use Rattle.bng_desk.specs.declared.config.Config.{Config}
+use Rattle.bng_config.specs.declared.config.Config.{Config}
 use Rattle.bng_desk.specs.Counting.{is_dropped}
 use Rattle.bng_desk.specs.Reading.{sending}
 

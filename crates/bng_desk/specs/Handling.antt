@@ -7,7 +7,7 @@ use Rattle.bng_base.specs.declared.outside.Role.TheVariants.{Access, Core as OfC
 use Rattle.bng_base.specs.FateOf.{Arrival}
 use Rattle.bng_base.specs.Told.{PlantTold}
 use Rattle.bng_base.specs.Stretch.{ExtendsPlant}
-use Rattle.bng_desk.specs.declared.config.Config.{Config}
+use Rattle.bng_config.specs.declared.config.Config.{Config}
 use Rattle.bng_desk.specs.declared.data.DataRole.{DataRole}
 use Rattle.bng_desk.specs.declared.data.DataRole.TheVariants.{Port, Core}
 use Rattle.bng_desk.specs.declared.data.RoleRead.{RoleRead}

@@ -1,4 +1,3 @@
-pub mod Rules
 pub mod Counting
 pub mod Reading
 pub mod Control

@@ -1,10 +1,10 @@
 -- The desk as contracts see it.
 use Rattle.std.specs.Prelude.{◌≡◌, ℕ, ◌*◌, ◌^◌, ◌≤◌, Bool, ◌==◌, ◌||◌, List, length, sum_by}
-use Rattle.bng_desk.specs.declared.config.Config.{Config}
+use Rattle.bng_config.specs.declared.config.Config.{Config}
 use Rattle.bng_desk.specs.declared.drops.Drops.{Drops}
 use Rattle.bng_desk.specs.declared.traffic.Traffic.{Traffic}
 use Rattle.bng_desk.specs.Counting.{Within}
-use Rattle.bng_desk.specs.Rules.{KeepsRules}
+use Rattle.bng_config.specs.Rules.{KeepsRules}
 
 -- What it serves, after how many turns it ends by itself, how many it made, whether it was told to stop, the octets
 -- that each circuit carried, the drops, and the last moment that it was given.

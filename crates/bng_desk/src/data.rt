@@ -5,10 +5,10 @@ ghost use Rattle.bng_desk.specs.Data.{ports_up_to, data_roles};
 ghost use Rattle.bng_desk.specs.Handled.{HandsDown};
 ghost use Rattle.bng_desk.specs.Handling.{role_of, Handles, HandlesRole, HandlesRoles, IsSummed};
 ghost use Rattle.bng_desk.specs.Reading.{sending};
-ghost use Rattle.bng_desk.specs.Rules.{KeepsRules};
+ghost use Rattle.bng_config.specs.Rules.{KeepsRules};
 
 use crate::calls::{receive, send};
-use crate::config::Config;
+use bng_config::Config;
 use crate::drops::count;
 use crate::reading::Ended;
 use crate::traffic::{Sums, settle};

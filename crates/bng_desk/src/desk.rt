@@ -3,11 +3,11 @@ ghost use Rattle.bng_base.specs.Stretch.{ExtendsPlant};
 ghost use Rattle.bng_desk.specs.Charging.{no_traffic};
 ghost use Rattle.bng_desk.specs.Counting.{no_drops};
 ghost use Rattle.bng_desk.specs.Model.{is_over};
-ghost use Rattle.bng_desk.specs.Rules.{KeepsRules};
+ghost use Rattle.bng_config.specs.Rules.{KeepsRules};
 ghost use Rattle.bng_desk.specs.Report.{by_number, report_text};
 ghost use Rattle.bng_desk.specs.Turn.{MakesTurn, DoesNothing, waiting_stretch};
 
-use crate::config::Config;
+use bng_config::Config;
 use crate::control::heed;
 use crate::data::read_data;
 use crate::drops::NO_DROPS;

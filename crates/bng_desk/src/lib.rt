@@ -6,7 +6,6 @@
 #![tactic(auto)]
 
 mod calls;
-mod config;
 mod control;
 mod data;
 mod desk;
@@ -15,7 +14,7 @@ mod reading;
 mod report;
 mod traffic;
 
-pub use crate::config::Config;
+
 pub use crate::desk::{Desk, DeskError, DeskState, Turned};
 pub use crate::drops::Drops;
 pub use crate::reading::Ended;

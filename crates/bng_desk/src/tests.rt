@@ -1,4 +1,5 @@
-use crate::{Config, Desk, DeskState};
+use crate::{Desk, DeskState};
+use bng_config::Config;
 use arrayvec::ArrayVec;
 use bng_base::{AccessPort, Ip4, Listed, Mac, Peer, SessionNo, Static};
 use std::alloc::{AllocError, Global};

@@ -1,10 +1,3 @@
-pub mod KeyTexts
-pub mod Numbers
-pub mod Addresses
-pub mod Octets
-pub mod Faults
-pub mod Exclusive
-pub mod OneReading
 pub mod Turns
 pub mod Laws
 pub mod Ends

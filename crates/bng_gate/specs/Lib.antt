@@ -1,8 +1,4 @@
 pub mod Words
-pub mod Address
-pub mod Keys
-pub mod Parts
-pub mod Configuration
 pub mod Texts
 pub mod Taken
 pub mod Serving

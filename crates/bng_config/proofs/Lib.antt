@@ -1,0 +1,7 @@
+pub mod KeyTexts
+pub mod Numbers
+pub mod Addresses
+pub mod Octets
+pub mod Faults
+pub mod Exclusive
+pub mod OneReading

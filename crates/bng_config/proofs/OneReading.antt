@@ -1,0 +1,120 @@
+-- A text stands for one configuration: each form is the spelling of one value.
+use Rattle.std.proofs.Common.{◌≡◌, ℕ, ◌<◌, ◌/◌, ◌%◌, ◌^◌, false, List, ◌∷◌, ◌++◌, sym, ap, subst, ◌∙◌, arith}
+use Rattle.std.specs.Fmt.{decimal, digit_glyph}
+use Rattle.std.proofs.lemmas.Bool.Decides.{nat_tests}
+use Rattle.std.proofs.lemmas.Fmt.{decimal_injective}
+use Rattle.std.proofs.lemmas.Option.{same_Some}
+use Rattle.toml.specs.Data.{Data, table}
+use Rattle.bng_base.specs.declared.address.Ip4.{Ip4}
+use Rattle.bng_base.specs.declared.address.Mac.{Mac}
+use Rattle.bng_base.specs.declared.address.Peer.{Peer}
+use Rattle.bng_base.specs.declared.address.SessionNo.{SessionNo}
+use Rattle.bng_config.specs.declared.config.Config.{Config}
+use Rattle.bng_config.specs.declared.fault.Key.{Key}
+use Rattle.bng_config.specs.Address.{address_text, peer_text, mac_text, octet_text, dot, colon}
+use Rattle.bng_config.specs.Configuration.{StandsAt, IsPeer, IsAddress, IsMac, IsSession, Configures, IsRead, SameKeys}
+use Rattle.bng_config.proofs.Numbers.{decimal_without}
+use Rattle.bng_config.proofs.Addresses.{cut_once, address_parts, address_without, peer_parts, second_text, third_text, fourth_text}
+use Rattle.bng_config.proofs.Octets.{six_of, mac_parts, second_text as second_octets, third_text as third_octets, fourth_text as fourth_octets, fifth_text as fifth_octets, sixth_text as sixth_octets}
+use Rattle.bng_config.proofs.Exclusive.{one_document}
+
+number_once : (m n : ℕ) (x y : List ℕ) → m < 256 → n < 256 → decimal m ++ dot ∷ x ≡ decimal n ++ dot ∷ y → (m ≡ n) × (x ≡ y)
+number_once m n x y fit_m fit_n e =
+    let cut = cut_once dot (decimal m) (decimal n) x y (decimal_without m dot (omega arith) (omega arith)) (decimal_without n dot (omega arith) (omega arith)) e in
+    (decimal_injective m n (omega arith) (omega arith) cut.0, cut.1)
+
+address_once : (a b : Ip4) → a.0 < 2 ^ 32 → b.0 < 2 ^ 32 → address_text a ≡ address_text b → a ≡ b
+address_once a b fit_a fit_b e =
+    let first = number_once (a.0 / 2 ^ 24) (b.0 / 2 ^ 24) (second_text a) (second_text b) (omega arith) (omega arith) (sym (address_parts a) ∙ e ∙ address_parts b) in
+    let second = number_once (a.0 / 2 ^ 16 % 256) (b.0 / 2 ^ 16 % 256) (third_text a) (third_text b) (omega arith) (omega arith) first.1 in
+    let third = number_once (a.0 / 2 ^ 8 % 256) (b.0 / 2 ^ 8 % 256) (fourth_text a) (fourth_text b) (omega arith) (omega arith) second.1 in
+    let fourth = decimal_injective (a.0 % 256) (b.0 % 256) (omega arith) (omega arith) third.1 in
+    let same : a.0 ≡ b.0 = omega (arith, first.0, second.0, third.0, fourth) in
+    let make : ℕ → Ip4 = λ n. record { 0 = n } in
+    ap make same
+
+address_at_once : (d : Data) (a b : Ip4) → IsAddress d a → IsAddress d b → a ≡ b
+address_at_once d a b p q =
+    let strings = sym p.text ∙ q.text in
+    let texts : address_text a ≡ address_text b = cc in
+    address_once a b p.address q.address texts
+
+peer_once : (d : Data) (p q : Peer) → IsPeer d p → IsPeer d q → p ≡ q
+peer_once d p q a b =
+    let strings = sym a.text ∙ b.text in
+    let texts : peer_text p ≡ peer_text q = cc in
+    let cut = cut_once colon (address_text p.ip) (address_text q.ip) (decimal p.port) (decimal q.port) (address_without p.ip a.address) (address_without q.ip b.address) (sym (peer_parts p) ∙ texts ∙ peer_parts q) in
+    let ips : p.ip ≡ q.ip = address_once p.ip q.ip a.address b.address cut.0 in
+    let high_p = a.high in
+    let high_q = b.high in
+    let ports : p.port ≡ q.port = decimal_injective p.port q.port (omega arith) (omega arith) cut.1 in
+    λ i. record { ip = ips i; port = ports i }
+
+glyph_once : (m n : ℕ) → m < 16 → n < 16 → digit_glyph false m ≡ digit_glyph false n → m ≡ n
+glyph_once m n fit_m fit_n e = grind (arith, nat_tests)
+
+last_once : (m n : ℕ) → m < 256 → n < 256 → octet_text m ≡ octet_text n → m ≡ n
+last_once m n fit_m fit_n e =
+    let high : digit_glyph false (m / 16) ≡ digit_glyph false (n / 16) = cc in
+    let low : digit_glyph false (m % 16) ≡ digit_glyph false (n % 16) = cc in
+    let highs = glyph_once (m / 16) (n / 16) (omega arith) (omega arith) high in
+    let lows = glyph_once (m % 16) (n % 16) (omega arith) (omega arith) low in
+    omega (arith, highs, lows)
+
+octet_once : (m n : ℕ) (x y : List ℕ) → m < 256 → n < 256 → octet_text m ++ colon ∷ x ≡ octet_text n ++ colon ∷ y → (m ≡ n) × (x ≡ y)
+octet_once m n x y fit_m fit_n e =
+    let front : octet_text m ≡ octet_text n = cc in
+    let rest : x ≡ y = cc in
+    (last_once m n fit_m fit_n front, rest)
+
+mac_once : (d : Data) (m n : Mac) → IsMac d m → IsMac d n → m ≡ n
+mac_once d m n p q =
+    let s = six_of m.0 p.six p.octets in
+    let t = six_of n.0 q.six q.octets in
+    let strings = sym p.text ∙ q.text in
+    let texts : mac_text m ≡ mac_text n = cc in
+    let first = octet_once s.a t.a (second_octets s) (second_octets t) s.fit_a t.fit_a (sym (mac_parts m s) ∙ texts ∙ mac_parts n t) in
+    let second = octet_once s.b t.b (third_octets s) (third_octets t) s.fit_b t.fit_b first.1 in
+    let third = octet_once s.c t.c (fourth_octets s) (fourth_octets t) s.fit_c t.fit_c second.1 in
+    let fourth = octet_once s.d t.d (fifth_octets s) (fifth_octets t) s.fit_d t.fit_d third.1 in
+    let fifth = octet_once s.e t.e (sixth_octets s) (sixth_octets t) s.fit_e t.fit_e fourth.1 in
+    let sixth = last_once s.f t.f s.fit_f t.fit_f fifth.1 in
+    let are = s.are in
+    let too = t.are in
+    let lists : m.0 ≡ n.0 = cc (first.0, second.0, third.0, fourth.0, fifth.0, sixth) in
+    let make : List ℕ → Mac = λ xs. record { 0 = xs } in
+    ap make lists
+
+session_once : (d : Data) (m n : SessionNo) → IsSession d m → IsSession d n → m ≡ n
+session_once d m n p q =
+    let numbers = sym p.number ∙ q.number in
+    let same : m.0 ≡ n.0 = cc in
+    let make : ℕ → SessionNo = λ n. record { 0 = n } in
+    ap make same
+
+same_value : {document : Data} {key : Key} {P Q : Data → Type 0} (a : StandsAt document key P) (b : StandsAt document key Q) → a.value ≡ b.value
+same_value a b = same_Some _ _ (sym a.found ∙ b.found)
+
+-- what stands at a key is one value of its form
+one_at : {X : Type 0} {document : Data} {key : Key} (Form : Data → X → Type 0) → ((d : Data) (x y : X) → Form d x → Form d y → x ≡ y)
+    → (x y : X) → StandsAt document key (λ d. Form d x) → StandsAt document key (λ d. Form d y) → x ≡ y
+one_at Form once x y a b = once b.value x y (subst (λ d. Form d x) (same_value a b) a.is) b.is
+
+one_configuration : (document : Data) (a b : Config) → Configures document a → Configures document b → SameKeys a b
+one_configuration document a b p q = record {
+  control_local = one_at IsPeer peer_once a.control_local b.control_local p.control_local q.control_local;
+  core_local = one_at IsPeer peer_once a.core_local b.core_local p.core_local q.core_local;
+  core_peer = one_at IsPeer peer_once a.core_peer b.core_peer p.core_peer q.core_peer;
+  access_local = one_at IsPeer peer_once a.access.local b.access.local p.access_local q.access_local;
+  access_peer = one_at IsPeer peer_once a.access.peer b.access.peer p.access_peer q.access_peer;
+  access_mac = one_at IsMac mac_once a.access.mac b.access.mac p.access_mac q.access_mac;
+  static_mac = one_at IsMac mac_once a.circuit.mac b.circuit.mac p.static_mac q.static_mac;
+  static_session = one_at IsSession session_once a.circuit.session b.circuit.session p.static_session q.static_session;
+  static_address = one_at IsAddress address_at_once a.circuit.address b.circuit.address p.static_address q.static_address;
+}
+
+-- a text says one configuration
+pub one_reading : (text : List ℕ) (a b : Config) → IsRead text a → IsRead text b → SameKeys a b
+one_reading text a b p q =
+    let same = one_document text p.members q.members p.document q.document in
+    one_configuration (table q.members) a b (subst (λ ms. Configures (table ms) a) same p.configures) q.configures

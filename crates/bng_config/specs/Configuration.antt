@@ -1,0 +1,220 @@
+-- What a configuration is: the keys that are read, and the form of what stands at each.
+use Rattle.std.specs.Prelude.{◌≡◌, ◌≢◌, ℕ, suc, ◌<◌, ◌≤◌, ◌^◌, pos, List, [], ◌∷◌, ◌++◌, length, Option, None, Some, option_and_then, IsUtf8, ◌⊎◌}
+use Rattle.std.specs.List.{AllByRecursion, slice_index_or}
+use Rattle.toml.specs.Data.{Data, Items, no_items, item, Members, string, integer, array, table, get, at, as_array}
+use Rattle.toml.specs.Parse.{parse_document}
+use Rattle.bng_base.specs.declared.address.Ip4.{Ip4}
+use Rattle.bng_base.specs.declared.address.Mac.{Mac}
+use Rattle.bng_base.specs.declared.address.Peer.{Peer}
+use Rattle.bng_base.specs.declared.address.SessionNo.{SessionNo}
+use Rattle.bng_base.specs.declared.settings.AccessPort.{AccessPort}
+use Rattle.bng_base.specs.declared.settings.Static.{Static}
+use Rattle.bng_config.specs.declared.config.Config.{Config}
+use Rattle.bng_config.specs.declared.fault.Key.{Key}
+use Rattle.bng_config.specs.declared.fault.Key.TheVariants.{ControlLocal, CoreLocal, CorePeer, Access, AccessLocal, AccessPeer, AccessMac, Statics, StaticPort, StaticMac, StaticSession, StaticAddress}
+use Rattle.bng_config.specs.declared.fault.Fault.{Fault}
+use Rattle.bng_config.specs.declared.fault.Fault.TheVariants.{TooLong, NotToml, OutsideForm}
+use Rattle.bng_config.specs.declared.fault.ConfigError.{ConfigError}
+use Rattle.bng_config.specs.declared.fault.ConfigError.TheVariants.{Refused, OutOfMemory}
+use Rattle.bng_config.specs.Address.{address_text, peer_text, mac_text}
+use Rattle.bng_config.specs.Keys.{Step, named, placed, path_of, keys_in_order}
+use Rattle.bng_config.specs.Rules.{IsSessionNumber}
+
+-- the longest text that is read, in octets
+abbrev pub longest_text : ℕ
+longest_text = 1048576
+
+-- the most access ports, and the most circuits
+abbrev pub most_ports : ℕ
+most_ports = 16
+
+abbrev pub most_circuits : ℕ
+most_circuits = 1024
+
+-- the value to which the steps lead
+abbrev pub value_at : List Step → Data → Option Data
+value_at [] d = Some d
+value_at (named name ∷ more) d = option_and_then (value_at more) (get name d)
+value_at (placed place ∷ more) d = option_and_then (value_at more) (at place d)
+
+abbrev pub item_count : Items → ℕ
+item_count no_items = 0
+item_count (item d ds) = suc (item_count ds)
+
+-- how many items the value has, if it is a list
+abbrev pub count_of : Option Items → ℕ
+count_of None = 0
+count_of (Some items) = item_count items
+
+-- how many entries the list at the key has: none where there is no list
+abbrev pub entries : Data → Key → ℕ
+entries document key = count_of (option_and_then as_array (value_at (path_of key) document))
+
+-- the order in which the keys of the document are looked at
+abbrev pub keys : Data → List Key
+keys document = keys_in_order (entries document Access) (entries document Statics)
+
+-- a list of this many items at least and at most
+pub record IsList (low high : ℕ) (d : Data) : Type 0 where
+  pub items : Items
+  pub list : d ≡ array items
+  pub few : item_count items ≤ high
+  pub some : low ≤ item_count items
+
+-- a text of an address and a port, which is not 0
+pub record IsPeer (d : Data) (p : Peer) : Type 0 where
+  pub text : d ≡ string (peer_text p)
+  pub address : p.ip.0 < 2 ^ 32
+  pub low : 1 ≤ p.port
+  pub high : p.port < 2 ^ 16
+
+-- a text of an address
+pub record IsAddress (d : Data) (a : Ip4) : Type 0 where
+  pub text : d ≡ string (address_text a)
+  pub address : a.0 < 2 ^ 32
+
+-- a text of six octets
+pub record IsMac (d : Data) (m : Mac) : Type 0 where
+  pub text : d ≡ string (mac_text m)
+  pub six : length m.0 ≡ 6
+  pub octets : AllByRecursion (λ o. o < 256) m.0
+
+-- a number of a session of one of the shards 0 to 63
+pub record IsSession (d : Data) (s : SessionNo) : Type 0 where
+  pub number : d ≡ integer (pos s.0)
+  pub is : IsSessionNumber s.0
+
+-- the number of one of this many access ports, from 1 on
+pub record IsPortNumber (ports : ℕ) (d : Data) (n : ℕ) : Type 0 where
+  pub number : d ≡ integer (pos n)
+  pub low : 1 ≤ n
+  pub high : n ≤ ports
+
+-- the form of what stands at a key
+abbrev pub HasForm : Data → Key → Data → Type 0
+HasForm document ControlLocal d = (p : Peer) × IsPeer d p
+HasForm document CoreLocal d = (p : Peer) × IsPeer d p
+HasForm document CorePeer d = (p : Peer) × IsPeer d p
+HasForm document Access d = IsList 1 most_ports d
+HasForm document (AccessLocal place) d = (p : Peer) × IsPeer d p
+HasForm document (AccessPeer place) d = (p : Peer) × IsPeer d p
+HasForm document (AccessMac place) d = (m : Mac) × IsMac d m
+HasForm document Statics d = IsList 0 most_circuits d
+HasForm document (StaticPort place) d = (n : ℕ) × IsPortNumber (entries document Access) d n
+HasForm document (StaticMac place) d = (m : Mac) × IsMac d m
+HasForm document (StaticSession place) d = (s : SessionNo) × IsSession d s
+HasForm document (StaticAddress place) d = (a : Ip4) × IsAddress d a
+
+-- another value stands at the key, or none
+abbrev pub Differs : Data → Key → Data → Type 0
+Differs document key d = value_at (path_of key) document ≢ Some d
+
+-- no earlier socket of the gateway has this end, no earlier circuit this session, and none this address
+abbrev pub IsNew : Data → Key → Data → Type 0
+IsNew document CoreLocal d = Differs document ControlLocal d
+IsNew document (AccessLocal place) d =
+    Differs document ControlLocal d × Differs document CoreLocal d × ((i : ℕ) → i < place → Differs document (AccessLocal i) d)
+IsNew document (StaticSession place) d = (i : ℕ) → i < place → Differs document (StaticSession i) d
+IsNew document (StaticAddress place) d = (i : ℕ) → i < place → Differs document (StaticAddress i) d
+IsNew document key d = ⊤
+
+-- what stands at the key is such a value
+pub record StandsAt (document : Data) (key : Key) (P : Data → Type 0) : Type 0 where
+  pub value : Data
+  pub found : value_at (path_of key) document ≡ Some value
+  pub is : P value
+
+-- what stands there has the form of the key, and is no value of an earlier one that it must differ from
+pub record IsFit (document : Data) (key : Key) (d : Data) : Type 0 where
+  pub form : HasForm document key d
+  pub new : IsNew document key d
+
+-- the key is there, and in its form; there may be no list of circuits
+abbrev pub IsSound : Data → Key → Type 0
+IsSound document Statics = (value_at (path_of Statics) document ≡ None) ⊎ StandsAt document Statics (IsFit document Statics)
+IsSound document key = StandsAt document key (IsFit document key)
+
+-- each of the keys is sound
+abbrev pub AreSound : Data → List Key → Type 0
+AreSound document = AllByRecursion (IsSound document)
+
+-- it is the first of the keys that is missing or outside its form
+pub record IsFirstOf (document : Data) (among : List Key) (key : Key) : Type 0 where
+  pub before : List Key
+  pub after : List Key
+  pub place : among ≡ before ++ key ∷ after
+  pub sound : AreSound document before
+  pub faulty : ¬ IsSound document key
+
+abbrev pub IsFirstFault : Data → Key → Type 0
+IsFirstFault document key = IsFirstOf document (keys document) key
+
+-- the port is what stands at the entry of this place
+pub record IsPort (document : Data) (place : ℕ) (port : AccessPort) : Type 0 where
+  pub local : StandsAt document (AccessLocal place) (λ d. IsPeer d port.local)
+  pub peer : StandsAt document (AccessPeer place) (λ d. IsPeer d port.peer)
+  pub mac : StandsAt document (AccessMac place) (λ d. IsMac d port.mac)
+
+-- the circuit is what stands at the entry of this place, with no name and the first profile
+pub record IsCircuit (document : Data) (place : ℕ) (circuit : Static) : Type 0 where
+  pub port : StandsAt document (StaticPort place) (λ d. IsPortNumber (entries document Access) d circuit.port)
+  pub mac : StandsAt document (StaticMac place) (λ d. IsMac d circuit.mac)
+  pub session : StandsAt document (StaticSession place) (λ d. IsSession d circuit.session)
+  pub address : StandsAt document (StaticAddress place) (λ d. IsAddress d circuit.address)
+  pub user : circuit.user.items ≡ []
+  pub profile : circuit.profile ≡ 0
+
+-- what is said of a place holds of each item at its place
+abbrev pub EachPlace : {X : Type 0} → (ℕ → X → Type 0) → List X → Type 0
+EachPlace {X} P xs = (i : ℕ) (d : X) → i < length xs → P i (slice_index_or xs i d)
+
+-- no key is missing or outside its form, and the configuration is what stands at the keys
+pub record Configures (document : Data) (c : Config) : Type 0 where
+  pub sound : AreSound document (keys document)
+  pub control_local : StandsAt document ControlLocal (λ d. IsPeer d c.control_local)
+  pub core_local : StandsAt document CoreLocal (λ d. IsPeer d c.core_local)
+  pub core_peer : StandsAt document CorePeer (λ d. IsPeer d c.core_peer)
+  pub all_ports : length c.access ≡ entries document Access
+  pub access : EachPlace (IsPort document) c.access
+  pub all_circuits : length c.statics ≡ entries document Statics
+  pub statics : EachPlace (IsCircuit document) c.statics
+
+-- the text is UTF-8, and is TOML for these members
+pub record IsDocument (text : List ℕ) (members : Members) : Type 0 where
+  pub utf8 : IsUtf8 text
+  pub parsed : parse_document text ≡ Some members
+
+-- the configuration is what the text says
+pub record IsRead (text : List ℕ) (c : Config) : Type 0 where
+  pub members : Members
+  pub short : length text ≤ longest_text
+  pub document : IsDocument text members
+  pub configures : Configures (table members) c
+
+-- the text is TOML, and has its first fault at this key
+pub record HasFirstFault (text : List ℕ) (key : Key) : Type 0 where
+  pub members : Members
+  pub short : length text ≤ longest_text
+  pub document : IsDocument text members
+  pub first : IsFirstFault (table members) key
+
+-- the text is short enough, and stands for no document
+pub record IsNoDocument (text : List ℕ) : Type 0 where
+  pub short : length text ≤ longest_text
+  pub none : (members : Members) → ¬ IsDocument text members
+
+-- the text has this fault, and none of an earlier rule
+abbrev pub HasFault : List ℕ → Fault → Type 0
+HasFault text TooLong = longest_text < length text
+HasFault text NotToml = IsNoDocument text
+HasFault text (OutsideForm key) = HasFirstFault text key
+
+-- this fault is told, or that memory ran out
+abbrev pub IsFaultOrMemory : Fault → ConfigError → Type 0
+IsFaultOrMemory fault e = (e ≡ Refused fault) ⊎ (e ≡ OutOfMemory)
+
+-- what is told is a key of which this holds, or that memory ran out
+abbrev pub IsKeyOrMemory : (Key → Type 0) → ConfigError → Type 0
+IsKeyOrMemory P (Refused (OutsideForm key)) = P key
+IsKeyOrMemory P (Refused fault) = ⊥
+IsKeyOrMemory P OutOfMemory = ⊤

@@ -1,0 +1,68 @@
+-- The keys of the configuration, and the rules that a text may break.
+use Rattle.std.specs.Prelude.{ℕ, zero, suc, ◌+◌, List, [], ◌∷◌, ◌++◌, map, codes}
+use Rattle.std.specs.Fmt.{decimal}
+use Rattle.std.specs.List.{join_with_byte}
+use Rattle.bng_config.specs.declared.fault.Key.{Key}
+use Rattle.bng_config.specs.declared.fault.Key.TheVariants.{ControlLocal, CoreLocal, CorePeer, Access, AccessLocal, AccessPeer, AccessMac, Statics, StaticPort, StaticMac, StaticSession, StaticAddress}
+use Rattle.bng_config.specs.declared.fault.Fault.{Fault}
+use Rattle.bng_config.specs.declared.fault.Fault.TheVariants.{TooLong, NotToml, OutsideForm}
+
+-- a step into a value: the member of a name, or the item at a place from 0
+pub data Step : Type 0 where
+  named : List ℕ → Step
+  placed : ℕ → Step
+
+-- where a key of an entry of a list stands
+abbrev pub in_entry : List ℕ → ℕ → List ℕ → List Step
+in_entry list place name = named list ∷ placed place ∷ named name ∷ []
+
+-- where a key stands
+abbrev pub path_of : Key → List Step
+path_of ControlLocal = named (codes "control") ∷ named (codes "local") ∷ []
+path_of CoreLocal = named (codes "core") ∷ named (codes "local") ∷ []
+path_of CorePeer = named (codes "core") ∷ named (codes "peer") ∷ []
+path_of Access = named (codes "access") ∷ []
+path_of (AccessLocal place) = in_entry (codes "access") place (codes "local")
+path_of (AccessPeer place) = in_entry (codes "access") place (codes "peer")
+path_of (AccessMac place) = in_entry (codes "access") place (codes "mac")
+path_of Statics = named (codes "static") ∷ []
+path_of (StaticPort place) = in_entry (codes "static") place (codes "port")
+path_of (StaticMac place) = in_entry (codes "static") place (codes "mac")
+path_of (StaticSession place) = in_entry (codes "static") place (codes "session")
+path_of (StaticAddress place) = in_entry (codes "static") place (codes "address")
+
+-- the keys that are looked at before the lists
+abbrev pub first_keys : List Key
+first_keys = ControlLocal ∷ CoreLocal ∷ CorePeer ∷ []
+
+-- the keys of an access port, and of a circuit
+abbrev pub access_keys : ℕ → List Key
+access_keys place = AccessLocal place ∷ AccessPeer place ∷ AccessMac place ∷ []
+
+abbrev pub static_keys : ℕ → List Key
+static_keys place = StaticPort place ∷ StaticMac place ∷ StaticSession place ∷ StaticAddress place ∷ []
+
+-- the keys of this many entries
+abbrev pub of_entries : (ℕ → List Key) → ℕ → List Key
+of_entries keys_at zero = []
+of_entries keys_at (suc n) = of_entries keys_at n ++ keys_at n
+
+-- the order in which the keys are looked at, where there are this many access ports and this many circuits
+abbrev pub keys_in_order : ℕ → ℕ → List Key
+keys_in_order ports circuits =
+    first_keys ++ (Access ∷ of_entries access_keys ports) ++ (Statics ∷ of_entries static_keys circuits)
+
+-- a place is written from 1 on
+abbrev pub step_text : Step → List ℕ
+step_text (named name) = name
+step_text (placed place) = decimal (place + 1)
+
+-- a key is written by its steps, with dots between
+abbrev pub key_text : Key → List ℕ
+key_text key = join_with_byte 46 (map step_text (path_of key))
+
+-- the rule that is broken, and the key that breaks it
+abbrev pub fault_text : Fault → List ℕ
+fault_text TooLong = codes "C1 text"
+fault_text NotToml = codes "C2 text"
+fault_text (OutsideForm key) = codes "C5 " ++ key_text key

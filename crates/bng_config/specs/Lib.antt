@@ -1,0 +1,6 @@
+pub mod Rules
+pub mod Address
+pub mod Keys
+pub mod Parts
+pub mod Configuration
+pub mod Ends

@@ -1,0 +1,155 @@
+//! The provisioned circuits.
+ghost use Rattle.std.specs.Prelude.{◌≡◌, ◌≤◌, ◌∷◌, ◌↔◌, ℕ, IsTrue, length, IfOk, IfErr, OnOk, OnErr};
+ghost use Rattle.std.specs.List.{Any};
+ghost use Rattle.toml.specs.View.{view};
+ghost use Rattle.bng_config.specs.Keys.{static_keys, of_entries};
+ghost use Rattle.bng_config.specs.Configuration.{StandsAt, IsSession, IsAddress, IsCircuit, IsSound, AreSound, IsFirstOf, EachPlace, entries, IsKeyOrMemory};
+
+use crate::fault::{ConfigError, Fault, Key};
+use crate::find::{list_at, value_of};
+use crate::values::{address_at, mac_at, port_number_at, session_at};
+use arrayvec::ArrayVec;
+use bng_base::{Ip4, SessionNo, Static};
+use std::alloc::Global;
+use toml::Value;
+
+/// The most circuits.
+const MOST: usize = 1024;
+
+/// The circuits of the document, or the first of their keys that is missing or outside its form. `ports` is the number
+/// of access ports.
+pub(crate) fn circuits_of(
+    alloc: Global,
+    document: &Value,
+    ports: usize,
+) -> Result<Vec<Static>, ConfigError>
+    requires all { ports ≡ entries (view document.now) Key.Access }
+    requires few { ports ≤ 16 }
+    ensures all { IfOk result (λ circuits. length circuits.items ≡ entries (view document.now) Key.Statics) }
+    ensures found { IfOk result (λ circuits. EachPlace (IsCircuit (view document.now)) circuits.items) }
+    ensures sound { OnOk result (AreSound (view document.now) (Key.Statics ∷ of_entries static_keys (entries (view document.now) Key.Statics))) }
+    ensures refused { IfErr result (IsKeyOrMemory (IsFirstOf (view document.now) (Key.Statics ∷ of_entries static_keys (entries (view document.now) Key.Statics)))) }
+{
+    let count = match count_of(document) {
+        Ok(count) => count,
+        Err(key) => return Err(ConfigError::Refused(Fault::OutsideForm(key))),
+    };
+    let mut circuits = Vec::new(alloc);
+    for place in 0..count {
+        let circuit = match circuit_at(document, place, ports, circuits.as_slice()) {
+            Ok(circuit) => circuit,
+            Err(key) => return Err(ConfigError::Refused(Fault::OutsideForm(key))),
+        };
+        if circuits.push(circuit).is_err() {
+            return Err(ConfigError::OutOfMemory);
+        }
+    }
+    Ok(circuits)
+}
+
+// How many circuits the document has: up to 1,024, and none where it has no list of them.
+fn count_of(document: &Value) -> Result<u16, Key>
+    ensures found { IfOk result (λ n. n ≡ entries (view document.now) Key.Statics) }
+    ensures sound { OnOk result (IsSound (view document.now) Key.Statics) }
+    ensures refused { IfErr result (λ key. key ≡ Key.Statics) }
+    ensures faulty { OnErr result (¬ IsSound (view document.now) Key.Statics) }
+{
+    match value_of(document, Key::Statics) {
+        Some(value) => match value.as_array() {
+            Some(list) => {
+                if list.len() > MOST {
+                    Err(Key::Statics)
+                } else {
+                    Ok(list.len() as u16)
+                }
+            }
+            None => Err(Key::Statics),
+        },
+        None => Ok(0),
+    }
+}
+
+// The circuit at this place, after those at the earlier ones.
+fn circuit_at(
+    document: &Value,
+    place: u16,
+    ports: usize,
+    earlier: &[Static],
+) -> Result<Static, Key>
+    requires ports { ports ≡ entries (view document.now) Key.Access }
+    requires few { ports ≤ 16 }
+    requires all { length earlier.now ≡ place }
+    requires earlier { EachPlace (IsCircuit (view document.now)) earlier.now }
+    ensures found { IfOk result (λ circuit. IsCircuit (view document.now) place circuit) }
+    ensures sound { OnOk result (AreSound (view document.now) (static_keys place)) }
+    ensures refused { IfErr result (λ key. IsFirstOf (view document.now) (static_keys place) key) }
+{
+    let port = port_number_at(document, Key::StaticPort(place), ports)?;
+    let mac = mac_at(document, Key::StaticMac(place))?;
+    let session = new_session_at(document, place, earlier)?;
+    let address = new_address_at(document, place, earlier)?;
+    Ok(Static {
+        port,
+        mac,
+        session,
+        address,
+        user: ArrayVec::new(),
+        profile: 0,
+    })
+}
+
+// The session of the circuit, which no earlier one has.
+fn new_session_at(document: &Value, place: u16, earlier: &[Static]) -> Result<SessionNo, Key>
+    requires all { length earlier.now ≡ place }
+    requires earlier { EachPlace (IsCircuit (view document.now)) earlier.now }
+    ensures found { IfOk result (λ s. StandsAt (view document.now) (Key.StaticSession place) (λ d. IsSession d s)) }
+    ensures sound { OnOk result (IsSound (view document.now) (Key.StaticSession place)) }
+    ensures refused { IfErr result (λ key. key ≡ Key.StaticSession place) }
+    ensures faulty { OnErr result (¬ IsSound (view document.now) (Key.StaticSession place)) }
+{
+    match session_at(document, Key::StaticSession(place)) {
+        Ok(session) => {
+            if has_session(earlier, session) {
+                Err(Key::StaticSession(place))
+            } else {
+                Ok(session)
+            }
+        }
+        Err(key) => Err(key),
+    }
+}
+
+// The address of the circuit, which no earlier one has.
+fn new_address_at(document: &Value, place: u16, earlier: &[Static]) -> Result<Ip4, Key>
+    requires all { length earlier.now ≡ place }
+    requires earlier { EachPlace (IsCircuit (view document.now)) earlier.now }
+    ensures found { IfOk result (λ a. StandsAt (view document.now) (Key.StaticAddress place) (λ d. IsAddress d a)) }
+    ensures sound { OnOk result (IsSound (view document.now) (Key.StaticAddress place)) }
+    ensures refused { IfErr result (λ key. key ≡ Key.StaticAddress place) }
+    ensures faulty { OnErr result (¬ IsSound (view document.now) (Key.StaticAddress place)) }
+{
+    match address_at(document, Key::StaticAddress(place)) {
+        Ok(address) => {
+            if has_address(earlier, address) {
+                Err(Key::StaticAddress(place))
+            } else {
+                Ok(address)
+            }
+        }
+        Err(key) => Err(key),
+    }
+}
+
+// One of the circuits has this session.
+fn has_session(circuits: &[Static], session: SessionNo) -> bool
+    ensures { IsTrue result ↔ Any (λ circuit. circuit.session ≡ session) circuits.now }
+{
+    circuits.iter().any(|circuit| circuit.session == session)
+}
+
+// One of the circuits has this address.
+fn has_address(circuits: &[Static], address: Ip4) -> bool
+    ensures { IsTrue result ↔ Any (λ circuit. circuit.address ≡ address) circuits.now }
+{
+    circuits.iter().any(|circuit| circuit.address == address)
+}

@@ -1,0 +1,48 @@
+/// A key that is read, in the order in which the keys are looked at. The numbers are places of entries, from 0.
+#[derive(Clone, Copy, PartialEq, Eq, Debug)]
+pub enum Key {
+    /// `control.local`
+    ControlLocal,
+    /// `core.local`
+    CoreLocal,
+    /// `core.peer`
+    CorePeer,
+    /// `access`
+    Access,
+    /// `access.1.local` at place 0
+    AccessLocal(u16),
+    /// `access.1.peer` at place 0
+    AccessPeer(u16),
+    /// `access.1.mac` at place 0
+    AccessMac(u16),
+    /// `static`
+    Statics,
+    /// `static.1.port` at place 0
+    StaticPort(u16),
+    /// `static.1.mac` at place 0
+    StaticMac(u16),
+    /// `static.1.session` at place 0
+    StaticSession(u16),
+    /// `static.1.address` at place 0
+    StaticAddress(u16),
+}
+
+/// How a text is no configuration: the first rule that it breaks.
+#[derive(Clone, Copy, PartialEq, Eq, Debug)]
+pub enum Fault {
+    /// It is longer than 1,048,576 octets.
+    TooLong,
+    /// It is not UTF-8 or not TOML.
+    NotToml,
+    /// It is TOML, and this is the first key that is missing or outside its form.
+    OutsideForm(Key),
+}
+
+/// Why no configuration was read.
+#[derive(Clone, Copy, PartialEq, Eq, Debug)]
+pub enum ConfigError {
+    /// The text has this fault.
+    Refused(Fault),
+    /// Memory ran out, which says nothing of the text.
+    OutOfMemory,
+}

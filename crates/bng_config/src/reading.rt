@@ -1,0 +1,72 @@
+//! The configuration that a text stands for.
+ghost use Rattle.std.specs.Prelude.{◌≡◌, ◌↔◌, ◌<◌, ◌++◌, length, IfOk, IfErr, OnOk, IsErrAnd, ◌∷◌};
+ghost use Rattle.toml.specs.View.{view};
+ghost use Rattle.bng_config.specs.declared.config.Config.{Config as Settings};
+ghost use Rattle.bng_config.specs.declared.fault.Fault.{Fault as Rule};
+ghost use Rattle.bng_config.specs.Configuration.{longest_text, IsFirstFault, Configures, IsRead, HasFault, IsFaultOrMemory, IsKeyOrMemory};
+ghost use Rattle.bng_config.specs.Rules.{KeepsRules};
+
+use crate::access::ports_of;
+use crate::circuits::circuits_of;
+use crate::config::Config;
+use crate::ends::ends_of;
+use crate::fault::{ConfigError, Fault};
+use bng_base::Listed;
+use std::alloc::Global;
+use toml::Value;
+
+/// The longest text that is read, in octets.
+const LONGEST: usize = 1_048_576;
+
+/// The configuration that the text stands for. `Refused` comes exactly where the text has a fault, with the first
+/// one: by rule, and then by key in the order of the keys. `OutOfMemory` may come where the text is not too long.
+pub fn read(alloc: Global, text: &[u8]) -> Result<Config, ConfigError>
+    // What is answered is what the text says, and a desk can be opened over it.
+    ensures found { IfOk result (λ c. IsRead text.now c) }
+    ensures keeps { IfOk result (λ c. KeepsRules c) }
+    ensures refused { IfErr result (λ e. (fault : Rule) → e ≡ ConfigError.Refused fault → HasFault text.now fault) }
+
+    // What the text says is one configuration or one fault, and is answered, unless memory runs out.
+    ensures same { (c : Settings) → IsRead text.now c → IfOk result (λ answer. answer ≡ c) }
+    ensures read { (c : Settings) → IsRead text.now c → IfErr result (λ e. e ≡ ConfigError.OutOfMemory) }
+    ensures faulty { (fault : Rule) → HasFault text.now fault → IsErrAnd result (IsFaultOrMemory fault) }
+    ensures too_long { (result ≡ Err (ConfigError.Refused Fault.TooLong)) ↔ (longest_text < length text.now) }
+{
+    if text.len() > LONGEST {
+        return Err(ConfigError::Refused(Fault::TooLong));
+    }
+    let table = match toml::table_from_slice(alloc, text) {
+        Ok(table) => table,
+        Err(error) => {
+            return Err(if error.is_memory() {
+                ConfigError::OutOfMemory
+            } else {
+                ConfigError::Refused(Fault::NotToml)
+            });
+        }
+    };
+    match configuration_of(alloc, &Value::Table(table)) {
+        Ok(config) => Ok(config),
+        Err(error) => Err(error),
+    }
+}
+
+// The configuration of a document, or the first key that is missing or outside its form.
+fn configuration_of(alloc: Global, document: &Value) -> Result<Config, ConfigError>
+    ensures found { IfOk result (λ c. Configures (view document.now) c) }
+    ensures refused { IfErr result (IsKeyOrMemory (IsFirstFault (view document.now))) }
+{
+    let ends = match ends_of(document) {
+        Ok(ends) => ends,
+        Err(key) => return Err(ConfigError::Refused(Fault::OutsideForm(key))),
+    };
+    let access = ports_of(alloc, document, ends.control_local, ends.core_local)?;
+    let statics = circuits_of(alloc, document, access.len())?;
+    Ok(Config {
+        control_local: ends.control_local,
+        core_local: ends.core_local,
+        core_peer: ends.core_peer,
+        access: Listed::of(access),
+        statics: Listed::of(statics),
+    })
+}
