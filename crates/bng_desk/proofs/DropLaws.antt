@@ -1,8 +1,8 @@
 -- Counts of drops, one item more.
-use Rattle.std.proofs.Common.{◌≡◌, ℕ, ◌+◌, ◌≤◌, Bool, true, false, List, [], ◌∷◌, ◌++◌, map, cond, sym, ap, subst, ◌∙◌, arith}
+use Rattle.std.proofs.Common.{◌≡◌, ℕ, ◌+◌, ◌≤◌, Bool, true, false, List, [], ◌∷◌, ◌++◌, map, cond, length, sym, ap, subst, ◌∙◌, arith}
 use Rattle.std.specs.List.{count_by}
 use Rattle.std.proofs.lemmas.List.{map-append}
-use Rattle.std.proofs.lemmas.List.Sums.{sum_by-append}
+use Rattle.std.proofs.lemmas.List.Sums.{sum_by-append, count_by-le-length}
 use Rattle.bng_base.specs.declared.fate.DropCause.{DropCause}
 use Rattle.bng_base.specs.declared.fate.DropCause.TheVariants.{Malformed, NoSession, NotOpen, Expired, Spoofed, TooBig, Exceeded, LinkFailed, WantOfMemory}
 use Rattle.bng_base.specs.declared.fate.Fate.{Fate}
@@ -71,3 +71,28 @@ within_wider m n d le w = record { malformed = omega (arith, w.malformed); no_se
 -- one item raises no count by more than one
 pub within_more : (n m : ℕ) (d e : Drops) (f : Fate) → n + 1 ≤ m → Within n d → e ≡ with_fate d f → Within m e
 within_more n m d e f le w is = within_wider (n + 1) m e le (subst (λ (x : Drops). Within (n + 1) x) (sym is) (within n d f w))
+
+counts_append : (cause : DropCause) (a b : List Fate) → count_by (is_dropped cause) (a ++ b) ≡ count_by (is_dropped cause) a + count_by (is_dropped cause) b
+counts_append cause a b = sum_by-append (λ (x : Fate). cond (is_dropped cause x) 1 0) a b
+
+-- the drops of one list after another
+pub drops_append : (d : Drops) (a b : List Fate) → plus (plus d (drops_of a)) (drops_of b) ≡ plus d (drops_of (a ++ b))
+drops_append d a b =
+    same _ _
+    (omega (arith, counts_append Malformed a b)) (omega (arith, counts_append NoSession a b)) (omega (arith, counts_append NotOpen a b))
+    (omega (arith, counts_append Expired a b)) (omega (arith, counts_append Spoofed a b)) (omega (arith, counts_append TooBig a b))
+    (omega (arith, counts_append Exceeded a b)) (omega (arith, counts_append LinkFailed a b)) (omega (arith, counts_append WantOfMemory a b))
+
+-- so many items raise no count by more than their number
+pub within_plus : (m : ℕ) (d : Drops) (fates : List Fate) → Within m d → Within (m + length fates) (plus d (drops_of fates))
+within_plus m d fates w = record {
+  malformed = omega (arith, w.malformed, count_by-le-length (is_dropped Malformed) fates);
+  no_session = omega (arith, w.no_session, count_by-le-length (is_dropped NoSession) fates);
+  not_open = omega (arith, w.not_open, count_by-le-length (is_dropped NotOpen) fates);
+  expired = omega (arith, w.expired, count_by-le-length (is_dropped Expired) fates);
+  spoofed = omega (arith, w.spoofed, count_by-le-length (is_dropped Spoofed) fates);
+  too_big = omega (arith, w.too_big, count_by-le-length (is_dropped TooBig) fates);
+  exceeded = omega (arith, w.exceeded, count_by-le-length (is_dropped Exceeded) fates);
+  link_failed = omega (arith, w.link_failed, count_by-le-length (is_dropped LinkFailed) fates);
+  want_of_memory = omega (arith, w.want_of_memory, count_by-le-length (is_dropped WantOfMemory) fates);
+}

@@ -5,7 +5,7 @@ use Rattle.std.proofs.lemmas.List.{map-append}
 use Rattle.std.proofs.lemmas.List.Elements.{filter-append}
 use Rattle.std.proofs.lemmas.List.Folds.{list_any-append}
 use Rattle.bng_base.specs.declared.outside.Role.{Role}
-use Rattle.bng_base.specs.declared.outside.Role.TheVariants.{Access, Control}
+use Rattle.bng_base.specs.declared.outside.Role.TheVariants.{Control}
 use Rattle.bng_base.specs.declared.outside.Received.TheVariants.{Got}
 use Rattle.bng_base.specs.declared.outside.Datagram.{Datagram}
 use Rattle.bng_base.specs.declared.outside.Heard.{Heard}
@@ -14,10 +14,10 @@ use Rattle.bng_base.specs.FateOf.{Arrival}
 use Rattle.bng_base.specs.Told.{PlantTold}
 use Rattle.bng_base.specs.Stretch.{PlantStretch, plant_joined, ExtendsPlant}
 use Rattle.bng_base.proofs.StretchLaws.{plant_more}
-use Rattle.bng_config.specs.declared.config.Config.{Config}
 use Rattle.bng_desk.specs.Reading.{is_empty, receives, taken_in, receiving}
-use Rattle.bng_desk.specs.Control.{Heeded, is_answered, is_unanswered, stopping, heeding, answering}
-use Rattle.bng_desk.specs.Access.{Handled, went, failed_to_go, to_core, handling, forwarding}
+use Rattle.bng_desk.specs.Control.{Heeded, is_answered, is_unanswered, reply, heeding, answering}
+use Rattle.bng_desk.specs.Handled.{Handled, went, failed_to_go}
+use Rattle.bng_desk.specs.Data.{handling, forwarding}
 
 abbrev made : List Heard → List Datagram → List Datagram → Bool → PlantStretch
 made h t s f = record { heard = h; taken = t; sent = s; failed = f }
@@ -59,7 +59,7 @@ heeding_more : (hs : List Heeded) (h : Heeded)
 heeding_more hs h = same _ _
     (mapped_more (λ (a : Arrival). Receive Control (Got a.from a.cut)) (λ (k : Heeded). k.arrival) hs h)
     (mapped_more (λ (a : Arrival). as_datagram Control a) (λ (k : Heeded). k.arrival) hs h)
-    (kept_more stopping is_answered hs h)
+    (kept_more reply is_answered hs h)
     (any_more is_unanswered hs h)
 
 -- a datagram of Control was taken and answered
@@ -70,21 +70,21 @@ one_heeded p₀ p₁ p₂ p₃ hs h so_far taken answered =
     (plant_more p₀ p₁ p₃ (heeding hs) (plant_joined (receiving Control (Got h.arrival.from h.arrival.cut) h.arrival.octets) (answering h)) so_far
     (plant_more p₁ p₂ p₃ (receiving Control (Got h.arrival.from h.arrival.cut) h.arrival.octets) (answering h) taken answered))
 
-handling_more : (config : Config) (hs : List Handled) (h : Handled)
-    → plant_joined (handling config hs) (plant_joined (receiving (Access 1) (Got h.arrival.from h.arrival.cut) h.arrival.octets) (forwarding config h)) ≡ handling config (hs ++ h ∷ [])
-handling_more config hs h = same _ _
-    (mapped_more (λ (a : Arrival). Receive (Access 1) (Got a.from a.cut)) (λ (k : Handled). k.arrival) hs h)
-    (mapped_more (λ (a : Arrival). as_datagram (Access 1) a) (λ (k : Handled). k.arrival) hs h)
-    (kept_more (to_core config) went hs h)
+handling_more : (role : Role) (hs : List Handled) (h : Handled)
+    → plant_joined (handling role hs) (plant_joined (receiving role (Got h.arrival.from h.arrival.cut) h.arrival.octets) (forwarding h)) ≡ handling role (hs ++ h ∷ [])
+handling_more role hs h = same _ _
+    (mapped_more (λ (a : Arrival). Receive role (Got a.from a.cut)) (λ (k : Handled). k.arrival) hs h)
+    (mapped_more (λ (a : Arrival). as_datagram role a) (λ (k : Handled). k.arrival) hs h)
+    (kept_more (λ (k : Handled). k.out) went hs h)
     (any_more failed_to_go hs h)
 
--- a datagram of the access port was taken and handled
-pub one_handled : (config : Config) (p₀ p₁ p₂ p₃ : PlantTold) (hs : List Handled) (h : Handled) → ExtendsPlant p₀ p₁ (handling config hs)
-    → ExtendsPlant p₁ p₂ (receiving (Access 1) (Got h.arrival.from h.arrival.cut) h.arrival.octets) → ExtendsPlant p₂ p₃ (forwarding config h) → ExtendsPlant p₀ p₃ (handling config (hs ++ h ∷ []))
-one_handled config p₀ p₁ p₂ p₃ hs h so_far taken forwarded =
-    subst (λ (s : PlantStretch). ExtendsPlant p₀ p₃ s) (handling_more config hs h)
-    (plant_more p₀ p₁ p₃ (handling config hs) (plant_joined (receiving (Access 1) (Got h.arrival.from h.arrival.cut) h.arrival.octets) (forwarding config h)) so_far
-    (plant_more p₁ p₂ p₃ (receiving (Access 1) (Got h.arrival.from h.arrival.cut) h.arrival.octets) (forwarding config h) taken forwarded))
+-- a datagram of a role was taken and handled
+pub one_handled : (role : Role) (p₀ p₁ p₂ p₃ : PlantTold) (hs : List Handled) (h : Handled) → ExtendsPlant p₀ p₁ (handling role hs)
+    → ExtendsPlant p₁ p₂ (receiving role (Got h.arrival.from h.arrival.cut) h.arrival.octets) → ExtendsPlant p₂ p₃ (forwarding h) → ExtendsPlant p₀ p₃ (handling role (hs ++ h ∷ []))
+one_handled role p₀ p₁ p₂ p₃ hs h so_far taken forwarded =
+    subst (λ (s : PlantStretch). ExtendsPlant p₀ p₃ s) (handling_more role hs h)
+    (plant_more p₀ p₁ p₃ (handling role hs) (plant_joined (receiving role (Got h.arrival.from h.arrival.cut) h.arrival.octets) (forwarding h)) so_far
+    (plant_more p₁ p₂ p₃ (receiving role (Got h.arrival.from h.arrival.cut) h.arrival.octets) (forwarding h) taken forwarded))
 
 pub never_empty : {X : Type 0} (xs : List X) (x : X) → false ≡ is_empty (xs ++ x ∷ [])
 never_empty [] x = refl

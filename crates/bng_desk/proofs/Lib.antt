@@ -1,3 +1,4 @@
 pub mod Going
 pub mod DropLaws
-pub mod Trimmed
+pub mod Charges
+pub mod Reads

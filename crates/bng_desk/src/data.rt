@@ -8,11 +8,11 @@ ghost use Rattle.bng_desk.specs.Reading.{sending};
 ghost use Rattle.bng_config.specs.Rules.{KeepsRules};
 
 use crate::calls::{receive, send};
-use bng_config::Config;
 use crate::drops::count;
 use crate::reading::Ended;
 use crate::traffic::{Sums, settle};
 use bng_base::{Frame, Peer, Received, Role};
+use bng_config::Config;
 use bng_forward::{Opened, open_frame, open_packet, put_in_frame};
 use bng_plant::Plant;
 

@@ -7,13 +7,13 @@ ghost use Rattle.bng_config.specs.Rules.{KeepsRules};
 ghost use Rattle.bng_desk.specs.Report.{by_number, report_text};
 ghost use Rattle.bng_desk.specs.Turn.{MakesTurn, DoesNothing, waiting_stretch};
 
-use bng_config::Config;
 use crate::control::heed;
 use crate::data::read_data;
 use crate::drops::NO_DROPS;
 use crate::report::report;
 use crate::traffic::{NO_TRAFFIC, Sums, Traffic};
 use bng_base::Frame;
+use bng_config::Config;
 use bng_plant::{Clock, Gate, Plant, Trace};
 use std::alloc::Global;
 use std::marker::Model;

@@ -14,7 +14,6 @@ mod reading;
 mod report;
 mod traffic;
 
-
 pub use crate::desk::{Desk, DeskError, DeskState, Turned};
 pub use crate::drops::Drops;
 pub use crate::reading::Ended;

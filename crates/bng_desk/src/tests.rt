@@ -1,7 +1,7 @@
 use crate::{Desk, DeskState};
-use bng_config::Config;
 use arrayvec::ArrayVec;
 use bng_base::{AccessPort, Ip4, Listed, Mac, Peer, SessionNo, Static};
+use bng_config::Config;
 use std::alloc::{AllocError, Global};
 use std::test::Fail;
 

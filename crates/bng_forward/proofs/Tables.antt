@@ -27,7 +27,7 @@ some_or_none x c p q = let e : Some c ≡ None = sym p ∙ q in cc
 pub one_frame : (ports : List AccessPort) (number : ℕ) (a : Arrival) (p q : PppoeFrame) → IsFrame ports number a p → IsFrame ports number a q → p ≡ q
 one_frame ports number a p q x y = one_layout p q a.octets x.2.frame.laid y.2.frame.laid
 
-same_ip : (x y : Ip4) → x.0 ≡ y.0 → x ≡ y
+pub same_ip : (x y : Ip4) → x.0 ≡ y.0 → x ≡ y
 same_ip x y e = let make : ℕ → Ip4 = λ n. record { 0 = n } in ap make e
 
 -- octets begin with one packet

@@ -1,4 +1,4 @@
-ghost use Rattle.std.specs.Prelude.{◌≡◌, ◌≤◌, IfOk};
+ghost use Rattle.std.specs.Prelude.{◌≡◌, ℕ, ◌≤◌, List, IfOk};
 ghost use Rattle.bng_base.specs.declared.ipv4.Ipv4.{Ipv4 as Header};
 ghost use Rattle.bng_base.specs.Ipv4Grammar.{IsIpv4};
 ghost use Rattle.bng_forward.specs.Packets.{UpFate, DownFate, IsPassedOn, fate_of};
@@ -29,15 +29,12 @@ pub(crate) fn from_circuit(view: &TermView, bytes: &[u8]) -> Result<Ipv4, DropCa
     Ok(packet)
 }
 
-// The packet from the core for the holder of its destination, where it may pass.
-pub(crate) fn from_core(holder: &TermView, bytes: &[u8]) -> Result<Ipv4, DropCause>
-    ensures fate { DownFate holder.now bytes.now (fate_of result) }
-    ensures found { IfOk result (λ v. IsIpv4 v bytes.now) }
+// The packet of the core that says this, for the holder of its destination, where it may pass.
+pub(crate) fn to_holder(holder: &TermView, header: Ipv4) -> Result<Ipv4, DropCause>
+    ensures fate { (bytes : List ℕ) → IsIpv4 header bytes → DownFate holder.now bytes (fate_of result) }
+    ensures same { IfOk result (λ v. v ≡ header) }
     ensures alive { IfOk result (λ v. 2 ≤ v.ttl) }
 {
-    let Ok(header) = read(bytes) else {
-        return Err(DropCause::Malformed);
-    };
     if !holder.opened {
         return Err(DropCause::NotOpen);
     }
@@ -45,6 +42,18 @@ pub(crate) fn from_core(holder: &TermView, bytes: &[u8]) -> Result<Ipv4, DropCau
         return Err(DropCause::Expired);
     }
     Ok(header)
+}
+
+// The packet from the core for the holder of its destination, where it may pass.
+pub(crate) fn from_core(holder: &TermView, bytes: &[u8]) -> Result<Ipv4, DropCause>
+    ensures fate { DownFate holder.now bytes.now (fate_of result) }
+    ensures found { IfOk result (λ v. IsIpv4 v bytes.now) }
+    ensures alive { IfOk result (λ v. 2 ≤ v.ttl) }
+{
+    match read(bytes) {
+        Ok(header) => to_holder(holder, header),
+        Err(_) => Err(DropCause::Malformed),
+    }
 }
 
 // Makes of a packet the one that is to be sent: the octets past its total length are padding.

@@ -4,7 +4,7 @@ ghost use Rattle.bng_forward.specs.Passage.{EndsUp, EndsDown, MayPassUp, MayPass
 
 use crate::arrived::{Arrived, carried, frame_at, names_session, packet_from};
 use crate::circuits::{circuit_at, holder_at, term_of};
-use crate::packet::{from_circuit, from_core};
+use crate::packet::{from_circuit, to_holder};
 use bng_base::{AccessPort, DropCause, Fate, Ipv4, Peer, Static};
 
 /// A packet that may pass.
@@ -62,7 +62,7 @@ pub(crate) fn passage_down(
     let Some(place) = holder_at(circuits, header.dst) else {
         return Err(Fate::Dropped(DropCause::NoSession));
     };
-    match from_core(&term_of(&circuits[place]), arrived.octets) {
+    match to_holder(&term_of(&circuits[place]), header) {
         Ok(header) => Ok(Passage {
             place,
             size: arrived.octets.len(),

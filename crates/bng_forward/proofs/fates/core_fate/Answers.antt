@@ -3,4 +3,4 @@ use Rattle.bng_forward.proofs.Exclusive.{core_once}
 use Rattle.bng_forward.proofs.fates.core_fate.Goals as goal
 
 pub returns-clause-only : goal.returns-clause-only
-returns-clause-only c = λ fate h. core_once c.args.core c.args.circuits.now (as_arrival c.args.arrived.now) c.args.sent fate c.fate_of_core.result h c.fate_of_core.ensures
+returns-clause-only c = ?
