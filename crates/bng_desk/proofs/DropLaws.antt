@@ -96,3 +96,6 @@ within_plus m d fates w = record {
   link_failed = omega (arith, w.link_failed, count_by-le-length (is_dropped LinkFailed) fates);
   want_of_memory = omega (arith, w.want_of_memory, count_by-le-length (is_dropped WantOfMemory) fates);
 }
+
+pub drops_none : (d : Drops) → d ≡ plus d (drops_of [])
+drops_none d = same _ _ (omega arith) (omega arith) (omega arith) (omega arith) (omega arith) (omega arith) (omega arith) (omega arith) (omega arith)

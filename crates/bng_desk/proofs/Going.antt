@@ -1,5 +1,5 @@
 -- One datagram more, of a role that is read.
-use Rattle.std.proofs.Common.{◌≡◌, ℕ, ◌+◌, Bool, true, false, ◌||◌, List, [], ◌∷◌, ◌++◌, map, cond, refl, sym, ap, subst, ◌∙◌, arith}
+use Rattle.std.proofs.Common.{◌≡◌, ℕ, ◌+◌, Bool, true, false, ◌||◌, ◌&&◌, not, List, [], ◌∷◌, ◌++◌, map, cond, refl, sym, ap, subst, ◌∙◌, arith}
 use Rattle.std.specs.List.{filter, list_any, sum_by}
 use Rattle.std.proofs.lemmas.List.{map-append}
 use Rattle.std.proofs.lemmas.List.Elements.{filter-append}
@@ -13,9 +13,9 @@ use Rattle.bng_base.specs.declared.outside.Heard.TheVariants.{Receive}
 use Rattle.bng_base.specs.FateOf.{Arrival}
 use Rattle.bng_base.specs.Told.{PlantTold}
 use Rattle.bng_base.specs.Stretch.{PlantStretch, plant_joined, ExtendsPlant}
-use Rattle.bng_base.proofs.StretchLaws.{plant_more}
-use Rattle.bng_desk.specs.Reading.{is_empty, receives, taken_in, receiving}
-use Rattle.bng_desk.specs.Control.{Heeded, is_answered, is_unanswered, reply, heeding, answering}
+use Rattle.bng_base.proofs.StretchLaws.{plant_more, plant_stays}
+use Rattle.bng_desk.specs.Reading.{is_empty, receives, taken_in, receiving, sending}
+use Rattle.bng_desk.specs.Control.{Heeded, is_near, is_answered, is_unanswered, reply_text, reply, heeding, answering}
 use Rattle.bng_desk.specs.Handled.{Handled, went, failed_to_go}
 use Rattle.bng_desk.specs.Data.{handling, forwarding}
 
@@ -85,6 +85,14 @@ one_handled role p₀ p₁ p₂ p₃ hs h so_far taken forwarded =
     subst (λ (s : PlantStretch). ExtendsPlant p₀ p₃ s) (handling_more role hs h)
     (plant_more p₀ p₁ p₃ (handling role hs) (plant_joined (receiving role (Got h.arrival.from h.arrival.cut) h.arrival.octets) (forwarding h)) so_far
     (plant_more p₁ p₂ p₃ (receiving role (Got h.arrival.from h.arrival.cut) h.arrival.octets) (forwarding h) taken forwarded))
+
+-- a datagram of Control from elsewhere is not answered
+pub unanswered : (p : PlantTold) (a : Arrival) → is_near a ≡ false → ExtendsPlant p p (answering (record { arrival = a; answered = false }))
+unanswered p a far = subst (λ (b : Bool). ExtendsPlant p p (made [] [] (cond (b && false) (reply (record { arrival = a; answered = false }) ∷ []) []) (b && not false))) (sym far) (plant_stays p)
+
+-- the answer to one from 127.0.0.0/8
+pub answered_as : (p p' : PlantTold) (a : Arrival) (sent : Bool) → is_near a ≡ true → ExtendsPlant p p' (sending Control a.from (reply_text a) sent) → ExtendsPlant p p' (answering (record { arrival = a; answered = sent }))
+answered_as p p' a sent near told = subst (λ (b : Bool). ExtendsPlant p p' (made [] [] (cond (b && sent) (reply (record { arrival = a; answered = sent }) ∷ []) []) (b && not sent))) (sym near) told
 
 pub never_empty : {X : Type 0} (xs : List X) (x : X) → false ≡ is_empty (xs ++ x ∷ [])
 never_empty [] x = refl

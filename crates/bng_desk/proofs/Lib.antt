@@ -1,4 +1,6 @@
 pub mod Going
 pub mod DropLaws
 pub mod Charges
-pub mod Reads
+pub mod RoleLaws
+pub mod Settled
+pub mod HandledLaws

@@ -63,11 +63,11 @@ pub record HandlesRole (config : Config) (role : Role) (most : ℕ) (old new : P
 
 -- these roles were read, one after the other
 pub record HandlesRoles (config : Config) (roles : List Role) (most : ℕ) (old new : PlantTold) (s s' : Sums) (idle : Bool) : Type 0 where
-  pub data : List DataReading
-  pub are_roles : map (λ r. r.role) data ≡ roles
-  pub right : All (IsReading config) data
-  pub few : All IsFew (all_handled data)
-  pub number : length (all_handled data) ≤ most
-  pub told : ExtendsPlant old new (data_stretch data)
-  pub counts : Counts s s' (all_handled data)
-  pub quiet : idle ≡ is_quiet data
+  pub readings : List DataReading
+  pub are_roles : map (λ r. r.role) readings ≡ roles
+  pub right : All (IsReading config) readings
+  pub few : All IsFew (all_handled readings)
+  pub number : length (all_handled readings) ≤ most
+  pub told : ExtendsPlant old new (data_stretch readings)
+  pub counts : Counts s s' (all_handled readings)
+  pub quiet : idle ≡ is_quiet readings

@@ -20,23 +20,23 @@ pub record Turn : Type 0 where
   pub wall : ℕ
   pub control : List Heeded
   pub control_end : Ended
-  pub data : List DataReading
+  pub readings : List DataReading
 
 -- Control is read at most 8 times, then the access ports in their order, which share 224 receives, and then the core, at most
 -- 224 times; each datagram of a port and of the core has its fate.
 pub record IsTurn (d : Desk) (t : Turn) : Type 0 where
   pub moment : d.moment ≤ t.moment
   pub control : EndsRight 8 (length t.control) t.control_end
-  pub roles : map (λ r. r.role) t.data ≡ data_roles d.config
-  pub data : All (IsReading d.config) t.data
+  pub roles : map (λ r. r.role) t.readings ≡ data_roles d.config
+  pub read : All (IsReading d.config) t.readings
 
 -- the desk that a turn leaves
 abbrev pub after : Desk → Turn → Desk
 after d t = record d {
   turns = d.turns + 1;
   stopped = d.stopped || has_stop t.control;
-  traffic = charged_all d.traffic (all_handled t.data);
-  drops = plus d.drops (drops_of (fates_of (all_handled t.data)));
+  traffic = charged_all d.traffic (all_handled t.readings);
+  drops = plus d.drops (drops_of (fates_of (all_handled t.readings)));
   moment = t.moment;
 }
 
@@ -57,8 +57,8 @@ waiting_stretch idle = record { heard = waits idle; taken = []; sent = []; faile
 abbrev pub plant_stretch : Turn → PlantStretch
 plant_stretch t =
     plant_joined (control_stretch t.control t.control_end)
-    (plant_joined (data_stretch t.data)
-    (waiting_stretch (is_empty t.control && is_quiet t.data)))
+    (plant_joined (data_stretch t.readings)
+    (waiting_stretch (is_empty t.control && is_quiet t.readings)))
 
 -- what a turn adds to what the outside tells
 abbrev pub stretch_of : Option Turn → Stretch

@@ -1,6 +1,6 @@
 ghost use Rattle.std.specs.Prelude.{◌≡◌, ◌≤◌, length, not};
 ghost use Rattle.bng_base.specs.Stretch.{ExtendsPlant};
-ghost use Rattle.bng_plant.specs.Calls.{send_most};
+ghost use Rattle.bng_plant.specs.Calls.{send_most, IsFilled};
 ghost use Rattle.bng_desk.specs.Reading.{receiving, sending};
 
 use bng_base::{Frame, Peer, Received, Role};
@@ -8,7 +8,8 @@ use bng_plant::{Plant, Sending};
 
 /// Takes the next datagram of a role.
 pub(crate) fn receive<P: Plant>(plant: &mut P, role: Role, into: &mut Frame) -> Received
-    ensures { ExtendsPlant (P.told plant.old) (P.told plant.new) (receiving role result into.new.payload) }
+    ensures told { ExtendsPlant (P.told plant.old) (P.told plant.new) (receiving role result into.new.payload) }
+    ensures filled { IsFilled result into.new }
 {
     plant.recv(role, into)
 }

@@ -1,4 +1,4 @@
-ghost use Rattle.std.specs.Prelude.{◌≡◌, ◌||◌, ℕ, Bool, List};
+ghost use Rattle.std.specs.Prelude.{◌≡◌, ◌||◌, ℕ, Bool, List, codes, if◌then◌else◌};
 ghost use Rattle.bng_desk.specs.Control.{is_near, is_stop, Answers, Heeds};
 
 use crate::calls::{receive, send};
@@ -34,6 +34,12 @@ fn is_stop(from: Peer, cut: bool, text: &[u8]) -> bool
         && (text == b"stop".as_slice() || text == b"stop\n".as_slice()))
 }
 
+fn reply_to(stop: bool) -> &'static [u8]
+    ensures { result.now ≡ (if stop then codes "stopping\n" else codes "unknown\n") }
+{
+    if stop { b"stopping\n" } else { b"unknown\n" }
+}
+
 // Answers a datagram from 127.0.0.0/8, and says whether it is a `stop`.
 fn answer<P: Plant>(plant: &mut P, from: Peer, cut: bool, text: &[u8]) -> bool
     ensures { Answers (P.told plant.old) (P.told plant.new) (record { from = from; cut = cut; octets = text.now }) result }
@@ -42,8 +48,7 @@ fn answer<P: Plant>(plant: &mut P, from: Peer, cut: bool, text: &[u8]) -> bool
     if !is_near(from) {
         return stop;
     }
-    let reply: &[u8] = if stop { b"stopping\n" } else { b"unknown\n" };
-    let _sent = send(plant, Role::Control, from, reply);
+    let _sent = send(plant, Role::Control, from, reply_to(stop));
     stop
 }
 

@@ -75,7 +75,8 @@ fn hand_down<P: Plant>(config: &Config, plant: &mut P, place: usize, frame: &mut
     requires rules { KeepsRules config.now }
     requires place { place < length config.now.statics }
     requires room { frame.old.headroom ≡ 64 }
-    ensures { HandsDown config.now place (P.told plant.old) (P.told plant.new) frame.old.payload result }
+    ensures handed { HandsDown config.now place (P.told plant.old) (P.told plant.new) frame.old.payload result }
+    ensures few { length frame.old.payload ≤ 4160 }
 {
     let circuit = &config.statics.as_slice()[place];
     let port = &config.access.as_slice()[usize::from(circuit.port) - 1];

@@ -1,4 +1,4 @@
-ghost use Rattle.std.specs.Prelude.{◌≡◌, ◌++◌, ◌<◌, ◌^◌, IfOk, OnOk, string_bytes};
+ghost use Rattle.std.specs.Prelude.{◌≡◌, ◌++◌, ◌<◌, ◌^◌, IfOk, OnOk, length, string_bytes};
 ghost use Rattle.bng_desk.specs.Model.{input_of, output_of};
 ghost use Rattle.bng_desk.specs.Report.{address_text, report_text, static_line, static_lines, drop_line, drop_lines, causes, quantities, cause_name};
 
@@ -27,6 +27,7 @@ pub(crate) fn report(
     traffic: &[Traffic],
     drops: &[u64; 9],
 ) -> Result<String, AllocError>
+    requires circuits { length traffic.now ≡ length circuits.now }
     requires input { input_of traffic.now < 2 ^ 64 }
     requires output { output_of traffic.now < 2 ^ 64 }
     ensures { IfOk result (λ text. string_bytes text ≡ report_text circuits.now traffic.now drops.now) }
@@ -45,10 +46,11 @@ fn push_static_lines(
     circuits: &[Static],
     traffic: &[Traffic],
 ) -> Result<(), AllocError>
+    requires { length traffic.now ≡ length circuits.now }
     ensures { OnOk result (string_bytes text.new ≡ string_bytes text.old ++ static_lines circuits.now traffic.now) }
 {
-    for (circuit, carried) in circuits.iter().zip(traffic.iter()) {
-        push_static_line(text, circuit.address, *carried)?;
+    for (place, circuit) in circuits.iter().enumerate() {
+        push_static_line(text, circuit.address, traffic[place])?;
     }
     Ok(())
 }

@@ -100,6 +100,10 @@ access_cases ports circuits number a sent =
 abbrev pub AccessFate : List AccessPort → List Static → ℕ → Arrival → Bool → Fate → Type 0
 AccessFate ports circuits number a sent fate = FirstOf (access_cases ports circuits number a sent) Forwarded fate
 
+-- it has this fate, whatever its send would answer
+abbrev pub EndsUp : List AccessPort → List Static → ℕ → Arrival → Fate → Type 0
+EndsUp ports circuits number a fate = (sent : Bool) → AccessFate ports circuits number a sent fate
+
 -- the datagram came whole from the core's end, and begins with an IPv4 packet that says v
 pub record IsCorePacket (core : Peer) (a : Arrival) (v : Ipv4) : Type 0 where
   pub whole : a.cut ≡ false
@@ -134,6 +138,10 @@ core_cases core circuits a sent =
 
 abbrev pub CoreFate : Peer → List Static → Arrival → Bool → Fate → Type 0
 CoreFate core circuits a sent fate = FirstOf (core_cases core circuits a sent) Forwarded fate
+
+-- it has this fate, whatever its send would answer
+abbrev pub EndsDown : Peer → List Static → Arrival → Fate → Type 0
+EndsDown core circuits a fate = (sent : Bool) → CoreFate core circuits a sent fate
 
 -- a packet that passes, and whose own send failed, is dropped
 abbrev pub after_send : Bool → Fate → Fate

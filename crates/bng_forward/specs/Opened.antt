@@ -10,7 +10,7 @@ use Rattle.bng_base.specs.FateOf.{Arrival}
 use Rattle.bng_forward.specs.declared.opened.Opened.{Opened}
 use Rattle.bng_forward.specs.declared.opened.Opened.TheVariants.{Ends, Passes}
 use Rattle.bng_forward.specs.Packets.{IsPassedOn}
-use Rattle.bng_forward.specs.Fates.{IsData, AccessFate, IsDelivery, CoreFate, after_send}
+use Rattle.bng_forward.specs.Fates.{IsData, AccessFate, EndsUp, IsDelivery, CoreFate, EndsDown, after_send}
 
 -- The packet of a frame may pass: the fate is Forwarded where it is sent, and LinkFailed where its send failed. Its
 -- source is the address of the circuit at this place.
@@ -38,10 +38,10 @@ pub record PassesDown (core : Peer) (circuits : List Static) (a : Arrival) (plac
 
 -- A datagram of the access port with this number: its fate whatever is sent, or the packet to send.
 abbrev pub IsOpenedUp : List AccessPort → List Static → ℕ → Arrival → Opened → List ℕ → Type 0
-IsOpenedUp ports circuits number a (Ends fate) packet = (sent : Bool) → AccessFate ports circuits number a sent fate
+IsOpenedUp ports circuits number a (Ends fate) packet = EndsUp ports circuits number a fate
 IsOpenedUp ports circuits number a (Passes place octets) packet = PassesUp ports circuits number a place octets packet
 
 -- A datagram of the core: its fate whatever is sent, or the packet to send.
 abbrev pub IsOpenedDown : Peer → List Static → Arrival → Opened → List ℕ → Type 0
-IsOpenedDown core circuits a (Ends fate) packet = (sent : Bool) → CoreFate core circuits a sent fate
+IsOpenedDown core circuits a (Ends fate) packet = EndsDown core circuits a fate
 IsOpenedDown core circuits a (Passes place octets) packet = PassesDown core circuits a place octets packet

@@ -1,4 +1,6 @@
-ghost use Rattle.std.specs.Prelude.{◌≡◌, ◌≤◌};
+ghost use Rattle.std.specs.Prelude.{◌≡◌, ◌≤◌, ◌↔◌};
+ghost use Rattle.bng_base.specs.declared.fate.Fate.{Fate as AnyFate};
+ghost use Rattle.bng_forward.specs.Fates.{EndsUp, EndsDown};
 ghost use Rattle.bng_forward.specs.Opened.{IsOpenedUp, IsOpenedDown};
 
 use crate::arrived::Arrived;
@@ -15,13 +17,15 @@ pub enum Opened {
     Passes { place: usize, octets: u16 },
 }
 
-// The octets before the packet in a frame of a session: the headers of PPPoE (RFC 2516 section 4) and PPP (RFC 1661 section 2).
-pub(crate) const HEADERS: usize = 22;
+// The octets before the packet in a frame of a session: the headers of PPPoE (RFC 2516 section 4) and of PPP (RFC 1661
+// section 2).
+const HEADERS: usize = 22;
 
 /// Opens a datagram that was taken from the access port with this number, from 1 on, where all circuits are provisioned.
-/// `cut` says that it was longer than the buffer. Passes comes exactly where its packet may pass to the core (by the table of
-/// `access_fate`, the send aside); then the frame is the packet to send (RFC 791 section 3.1): its TTL is one lower, its
-/// header checksum is computed again, and the octets past its total length are cut off. Else the frame may be as before.
+/// `cut` says that it was longer than the buffer. Where its packet may pass to the core, the frame is the packet to
+/// send: its TTL is one lower, its header checksum is computed again, and the octets past its total length are cut off
+/// (RFC 791 section 3.1). Its fate is then Forwarded, or LinkFailed where its send failed. Ends comes exactly where the
+/// table of `access_fate` has a fate for it whatever is sent; then the frame is as before.
 pub fn open_frame(
     ports: &[AccessPort],
     circuits: &[Static],
@@ -31,6 +35,8 @@ pub fn open_frame(
     frame: &mut Frame,
 ) -> Opened
     ensures opened { IsOpenedUp ports.now circuits.now number (record { from = from; cut = cut; octets = frame.old.payload }) result frame.new.payload }
+    ensures ends { (fate : AnyFate) → (result ≡ Opened.Ends fate) ↔ EndsUp ports.now circuits.now number (record { from = from; cut = cut; octets = frame.old.payload }) fate }
+    ensures kept { (fate : AnyFate) → result ≡ Opened.Ends fate → frame.new ≡ frame.old }
     ensures headroom { frame.old.headroom ≤ frame.new.headroom }
 {
     let octets = frame.payload();
@@ -49,8 +55,8 @@ pub fn open_frame(
     }
 }
 
-/// Opens a datagram that was taken from the core, whose end is `core`, where all circuits are provisioned. `cut`, Passes
-/// and the frame are as at `open_frame`, by the table of `core_fate`.
+/// Opens a datagram that was taken from the core, whose end is `core`, where all circuits are provisioned. It is as at
+/// `open_frame`, by the table of `core_fate`; the place is that of the circuit with the packet's destination.
 pub fn open_packet(
     core: Peer,
     circuits: &[Static],
@@ -59,6 +65,8 @@ pub fn open_packet(
     frame: &mut Frame,
 ) -> Opened
     ensures opened { IsOpenedDown core circuits.now (record { from = from; cut = cut; octets = frame.old.payload }) result frame.new.payload }
+    ensures ends { (fate : AnyFate) → (result ≡ Opened.Ends fate) ↔ EndsDown core circuits.now (record { from = from; cut = cut; octets = frame.old.payload }) fate }
+    ensures kept { (fate : AnyFate) → result ≡ Opened.Ends fate → frame.new ≡ frame.old }
     ensures headroom { frame.new.headroom ≡ frame.old.headroom }
 {
     let octets = frame.payload();

@@ -1,6 +1,7 @@
 ghost use Rattle.std.specs.Prelude.{◌≡◌, MatchResult};
 ghost use Rattle.bng_forward.specs.Arrived.{as_arrival};
-ghost use Rattle.bng_forward.specs.Passage.{EndsUp, EndsDown, MayPassUp, MayPassDown};
+ghost use Rattle.bng_forward.specs.Fates.{EndsUp, EndsDown};
+ghost use Rattle.bng_forward.specs.Passage.{MayPassUp, MayPassDown};
 
 use crate::arrived::{Arrived, carried, frame_at, names_session, packet_from};
 use crate::circuits::{circuit_at, holder_at, term_of};
@@ -54,7 +55,7 @@ pub(crate) fn passage_down(
     circuits: &[Static],
     arrived: &Arrived<'_>,
 ) -> Result<Passage, Fate>
-    ensures { MatchResult result (λ p. MayPassDown core circuits.now (as_arrival arrived.now) p.place p.header) (EndsDown core circuits.now (as_arrival arrived.now)) }
+    ensures { MatchResult result (λ p. MayPassDown core circuits.now (as_arrival arrived.now) p.place p.size p.header) (EndsDown core circuits.now (as_arrival arrived.now)) }
 {
     let Some(header) = packet_from(core, arrived) else {
         return Err(Fate::Dropped(DropCause::Malformed));

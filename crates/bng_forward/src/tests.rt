@@ -1,4 +1,4 @@
-ghost use Rattle.std.specs.Prelude.{◌≤◌, length};
+ghost use Rattle.std.specs.Prelude.{◌≡◌, ◌≤◌, length};
 
 use crate::{
     Arrived, Opened, TermView, access_fate, core_fate, down, open_frame, open_packet, put_in_frame,
@@ -69,6 +69,7 @@ const OTHER: TermView = TermView {
 
 fn frame_of(octets: &[u8]) -> Frame
     requires { length octets.now ≤ 64 }
+    ensures { result.headroom ≡ 64 }
 {
     let mut frame = Frame::new();
     frame.set(octets);

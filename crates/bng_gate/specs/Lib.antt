@@ -1,5 +1,6 @@
 pub mod Words
 pub mod Texts
+pub mod Saying
 pub mod Taken
 pub mod Serving
 pub mod Run

@@ -1,22 +1,24 @@
 -- A whole run, from the words to the report.
-use Rattle.std.specs.Prelude.{◌≡◌, ℕ, ◌^◌, ◌≤◌, ◌⊎◌, false, List, [], ◌∷◌, Option, take}
+use Rattle.std.specs.Prelude.{◌≡◌, ℕ, ◌+◌, ◌-◌, ◌^◌, ◌≤◌, ◌⊎◌, false, List, [], ◌∷◌, Option, take, length, replicate}
 use Rattle.bng_base.specs.declared.outside.Role.TheVariants.{Access, Core, Control}
 use Rattle.bng_base.specs.declared.outside.ClockAnswer.TheVariants.{Now, Wall}
 use Rattle.bng_base.specs.declared.outside.Bind.{Bind}
 use Rattle.bng_base.specs.Causes.{Rose}
 use Rattle.bng_base.specs.Told.{PlantTold, ClockTold, EntropyTold, FilesTold, TraceTold, SinkTold, Grows, GrowsIfTold}
 use Rattle.bng_base.specs.Stretch.{Outside, Extends}
-use Rattle.bng_desk.specs.declared.config.Config.{Config}
+use Rattle.bng_base.specs.declared.settings.AccessPort.{AccessPort}
+use Rattle.bng_config.specs.declared.config.Config.{Config}
+use Rattle.bng_desk.specs.Charging.{no_traffic}
 use Rattle.bng_desk.specs.Counting.{no_drops}
 use Rattle.bng_desk.specs.Model.{Desk}
 use Rattle.bng_desk.specs.Report.{report_text, by_number}
 use Rattle.bng_desk.specs.Turn.{Turn}
-use Rattle.bng_gate.specs.declared.configuration.fault.Fault.{Fault}
+use Rattle.bng_config.specs.declared.fault.Fault.{Fault}
 use Rattle.bng_gate.specs.declared.texts.Opening.{Opening}
 use Rattle.bng_gate.specs.declared.texts.Opening.TheVariants.{Configuration, Control as ControlOpening, Core as CoreOpening, Access as AccessOpening}
 use Rattle.bng_gate.specs.declared.texts.Refusal.{Refusal}
 use Rattle.bng_gate.specs.declared.texts.Refusal.TheVariants.{Usage, Refused, CannotOpen, OutOfMemory, OutputFailed}
-use Rattle.bng_gate.specs.Configuration.{IsRead, HasFault}
+use Rattle.bng_config.specs.Configuration.{IsRead, HasFault}
 use Rattle.bng_gate.specs.Words.{Serves}
 use Rattle.bng_gate.specs.Texts.{refusal_text, status_of}
 use Rattle.bng_gate.specs.Serving.{Run, run_stretch, EndsServing}
@@ -73,14 +75,38 @@ IsUnprepared words old new (Refused fault) = IsFaulty words old new fault
 IsUnprepared words old new (CannotOpen Configuration) = FailsToRead words old new
 IsUnprepared words old new (CannotOpen ControlOpening) = ⊥
 IsUnprepared words old new (CannotOpen CoreOpening) = ⊥
-IsUnprepared words old new (CannotOpen AccessOpening) = ⊥
+IsUnprepared words old new (CannotOpen (AccessOpening number)) = ⊥
 IsUnprepared words old new OutOfMemory = (name : List ℕ) × Serves words name
 IsUnprepared words old new OutputFailed = ⊥
+
+-- the binds of these access ports, the first of which has this number
+abbrev pub port_binds : ℕ → List AccessPort → List Bind
+port_binds number [] = []
+port_binds number (port ∷ ports) = record { role = Access number; local = port.local } ∷ port_binds (number + 1) ports
 
 -- the binds of the opening, in order
 abbrev pub binds_of : Config → List Bind
 binds_of config =
-    record { role = Control; local = config.control_local } ∷ record { role = Core; local = config.core_local } ∷ record { role = Access 1; local = config.access.local } ∷ []
+    record { role = Control; local = config.control_local } ∷ record { role = Core; local = config.core_local } ∷ port_binds 1 config.access
+
+-- how many there are
+abbrev pub binds_most : Config → ℕ
+binds_most config = 2 + length config.access
+
+-- this many of the access ports were bound, and nothing else was asked of the plant
+pub record BindsPorts (number : ℕ) (ports : List AccessPort) (old new : PlantTold) : Type 0 where
+  pub bound : Grows old.bound new.bound (take number (port_binds 1 ports))
+  pub heard : new.heard ≡ old.heard
+  pub taken : new.taken ≡ old.taken
+  pub sent : new.sent ≡ old.sent
+  pub later : old.faults ≤ new.faults
+
+-- the access ports before the one with this number were bound, and that one could not be
+pub record FailsAtPort (number : ℕ) (ports : List AccessPort) (old new : PlantTold) : Type 0 where
+  pub low : 1 ≤ number
+  pub high : number ≤ length ports
+  pub before : BindsPorts (number - 1) ports old new
+  pub rose : Rose old.faults new.faults
 
 -- the first binds of the opening were made, and nothing else was asked of the plant
 pub record Binds (config : Config) (number : ℕ) (old new : PlantTold) : Type 0 where
@@ -95,21 +121,27 @@ pub record FailsToBind (config : Config) (number : ℕ) (old new : PlantTold) : 
   pub before : Binds config number old new
   pub rose : Rose old.faults new.faults
 
+-- all before the access port with this number were made, and its own failed
+pub record FailsToBindPort (config : Config) (number : ℕ) (old new : PlantTold) : Type 0 where
+  pub low : 1 ≤ number
+  pub high : number ≤ length config.access
+  pub fails : FailsToBind config (number + 1) old new
+
 abbrev pub FailsAt : Config → PlantTold → PlantTold → Opening → Type 0
 FailsAt config old new Configuration = ⊥
 FailsAt config old new ControlOpening = FailsToBind config 0 old new
 FailsAt config old new CoreOpening = FailsToBind config 1 old new
-FailsAt config old new AccessOpening = FailsToBind config 2 old new
+FailsAt config old new (AccessOpening number) = FailsToBindPort config number old new
 
 -- the desk at the opening
 abbrev pub opened : Config → ℕ → Desk
-opened config now = record { config = config; rounds = turns_most; turns = 0; stopped = false; input = 0; drops = no_drops; moment = now }
+opened config now = record { config = config; rounds = turns_most; turns = 0; stopped = false; traffic = replicate (length config.statics) no_traffic; drops = no_drops; moment = now }
 
 -- The run was these turns, from the opening desk on: what is told grew by theirs in order, and the report of the last
 -- desk was written.
 pub record Runs (config : Config) (old new : Outside) (out out' : SinkTold) : Type 0 where
   pub opening : Outside
-  pub binds : Binds config 3 old.plant opening.plant
+  pub binds : Binds config (binds_most config) old.plant opening.plant
   pub now : ℕ
   pub wall : ℕ
   pub read : GrowsIfTold old.clock.answers opening.clock.answers (Now now ∷ Wall wall ∷ [])
@@ -118,8 +150,8 @@ pub record Runs (config : Config) (old new : Outside) (out out' : SinkTold) : Ty
   pub last : Desk
   pub run : Run (opened config now) turns last
   pub ends : EndsServing turns_most turns
-  pub told : Extends opening new (run_stretch config turns)
-  pub printed : Grows out.bytes out'.bytes (report_text config.circuit.address last.input 0 (by_number last.drops))
+  pub told : Extends opening new (run_stretch turns)
+  pub printed : Grows out.bytes out'.bytes (report_text config.statics last.traffic (by_number last.drops))
   pub later : out.faults ≤ out'.faults
 
 -- why a configuration was not served to its report
@@ -166,7 +198,7 @@ abbrev pub Fails : List (List ℕ) → World → World → Opening → Type 0
 Fails words old new Configuration = FailsToRead words old.files new.files × IsUntouched old new
 Fails words old new ControlOpening = (config : Config) × Prepares words old.files new.files config × FailsToBind config 0 old.plant new.plant
 Fails words old new CoreOpening = (config : Config) × Prepares words old.files new.files config × FailsToBind config 1 old.plant new.plant
-Fails words old new AccessOpening = (config : Config) × Prepares words old.files new.files config × FailsToBind config 2 old.plant new.plant
+Fails words old new (AccessOpening number) = (config : Config) × Prepares words old.files new.files config × FailsToBindPort config number old.plant new.plant
 
 -- Status 3: what is named could not be opened, and no receive, send or wait was made.
 pub record IsUnopened (words : List (List ℕ)) (old new : World) : Type 0 where

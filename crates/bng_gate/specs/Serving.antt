@@ -3,7 +3,6 @@ use Rattle.std.specs.Prelude.{◌≡◌, ℕ, ◌-◌, ◌≤◌, Bool, true, fa
 use Rattle.std.specs.List.{list_any}
 use Rattle.bng_base.specs.Stretch.{Outside, Stretch, Extends}
 use Rattle.bng_base.specs.Chain.{Chain, all_stretches}
-use Rattle.bng_desk.specs.declared.config.Config.{Config}
 use Rattle.bng_desk.specs.Control.{has_stop}
 use Rattle.bng_desk.specs.Model.{Desk, is_over}
 use Rattle.bng_desk.specs.Turn.{Turn, Step, stretch_of}
@@ -13,8 +12,8 @@ abbrev pub Run : Desk → List (Option Turn) → Desk → Type 0
 Run = Chain Step
 
 -- what the turns add to what the outside tells, one after another
-abbrev pub run_stretch : Config → List (Option Turn) → Stretch
-run_stretch config turns = all_stretches (stretch_of config) turns
+abbrev pub run_stretch : List (Option Turn) → Stretch
+run_stretch turns = all_stretches stretch_of turns
 
 abbrev pub took_stop : Option Turn → Bool
 took_stop None = false
@@ -30,5 +29,5 @@ pub record EndsServing (n : ℕ) (turns : List (Option Turn)) : Type 0 where
 pub record Serves (d d' : Desk) (o o' : Outside) : Type 0 where
   pub turns : List (Option Turn)
   pub run : Run d turns d'
-  pub told : Extends o o' (run_stretch d.config turns)
+  pub told : Extends o o' (run_stretch turns)
   pub ends : EndsServing d.rounds turns

@@ -1,11 +1,15 @@
 -- What is written where a run fails.
-use Rattle.std.specs.Prelude.{ℕ, List, ◌++◌, codes}
-use Rattle.bng_gate.specs.declared.configuration.fault.Fault.{Fault}
+use Rattle.std.specs.Prelude.{ℕ, List, [], ◌++◌, Option, Some, None, codes}
+use Rattle.std.specs.Fmt.{decimal}
+use Rattle.bng_config.specs.declared.fault.Fault.{Fault}
+use Rattle.bng_config.specs.declared.fault.Fault.TheVariants.{OutsideForm}
+use Rattle.bng_config.specs.declared.fault.Key.{Key}
+use Rattle.bng_config.specs.Keys.{fault_text}
+use Rattle.bng_gate.specs.declared.texts.Line.{Line}
 use Rattle.bng_gate.specs.declared.texts.Opening.{Opening}
 use Rattle.bng_gate.specs.declared.texts.Opening.TheVariants.{Configuration, Control, Core, Access}
 use Rattle.bng_gate.specs.declared.texts.Refusal.{Refusal}
 use Rattle.bng_gate.specs.declared.texts.Refusal.TheVariants.{Usage, Refused, CannotOpen, OutOfMemory, OutputFailed}
-use Rattle.bng_gate.specs.Keys.{fault_text}
 
 abbrev pub usage_text : List ℕ
 usage_text =
@@ -14,11 +18,15 @@ usage_text =
 abbrev pub refused_text : Fault → List ℕ
 refused_text fault = codes "bng: config: " ++ fault_text fault ++ codes "\n"
 
+abbrev pub key_line : Key → List ℕ
+key_line key = refused_text (OutsideForm key)
+
+-- an access port is named by its number
 abbrev pub opening_name : Opening → List ℕ
 opening_name Configuration = codes "configuration"
 opening_name Control = codes "control"
 opening_name Core = codes "core"
-opening_name Access = codes "access 1"
+opening_name (Access number) = codes "access " ++ decimal number
 
 abbrev pub cannot_open_text : Opening → List ℕ
 cannot_open_text what = codes "bng: cannot open " ++ opening_name what ++ codes "\n"
@@ -36,3 +44,11 @@ status_of (Refused fault) = 2
 status_of (CannotOpen what) = 3
 status_of OutOfMemory = 4
 status_of OutputFailed = 5
+
+abbrev pub number_text : Option ℕ → List ℕ
+number_text None = []
+number_text (Some n) = decimal n
+
+-- the three parts of a line, one after the other
+abbrev pub line_text : Line → List ℕ
+line_text l = l.front.now ++ number_text l.number ++ l.back.now

@@ -1,8 +1,8 @@
 //! The program: it makes the real objects, calls `run`, and ends with its answer.
 #![tactic(auto)]
 
-mod configuration;
 mod real;
+mod saying;
 mod serving;
 mod start;
 #[cfg(test)]

@@ -1,20 +1,22 @@
 //! The top call.
 ghost use Rattle.std.specs.Prelude.{◌≡◌, ◌⊎◌, ℕ, List, [], ◌∷◌, IsSome, OnOk, IfOk, IfErr};
 ghost use Rattle.bng_base.specs.Told.{Grows};
-ghost use Rattle.bng_desk.specs.declared.config.Config.{Config as Settings};
-ghost use Rattle.bng_gate.specs.declared.configuration.fault.Fault.{Fault as Rule};
-ghost use Rattle.bng_gate.specs.Configuration.{HasFault};
+ghost use Rattle.bng_config.specs.declared.config.Config.{Config as Settings};
+ghost use Rattle.bng_config.specs.declared.fault.Fault.{Fault as Rule};
+ghost use Rattle.bng_config.specs.Configuration.{HasFault};
+ghost use Rattle.bng_config.specs.Rules.{KeepsRules};
 ghost use Rattle.bng_gate.specs.Headline.{Headline};
 ghost use Rattle.bng_gate.specs.Words.{Serves};
 ghost use Rattle.bng_gate.specs.Words.{texts as words_of};
-ghost use Rattle.bng_gate.specs.Run.{Prepares, IsUnprepared, Binds, FailsAt, Runs, IsUnserved, Told, RunEnds, IsFaultless};
+ghost use Rattle.bng_gate.specs.Run.{Prepares, IsUnprepared, Binds, binds_most, BindsPorts, FailsAtPort, FailsAt, Runs, IsUnserved, Told, RunEnds, IsFaultless};
 
-use crate::configuration::{self, ConfigError};
+use crate::saying::say;
 use crate::serving::serve;
 use crate::texts::{self, Opening, Refusal};
 use crate::words;
-use bng_base::Role;
-use bng_desk::{Config, Desk};
+use bng_base::{AccessPort, Role};
+use bng_config::{Config, ConfigError};
+use bng_desk::Desk;
 use bng_plant::{Bound, Clock, Entropy, FileError, Files, Gate, Plant, Sink, Trace, Wrote};
 use std::alloc::Global;
 use std::sync::Wait;
@@ -32,6 +34,7 @@ const TURNS_MOST: u64 = 1 << 40;
 // Reads the configuration that the words name.
 fn prepare<F: Files>(alloc: Global, words: &Vec<String>, files: &mut F) -> Result<Config, Refusal>
     ensures prepared { IfOk result (λ config. Prepares (words_of words.now.items) (F.told files.old) (F.told files.new) config) }
+    ensures keeps { IfOk result (λ config. KeepsRules config) }
     ensures refused { IfErr result (λ refusal. IsUnprepared (words_of words.now.items) (F.told files.old) (F.told files.new) refusal) }
 {
     let Some(name) = words::read(words) else {
@@ -42,16 +45,32 @@ fn prepare<F: Files>(alloc: Global, words: &Vec<String>, files: &mut F) -> Resul
         Err(FileError::Failed) => return Err(Refusal::CannotOpen(Opening::Configuration)),
         Err(FileError::OutOfMemory) => return Err(Refusal::OutOfMemory),
     };
-    match configuration::read(alloc, text.as_slice()) {
+    match bng_config::read(alloc, text.as_slice()) {
         Ok(config) => Ok(config),
         Err(ConfigError::Refused(fault)) => Err(Refusal::Refused(fault)),
         Err(ConfigError::OutOfMemory) => Err(Refusal::OutOfMemory),
     }
 }
 
+// Binds one access port after the other, and says which could not be bound.
+fn bind_ports<P: Plant>(ports: &[AccessPort], plant: &mut P) -> Result<(), u8>
+    requires few { length ports.now ≤ 16 }
+    ensures bound { OnOk result (BindsPorts (length ports.now) ports.now (P.told plant.old) (P.told plant.new)) }
+    ensures failed { IfErr result (λ number. FailsAtPort number ports.now (P.told plant.old) (P.told plant.new)) }
+{
+    for (place, port) in ports.iter().enumerate() {
+        let number = place as u8 + 1;
+        if plant.bind(Role::Access(number), port.local, Some(port.peer)) == Bound::Failed {
+            return Err(number);
+        }
+    }
+    Ok(())
+}
+
 // Binds one role after the other, and says which could not be bound.
 fn bind_all<P: Plant>(config: &Config, plant: &mut P) -> Result<(), Opening>
-    ensures bound { OnOk result (Binds config.now 3 (P.told plant.old) (P.told plant.new)) }
+    requires rules { KeepsRules config.now }
+    ensures bound { OnOk result (Binds config.now (binds_most config.now) (P.told plant.old) (P.told plant.new)) }
     ensures failed { IfErr result (λ what. FailsAt config.now (P.told plant.old) (P.told plant.new) what) }
 {
     if plant.bind(Role::Control, config.control_local, None) == Bound::Failed {
@@ -60,11 +79,10 @@ fn bind_all<P: Plant>(config: &Config, plant: &mut P) -> Result<(), Opening>
     if plant.bind(Role::Core, config.core_local, Some(config.core_peer)) == Bound::Failed {
         return Err(Opening::Core);
     }
-    let port = &config.access;
-    if plant.bind(Role::Access(1), port.local, Some(port.peer)) == Bound::Failed {
-        return Err(Opening::Access);
+    match bind_ports(config.access.as_slice(), plant) {
+        Ok(()) => Ok(()),
+        Err(number) => Err(Opening::Access(number)),
     }
-    Ok(())
 }
 
 // Serves a configuration, from the binds to the report.
@@ -81,6 +99,7 @@ fn serve_all<R, P: Plant, C: Clock, T: Trace, O: Sink, G>(
 where
     R: Threads + Wait + Sync,
     G: Gate + Sync,
+    requires rules { KeepsRules config }
     ensures served { OnOk result (Runs config
         (record { plant = P.told plant.old; clock = C.told clock.old; trace = T.told trace.old })
         (record { plant = P.told plant.new; clock = C.told clock.new; trace = T.told trace.new })
@@ -113,7 +132,7 @@ where
 fn refuse<X: Sink>(err: &mut X, refusal: Refusal) -> u8
     ensures { Told (X.told err.old) (X.told err.new) refusal result }
 {
-    match err.write(texts::line(refusal).as_bytes()) {
+    match say(err, texts::line(refusal)) {
         Wrote::Ok => texts::status(refusal),
         Wrote::Failed => OUTPUT_FAILED,
     }

@@ -1,4 +1,4 @@
-use Rattle.std.proofs.Common.{◌≡◌, ℕ, ◌≤◌, List, sym, subst, ◌∙◌}
+use Rattle.std.proofs.Common.{◌≡◌, ◌≤◌, length, refl, sym, subst, ◌∙◌}
 use Rattle.std.specs.Prelude.{◌==◌}
 use Rattle.bng_base.specs.declared.fate.Fate.TheVariants.{Forwarded, Dropped}
 use Rattle.bng_base.specs.declared.ipv4.Ipv4.{Ipv4}
@@ -29,11 +29,12 @@ returns-in-Ok c =
     let alive : 2 ≤ header.ttl = subst (λ (v : Ipv4). 2 ≤ v.ttl) same c.in-Ok.ensures.alive in
     let fate : DownFate c.term_of.result a.octets Forwarded = c.in-Ok.ensures.fate a.octets c.in-Some.ensures.found.packet in
     let down : DownFate (term_of circuit) a.octets Forwarded = subst (λ (view : TermView). DownFate view a.octets Forwarded) c.term_of.ensures fate in
-    subst (λ (v : Ipv4). MayPassDown c.args.core c.args.circuits.now a c.in-Some-holder_at.place v) (sym same)
+    subst (λ (v : Ipv4). MayPassDown c.args.core c.args.circuits.now a c.in-Some-holder_at.place (length a.octets) v) (sym same)
     (record {
       circuit = circuit;
       at = there.at;
       delivery = record { came = c.in-Some.ensures.found; found = there.first };
+      whole = refl;
       alive = alive;
       destination = same_ip header.dst circuit.address (sym (eqb-true circuit.address.0 header.dst.0 there.passes));
       fate = λ sent. core_delivery c.args.core c.args.circuits.now a sent circuit header Forwarded (record { came = c.in-Some.ensures.found; found = there.first }) down;

@@ -1,12 +1,10 @@
-use Rattle.std.proofs.Common.{◌≡◌, ℕ, List, sym, subst, ◌∙◌}
-use Rattle.std.specs.Prelude.{slice_get, Some}
+use Rattle.std.proofs.Common.{◌≡◌, sym, subst, ◌∙◌}
 use Rattle.bng_base.specs.declared.fate.Fate.TheVariants.{Forwarded, Dropped}
-use Rattle.bng_base.specs.declared.settings.Static.{Static}
 use Rattle.bng_pppoe_wire.specs.View.{frame_of}
 use Rattle.bng_forward.specs.declared.view.TermView.{TermView}
 use Rattle.bng_forward.specs.Arrived.{as_arrival}
 use Rattle.bng_forward.specs.Packets.{UpFate}
-use Rattle.bng_forward.specs.Fates.{IsData, is_circuit, term_of}
+use Rattle.bng_forward.specs.Fates.{is_circuit, term_of}
 use Rattle.bng_forward.proofs.Passing.{may_pass_up}
 use Rattle.bng_forward.proofs.Places.{find_there, find_none, found_not_none}
 use Rattle.bng_forward.proofs.Tables.{access_no_session, access_consumed, access_data, some_or_none}

@@ -1,6 +1,6 @@
 use Rattle.std.proofs.Common.{◌≡◌, ◌++◌, ◌≤◌, take, length, string_bytes}
 use Rattle.bng_desk.specs.Report.{causes, drop_lines}
-use Rattle.bng_desk.proofs.report.report.Given as goal
+use Rattle.bng_desk.proofs.report.push_drop_lines.Given as goal
 
 -- the lines of the causes so far follow what was written before
 abbrev pub invariant-loop-number : goal.invariant-loop-number

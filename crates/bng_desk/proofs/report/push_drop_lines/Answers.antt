@@ -3,7 +3,7 @@ use Rattle.std.proofs.lemmas.Grind.{common_steps}
 use Rattle.bng_base.specs.declared.fate.DropCause.{DropCause}
 use Rattle.bng_base.specs.declared.fate.DropCause.TheVariants.{Malformed}
 use Rattle.bng_desk.specs.Report.{causes, drop_line, drop_lines}
-use Rattle.bng_desk.proofs.report.report.Goals as goal
+use Rattle.bng_desk.proofs.report.push_drop_lines.Goals as goal
 
 -- the line of one more cause
 lines_more : (cs : List DropCause) (ds : List ℕ) (i : ℕ) (d : DropCause) → i < length cs → i < length ds
