@@ -5,3 +5,4 @@ pub mod Octets
 pub mod Faults
 pub mod Exclusive
 pub mod OneReading
+pub mod Kept

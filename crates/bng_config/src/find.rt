@@ -6,7 +6,7 @@ ghost use Rattle.bng_config.specs.Keys.{named, path_of, in_entry};
 ghost use Rattle.bng_config.specs.Configuration.{value_at};
 
 use crate::fault::Key;
-use toml::{Array, Value};
+use toml::Value;
 
 /// The text at the key.
 pub(crate) fn text_at(document: &Value, key: Key) -> Option<&str>
@@ -29,7 +29,7 @@ pub(crate) fn integer_at(document: &Value, key: Key) -> Option<i64>
 }
 
 /// The list at the key.
-pub(crate) fn list_at(document: &Value, key: Key) -> Option<&Array>
+pub(crate) fn list_at(document: &Value, key: Key) -> Option<&Vec<Value>>
     ensures { option_map (λ v. array_view v.now) result ≡ option_and_then as_array (value_at (path_of key) (view document.now)) }
 {
     match value_of(document, key) {
