@@ -11,10 +11,10 @@ use Rattle.bng_base.specs.declared.settings.Static.{Static}
 use Rattle.bng_config.specs.declared.config.Config.{Config}
 use Rattle.bng_config.specs.declared.fault.Key.{Key}
 use Rattle.bng_config.specs.declared.fault.Key.TheVariants.{ControlLocal, CoreLocal, Access, AccessLocal, Statics, StaticSession, StaticAddress}
-use Rattle.bng_config.specs.Address.{peer_text, address_text}
 use Rattle.bng_config.specs.Keys.{path_of, first_keys, access_keys, static_keys, of_entries}
 use Rattle.bng_config.specs.Configuration.{StandsAt, HasForm, IsNew, IsFit, IsSound, AreSound, Differs, IsList, IsPeer, IsSession, IsAddress, IsPort, IsCircuit, EachPlace, value_at, entries, item_count, count_of, keys, Configures, IsRead}
 use Rattle.bng_config.specs.Rules.{IsPlaced, KeepsRules, ends_of}
+use Rattle.bng_config.proofs.New.{other_end, other_session, other_address}
 use Rattle.bng_config.proofs.Faults.{sound_front, sound_back, sound_entry}
 
 -- an element and later ones that differ from it, before a list whose elements differ
@@ -43,25 +43,6 @@ before_cons : (p q : Peer) (ps : List Peer) → p ≢ q → ((i : ℕ) (d : Peer
     → (i : ℕ) (d : Peer) → i < length (q ∷ ps) → p ≢ get_or (q ∷ ps) i d
 before_cons p q ps one rest zero d less = one
 before_cons p q ps one rest (suc i) d less = rest i d (omega arith)
-
--- a value that is not at a key is another than the one that is there
-differs : {X : Type 0} {document : Data} {key other : Key} (Form : Data → X → Type 0) (text : X → Data) → ((d : Data) (x : X) → Form d x → d ≡ text x)
-    → (x y : X) (v : Data) → value_at (path_of key) document ≡ Some v → StandsAt document key (λ d. Form d x) → StandsAt document other (λ d. Form d y)
-    → Differs document other v → y ≢ x
-differs Form text is x y v at p q differs same =
-    differs (q.found ∙ ap Some (is q.value y q.is ∙ ap text same ∙ sym (is p.value x p.is)) ∙ sym p.found ∙ at)
-
-new_end : {document : Data} {key other : Key} (x y : Peer) (v : Data) → value_at (path_of key) document ≡ Some v
-    → StandsAt document key (λ d. IsPeer d x) → StandsAt document other (λ d. IsPeer d y) → Differs document other v → y ≢ x
-new_end = differs IsPeer (λ p. string (peer_text p)) (λ d p h. h.text)
-
-new_session : {document : Data} {key other : Key} (x y : SessionNo) (v : Data) → value_at (path_of key) document ≡ Some v
-    → StandsAt document key (λ d. IsSession d x) → StandsAt document other (λ d. IsSession d y) → Differs document other v → y ≢ x
-new_session = differs IsSession (λ s. integer (pos s.0)) (λ d s h. h.number)
-
-new_address : {document : Data} {key other : Key} (x y : Ip4) (v : Data) → value_at (path_of key) document ≡ Some v
-    → StandsAt document key (λ d. IsAddress d x) → StandsAt document other (λ d. IsAddress d y) → Differs document other v → y ≢ x
-new_address = differs IsAddress (λ a. string (address_text a)) (λ d a h. h.text)
 
 -- how many entries a list has
 pub entries_of : (document : Data) (key : Key) (d : Data) (items : Items) → value_at (path_of key) document ≡ Some d → d ≡ array items
@@ -99,22 +80,22 @@ module _ (document : Data) (c : Config) (h : Configures document c) where
   new_ports : AllPairs (λ a b. a.local ≢ b.local) c.access
   new_ports i j d less long =
       let fit = (sound_port j long).0 in
-      new_end (get_or c.access j d).local (get_or c.access i d).local fit.value fit.found (h.access j d long).local (h.access i d (omega arith)).local (fit.is.new.1.1 i less)
+      other_end (get_or c.access j d).local (get_or c.access i d).local fit.value fit.found (h.access j d long).local (h.access i d (omega arith)).local (fit.is.new.1.1 i less)
 
   control_differs : (i : ℕ) (d : AccessPort) → i < length c.access → c.control_local ≢ (get_or c.access i d).local
   control_differs i d less =
       let fit = (sound_port i less).0 in
-      new_end (get_or c.access i d).local c.control_local fit.value fit.found (h.access i d less).local h.control_local fit.is.new.0
+      other_end (get_or c.access i d).local c.control_local fit.value fit.found (h.access i d less).local h.control_local fit.is.new.0
 
   core_differs : (i : ℕ) (d : AccessPort) → i < length c.access → c.core_local ≢ (get_or c.access i d).local
   core_differs i d less =
       let fit = (sound_port i less).0 in
-      new_end (get_or c.access i d).local c.core_local fit.value fit.found (h.access i d less).local h.core_local fit.is.new.1.0
+      other_end (get_or c.access i d).local c.core_local fit.value fit.found (h.access i d less).local h.core_local fit.is.new.1.0
 
   ends_differ : c.control_local ≢ c.core_local
   ends_differ =
       let fit = h.sound.1.0 in
-      new_end c.core_local c.control_local fit.value fit.found h.core_local h.control_local fit.is.new
+      other_end c.core_local c.control_local fit.value fit.found h.core_local h.control_local fit.is.new
 
   ends : AllPairs (λ a b. a ≢ b) (ends_of c)
   ends =
@@ -126,12 +107,12 @@ module _ (document : Data) (c : Config) (h : Configures document c) where
   sessions : AllPairs (λ a b. a.session ≢ b.session) c.statics
   sessions i j d less long =
       let fit = (sound_circuit j long).1.1.0 in
-      new_session (get_or c.statics j d).session (get_or c.statics i d).session fit.value fit.found (h.statics j d long).session (h.statics i d (omega arith)).session (fit.is.new i less)
+      other_session (get_or c.statics j d).session (get_or c.statics i d).session fit.value fit.found (h.statics j d long).session (h.statics i d (omega arith)).session (fit.is.new i less)
 
   addresses : AllPairs (λ a b. a.address ≢ b.address) c.statics
   addresses i j d less long =
       let fit = (sound_circuit j long).1.1.1.0 in
-      new_address (get_or c.statics j d).address (get_or c.statics i d).address fit.value fit.found (h.statics j d long).address (h.statics i d (omega arith)).address (fit.is.new i less)
+      other_address (get_or c.statics j d).address (get_or c.statics i d).address fit.value fit.found (h.statics j d long).address (h.statics i d (omega arith)).address (fit.is.new i less)
 
   placed : All (IsPlaced (length c.access)) c.statics
   placed i d less =

@@ -5,4 +5,6 @@ pub mod Octets
 pub mod Faults
 pub mod Exclusive
 pub mod OneReading
+pub mod New
 pub mod Kept
+pub mod Counts
