@@ -80,7 +80,7 @@ module _ (document : Data) (c : Config) (h : Configures document c) where
   new_ports : AllPairs (λ a b. a.local ≢ b.local) c.access
   new_ports i j d less long =
       let fit = (sound_port j long).0 in
-      other_end (get_or c.access j d).local (get_or c.access i d).local fit.value fit.found (h.access j d long).local (h.access i d (omega arith)).local (fit.is.new.1.1 i less)
+      other_end (get_or c.access j d).local (get_or c.access i d).local fit.value fit.found (h.access j d long).local (h.access i d (omega arith)).local (fit.is.new.2 i less)
 
   control_differs : (i : ℕ) (d : AccessPort) → i < length c.access → c.control_local ≢ (get_or c.access i d).local
   control_differs i d less =
@@ -90,7 +90,7 @@ module _ (document : Data) (c : Config) (h : Configures document c) where
   core_differs : (i : ℕ) (d : AccessPort) → i < length c.access → c.core_local ≢ (get_or c.access i d).local
   core_differs i d less =
       let fit = (sound_port i less).0 in
-      other_end (get_or c.access i d).local c.core_local fit.value fit.found (h.access i d less).local h.core_local fit.is.new.1.0
+      other_end (get_or c.access i d).local c.core_local fit.value fit.found (h.access i d less).local h.core_local fit.is.new.1
 
   ends_differ : c.control_local ≢ c.core_local
   ends_differ =

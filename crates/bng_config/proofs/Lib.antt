@@ -8,3 +8,4 @@ pub mod OneReading
 pub mod New
 pub mod Kept
 pub mod Counts
+pub mod Places

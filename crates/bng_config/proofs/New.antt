@@ -67,7 +67,7 @@ core_taken document control local p q same sound = other_end local control sound
 
 -- where no element has a property, none at a place has it
 none_at : {X : Type 0} (P : X → Type 0) (xs : List X) → (Any P xs → ⊥) → (i : ℕ) (d : X) → i < length xs → ¬ P (get_or xs i d)
-none_at P xs none i d less has = none (i, (get_or xs i d, (less, (get_or_default xs i (get_or xs i d) d less, has))))
+none_at P xs none i d less has = none (i, get_or xs i d, less, get_or_default xs i (get_or xs i d) d less, has)
 
 ends_differ : (document : Data) (key : Key) (local : Peer) (earlier : List AccessPort) → EachPlace (IsPort document) earlier
     → (here : StandsAt document key (λ d. IsPeer d local)) → (Any (λ port. port.local ≡ local) earlier → ⊥)
@@ -97,15 +97,15 @@ module _ (document : Data) (place : ℕ) (control core local : Peer) (earlier : 
   pub end_sound : ((local ≡ control) ⊎ (local ≡ core) ⊎ Any (λ port. port.local ≡ local) earlier → ⊥) → IsSound document (AccessLocal place)
   end_sound free = fit_of IsPeer local here (λ d h. (local, h))
       (end_differs local control here at_control (λ e. free (inl e)),
-      (end_differs local core here at_core (λ e. free (inr (inl e))),
-      λ i less. ends_differ document (AccessLocal place) local earlier are here (λ any. free (inr (inr any))) i (omega arith)))
+      end_differs local core here at_core (λ e. free (inr (inl e))),
+      λ i less. ends_differ document (AccessLocal place) local earlier are here (λ any. free (inr (inr any))) i (omega arith))
 
   pub end_taken : (local ≡ control) ⊎ (local ≡ core) ⊎ Any (λ port. port.local ≡ local) earlier → ¬ IsSound document (AccessLocal place)
   end_taken (inl same) sound = other_end local control sound.value sound.found here at_control sound.is.new.0 (sym same)
-  end_taken (inr (inl same)) sound = other_end local core sound.value sound.found here at_core sound.is.new.1.0 (sym same)
-  end_taken (inr (inr (i, (port, (less, (at, has)))))) sound =
+  end_taken (inr (inl same)) sound = other_end local core sound.value sound.found here at_core sound.is.new.1 (sym same)
+  end_taken (inr (inr (i, port, less, at, has))) sound =
       let same : (get_or earlier i port).local ≡ local = rw at has in
-      other_end local (get_or earlier i port).local sound.value sound.found here (are i port less).local (sound.is.new.1.1 i (omega arith)) same
+      other_end local (get_or earlier i port).local sound.value sound.found here (are i port less).local (sound.is.new.2 i (omega arith)) same
 
 -- a session that no earlier circuit has, and one that some has
 module _ (document : Data) (place : ℕ) (session : SessionNo) (earlier : List Static)
@@ -115,7 +115,7 @@ module _ (document : Data) (place : ℕ) (session : SessionNo) (earlier : List S
       (λ i less. sessions_differ document (StaticSession place) session earlier are here free i (omega arith))
 
   pub session_taken : Any (λ circuit. circuit.session ≡ session) earlier → ¬ IsSound document (StaticSession place)
-  session_taken (i, (circuit, (less, (at, has)))) sound =
+  session_taken (i, circuit, less, at, has) sound =
       let same : (get_or earlier i circuit).session ≡ session = rw at has in
       other_session session (get_or earlier i circuit).session sound.value sound.found here (are i circuit less).session (sound.is.new i (omega arith)) same
 
@@ -127,6 +127,6 @@ module _ (document : Data) (place : ℕ) (address : Ip4) (earlier : List Static)
       (λ i less. addresses_differ document (StaticAddress place) address earlier are here free i (omega arith))
 
   pub address_taken : Any (λ circuit. circuit.address ≡ address) earlier → ¬ IsSound document (StaticAddress place)
-  address_taken (i, (circuit, (less, (at, has)))) sound =
+  address_taken (i, circuit, less, at, has) sound =
       let same : (get_or earlier i circuit).address ≡ address = rw at has in
       other_address address (get_or earlier i circuit).address sound.value sound.found here (are i circuit less).address (sound.is.new i (omega arith)) same
