@@ -5,10 +5,11 @@ use Rattle.toml.specs.Data.{Data, Items, item, string, integer, float, boolean, 
 use Rattle.toml.specs.View.{view, items_view, array_view}
 use Rattle.toml.specs.declared.value.Value.{Value}
 use Rattle.bng_config.specs.declared.fault.Key.{Key}
-use Rattle.bng_config.specs.declared.fault.Key.TheVariants.{Access, Statics}
+use Rattle.bng_config.specs.declared.fault.Key.TheVariants.{Access, Statics, StaticPort}
 use Rattle.bng_config.specs.Keys.{path_of}
-use Rattle.bng_config.specs.Configuration.{StandsAt, IsFit, IsSound, IsList, value_at, item_count, entries, most_ports, most_circuits}
+use Rattle.bng_config.specs.Configuration.{StandsAt, IsFit, IsSound, IsList, IsPortNumber, value_at, item_count, entries, most_ports, most_circuits}
 use Rattle.bng_config.specs.Find.{HasCount}
+use Rattle.bng_config.proofs.Faults.{fit_of, unfit_of}
 
 count_view : (vs : List Value) → item_count (items_view vs) ≡ length vs
 count_view [] = refl
@@ -103,9 +104,19 @@ none_sound document r is found = inl (circuits_absent document r is found)
 pub no_entries : (document : Data) (r : Option (Bor Value)) → r ≡ None → option_map (λ v. view v.now) r ≡ value_at (path_of Statics) document → entries document Statics ≡ 0
 no_entries document r is found = rw (circuits_absent document r is found)
 
-pub circuits_other : (document : Data) (v : Bor Value) (r : Option (Bor Value)) → r ≡ Some v → option_map (λ v. view v.now) r ≡ value_at (path_of Statics) document
+pub circuits_other : (document : Data) (r : Option (Bor Value)) → (r ≡ None → ⊥) → option_map (λ v. view v.now) r ≡ value_at (path_of Statics) document
     → ((n : ℕ) → ¬ HasCount document Statics n) → ¬ IsSound document Statics
-circuits_other document v r is found none (inl absent) =
-    let both = sym (ap (option_map (λ v. view v.now)) is) ∙ found ∙ absent in
+circuits_other document None some found none sound = some refl
+circuits_other document (Some v) some found none (inl absent) =
+    let both = found ∙ absent in
     cc
-circuits_other document v r is found none (inr s) = none (item_count s.is.form.items) (count_of_list document Statics s.value s.found s.is.form)
+circuits_other document (Some v) some found none (inr s) = none (item_count s.is.form.items) (count_of_list document Statics s.value s.found s.is.form)
+
+-- the number of an access port, where it is one of those that there are, and where it is none
+pub port_sound : (document : Data) (place ports n : ℕ) → ports ≡ entries document Access → StandsAt document (StaticPort place) (λ d. IsPortNumber ports d n) → IsSound document (StaticPort place)
+port_sound document place ports n all h =
+    fit_of (IsPortNumber (entries document Access)) n (subst (λ m. StandsAt document (StaticPort place) (λ d. IsPortNumber m d n)) all h) (λ d is. (n, is)) tt
+
+pub port_outside : (document : Data) (place ports : ℕ) → ports ≡ entries document Access → ((n : ℕ) → ¬ StandsAt document (StaticPort place) (λ d. IsPortNumber ports d n)) → ¬ IsSound document (StaticPort place)
+port_outside document place ports all none =
+    unfit_of (IsPortNumber (entries document Access)) (subst (λ m. (n : ℕ) → ¬ StandsAt document (StaticPort place) (λ d. IsPortNumber m d n)) all none) (λ d h. h)
