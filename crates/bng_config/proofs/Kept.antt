@@ -15,6 +15,7 @@ use Rattle.bng_config.specs.Keys.{path_of, first_keys, access_keys, static_keys,
 use Rattle.bng_config.specs.Configuration.{StandsAt, HasForm, IsNew, IsFit, IsSound, AreSound, Differs, IsList, IsPeer, IsSession, IsAddress, IsPort, IsCircuit, EachPlace, value_at, entries, item_count, count_of, keys, Configures, IsRead}
 use Rattle.bng_config.specs.Rules.{IsPlaced, KeepsRules, ends_of}
 use Rattle.bng_config.proofs.New.{other_end, other_session, other_address}
+use Rattle.bng_config.proofs.Parts.{port_keys, circuit_keys}
 use Rattle.bng_config.proofs.Faults.{sound_front, sound_back, sound_entry}
 
 -- an element and later ones that differ from it, before a list whose elements differ
@@ -27,7 +28,7 @@ pairs_cons R x xs first rest (suc i) (suc j) d less long = rest i j d (omega ari
 pairs_map : {X Y : Type 0} (f : X → Y) (R : Y → Y → Type 0) (xs : List X) → AllPairs (λ a b. R (f a) (f b)) xs → AllPairs R (map f xs)
 pairs_map f R [] h i j d less long = absurd (omega arith)
 pairs_map f R (x ∷ xs) h i j d less long =
-    let high : j < length (x ∷ xs) = subst (λ n. j < n) (length-map f (x ∷ xs)) long in
+    let high : j < length (x ∷ xs) = subst (λ n. j < n) (length-map (x ∷ xs) f) long in
     rw (get_or-map f (x ∷ xs) i x d (omega arith), get_or-map f (x ∷ xs) j x d high) (h i j x less high)
 
 -- an end that differs from those of the ports
@@ -35,7 +36,7 @@ over_map : (ports : List AccessPort) (p : Peer) → ((i : ℕ) (d : AccessPort) 
     → (i : ℕ) (d : Peer) → i < length (map (λ a. a.local) ports) → p ≢ get_or (map (λ a. a.local) ports) i d
 over_map [] p h i d less = absurd (omega arith)
 over_map (x ∷ xs) p h i d less =
-    let low : i < length (x ∷ xs) = subst (λ n. i < n) (length-map (λ a. a.local) (x ∷ xs)) less in
+    let low : i < length (x ∷ xs) = subst (λ n. i < n) (length-map (x ∷ xs) (λ a. a.local)) less in
     rw (get_or-map (λ a. a.local) (x ∷ xs) i x d low) (h i x low)
 
 -- and from one before them
@@ -56,17 +57,14 @@ few_of document (inr h) =
     rw (entries_of document Statics h.value form.items h.found form.list) form.few
 
 module _ (document : Data) (c : Config) (h : Configures document c) where
-  lists : List Key
-  lists = (Access ∷ of_entries access_keys (entries document Access)) ++ (Statics ∷ of_entries static_keys (entries document Statics))
+  sound_lists : AreSound document (port_keys document ++ circuit_keys document)
+  sound_lists = sound_back document first_keys (port_keys document ++ circuit_keys document) h.sound
 
-  sound_lists : AreSound document lists
-  sound_lists = sound_back document first_keys lists h.sound
+  sound_ports : AreSound document (port_keys document)
+  sound_ports = sound_front document (port_keys document) (circuit_keys document) sound_lists
 
-  sound_ports : AreSound document (Access ∷ of_entries access_keys (entries document Access))
-  sound_ports = sound_front document (Access ∷ of_entries access_keys (entries document Access)) (Statics ∷ of_entries static_keys (entries document Statics)) sound_lists
-
-  sound_circuits : AreSound document (Statics ∷ of_entries static_keys (entries document Statics))
-  sound_circuits = sound_back document (Access ∷ of_entries access_keys (entries document Access)) (Statics ∷ of_entries static_keys (entries document Statics)) sound_lists
+  sound_circuits : AreSound document (circuit_keys document)
+  sound_circuits = sound_back document (port_keys document) (circuit_keys document) sound_lists
 
   port_count : length c.access ≡ item_count sound_ports.0.is.form.items
   port_count = h.all_ports ∙ entries_of document Access sound_ports.0.value sound_ports.0.is.form.items sound_ports.0.found sound_ports.0.is.form.list

@@ -5,6 +5,7 @@ pub mod Octets
 pub mod Faults
 pub mod Exclusive
 pub mod OneReading
+pub mod Parts
 pub mod New
 pub mod Kept
 pub mod Counts
