@@ -98,9 +98,9 @@ module _ (document : Data) (c : Config) (h : Configures document c) where
   ends : AllPairs (λ a b. a ≢ b) (ends_of c)
   ends =
       pairs_cons (λ a b. a ≢ b) c.control_local (c.core_local ∷ map (λ a. a.local) c.access)
-          (before_cons c.control_local c.core_local (map (λ a. a.local) c.access) ends_differ (over_map c.access c.control_local control_differs))
-          (pairs_cons (λ a b. a ≢ b) c.core_local (map (λ a. a.local) c.access) (over_map c.access c.core_local core_differs)
-              (pairs_map (λ a. a.local) (λ a b. a ≢ b) c.access new_ports))
+      (before_cons c.control_local c.core_local (map (λ a. a.local) c.access) ends_differ (over_map c.access c.control_local control_differs))
+      (pairs_cons (λ a b. a ≢ b) c.core_local (map (λ a. a.local) c.access) (over_map c.access c.core_local core_differs)
+      (pairs_map (λ a. a.local) (λ a b. a ≢ b) c.access new_ports))
 
   sessions : AllPairs (λ a b. a.session ≢ b.session) c.statics
   sessions i j d less long =

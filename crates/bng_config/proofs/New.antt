@@ -95,10 +95,11 @@ module _ (document : Data) (place : ℕ) (control core local : Peer) (earlier : 
     (at_control : StandsAt document ControlLocal (λ d. IsPeer d control)) (at_core : StandsAt document CoreLocal (λ d. IsPeer d core))
     (all : length earlier ≡ place) (are : EachPlace (IsPort document) earlier) (here : StandsAt document (AccessLocal place) (λ d. IsPeer d local)) where
   pub end_sound : ((local ≡ control) ⊎ (local ≡ core) ⊎ Any (λ port. port.local ≡ local) earlier → ⊥) → IsSound document (AccessLocal place)
-  end_sound free = fit_of IsPeer local here (λ d h. (local, h))
-      (end_differs local control here at_control (λ e. free (inl e)),
-      end_differs local core here at_core (λ e. free (inr (inl e))),
-      λ i less. ends_differ document (AccessLocal place) local earlier are here (λ any. free (inr (inr any))) i (omega arith))
+  end_sound free = fit_of IsPeer local here (λ d h. (local, h)) (
+    end_differs local control here at_control (λ e. free (inl e)),
+    end_differs local core here at_core (λ e. free (inr (inl e))),
+    λ i less. ends_differ document (AccessLocal place) local earlier are here (λ any. free (inr (inr any))) i (omega arith),
+  )
 
   pub end_taken : (local ≡ control) ⊎ (local ≡ core) ⊎ Any (λ port. port.local ≡ local) earlier → ¬ IsSound document (AccessLocal place)
   end_taken (inl same) sound = other_end local control sound.value sound.found here at_control sound.is.new.0 (sym same)

@@ -30,4 +30,4 @@ pub first_entry : (document : Data) (keys_at : ℕ → List Key) (i n : ℕ) (he
     → AreSound document (head ∷ []) → AreSound document (of_entries keys_at i) → IsFirstOf document (keys_at i) key → IsFirstOf document (head ∷ of_entries keys_at n) key
 first_entry document keys_at i n head key less first before here =
     first_back document (head ∷ []) (of_entries keys_at n) key first
-        (first_of_more document keys_at (suc i) n key less (first_back document (of_entries keys_at i) (keys_at i) key before here))
+    (first_of_more document keys_at (suc i) n key less (first_back document (of_entries keys_at i) (keys_at i) key before here))

@@ -70,12 +70,7 @@ fn count_of(document: &Value) -> Result<u16, Key>
 }
 
 // The circuit at this place, after those at the earlier ones.
-fn circuit_at(
-    document: &Value,
-    place: u16,
-    ports: usize,
-    earlier: &[Static],
-) -> Result<Static, Key>
+fn circuit_at(document: &Value, place: u16, ports: usize, earlier: &[Static]) -> Result<Static, Key>
     requires ports { ports ≡ entries (view document.now) Key.Access }
     requires few { ports ≤ 16 }
     requires all { length earlier.now ≡ place }

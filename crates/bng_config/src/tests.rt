@@ -157,7 +157,11 @@ fn each_rule_is_told_at_its_key(rt: HostRuntime) -> Result<(), Fail> {
         ("local = \"127.0.0.1:9000\", ", "", "C5 core.local"),
         ("127.0.0.1:9000", "127.0.0.1:9002", "C5 core.local"),
         ("127.0.0.1:9001", "127.0.0.256:9001", "C5 core.peer"),
-        ("local = \"127.0.0.1:9010\"", "local = 9010", "C5 access.1.local"),
+        (
+            "local = \"127.0.0.1:9010\"",
+            "local = 9010",
+            "C5 access.1.local",
+        ),
         ("127.0.0.1:9010", "127.0.0.1:9002", "C5 access.1.local"),
         ("127.0.0.1:9010", "127.0.0.1:9000", "C5 access.1.local"),
         ("127.0.0.1:9020", "127.0.0.1:9010", "C5 access.2.local"),
@@ -229,9 +233,21 @@ fn with_circuits(alloc: Global, count: usize) -> Result<String, AllocError> {
 fn there_may_be_no_circuits_and_1024(rt: HostRuntime) -> Result<(), Fail> {
     let alloc = rt.alloc();
     let none = with_circuits(alloc, 0)?;
-    assert_eq!(rt; config_of(&rt, alloc, none.as_str()).statics.as_slice().len(), 0);
+    assert_eq!(rt;
+        config_of(&rt, alloc, none.as_str())
+            .statics
+            .as_slice()
+            .len(),
+        0
+    );
     let absent = changed(alloc, none.as_str(), "static = []\n", "")?;
-    assert_eq!(rt; config_of(&rt, alloc, absent.as_str()).statics.as_slice().len(), 0);
+    assert_eq!(rt;
+        config_of(&rt, alloc, absent.as_str())
+            .statics
+            .as_slice()
+            .len(),
+        0
+    );
     let other = changed(alloc, none.as_str(), "static = []\n", "static = {}\n")?;
     let rows = [
         (other, "C5 static"),

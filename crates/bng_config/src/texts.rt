@@ -9,11 +9,11 @@ use crate::fault::{Fault, Key};
 use arrayvec::ArrayString;
 use itoa::Buffer;
 
-/// The rule that is broken and the key that breaks it, as `C5 static.1.session`: at most 24 octets, with the places of
-/// entries written from 1 on.
-pub fn fault_text(fault: Fault) -> ArrayString<24>
+/// The rule that is broken and the key that breaks it, as `C5 static.1.session`, with the places of entries written
+/// from 1 on.
+pub fn fault_text(fault: Fault) -> ArrayString<32>
     ensures text { result.bytes ≡ text_of fault }
-    ensures short { array_string_len result ≤ 24 }
+    ensures short { array_string_len result ≤ 32 }
 {
     let mut text = ArrayString::new();
     match fault {
@@ -27,9 +27,10 @@ pub fn fault_text(fault: Fault) -> ArrayString<24>
     text
 }
 
-fn push_key(text: &mut ArrayString<24>, key: Key)
+fn push_key(text: &mut ArrayString<32>, key: Key)
     requires { array_string_len text.old ≡ 3 }
-    ensures { text.new.bytes ≡ text.old.bytes ++ key_text key }
+    ensures key { text.new.bytes ≡ text.old.bytes ++ key_text key }
+    ensures short { array_string_len text.new ≤ 32 }
 {
     match key {
         Key::ControlLocal => text.push_str("control.local"),
@@ -48,11 +49,12 @@ fn push_key(text: &mut ArrayString<24>, key: Key)
 }
 
 // The key of the entry at this place, from 0, of a list.
-fn push_entry(text: &mut ArrayString<24>, list: &str, place: u16, name: &str)
+fn push_entry(text: &mut ArrayString<32>, list: &str, place: u16, name: &str)
     requires text { array_string_len text.old ≡ 3 }
     requires list { length list.now ≤ 6 }
     requires name { length name.now ≤ 7 }
-    ensures { text.new.bytes ≡ text.old.bytes ++ join_with_byte 46 (list.now ∷ decimal (place + 1) ∷ name.now ∷ []) }
+    ensures short { array_string_len text.new ≤ 32 }
+    ensures key { text.new.bytes ≡ text.old.bytes ++ join_with_byte 46 (list.now ∷ decimal (place + 1) ∷ name.now ∷ []) }
 {
     let mut buffer = Buffer::new();
     let number = buffer.format(u32::from(place) + 1);

@@ -15,10 +15,10 @@ pub returns-in_err-peer-clause-refused : goal.returns-in_err-peer-clause-refused
 returns-in_err-peer-clause-refused c =
     let p = err_from_is_err_and c.from_residual-in_err-peer.result c.from_residual-in_err-peer.ensures.1 in
     rw (p.1, p.2) (first_fault (view c.args.document.now) (AccessPeer c.args.place) _ (AccessLocal c.args.place ∷ []) (AccessMac c.args.place ∷ []) c.in_err-peer.ensures.refused
-        (c.in_ok-local.ensures.sound, tt) (unfit_of IsPeer (c.in_err-peer.ensures.none refl) (λ d h. h)))
+    (c.in_ok-local.ensures.sound, tt) (unfit_of IsPeer (c.in_err-peer.ensures.none refl) (λ d h. h)))
 
 pub returns-in_err-mac-clause-refused : goal.returns-in_err-mac-clause-refused
 returns-in_err-mac-clause-refused c =
     let p = err_from_is_err_and c.from_residual-in_err-mac.result c.from_residual-in_err-mac.ensures.1 in
     rw (p.1, p.2) (first_fault (view c.args.document.now) (AccessMac c.args.place) _ (AccessLocal c.args.place ∷ AccessPeer c.args.place ∷ []) [] c.in_err-mac.ensures.refused
-        (c.in_ok-local.ensures.sound, (fit_of IsPeer c.in_ok-peer.peer c.in_ok-peer.ensures.found (λ d h. (c.in_ok-peer.peer, h)) tt, tt)) (unfit_of IsMac (c.in_err-mac.ensures.none refl) (λ d h. h)))
+    (c.in_ok-local.ensures.sound, (fit_of IsPeer c.in_ok-peer.peer c.in_ok-peer.ensures.found (λ d h. (c.in_ok-peer.peer, h)) tt, tt)) (unfit_of IsMac (c.in_err-mac.ensures.none refl) (λ d h. h)))

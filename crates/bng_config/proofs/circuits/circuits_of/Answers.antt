@@ -16,7 +16,7 @@ returns-in-Err-circuit_at-clause-refused c =
     let document = view c.args.document.now in
     let found = c.in-Ok.ensures.found in
     first_entry document static_keys c.loop-place.place (entries document Statics) Statics c.in-Err-circuit_at.key (omega (arith, c.loop-place-test.true))
-        (c.in-Ok.ensures.sound, tt) c.loop-place.invariant.sound c.in-Err-circuit_at.ensures.refused
+    (c.in-Ok.ensures.sound, tt) c.loop-place.invariant.sound c.in-Err-circuit_at.ensures.refused
 
 pub loop-place-preserved : goal.loop-place-preserved
 loop-place-preserved c =

@@ -19,7 +19,7 @@ returns-in_err-statics-clause-refused c =
     let document = view c.args.document.now in
     let p = err_from_is_err_and c.from_residual-in_err-statics.result c.from_residual-in_err-statics.ensures.1 in
     rw (p.1, p.2) (told_of (IsFirstOf document (circuit_keys document)) (IsFirstFault document) _
-        (λ key. first_of_circuits document key c.in-Ok.ensures.sound c.in_ok-access.ensures.sound) c.in_err-statics.ensures.refused)
+    (λ key. first_of_circuits document key c.in-Ok.ensures.sound c.in_ok-access.ensures.sound) c.in_err-statics.ensures.refused)
 
 pub returns-clause-found : goal.returns-clause-found
 returns-clause-found c =

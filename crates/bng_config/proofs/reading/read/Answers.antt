@@ -8,7 +8,7 @@ use Rattle.bng_config.proofs.reading.read.Goals as goal
 pub returns-in-Ok-configuration_of-clause-keeps : goal.returns-in-Ok-configuration_of-clause-keeps
 returns-in-Ok-configuration_of-clause-keeps c =
     read_keeps c.args.text.now c.in-Ok-configuration_of.config
-        (read_of c.args.text.now c.in-Ok.table (omega arith) c.in-Ok.ensures.ok c.in-Ok-configuration_of.config c.in-Ok-configuration_of.ensures.found)
+    (read_of c.args.text.now c.in-Ok.table (omega arith) c.in-Ok.ensures.ok c.in-Ok-configuration_of.config c.in-Ok-configuration_of.ensures.found)
 
 pub returns-in-Ok-configuration_of-clause-same : goal.returns-in-Ok-configuration_of-clause-same
 returns-in-Ok-configuration_of-clause-same c other said =
