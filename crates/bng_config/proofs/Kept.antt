@@ -1,18 +1,15 @@
 -- A configuration that is read keeps the rules.
-use Rattle.std.proofs.Common.{◌≡◌, ◌≢◌, ℕ, zero, suc, ◌<◌, ◌≤◌, pos, List, [], ◌∷◌, ◌++◌, length, map, Option, Some, None, option_and_then, get_or, sym, ap, subst, ◌∙◌, arith, inl, inr, ◌⊎◌}
+use Rattle.std.proofs.Common.{◌≡◌, ◌≢◌, ℕ, zero, suc, ◌<◌, ◌≤◌, List, [], ◌∷◌, ◌++◌, length, map, Some, get_or, subst, ◌∙◌, arith, inl, inr}
 use Rattle.std.specs.List.{AllPairs, All}
 use Rattle.std.proofs.lemmas.List.{length-map, get_or-map}
-use Rattle.toml.specs.Data.{Data, Items, string, integer, array, table, as_array}
-use Rattle.bng_base.specs.declared.address.Ip4.{Ip4}
+use Rattle.toml.specs.Data.{Data, Items, array, table}
 use Rattle.bng_base.specs.declared.address.Peer.{Peer}
-use Rattle.bng_base.specs.declared.address.SessionNo.{SessionNo}
 use Rattle.bng_base.specs.declared.settings.AccessPort.{AccessPort}
-use Rattle.bng_base.specs.declared.settings.Static.{Static}
 use Rattle.bng_config.specs.declared.config.Config.{Config}
 use Rattle.bng_config.specs.declared.fault.Key.{Key}
-use Rattle.bng_config.specs.declared.fault.Key.TheVariants.{ControlLocal, CoreLocal, Access, AccessLocal, Statics, StaticSession, StaticAddress}
-use Rattle.bng_config.specs.Keys.{path_of, first_keys, access_keys, static_keys, of_entries}
-use Rattle.bng_config.specs.Configuration.{StandsAt, HasForm, IsNew, IsFit, IsSound, AreSound, Differs, IsList, IsPeer, IsSession, IsAddress, IsPort, IsCircuit, EachPlace, value_at, entries, item_count, count_of, keys, Configures, IsRead}
+use Rattle.bng_config.specs.declared.fault.Key.TheVariants.{Access, Statics}
+use Rattle.bng_config.specs.Keys.{path_of, first_keys, access_keys, static_keys}
+use Rattle.bng_config.specs.Configuration.{IsSound, AreSound, value_at, entries, item_count, Configures, IsRead}
 use Rattle.bng_config.specs.Rules.{IsPlaced, KeepsRules, ends_of}
 use Rattle.bng_config.proofs.New.{other_end, other_session, other_address}
 use Rattle.bng_config.proofs.Parts.{port_keys, circuit_keys}

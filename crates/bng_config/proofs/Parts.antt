@@ -1,5 +1,5 @@
 -- The keys, part by part.
-use Rattle.std.proofs.Common.{List, ◌∷◌, ◌++◌, inl, inr, ap, refl, ◌≡◌, arith, BTreeMap, String, Global, ℕ, ◌≤◌, length, Some}
+use Rattle.std.proofs.Common.{List, ◌∷◌, ◌++◌, inl, inr, ap, refl, ◌≡◌, BTreeMap, String, Global, ℕ, ◌≤◌, length, Some}
 use Rattle.std.specs.Prelude.{IsUtf8}
 use Rattle.toml.specs.Data.{Data}
 use Rattle.toml.specs.Parse.{parse_document}

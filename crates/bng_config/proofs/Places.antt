@@ -1,6 +1,5 @@
 -- Entries that are read one after the other.
-use Rattle.std.proofs.Common.{◌≡◌, ℕ, zero, suc, ◌+◌, ◌<◌, ◌≤◌, List, [], ◌∷◌, ◌++◌, length, get_or, refl, sym, subst, arith, inl, inr, ◌⊎◌}
-use Rattle.std.proofs.Math.Nat.{le-suc_iff}
+use Rattle.std.proofs.Common.{◌≡◌, ℕ, zero, suc, ◌+◌, ◌<◌, List, [], ◌∷◌, ◌++◌, length, refl, sym, subst, arith}
 use Rattle.toml.specs.Data.{Data}
 use Rattle.bng_config.specs.declared.fault.Key.{Key}
 use Rattle.bng_config.specs.Keys.{of_entries}

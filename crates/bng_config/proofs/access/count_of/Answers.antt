@@ -1,5 +1,5 @@
 use Rattle.toml.specs.View.{view}
-use Rattle.bng_config.proofs.Counts.{ports_sound, ports_outside, ports_missing, entries_counted}
+use Rattle.bng_config.proofs.Counts.{ports_missing}
 use Rattle.bng_config.proofs.access.count_of.Goals as goal
 
 pub returns-in-None-clause-faulty : goal.returns-in-None-clause-faulty

@@ -1,4 +1,4 @@
-use Rattle.std.proofs.Common.{rules, ◌≡◌, ◌+◌, [], ◌∷◌, ◌++◌, length, length-append, sym, ap, subst, ◌∙◌, arith}
+use Rattle.std.proofs.Common.{rules, ◌≡◌, [], ◌∷◌, ◌++◌, length, length-append, sym, ap, subst, ◌∙◌, arith}
 use Rattle.toml.specs.View.{view}
 use Rattle.bng_config.specs.declared.fault.Key.TheVariants.{Access}
 use Rattle.bng_config.specs.Keys.{access_keys, of_entries}
