@@ -1,4 +1,3 @@
-pub mod KeyTexts
 pub mod Numbers
 pub mod Addresses
 pub mod Octets
