@@ -7,5 +7,6 @@ pub mod OneReading
 pub mod Parts
 pub mod New
 pub mod Kept
+pub mod Answered
 pub mod Counts
 pub mod Places

@@ -15,7 +15,6 @@ use Rattle.bng_config.specs.declared.fault.ConfigError.TheVariants.{Refused, Out
 use Rattle.bng_config.specs.Keys.{first_keys, access_keys, static_keys, of_entries}
 use Rattle.bng_config.specs.Configuration.{AreSound, IsFirstOf, IsFirstFault, IsKeyOrMemory, IsFaultOrMemory, IsRead, HasFault, keys, entries, longest_text}
 use Rattle.bng_config.proofs.Faults.{first_front, first_back, sound_append}
-use Rattle.bng_config.proofs.Exclusive.{no_fault, one_fault, fault_of}
 
 -- the keys of the access ports, and of the circuits
 abbrev pub port_keys : Data → List Key
@@ -46,17 +45,3 @@ told_of P Q (Refused (OutsideForm key)) then h = then key h
 told_of P Q (Refused TooLong) then h = h
 told_of P Q (Refused NotToml) then h = h
 told_of P Q OutOfMemory then h = tt
-
--- what an error says of the text, where a table was read of it
-module _ (text : List ℕ) (t : BTreeMap (String Global) Value) (short : length text ≤ longest_text) (is : IsUtf8 text × (parse_document text ≡ Some (table_view t))) where
-  pub memory_alone : (e : ConfigError) (c : Config) → IsRead text c → IsKeyOrMemory (IsFirstFault (view (Table t))) e → e ≡ OutOfMemory
-  memory_alone (Refused (OutsideForm key)) c read h = absurd (no_fault text c (OutsideForm key) read (fault_of text t short is key h))
-  memory_alone (Refused TooLong) c read h = absurd h
-  memory_alone (Refused NotToml) c read h = absurd h
-  memory_alone OutOfMemory c read h = refl
-
-  pub fault_or_memory : (e : ConfigError) (fault : Fault) → HasFault text fault → IsKeyOrMemory (IsFirstFault (view (Table t))) e → IsFaultOrMemory fault e
-  fault_or_memory (Refused (OutsideForm key)) fault has h = inl (ap Refused (one_fault text (OutsideForm key) fault (fault_of text t short is key h) has))
-  fault_or_memory (Refused TooLong) fault has h = absurd h
-  fault_or_memory (Refused NotToml) fault has h = absurd h
-  fault_or_memory OutOfMemory fault has h = inr refl
