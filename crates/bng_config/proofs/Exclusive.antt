@@ -10,22 +10,10 @@ use Rattle.toml.specs.declared.value.Value.{Value, Table}
 use Rattle.toml.proofs.Views.{view-Table}
 use Rattle.bng_config.specs.declared.config.Config.{Config}
 use Rattle.bng_config.specs.declared.fault.Key.{Key}
-use Rattle.bng_config.specs.declared.fault.Key.TheVariants.{ControlLocal, CoreLocal, CorePeer, AccessLocal, AccessPeer, AccessMac, StaticMac, StaticSession, StaticAddress}
 use Rattle.bng_config.specs.declared.fault.Fault.{Fault}
 use Rattle.bng_config.specs.declared.fault.Fault.TheVariants.{TooLong, NotToml, OutsideForm}
-use Rattle.bng_config.specs.Configuration.{IsPeer, IsMac, IsSession, IsAddress, IsSound, IsFirstFault, Configures, IsDocument, IsRead, HasFault, longest_text}
-use Rattle.bng_config.proofs.Faults.{sound_of}
-
-all_sound : (document : Data) (c : Config) → Configures document c → (key : Key) → IsSound document key
-all_sound document c h ControlLocal = sound_of IsPeer c.control_local h.control_local
-all_sound document c h CoreLocal = sound_of IsPeer c.core_local h.core_local
-all_sound document c h CorePeer = sound_of IsPeer c.core_peer h.core_peer
-all_sound document c h AccessLocal = sound_of IsPeer c.access.local h.access_local
-all_sound document c h AccessPeer = sound_of IsPeer c.access.peer h.access_peer
-all_sound document c h AccessMac = sound_of IsMac c.access.mac h.access_mac
-all_sound document c h StaticMac = sound_of IsMac c.circuit.mac h.static_mac
-all_sound document c h StaticSession = sound_of IsSession c.circuit.session h.static_session
-all_sound document c h StaticAddress = sound_of IsAddress c.circuit.address h.static_address
+use Rattle.bng_config.specs.Configuration.{IsSound, AreSound, IsFirstFault, Configures, IsDocument, IsRead, HasFault, longest_text}
+use Rattle.bng_config.proofs.Faults.{sound_back}
 
 pub one_document : (text : List ℕ) (a b : Members) → IsDocument text a → IsDocument text b → a ≡ b
 one_document text a b p q = same_Some a b (sym p.parsed ∙ q.parsed)
@@ -44,12 +32,17 @@ one_first : (document : Data) (k l : Key) → IsFirstFault document k → IsFirs
 one_first document k l p q =
     first_fails (IsSound document) p.before q.before p.after q.after k l (sym p.place ∙ q.place) p.sound q.sound p.faulty q.faulty
 
+-- a document with a faulty key is no configuration
+not_both : (document : Data) (c : Config) (key : Key) → Configures document c → IsFirstFault document key → ⊥
+not_both document c key h bad =
+    bad.faulty (sound_back document bad.before (key ∷ bad.after) (subst (AreSound document) bad.place h.sound)).0
+
 pub no_fault : (text : List ℕ) (c : Config) (f : Fault) → IsRead text c → HasFault text f → ⊥
 no_fault text c TooLong h bad = let short = h.short in omega arith
 no_fault text c NotToml h bad = bad.none h.members h.document
 no_fault text c (OutsideForm k) h bad =
     let same = one_document text h.members bad.members h.document bad.document in
-    bad.first.faulty (subst (λ ms. IsSound (table ms) k) same (all_sound (table h.members) c h.configures k))
+    not_both (table bad.members) c k (subst (λ ms. Configures (table ms) c) same h.configures) bad.first
 
 pub one_fault : (text : List ℕ) (f g : Fault) → HasFault text f → HasFault text g → f ≡ g
 one_fault text TooLong TooLong p q = refl

@@ -1,7 +1,12 @@
-pub mod KeyTexts
 pub mod Numbers
 pub mod Addresses
 pub mod Octets
 pub mod Faults
 pub mod Exclusive
 pub mod OneReading
+pub mod Parts
+pub mod New
+pub mod Kept
+pub mod Answered
+pub mod Counts
+pub mod Places

@@ -1,5 +1,5 @@
 -- A text stands for one configuration: each form is the spelling of one value.
-use Rattle.std.proofs.Common.{◌≡◌, ℕ, ◌<◌, ◌/◌, ◌%◌, ◌^◌, false, List, ◌∷◌, ◌++◌, sym, ap, subst, ◌∙◌, arith}
+use Rattle.std.proofs.Common.{◌≡◌, ℕ, suc, ◌<◌, ◌/◌, ◌%◌, ◌^◌, false, List, [], ◌∷◌, ◌++◌, length, refl, sym, ap, subst, ◌∙◌, arith}
 use Rattle.std.specs.Fmt.{decimal, digit_glyph}
 use Rattle.std.proofs.lemmas.Bool.Decides.{nat_tests}
 use Rattle.std.proofs.lemmas.Fmt.{decimal_injective}
@@ -11,19 +11,22 @@ use Rattle.bng_base.specs.declared.address.Peer.{Peer}
 use Rattle.bng_base.specs.declared.address.SessionNo.{SessionNo}
 use Rattle.bng_config.specs.declared.config.Config.{Config}
 use Rattle.bng_config.specs.declared.fault.Key.{Key}
+use Rattle.bng_config.specs.declared.fault.Key.TheVariants.{Access}
+use Rattle.bng_base.specs.declared.settings.AccessPort.{AccessPort}
+use Rattle.bng_base.specs.declared.settings.Static.{Static}
 use Rattle.bng_config.specs.Address.{address_text, peer_text, mac_text, octet_text, dot, colon}
-use Rattle.bng_config.specs.Configuration.{StandsAt, IsPeer, IsAddress, IsMac, IsSession, Configures, IsRead, SameKeys}
+use Rattle.bng_config.specs.Configuration.{StandsAt, IsPeer, IsAddress, IsMac, IsSession, IsPortNumber, IsPort, IsCircuit, EachPlace, entries, Configures, IsRead}
 use Rattle.bng_config.proofs.Numbers.{decimal_without}
 use Rattle.bng_config.proofs.Addresses.{cut_once, address_parts, address_without, peer_parts, second_text, third_text, fourth_text}
 use Rattle.bng_config.proofs.Octets.{six_of, mac_parts, second_text as second_octets, third_text as third_octets, fourth_text as fourth_octets, fifth_text as fifth_octets, sixth_text as sixth_octets}
 use Rattle.bng_config.proofs.Exclusive.{one_document}
 
-number_once : (m n : ℕ) (x y : List ℕ) → m < 256 → n < 256 → decimal m ++ dot ∷ x ≡ decimal n ++ dot ∷ y → (m ≡ n) × (x ≡ y)
+pub number_once : (m n : ℕ) (x y : List ℕ) → m < 256 → n < 256 → decimal m ++ dot ∷ x ≡ decimal n ++ dot ∷ y → (m ≡ n) × (x ≡ y)
 number_once m n x y fit_m fit_n e =
     let cut = cut_once dot (decimal m) (decimal n) x y (decimal_without m dot (omega arith) (omega arith)) (decimal_without n dot (omega arith) (omega arith)) e in
     (decimal_injective m n (omega arith) (omega arith) cut.0, cut.1)
 
-address_once : (a b : Ip4) → a.0 < 2 ^ 32 → b.0 < 2 ^ 32 → address_text a ≡ address_text b → a ≡ b
+pub address_once : (a b : Ip4) → a.0 < 2 ^ 32 → b.0 < 2 ^ 32 → address_text a ≡ address_text b → a ≡ b
 address_once a b fit_a fit_b e =
     let first = number_once (a.0 / 2 ^ 24) (b.0 / 2 ^ 24) (second_text a) (second_text b) (omega arith) (omega arith) (sym (address_parts a) ∙ e ∙ address_parts b) in
     let second = number_once (a.0 / 2 ^ 16 % 256) (b.0 / 2 ^ 16 % 256) (third_text a) (third_text b) (omega arith) (omega arith) first.1 in
@@ -33,13 +36,13 @@ address_once a b fit_a fit_b e =
     let make : ℕ → Ip4 = λ n. record { 0 = n } in
     ap make same
 
-address_at_once : (d : Data) (a b : Ip4) → IsAddress d a → IsAddress d b → a ≡ b
+pub address_at_once : (d : Data) (a b : Ip4) → IsAddress d a → IsAddress d b → a ≡ b
 address_at_once d a b p q =
     let strings = sym p.text ∙ q.text in
     let texts : address_text a ≡ address_text b = cc in
     address_once a b p.address q.address texts
 
-peer_once : (d : Data) (p q : Peer) → IsPeer d p → IsPeer d q → p ≡ q
+pub peer_once : (d : Data) (p q : Peer) → IsPeer d p → IsPeer d q → p ≡ q
 peer_once d p q a b =
     let strings = sym a.text ∙ b.text in
     let texts : peer_text p ≡ peer_text q = cc in
@@ -85,7 +88,7 @@ mac_once d m n p q =
     let make : List ℕ → Mac = λ xs. record { 0 = xs } in
     ap make lists
 
-session_once : (d : Data) (m n : SessionNo) → IsSession d m → IsSession d n → m ≡ n
+pub session_once : (d : Data) (m n : SessionNo) → IsSession d m → IsSession d n → m ≡ n
 session_once d m n p q =
     let numbers = sym p.number ∙ q.number in
     let same : m.0 ≡ n.0 = cc in
@@ -100,21 +103,50 @@ one_at : {X : Type 0} {document : Data} {key : Key} (Form : Data → X → Type 
     → (x y : X) → StandsAt document key (λ d. Form d x) → StandsAt document key (λ d. Form d y) → x ≡ y
 one_at Form once x y a b = once b.value x y (subst (λ d. Form d x) (same_value a b) a.is) b.is
 
-one_configuration : (document : Data) (a b : Config) → Configures document a → Configures document b → SameKeys a b
-one_configuration document a b p q = record {
-  control_local = one_at IsPeer peer_once a.control_local b.control_local p.control_local q.control_local;
-  core_local = one_at IsPeer peer_once a.core_local b.core_local p.core_local q.core_local;
-  core_peer = one_at IsPeer peer_once a.core_peer b.core_peer p.core_peer q.core_peer;
-  access_local = one_at IsPeer peer_once a.access.local b.access.local p.access_local q.access_local;
-  access_peer = one_at IsPeer peer_once a.access.peer b.access.peer p.access_peer q.access_peer;
-  access_mac = one_at IsMac mac_once a.access.mac b.access.mac p.access_mac q.access_mac;
-  static_mac = one_at IsMac mac_once a.circuit.mac b.circuit.mac p.static_mac q.static_mac;
-  static_session = one_at IsSession session_once a.circuit.session b.circuit.session p.static_session q.static_session;
-  static_address = one_at IsAddress address_at_once a.circuit.address b.circuit.address p.static_address q.static_address;
-}
+port_number_once : (ports : ℕ) (d : Data) (m n : ℕ) → IsPortNumber ports d m → IsPortNumber ports d n → m ≡ n
+port_number_once ports d m n p q =
+    let numbers = sym p.number ∙ q.number in
+    cc
+
+port_once : (document : Data) (place : ℕ) (a b : AccessPort) → IsPort document place a → IsPort document place b → a ≡ b
+port_once document place a b p q =
+    let locals : a.local ≡ b.local = one_at IsPeer peer_once a.local b.local p.local q.local in
+    let peers : a.peer ≡ b.peer = one_at IsPeer peer_once a.peer b.peer p.peer q.peer in
+    let macs : a.mac ≡ b.mac = one_at IsMac mac_once a.mac b.mac p.mac q.mac in
+    λ i. record { local = locals i; peer = peers i; mac = macs i }
+
+circuit_once : (document : Data) (place : ℕ) (a b : Static) → IsCircuit document place a → IsCircuit document place b → a ≡ b
+circuit_once document place a b p q =
+    let ports : a.port ≡ b.port = one_at (IsPortNumber (entries document Access)) (port_number_once (entries document Access)) a.port b.port p.port q.port in
+    let macs : a.mac ≡ b.mac = one_at IsMac mac_once a.mac b.mac p.mac q.mac in
+    let sessions : a.session ≡ b.session = one_at IsSession session_once a.session b.session p.session q.session in
+    let addresses : a.address ≡ b.address = one_at IsAddress address_at_once a.address b.address p.address q.address in
+    let names : a.user.items ≡ b.user.items = p.user ∙ sym q.user in
+    let profiles : a.profile ≡ b.profile = p.profile ∙ sym q.profile in
+    λ i. record { port = ports i; mac = macs i; session = sessions i; address = addresses i; user = record { items = names i }; profile = profiles i }
+
+-- lists of one length that agree at each place are one
+one_list : {X : Type 0} (P : ℕ → X → Type 0) → ((i : ℕ) (x y : X) → P i x → P i y → x ≡ y) → (xs ys : List X) → length xs ≡ length ys
+    → EachPlace P xs → EachPlace P ys → xs ≡ ys
+one_list P once [] [] long p q = refl
+one_list P once [] (y ∷ ys) long p q = absurd (omega arith)
+one_list P once (x ∷ xs) [] long p q = absurd (omega arith)
+one_list P once (x ∷ xs) (y ∷ ys) long p q =
+    let heads : x ≡ y = once 0 x y (p 0 x (omega arith)) (q 0 y (omega arith)) in
+    let tails : xs ≡ ys = one_list (λ i. P (suc i)) (λ i. once (suc i)) xs ys (omega arith) (λ i d h. p (suc i) d (omega arith)) (λ i d h. q (suc i) d (omega arith)) in
+    cc
+
+one_configuration : (document : Data) (a b : Config) → Configures document a → Configures document b → a ≡ b
+one_configuration document a b p q =
+    let controls : a.control_local ≡ b.control_local = one_at IsPeer peer_once a.control_local b.control_local p.control_local q.control_local in
+    let locals : a.core_local ≡ b.core_local = one_at IsPeer peer_once a.core_local b.core_local p.core_local q.core_local in
+    let peers : a.core_peer ≡ b.core_peer = one_at IsPeer peer_once a.core_peer b.core_peer p.core_peer q.core_peer in
+    let ports : a.access ≡ b.access = one_list (IsPort document) (port_once document) a.access b.access (p.all_ports ∙ sym q.all_ports) p.access q.access in
+    let circuits : a.statics ≡ b.statics = one_list (IsCircuit document) (circuit_once document) a.statics b.statics (p.all_circuits ∙ sym q.all_circuits) p.statics q.statics in
+    λ i. record { control_local = controls i; core_local = locals i; core_peer = peers i; access = ports i; statics = circuits i }
 
 -- a text says one configuration
-pub one_reading : (text : List ℕ) (a b : Config) → IsRead text a → IsRead text b → SameKeys a b
+pub one_reading : (text : List ℕ) (a b : Config) → IsRead text a → IsRead text b → a ≡ b
 one_reading text a b p q =
     let same = one_document text p.members q.members p.document q.document in
     one_configuration (table q.members) a b (subst (λ ms. Configures (table ms) a) same p.configures) q.configures

@@ -1,5 +1,5 @@
 -- What a configuration is: the keys that are read, and the form of what stands at each.
-use Rattle.std.specs.Prelude.{◌≡◌, ◌≢◌, ℕ, suc, ◌<◌, ◌≤◌, ◌^◌, pos, List, [], ◌∷◌, ◌++◌, length, Option, None, Some, option_and_then, IsUtf8, ◌⊎◌}
+use Rattle.std.specs.Prelude.{⊤, ◌≡◌, ◌≢◌, ℕ, suc, ◌<◌, ◌≤◌, ◌^◌, pos, List, [], ◌∷◌, ◌++◌, length, Option, None, Some, option_and_then, IsUtf8, ◌⊎◌}
 use Rattle.std.specs.List.{AllByRecursion, slice_index_or}
 use Rattle.toml.specs.Data.{Data, Items, no_items, item, Members, string, integer, array, table, get, at, as_array}
 use Rattle.toml.specs.Parse.{parse_document}

@@ -4,3 +4,4 @@ pub mod Keys
 pub mod Parts
 pub mod Configuration
 pub mod Ends
+pub mod Find

@@ -6,7 +6,7 @@ ghost use Rattle.bng_config.specs.Keys.{access_keys, of_entries};
 ghost use Rattle.bng_config.specs.Configuration.{StandsAt, IsPeer, IsPort, IsSound, AreSound, IsFirstOf, EachPlace, entries, IsKeyOrMemory};
 
 use crate::fault::{ConfigError, Fault, Key};
-use crate::find::list_at;
+use crate::find::count_at;
 use crate::values::{mac_at, peer_at};
 use bng_base::{AccessPort, Peer};
 use std::alloc::Global;
@@ -55,12 +55,12 @@ fn count_of(document: &Value) -> Result<u16, Key>
     ensures refused { IfErr result (λ key. key ≡ Key.Access) }
     ensures faulty { OnErr result (¬ IsSound (view document.now) Key.Access) }
 {
-    match list_at(document, Key::Access) {
-        Some(list) => {
-            if list.is_empty() || list.len() > MOST {
+    match count_at(document, Key::Access) {
+        Some(count) => {
+            if count == 0 || count > MOST {
                 Err(Key::Access)
             } else {
-                Ok(list.len() as u16)
+                Ok(count as u16)
             }
         }
         None => Err(Key::Access),

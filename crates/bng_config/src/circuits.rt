@@ -6,7 +6,7 @@ ghost use Rattle.bng_config.specs.Keys.{static_keys, of_entries};
 ghost use Rattle.bng_config.specs.Configuration.{StandsAt, IsSession, IsAddress, IsCircuit, IsSound, AreSound, IsFirstOf, EachPlace, entries, IsKeyOrMemory};
 
 use crate::fault::{ConfigError, Fault, Key};
-use crate::find::{list_at, value_of};
+use crate::find::{count_at, value_of};
 use crate::values::{address_at, mac_at, port_number_at, session_at};
 use arrayvec::ArrayVec;
 use bng_base::{Ip4, SessionNo, Static};
@@ -54,28 +54,23 @@ fn count_of(document: &Value) -> Result<u16, Key>
     ensures refused { IfErr result (λ key. key ≡ Key.Statics) }
     ensures faulty { OnErr result (¬ IsSound (view document.now) Key.Statics) }
 {
-    match value_of(document, Key::Statics) {
-        Some(value) => match value.as_array() {
-            Some(list) => {
-                if list.len() > MOST {
-                    Err(Key::Statics)
-                } else {
-                    Ok(list.len() as u16)
-                }
+    if value_of(document, Key::Statics).is_none() {
+        return Ok(0);
+    }
+    match count_at(document, Key::Statics) {
+        Some(count) => {
+            if count > MOST {
+                Err(Key::Statics)
+            } else {
+                Ok(count as u16)
             }
-            None => Err(Key::Statics),
-        },
-        None => Ok(0),
+        }
+        None => Err(Key::Statics),
     }
 }
 
 // The circuit at this place, after those at the earlier ones.
-fn circuit_at(
-    document: &Value,
-    place: u16,
-    ports: usize,
-    earlier: &[Static],
-) -> Result<Static, Key>
+fn circuit_at(document: &Value, place: u16, ports: usize, earlier: &[Static]) -> Result<Static, Key>
     requires ports { ports ≡ entries (view document.now) Key.Access }
     requires few { ports ≤ 16 }
     requires all { length earlier.now ≡ place }

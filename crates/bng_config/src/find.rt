@@ -1,12 +1,13 @@
 //! What stands at a key.
-ghost use Rattle.std.specs.Prelude.{◌≡◌, [], ◌∷◌, option_map, option_and_then};
+ghost use Rattle.std.specs.Prelude.{◌≡◌, ℕ, [], ◌∷◌, IfSome, IfNone, option_map, option_and_then};
 ghost use Rattle.toml.specs.Data.{as_str, as_integer, as_array};
 ghost use Rattle.toml.specs.View.{view, array_view};
 ghost use Rattle.bng_config.specs.Keys.{named, path_of, in_entry};
 ghost use Rattle.bng_config.specs.Configuration.{value_at};
+ghost use Rattle.bng_config.specs.Find.{HasCount};
 
 use crate::fault::Key;
-use toml::{Array, Value};
+use toml::Value;
 
 /// The text at the key.
 pub(crate) fn text_at(document: &Value, key: Key) -> Option<&str>
@@ -28,8 +29,18 @@ pub(crate) fn integer_at(document: &Value, key: Key) -> Option<i64>
     }
 }
 
-/// The list at the key.
-pub(crate) fn list_at(document: &Value, key: Key) -> Option<&Array>
+/// How many items the list at the key has.
+pub(crate) fn count_at(document: &Value, key: Key) -> Option<usize>
+    ensures found { IfSome result (λ n. HasCount (view document.now) key n) }
+    ensures none { IfNone result ((n : ℕ) → ¬ HasCount (view document.now) key n) }
+{
+    match list_at(document, key) {
+        Some(list) => Some(list.len()),
+        None => None,
+    }
+}
+
+fn list_at(document: &Value, key: Key) -> Option<&Vec<Value>>
     ensures { option_map (λ v. array_view v.now) result ≡ option_and_then as_array (value_at (path_of key) (view document.now)) }
 {
     match value_of(document, key) {

@@ -12,11 +12,13 @@ mod mac;
 mod peer;
 mod reading;
 mod session;
+mod texts;
 mod values;
 
 pub use crate::config::Config;
 pub use crate::fault::{ConfigError, Fault, Key};
 pub use crate::reading::read;
+pub use crate::texts::fault_text;
 
 #[cfg(test)]
 mod tests;

@@ -45,10 +45,7 @@ pub fn read(alloc: Global, text: &[u8]) -> Result<Config, ConfigError>
             });
         }
     };
-    match configuration_of(alloc, &Value::Table(table)) {
-        Ok(config) => Ok(config),
-        Err(error) => Err(error),
-    }
+    configuration_of(alloc, &Value::Table(table))
 }
 
 // The configuration of a document, or the first key that is missing or outside its form.

@@ -1,4 +1,4 @@
-use super::{ConfigError, Fault, Key, read};
+use super::{Config, ConfigError, Fault, Key, fault_text, read};
 use bng_base::{Ip4, Mac, Peer, SessionNo};
 use std::alloc::{AllocError, Global};
 use std::process::Abort;
@@ -38,6 +38,37 @@ address = "10.0.0.2"
 user = "fixed1"
 "#;
 
+const LISTS: &str = r#"control.local = "127.0.0.1:9002"
+core = { local = "127.0.0.1:9000", peer = "127.0.0.1:9001" }
+[[access]]
+local = "127.0.0.1:9010"
+peer = "127.0.0.1:9011"
+mac = "02:00:00:00:00:fe"
+[[access]]
+local = "127.0.0.1:9020"
+peer = "127.0.0.1:9021"
+mac = "02:00:00:00:00:ff"
+[[static]]
+port = 1
+mac = "02:00:00:00:00:01"
+session = 1025
+address = "10.0.0.2"
+[[static]]
+port = 2
+mac = "02:00:00:00:00:02"
+session = 65534
+address = "10.0.0.3"
+[[static]]
+port = 2
+mac = "02:00:00:00:00:03"
+session = 1
+address = "255.255.255.255"
+"#;
+
+const ENDS: &str = r#"control.local = "127.0.0.1:9002"
+core = { local = "127.0.0.1:9000", peer = "127.0.0.1:9001" }
+"#;
+
 const fn loopback(port: u16) -> Peer {
     Peer {
         ip: Ip4(0x7f00_0001),
@@ -45,35 +76,58 @@ const fn loopback(port: u16) -> Peer {
     }
 }
 
+fn config_of(rt: &impl Abort, alloc: Global, text: &str) -> Config {
+    read(alloc, text.as_bytes()).expect(rt, "a configuration")
+}
+
 #[test]
 fn a_whole_configuration_is_read(rt: HostRuntime) {
-    let config = read(rt.alloc(), WHOLE.as_bytes()).expect(&rt, "a configuration");
+    let config = config_of(&rt, rt.alloc(), WHOLE);
     assert_eq!(rt; config.control_local, loopback(9002));
     assert_eq!(rt; config.core_local, loopback(9000));
     assert_eq!(rt; config.core_peer, loopback(9001));
-    assert_eq!(rt; config.access.local, loopback(9010));
-    assert_eq!(rt; config.access.peer, loopback(9011));
-    assert_eq!(rt; config.access.mac, Mac([2, 0, 0, 0, 0, 0xfe]));
-    assert_eq!(rt; config.circuit.port, 1);
-    assert_eq!(rt; config.circuit.mac, Mac([2, 0, 0, 0, 0, 1]));
-    assert_eq!(rt; config.circuit.session, SessionNo(1025));
-    assert_eq!(rt; config.circuit.address, Ip4(0x0a00_0002));
-    assert_eq!(rt; config.circuit.user.len(), 0);
-    assert_eq!(rt; config.circuit.profile, 0);
+    let access = config.access.as_slice();
+    assert_eq!(rt; access.len(), 1);
+    assert_eq!(rt; access[0].local, loopback(9010));
+    assert_eq!(rt; access[0].peer, loopback(9011));
+    assert_eq!(rt; access[0].mac, Mac([2, 0, 0, 0, 0, 0xfe]));
+    let statics = config.statics.as_slice();
+    assert_eq!(rt; statics.len(), 1);
+    assert_eq!(rt; statics[0].port, 1);
+    assert_eq!(rt; statics[0].mac, Mac([2, 0, 0, 0, 0, 1]));
+    assert_eq!(rt; statics[0].session, SessionNo(1025));
+    assert_eq!(rt; statics[0].address, Ip4(0x0a00_0002));
+    assert_eq!(rt; statics[0].user.len(), 0);
+    assert_eq!(rt; statics[0].profile, 0);
 }
 
-/// The text with one line in another's place.
-fn changed(alloc: Global, line: &str, other: &str) -> Result<String, AllocError> {
-    let mut text = String::new(alloc);
-    if let Some((front, back)) = WHOLE.split_once(line) {
-        text.push_str(front)?;
-        text.push_str(other)?;
-        text.push_str(back)?;
+#[test]
+fn all_entries_are_read_in_order(rt: HostRuntime) {
+    let config = config_of(&rt, rt.alloc(), LISTS);
+    let ends = [(9010, 9011, 0xfe), (9020, 9021, 0xff)];
+    let access = config.access.as_slice();
+    assert_eq!(rt; access.len(), ends.len());
+    for (port, (local, peer, mac)) in access.iter().zip(ends) {
+        assert_eq!(rt; port.local, loopback(local));
+        assert_eq!(rt; port.peer, loopback(peer));
+        assert_eq!(rt; port.mac, Mac([2, 0, 0, 0, 0, mac]));
     }
-    Ok(text)
+    let rows = [
+        (1, 1, 1025, 0x0a00_0002),
+        (2, 2, 65_534, 0x0a00_0003),
+        (2, 3, 1, 0xffff_ffff),
+    ];
+    let statics = config.statics.as_slice();
+    assert_eq!(rt; statics.len(), rows.len());
+    for (circuit, (port, mac, session, address)) in statics.iter().zip(rows) {
+        assert_eq!(rt; circuit.port, port);
+        assert_eq!(rt; circuit.mac, Mac([2, 0, 0, 0, 0, mac]));
+        assert_eq!(rt; circuit.session, SessionNo(session));
+        assert_eq!(rt; circuit.address, Ip4(address));
+    }
 }
 
-fn fault_of(rt: &impl Abort, alloc: Global, text: &[u8]) -> Fault {
+fn told(rt: &impl Abort, alloc: Global, text: &[u8]) -> Fault {
     match read(alloc, text) {
         Err(ConfigError::Refused(fault)) => fault,
         Err(ConfigError::OutOfMemory) => panic!(rt; "memory"),
@@ -81,102 +135,167 @@ fn fault_of(rt: &impl Abort, alloc: Global, text: &[u8]) -> Fault {
     }
 }
 
+/// The text with what stands in one line's place, where it stands last.
+fn changed(alloc: Global, whole: &str, line: &str, other: &str) -> Result<String, AllocError> {
+    let mut text = String::new(alloc);
+    if let Some((front, back)) = whole.rsplit_once(line) {
+        text.push_str(front)?;
+        text.push_str(other)?;
+        text.push_str(back)?;
+    }
+    Ok(text)
+}
+
 #[test]
-fn the_first_key_outside_its_form_is_told(rt: HostRuntime) -> Result<(), Fail> {
-    let lines = [
-        (
-            "local = \"127.0.0.1:9002\"",
-            "local = \"127.0.0.1:0\"",
-            Key::ControlLocal,
-        ),
-        (
-            "local = \"127.0.0.1:9002\"",
-            "local = \"127.0.0.1:65536\"",
-            Key::ControlLocal,
-        ),
-        (
-            "local = \"127.0.0.1:9000\"",
-            "local = \"127.0.0.1:09000\"",
-            Key::CoreLocal,
-        ),
-        (
-            "local = \"127.0.0.1:9000\"",
-            "local = \"127.0.0.01:9000\"",
-            Key::CoreLocal,
-        ),
-        (
-            "peer = \"127.0.0.1:9001\"",
-            "peer = \"127.0.0.1:+9001\"",
-            Key::CorePeer,
-        ),
-        (
-            "peer = \"127.0.0.1:9001\"",
-            "peer = \"127.0.1:9001\"",
-            Key::CorePeer,
-        ),
+fn each_rule_is_told_at_its_key(rt: HostRuntime) -> Result<(), Fail> {
+    let rows = [
+        ("control.local = \"127.0.0.1:9002\"", "", "C5 control.local"),
+        ("127.0.0.1:9002", "127.0.0.1", "C5 control.local"),
+        ("127.0.0.1:9002", "127.0.0.1:0", "C5 control.local"),
+        ("127.0.0.1:9002", "127.0.0.1:65536", "C5 control.local"),
+        ("127.0.0.1:9002", "127.0.0.01:9002", "C5 control.local"),
+        ("local = \"127.0.0.1:9000\", ", "", "C5 core.local"),
+        ("127.0.0.1:9000", "127.0.0.1:9002", "C5 core.local"),
+        ("127.0.0.1:9001", "127.0.0.256:9001", "C5 core.peer"),
         (
             "local = \"127.0.0.1:9010\"",
             "local = 9010",
-            Key::AccessLocal,
+            "C5 access.1.local",
         ),
-        ("peer = \"127.0.0.1:9011\"", "", Key::AccessPeer),
-        (
-            "mac = \"02:00:00:00:00:fe\"",
-            "mac = \"02:00:00:00:00:FE\"",
-            Key::AccessMac,
-        ),
-        (
-            "mac = \"02:00:00:00:00:01\"",
-            "mac = \"02:00:00:00:00:1\"",
-            Key::StaticMac,
-        ),
-        ("session = 1025", "session = 1023", Key::StaticSession),
-        ("session = 1025", "session = 1024", Key::StaticSession),
-        ("session = 1025", "session = 65535", Key::StaticSession),
-        ("session = 1025", "session = -1025", Key::StaticSession),
-        ("session = 1025", "session = \"1025\"", Key::StaticSession),
-        (
-            "address = \"10.0.0.2\"",
-            "address = \"10.0.0.256\"",
-            Key::StaticAddress,
-        ),
+        ("127.0.0.1:9010", "127.0.0.1:9002", "C5 access.1.local"),
+        ("127.0.0.1:9010", "127.0.0.1:9000", "C5 access.1.local"),
+        ("127.0.0.1:9020", "127.0.0.1:9010", "C5 access.2.local"),
+        ("peer = \"127.0.0.1:9021\"", "", "C5 access.2.peer"),
+        ("02:00:00:00:00:ff", "02:00:00:00:00:FF", "C5 access.2.mac"),
+        ("port = 1", "port = 0", "C5 static.1.port"),
+        ("port = 1", "port = 3", "C5 static.1.port"),
+        ("port = 2", "", "C5 static.3.port"),
+        ("port = 2", "port = \"2\"", "C5 static.3.port"),
+        ("02:00:00:00:00:03", "02:00:00:00:00:3", "C5 static.3.mac"),
+        ("session = 1025", "session = 1023", "C5 static.1.session"),
+        ("session = 1025", "session = 1024", "C5 static.1.session"),
+        ("session = 65534", "session = 65535", "C5 static.2.session"),
+        ("session = 65534", "session = -1", "C5 static.2.session"),
+        ("session = 65534", "session = 1025", "C5 static.2.session"),
+        ("session = 1\n", "session = 1025\n", "C5 static.3.session"),
+        ("255.255.255.255", "10.0.0.2", "C5 static.3.address"),
+        ("255.255.255.255", "255.255.255.256", "C5 static.3.address"),
     ];
     let alloc = rt.alloc();
-    for (line, other, key) in lines {
-        let text = changed(alloc, line, other)?;
-        assert_eq!(rt;
-            fault_of(&rt, alloc, text.as_bytes()),
-            Fault::OutsideForm(key)
-        );
+    for (line, other, wanted) in rows {
+        let text = changed(alloc, LISTS, line, other)?;
+        let fault = told(&rt, alloc, text.as_bytes());
+        assert_eq!(rt; fault_text(fault).as_str(), wanted);
     }
-    let last = changed(alloc, "session = 1025", "session = 65534")?;
-    assert!(rt; read(alloc, last.as_bytes()).is_ok());
     Ok(())
 }
 
 #[test]
-fn each_rule_has_its_texts(rt: HostRuntime) -> Result<(), Fail> {
+fn the_lists_have_their_forms(rt: HostRuntime) -> Result<(), Fail> {
+    let rows = [
+        ("", "C5 access"),
+        ("access = []", "C5 access"),
+        ("access = 1", "C5 access"),
+        ("access = { local = \"127.0.0.1:9010\" }", "C5 access"),
+        ("access = [1]", "C5 access.1.local"),
+        (
+            "access = [1, 1, 1, 1, 1, 1, 1, 1, 1, 1, 1, 1, 1, 1, 1, 1]",
+            "C5 access.1.local",
+        ),
+        (
+            "access = [1, 1, 1, 1, 1, 1, 1, 1, 1, 1, 1, 1, 1, 1, 1, 1, 1]",
+            "C5 access",
+        ),
+    ];
     let alloc = rt.alloc();
-    assert_eq!(rt; fault_of(&rt, alloc, b"shards = "), Fault::NotToml);
-    assert_eq!(rt; fault_of(&rt, alloc, b"# \xff\n"), Fault::NotToml);
+    for (line, wanted) in rows {
+        let mut text = String::from_str(alloc, ENDS)?;
+        text.push_str(line)?;
+        let fault = told(&rt, alloc, text.as_bytes());
+        assert_eq!(rt; fault_text(fault).as_str(), wanted);
+    }
+    Ok(())
+}
+
+/// One access port, and a list of this many numbers in the place of the circuits.
+fn with_circuits(alloc: Global, count: usize) -> Result<String, AllocError> {
+    let mut text = String::from_str(alloc, ENDS)?;
+    text.push_str("static = [")?;
+    for _ in 0..count {
+        text.push_str("1, ")?;
+    }
+    text.push_str("]\n[[access]]\nlocal = \"127.0.0.1:9010\"\npeer = \"127.0.0.1:9011\"\n")?;
+    text.push_str("mac = \"02:00:00:00:00:fe\"\n")?;
+    Ok(text)
+}
+
+#[test]
+fn there_may_be_no_circuits_and_1024(rt: HostRuntime) -> Result<(), Fail> {
+    let alloc = rt.alloc();
+    let none = with_circuits(alloc, 0)?;
     assert_eq!(rt;
-        fault_of(&rt, alloc, b""),
-        Fault::OutsideForm(Key::ControlLocal)
+        config_of(&rt, alloc, none.as_str())
+            .statics
+            .as_slice()
+            .len(),
+        0
     );
+    let absent = changed(alloc, none.as_str(), "static = []\n", "")?;
+    assert_eq!(rt;
+        config_of(&rt, alloc, absent.as_str())
+            .statics
+            .as_slice()
+            .len(),
+        0
+    );
+    let other = changed(alloc, none.as_str(), "static = []\n", "static = {}\n")?;
+    let rows = [
+        (other, "C5 static"),
+        (with_circuits(alloc, 1024)?, "C5 static.1.port"),
+        (with_circuits(alloc, 1025)?, "C5 static"),
+    ];
+    for (text, wanted) in rows {
+        let fault = told(&rt, alloc, text.as_bytes());
+        assert_eq!(rt; fault_text(fault).as_str(), wanted);
+    }
+    Ok(())
+}
+
+#[test]
+fn each_rule_of_the_text_is_told(rt: HostRuntime) -> Result<(), Fail> {
+    let alloc = rt.alloc();
     let longest = vec![in alloc; b'\n'; 1_048_576]?;
-    assert_eq!(rt;
-        fault_of(&rt, alloc, longest.as_slice()),
-        Fault::OutsideForm(Key::ControlLocal)
-    );
     let longer = vec![in alloc; b'\n'; 1_048_577]?;
-    assert_eq!(rt; fault_of(&rt, alloc, longer.as_slice()), Fault::TooLong);
+    let rows: [(&[u8], &str); 5] = [
+        (b"shards = ", "C2 text"),
+        (b"# \xff\n", "C2 text"),
+        (b"", "C5 control.local"),
+        (longest.as_slice(), "C5 control.local"),
+        (longer.as_slice(), "C1 text"),
+    ];
+    for (text, wanted) in rows {
+        assert_eq!(rt; fault_text(told(&rt, alloc, text)).as_str(), wanted);
+    }
+    let last = fault_text(Fault::OutsideForm(Key::StaticSession(1023)));
+    assert_eq!(rt; last.as_str(), "C5 static.1024.session");
     Ok(())
 }
 
 #[test]
 fn keys_that_are_not_named_are_not_looked_at(rt: HostRuntime) -> Result<(), Fail> {
     let alloc = rt.alloc();
-    let text = changed(alloc, "shards = 4", "shards = 0")?;
+    let text = changed(alloc, WHOLE, "shards = 4", "shards = 0")?;
     assert!(rt; read(alloc, text.as_bytes()).is_ok());
     Ok(())
+}
+
+#[test]
+fn want_of_memory_is_no_fault(rt: HostRuntime) {
+    match read(rt.alloc(), LISTS.as_bytes()) {
+        Ok(config) => {
+            assert_eq!(rt; config.access.as_slice().len(), 2);
+            assert_eq!(rt; config.statics.as_slice().len(), 3);
+        }
+        Err(error) => assert_eq!(rt; error, ConfigError::OutOfMemory),
+    }
 }

@@ -1,0 +1,130 @@
+-- A configuration that is read keeps the rules.
+use Rattle.std.proofs.Common.{◌≡◌, ◌≢◌, ℕ, zero, suc, ◌<◌, ◌≤◌, List, [], ◌∷◌, ◌++◌, length, map, Some, get_or, subst, ◌∙◌, arith, inl, inr}
+use Rattle.std.specs.List.{AllPairs, All}
+use Rattle.std.proofs.lemmas.List.{length-map, get_or-map}
+use Rattle.toml.specs.Data.{Data, Items, array, table}
+use Rattle.bng_base.specs.declared.address.Peer.{Peer}
+use Rattle.bng_base.specs.declared.settings.AccessPort.{AccessPort}
+use Rattle.bng_config.specs.declared.config.Config.{Config}
+use Rattle.bng_config.specs.declared.fault.Key.{Key}
+use Rattle.bng_config.specs.declared.fault.Key.TheVariants.{Access, Statics}
+use Rattle.bng_config.specs.Keys.{path_of, first_keys, access_keys, static_keys}
+use Rattle.bng_config.specs.Configuration.{IsSound, AreSound, value_at, entries, item_count, Configures, IsRead}
+use Rattle.bng_config.specs.Rules.{IsPlaced, KeepsRules, ends_of}
+use Rattle.bng_config.proofs.New.{other_end, other_session, other_address}
+use Rattle.bng_config.proofs.Parts.{port_keys, circuit_keys}
+use Rattle.bng_config.proofs.Faults.{sound_front, sound_back, sound_entry}
+
+-- an element and later ones that differ from it, before a list whose elements differ
+pairs_cons : {X : Type 0} (R : X → X → Type 0) (x : X) (xs : List X) → ((i : ℕ) (d : X) → i < length xs → R x (get_or xs i d)) → AllPairs R xs → AllPairs R (x ∷ xs)
+pairs_cons R x xs first rest i zero d less long = absurd (omega arith)
+pairs_cons R x xs first rest zero (suc j) d less long = first j d (omega arith)
+pairs_cons R x xs first rest (suc i) (suc j) d less long = rest i j d (omega arith) (omega arith)
+
+-- as pairs of what the elements have
+pairs_map : {X Y : Type 0} (f : X → Y) (R : Y → Y → Type 0) (xs : List X) → AllPairs (λ a b. R (f a) (f b)) xs → AllPairs R (map f xs)
+pairs_map f R [] h i j d less long = absurd (omega arith)
+pairs_map f R (x ∷ xs) h i j d less long =
+    let high : j < length (x ∷ xs) = subst (λ n. j < n) (length-map (x ∷ xs) f) long in
+    rw (get_or-map f (x ∷ xs) i x d (omega arith), get_or-map f (x ∷ xs) j x d high) (h i j x less high)
+
+-- an end that differs from those of the ports
+over_map : (ports : List AccessPort) (p : Peer) → ((i : ℕ) (d : AccessPort) → i < length ports → p ≢ (get_or ports i d).local)
+    → (i : ℕ) (d : Peer) → i < length (map (λ a. a.local) ports) → p ≢ get_or (map (λ a. a.local) ports) i d
+over_map [] p h i d less = absurd (omega arith)
+over_map (x ∷ xs) p h i d less =
+    let low : i < length (x ∷ xs) = subst (λ n. i < n) (length-map (x ∷ xs) (λ a. a.local)) less in
+    rw (get_or-map (λ a. a.local) (x ∷ xs) i x d low) (h i x low)
+
+-- and from one before them
+before_cons : (p q : Peer) (ps : List Peer) → p ≢ q → ((i : ℕ) (d : Peer) → i < length ps → p ≢ get_or ps i d)
+    → (i : ℕ) (d : Peer) → i < length (q ∷ ps) → p ≢ get_or (q ∷ ps) i d
+before_cons p q ps one rest zero d less = one
+before_cons p q ps one rest (suc i) d less = rest i d (omega arith)
+
+-- how many entries a list has
+pub entries_of : (document : Data) (key : Key) (d : Data) (items : Items) → value_at (path_of key) document ≡ Some d → d ≡ array items
+    → entries document key ≡ item_count items
+entries_of document key d items found is = rw (found, is)
+
+few_of : (document : Data) → IsSound document Statics → entries document Statics ≤ 1024
+few_of document (inl none) = rw none (omega arith)
+few_of document (inr h) =
+    let form = h.is.form in
+    rw (entries_of document Statics h.value form.items h.found form.list) form.few
+
+module _ (document : Data) (c : Config) (h : Configures document c) where
+  sound_lists : AreSound document (port_keys document ++ circuit_keys document)
+  sound_lists = sound_back document first_keys (port_keys document ++ circuit_keys document) h.sound
+
+  sound_ports : AreSound document (port_keys document)
+  sound_ports = sound_front document (port_keys document) (circuit_keys document) sound_lists
+
+  sound_circuits : AreSound document (circuit_keys document)
+  sound_circuits = sound_back document (port_keys document) (circuit_keys document) sound_lists
+
+  port_count : length c.access ≡ item_count sound_ports.0.is.form.items
+  port_count = h.all_ports ∙ entries_of document Access sound_ports.0.value sound_ports.0.is.form.items sound_ports.0.found sound_ports.0.is.form.list
+
+  sound_port : (i : ℕ) → i < length c.access → AreSound document (access_keys i)
+  sound_port i less = sound_entry document access_keys i (entries document Access) (subst (λ n. i < n) h.all_ports less) sound_ports.1
+
+  sound_circuit : (i : ℕ) → i < length c.statics → AreSound document (static_keys i)
+  sound_circuit i less = sound_entry document static_keys i (entries document Statics) (subst (λ n. i < n) h.all_circuits less) sound_circuits.1
+
+  new_ports : AllPairs (λ a b. a.local ≢ b.local) c.access
+  new_ports i j d less long =
+      let fit = (sound_port j long).0 in
+      other_end (get_or c.access j d).local (get_or c.access i d).local fit.value fit.found (h.access j d long).local (h.access i d (omega arith)).local (fit.is.new.2 i less)
+
+  control_differs : (i : ℕ) (d : AccessPort) → i < length c.access → c.control_local ≢ (get_or c.access i d).local
+  control_differs i d less =
+      let fit = (sound_port i less).0 in
+      other_end (get_or c.access i d).local c.control_local fit.value fit.found (h.access i d less).local h.control_local fit.is.new.0
+
+  core_differs : (i : ℕ) (d : AccessPort) → i < length c.access → c.core_local ≢ (get_or c.access i d).local
+  core_differs i d less =
+      let fit = (sound_port i less).0 in
+      other_end (get_or c.access i d).local c.core_local fit.value fit.found (h.access i d less).local h.core_local fit.is.new.1
+
+  ends_differ : c.control_local ≢ c.core_local
+  ends_differ =
+      let fit = h.sound.1.0 in
+      other_end c.core_local c.control_local fit.value fit.found h.core_local h.control_local fit.is.new
+
+  ends : AllPairs (λ a b. a ≢ b) (ends_of c)
+  ends =
+      pairs_cons (λ a b. a ≢ b) c.control_local (c.core_local ∷ map (λ a. a.local) c.access)
+      (before_cons c.control_local c.core_local (map (λ a. a.local) c.access) ends_differ (over_map c.access c.control_local control_differs))
+      (pairs_cons (λ a b. a ≢ b) c.core_local (map (λ a. a.local) c.access) (over_map c.access c.core_local core_differs)
+      (pairs_map (λ a. a.local) (λ a b. a ≢ b) c.access new_ports))
+
+  sessions : AllPairs (λ a b. a.session ≢ b.session) c.statics
+  sessions i j d less long =
+      let fit = (sound_circuit j long).1.1.0 in
+      other_session (get_or c.statics j d).session (get_or c.statics i d).session fit.value fit.found (h.statics j d long).session (h.statics i d (omega arith)).session (fit.is.new i less)
+
+  addresses : AllPairs (λ a b. a.address ≢ b.address) c.statics
+  addresses i j d less long =
+      let fit = (sound_circuit j long).1.1.1.0 in
+      other_address (get_or c.statics j d).address (get_or c.statics i d).address fit.value fit.found (h.statics j d long).address (h.statics i d (omega arith)).address (fit.is.new i less)
+
+  placed : All (IsPlaced (length c.access)) c.statics
+  placed i d less =
+      let is = h.statics i d less in
+      let high = is.port.is.high in
+      let same = h.all_ports in
+      record { low = is.port.is.low; high = omega arith; number = is.session.is.is }
+
+  pub kept : KeepsRules c
+  kept =
+      let count = port_count in
+      let form = sound_ports.0.is.form in
+      let few = form.few in
+      let some = form.some in
+      let circuits = few_of document sound_circuits.0 in
+      let same = h.all_circuits in
+      record { some_port = omega arith; few_ports = omega arith; few_statics = omega arith; placed = placed; ends = ends; sessions = sessions; addresses = addresses }
+
+pub read_keeps : (text : List ℕ) (c : Config) → IsRead text c → KeepsRules c
+read_keeps text c h = kept (table h.members) c h.configures

@@ -1,0 +1,133 @@
+-- Values that no two keys may both have.
+use Rattle.std.proofs.Common.{◌≡◌, ◌≢◌, ℕ, ◌<◌, pos, List, [], ◌∷◌, length, Some, get_or, sym, ap, subst, ◌∙◌, arith, inl, inr, ◌⊎◌}
+use Rattle.std.specs.List.{Any}
+use Rattle.std.proofs.lemmas.List.{get_or_default}
+use Rattle.std.proofs.lemmas.Option.{same_Some}
+use Rattle.toml.specs.Data.{Data, string, integer}
+use Rattle.bng_base.specs.declared.address.Ip4.{Ip4}
+use Rattle.bng_base.specs.declared.address.Peer.{Peer}
+use Rattle.bng_base.specs.declared.address.SessionNo.{SessionNo}
+use Rattle.bng_base.specs.declared.settings.AccessPort.{AccessPort}
+use Rattle.bng_base.specs.declared.settings.Static.{Static}
+use Rattle.bng_config.specs.declared.fault.Key.{Key}
+use Rattle.bng_config.specs.declared.fault.Key.TheVariants.{ControlLocal, CoreLocal, AccessLocal, StaticSession, StaticAddress}
+use Rattle.bng_config.specs.Address.{peer_text, address_text}
+use Rattle.bng_config.specs.Keys.{path_of}
+use Rattle.bng_config.specs.Configuration.{StandsAt, IsSound, Differs, IsPeer, IsSession, IsAddress, IsPort, IsCircuit, EachPlace, value_at}
+use Rattle.bng_config.proofs.Faults.{fit_of}
+use Rattle.bng_config.proofs.OneReading.{peer_once, session_once, address_at_once}
+
+module _ {X : Type 0} (Form : Data → X → Type 0) (text : X → Data) (spells : (d : Data) (x : X) → Form d x → d ≡ text x)
+    (once : (d : Data) (x y : X) → Form d x → Form d y → x ≡ y) where
+  -- where the value of a key is not that of another, what stands at the two differs
+  other_value : {document : Data} {key other : Key} (x y : X) (v : Data) → value_at (path_of key) document ≡ Some v → StandsAt document key (λ d. Form d x)
+      → StandsAt document other (λ d. Form d y) → Differs document other v → y ≢ x
+  other_value x y v at p q differs same =
+      differs (q.found ∙ ap Some (spells q.value y q.is ∙ ap text same ∙ sym (spells p.value x p.is)) ∙ sym p.found ∙ at)
+
+  -- and the other way round
+  other_text : {document : Data} {key other : Key} (x y : X) → (p : StandsAt document key (λ d. Form d x)) → StandsAt document other (λ d. Form d y) → x ≢ y
+      → Differs document other p.value
+  other_text x y p q differs same =
+      let values : q.value ≡ p.value = same_Some _ _ (sym q.found ∙ same) in
+      differs (once p.value x y p.is (subst (λ d. Form d y) values q.is))
+
+pub other_end : {document : Data} {key other : Key} (x y : Peer) (v : Data) → value_at (path_of key) document ≡ Some v
+    → StandsAt document key (λ d. IsPeer d x) → StandsAt document other (λ d. IsPeer d y) → Differs document other v → y ≢ x
+other_end = other_value IsPeer (λ p. string (peer_text p)) (λ d p h. h.text) peer_once
+
+pub other_session : {document : Data} {key other : Key} (x y : SessionNo) (v : Data) → value_at (path_of key) document ≡ Some v
+    → StandsAt document key (λ d. IsSession d x) → StandsAt document other (λ d. IsSession d y) → Differs document other v → y ≢ x
+other_session = other_value IsSession (λ s. integer (pos s.0)) (λ d s h. h.number) session_once
+
+pub other_address : {document : Data} {key other : Key} (x y : Ip4) (v : Data) → value_at (path_of key) document ≡ Some v
+    → StandsAt document key (λ d. IsAddress d x) → StandsAt document other (λ d. IsAddress d y) → Differs document other v → y ≢ x
+other_address = other_value IsAddress (λ a. string (address_text a)) (λ d a h. h.text) address_at_once
+
+end_differs : {document : Data} {key other : Key} (x y : Peer) → (p : StandsAt document key (λ d. IsPeer d x)) → StandsAt document other (λ d. IsPeer d y) → x ≢ y
+    → Differs document other p.value
+end_differs = other_text IsPeer (λ p. string (peer_text p)) (λ d p h. h.text) peer_once
+
+session_differs : {document : Data} {key other : Key} (x y : SessionNo) → (p : StandsAt document key (λ d. IsSession d x)) → StandsAt document other (λ d. IsSession d y) → x ≢ y
+    → Differs document other p.value
+session_differs = other_text IsSession (λ s. integer (pos s.0)) (λ d s h. h.number) session_once
+
+address_differs : {document : Data} {key other : Key} (x y : Ip4) → (p : StandsAt document key (λ d. IsAddress d x)) → StandsAt document other (λ d. IsAddress d y) → x ≢ y
+    → Differs document other p.value
+address_differs = other_text IsAddress (λ a. string (address_text a)) (λ d a h. h.text) address_at_once
+
+-- an end to the core that is not that of Control, and one that is
+pub core_sound : (document : Data) (control local : Peer) → StandsAt document ControlLocal (λ d. IsPeer d control) → StandsAt document CoreLocal (λ d. IsPeer d local)
+    → local ≢ control → IsSound document CoreLocal
+core_sound document control local p q other = fit_of IsPeer local q (λ d h. (local, h)) (end_differs local control q p other)
+
+pub core_taken : (document : Data) (control local : Peer) → StandsAt document ControlLocal (λ d. IsPeer d control) → StandsAt document CoreLocal (λ d. IsPeer d local)
+    → local ≡ control → ¬ IsSound document CoreLocal
+core_taken document control local p q same sound = other_end local control sound.value sound.found q p sound.is.new (sym same)
+
+-- where no element has a property, none at a place has it
+none_at : {X : Type 0} (P : X → Type 0) (xs : List X) → (Any P xs → ⊥) → (i : ℕ) (d : X) → i < length xs → ¬ P (get_or xs i d)
+none_at P xs none i d less has = none (i, get_or xs i d, less, get_or_default xs i (get_or xs i d) d less, has)
+
+ends_differ : (document : Data) (key : Key) (local : Peer) (earlier : List AccessPort) → EachPlace (IsPort document) earlier
+    → (here : StandsAt document key (λ d. IsPeer d local)) → (Any (λ port. port.local ≡ local) earlier → ⊥)
+    → (i : ℕ) → i < length earlier → Differs document (AccessLocal i) here.value
+ends_differ document key local [] are here none i less = absurd (omega arith)
+ends_differ document key local (x ∷ xs) are here none i less =
+    end_differs local (get_or (x ∷ xs) i x).local here (are i x less).local (λ e. none_at (λ port. port.local ≡ local) (x ∷ xs) none i x less (sym e))
+
+sessions_differ : (document : Data) (key : Key) (session : SessionNo) (earlier : List Static) → EachPlace (IsCircuit document) earlier
+    → (here : StandsAt document key (λ d. IsSession d session)) → (Any (λ circuit. circuit.session ≡ session) earlier → ⊥)
+    → (i : ℕ) → i < length earlier → Differs document (StaticSession i) here.value
+sessions_differ document key session [] are here none i less = absurd (omega arith)
+sessions_differ document key session (x ∷ xs) are here none i less =
+    session_differs session (get_or (x ∷ xs) i x).session here (are i x less).session (λ e. none_at (λ circuit. circuit.session ≡ session) (x ∷ xs) none i x less (sym e))
+
+addresses_differ : (document : Data) (key : Key) (address : Ip4) (earlier : List Static) → EachPlace (IsCircuit document) earlier
+    → (here : StandsAt document key (λ d. IsAddress d address)) → (Any (λ circuit. circuit.address ≡ address) earlier → ⊥)
+    → (i : ℕ) → i < length earlier → Differs document (StaticAddress i) here.value
+addresses_differ document key address [] are here none i less = absurd (omega arith)
+addresses_differ document key address (x ∷ xs) are here none i less =
+    address_differs address (get_or (x ∷ xs) i x).address here (are i x less).address (λ e. none_at (λ circuit. circuit.address ≡ address) (x ∷ xs) none i x less (sym e))
+
+-- an end of a port that no earlier socket has, and one that some has
+module _ (document : Data) (place : ℕ) (control core local : Peer) (earlier : List AccessPort)
+    (at_control : StandsAt document ControlLocal (λ d. IsPeer d control)) (at_core : StandsAt document CoreLocal (λ d. IsPeer d core))
+    (all : length earlier ≡ place) (are : EachPlace (IsPort document) earlier) (here : StandsAt document (AccessLocal place) (λ d. IsPeer d local)) where
+  pub end_sound : ((local ≡ control) ⊎ (local ≡ core) ⊎ Any (λ port. port.local ≡ local) earlier → ⊥) → IsSound document (AccessLocal place)
+  end_sound free = fit_of IsPeer local here (λ d h. (local, h)) (
+    end_differs local control here at_control (λ e. free (inl e)),
+    end_differs local core here at_core (λ e. free (inr (inl e))),
+    λ i less. ends_differ document (AccessLocal place) local earlier are here (λ any. free (inr (inr any))) i (omega arith),
+  )
+
+  pub end_taken : (local ≡ control) ⊎ (local ≡ core) ⊎ Any (λ port. port.local ≡ local) earlier → ¬ IsSound document (AccessLocal place)
+  end_taken (inl same) sound = other_end local control sound.value sound.found here at_control sound.is.new.0 (sym same)
+  end_taken (inr (inl same)) sound = other_end local core sound.value sound.found here at_core sound.is.new.1 (sym same)
+  end_taken (inr (inr (i, port, less, at, has))) sound =
+      let same : (get_or earlier i port).local ≡ local = rw at has in
+      other_end local (get_or earlier i port).local sound.value sound.found here (are i port less).local (sound.is.new.2 i (omega arith)) same
+
+-- a session that no earlier circuit has, and one that some has
+module _ (document : Data) (place : ℕ) (session : SessionNo) (earlier : List Static)
+    (all : length earlier ≡ place) (are : EachPlace (IsCircuit document) earlier) (here : StandsAt document (StaticSession place) (λ d. IsSession d session)) where
+  pub session_sound : (Any (λ circuit. circuit.session ≡ session) earlier → ⊥) → IsSound document (StaticSession place)
+  session_sound free = fit_of IsSession session here (λ d h. (session, h))
+      (λ i less. sessions_differ document (StaticSession place) session earlier are here free i (omega arith))
+
+  pub session_taken : Any (λ circuit. circuit.session ≡ session) earlier → ¬ IsSound document (StaticSession place)
+  session_taken (i, circuit, less, at, has) sound =
+      let same : (get_or earlier i circuit).session ≡ session = rw at has in
+      other_session session (get_or earlier i circuit).session sound.value sound.found here (are i circuit less).session (sound.is.new i (omega arith)) same
+
+-- an address that no earlier circuit has, and one that some has
+module _ (document : Data) (place : ℕ) (address : Ip4) (earlier : List Static)
+    (all : length earlier ≡ place) (are : EachPlace (IsCircuit document) earlier) (here : StandsAt document (StaticAddress place) (λ d. IsAddress d address)) where
+  pub address_sound : (Any (λ circuit. circuit.address ≡ address) earlier → ⊥) → IsSound document (StaticAddress place)
+  address_sound free = fit_of IsAddress address here (λ d h. (address, h))
+      (λ i less. addresses_differ document (StaticAddress place) address earlier are here free i (omega arith))
+
+  pub address_taken : Any (λ circuit. circuit.address ≡ address) earlier → ¬ IsSound document (StaticAddress place)
+  address_taken (i, circuit, less, at, has) sound =
+      let same : (get_or earlier i circuit).address ≡ address = rw at has in
+      other_address address (get_or earlier i circuit).address sound.value sound.found here (are i circuit less).address (sound.is.new i (omega arith)) same
