@@ -1,9 +1,7 @@
 -- What is written where a run fails.
-use Rattle.std.specs.Prelude.{ℕ, List, [], ◌++◌, Option, Some, None, codes}
+use Rattle.std.specs.Prelude.{ℕ, List, ◌++◌, codes}
 use Rattle.std.specs.Fmt.{decimal}
 use Rattle.bng_config.specs.declared.fault.Fault.{Fault}
-use Rattle.bng_config.specs.declared.fault.Fault.TheVariants.{OutsideForm}
-use Rattle.bng_config.specs.declared.fault.Key.{Key}
 use Rattle.bng_config.specs.Keys.{fault_text}
 use Rattle.bng_gate.specs.declared.texts.Line.{Line}
 use Rattle.bng_gate.specs.declared.texts.Opening.{Opening}
@@ -17,9 +15,6 @@ usage_text =
 
 abbrev pub refused_text : Fault → List ℕ
 refused_text fault = codes "bng: config: " ++ fault_text fault ++ codes "\n"
-
-abbrev pub key_line : Key → List ℕ
-key_line key = refused_text (OutsideForm key)
 
 -- an access port is named by its number
 abbrev pub opening_name : Opening → List ℕ
@@ -45,10 +40,6 @@ status_of (CannotOpen what) = 3
 status_of OutOfMemory = 4
 status_of OutputFailed = 5
 
-abbrev pub number_text : Option ℕ → List ℕ
-number_text None = []
-number_text (Some n) = decimal n
-
 -- the three parts of a line, one after the other
 abbrev pub line_text : Line → List ℕ
-line_text l = l.front.now ++ number_text l.number ++ l.back.now
+line_text l = l.front.now ++ l.middle.bytes ++ l.back.now

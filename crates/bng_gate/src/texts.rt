@@ -1,8 +1,11 @@
 //! What is written where a run fails.
 ghost use Rattle.std.specs.Prelude.{◌≡◌};
-ghost use Rattle.bng_gate.specs.Texts.{refusal_text, status_of, key_line, line_text};
+ghost use Rattle.std.specs.Fmt.{decimal};
+ghost use Rattle.bng_gate.specs.Texts.{refusal_text, cannot_open_text, status_of, line_text};
 
-use bng_config::{Fault, Key};
+use arrayvec::ArrayString;
+use bng_config::{Fault, fault_text};
+use itoa::Buffer;
 
 #[cfg(test)]
 mod tests;
@@ -31,11 +34,11 @@ pub enum Refusal {
     OutputFailed,
 }
 
-/// A line in three parts, the middle one a decimal number, where there is one.
-#[derive(Clone, Copy, Debug)]
+/// A line in three parts.
+#[derive(Drop)]
 pub struct Line {
     pub front: &'static str,
-    pub number: Option<u16>,
+    pub middle: ArrayString<32>,
     pub back: &'static str,
 }
 
@@ -60,9 +63,11 @@ pub fn line(refusal: Refusal) -> Line
         Refusal::Usage => whole(
             "usage: bng serve CONFIG [--trace FILE] [--rounds N] | check CONFIG | exercise N [--workers W] | audit FILE\n",
         ),
-        Refusal::Refused(Fault::TooLong) => whole("bng: config: C1 text\n"),
-        Refusal::Refused(Fault::NotToml) => whole("bng: config: C2 text\n"),
-        Refusal::Refused(Fault::OutsideForm(key)) => of_key(key),
+        Refusal::Refused(fault) => Line {
+            front: "bng: config: ",
+            middle: fault_text(fault),
+            back: "\n",
+        },
         Refusal::CannotOpen(what) => cannot_open(what),
         Refusal::OutOfMemory => whole("bng: out of memory\n"),
         Refusal::OutputFailed => whole("bng: output failed\n"),
@@ -74,44 +79,23 @@ fn whole(text: &'static str) -> Line
 {
     Line {
         front: text,
-        number: None,
+        middle: ArrayString::new(),
         back: "",
     }
 }
 
-// An entry of a list is written by its place from 1 on.
-fn in_entry(front: &'static str, place: u16, back: &'static str) -> Line
+// A number in decimal digits.
+fn digits(number: u8) -> ArrayString<32>
+    ensures { result.bytes ≡ decimal number }
 {
-    Line {
-        front,
-        number: Some(place + 1),
-        back,
-    }
-}
-
-// The key that is missing or outside its form.
-fn of_key(key: Key) -> Line
-    ensures { line_text result ≡ key_line key }
-{
-    match key {
-        Key::ControlLocal => whole("bng: config: C5 control.local\n"),
-        Key::CoreLocal => whole("bng: config: C5 core.local\n"),
-        Key::CorePeer => whole("bng: config: C5 core.peer\n"),
-        Key::Access => whole("bng: config: C5 access\n"),
-        Key::AccessLocal(place) => in_entry("bng: config: C5 access.", place, ".local\n"),
-        Key::AccessPeer(place) => in_entry("bng: config: C5 access.", place, ".peer\n"),
-        Key::AccessMac(place) => in_entry("bng: config: C5 access.", place, ".mac\n"),
-        Key::Statics => whole("bng: config: C5 static\n"),
-        Key::StaticPort(place) => in_entry("bng: config: C5 static.", place, ".port\n"),
-        Key::StaticMac(place) => in_entry("bng: config: C5 static.", place, ".mac\n"),
-        Key::StaticSession(place) => in_entry("bng: config: C5 static.", place, ".session\n"),
-        Key::StaticAddress(place) => in_entry("bng: config: C5 static.", place, ".address\n"),
-    }
+    let mut text = ArrayString::new();
+    text.push_str(Buffer::new().format(number));
+    text
 }
 
 // What could not be opened.
 fn cannot_open(what: Opening) -> Line
-    ensures { line_text result ≡ refusal_text (Refusal.CannotOpen what) }
+    ensures { line_text result ≡ cannot_open_text what }
 {
     match what {
         Opening::Configuration => whole("bng: cannot open configuration\n"),
@@ -119,7 +103,7 @@ fn cannot_open(what: Opening) -> Line
         Opening::Core => whole("bng: cannot open core\n"),
         Opening::Access(number) => Line {
             front: "bng: cannot open access ",
-            number: Some(u16::from(number)),
+            middle: digits(number),
             back: "\n",
         },
     }

@@ -1,5 +1,5 @@
 use super::{Opening, Refusal, line, status};
-use crate::configuration::{Fault, Key};
+use bng_config::{Fault, Key};
 
 #[test]
 fn a_run_that_fails_says_so_in_one_line(rt: HostRuntime) {
@@ -7,33 +7,53 @@ fn a_run_that_fails_says_so_in_one_line(rt: HostRuntime) {
         (
             Refusal::Refused(Fault::TooLong),
             2,
-            "bng: config: C1 text\n",
+            "bng: config: ",
+            "C1 text",
+            "\n",
         ),
         (
             Refusal::Refused(Fault::NotToml),
             2,
-            "bng: config: C2 text\n",
+            "bng: config: ",
+            "C2 text",
+            "\n",
         ),
         (
-            Refusal::Refused(Fault::OutsideForm(Key::StaticSession)),
+            Refusal::Refused(Fault::OutsideForm(Key::StaticSession(11))),
             2,
-            "bng: config: C5 static.1.session\n",
+            "bng: config: ",
+            "C5 static.12.session",
+            "\n",
         ),
         (
             Refusal::CannotOpen(Opening::Configuration),
             3,
             "bng: cannot open configuration\n",
+            "",
+            "",
         ),
         (
             Refusal::CannotOpen(Opening::Core),
             3,
             "bng: cannot open core\n",
+            "",
+            "",
         ),
-        (Refusal::OutOfMemory, 4, "bng: out of memory\n"),
-        (Refusal::OutputFailed, 5, "bng: output failed\n"),
+        (
+            Refusal::CannotOpen(Opening::Access(16)),
+            3,
+            "bng: cannot open access ",
+            "16",
+            "\n",
+        ),
+        (Refusal::OutOfMemory, 4, "bng: out of memory\n", "", ""),
+        (Refusal::OutputFailed, 5, "bng: output failed\n", "", ""),
     ];
-    for (refusal, wanted, text) in rows {
+    for (refusal, wanted, front, middle, back) in rows {
         assert_eq!(rt; status(refusal), wanted);
-        assert_eq!(rt; line(refusal), text);
+        let line = line(refusal);
+        assert_eq!(rt; line.front, front);
+        assert_eq!(rt; line.middle.as_str(), middle);
+        assert_eq!(rt; line.back, back);
     }
 }
