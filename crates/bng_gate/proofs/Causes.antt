@@ -5,13 +5,13 @@ use Rattle.std.proofs.lemmas.Bool.Decides.{eqb_tells}
 use Rattle.std.proofs.lemmas.Option.{same_Some}
 use Rattle.bng_base.specs.Causes.{Rose}
 use Rattle.bng_base.specs.Told.{FilesTold, Grows, told_more}
-use Rattle.bng_desk.specs.declared.config.Config.{Config}
-use Rattle.bng_gate.specs.declared.configuration.fault.Fault.{Fault}
+use Rattle.bng_config.specs.declared.config.Config.{Config}
+use Rattle.bng_config.specs.declared.fault.Fault.{Fault}
 use Rattle.bng_gate.specs.declared.texts.Opening.{Opening}
 use Rattle.bng_gate.specs.declared.texts.Opening.TheVariants.{Configuration, Control, Core, Access}
-use Rattle.bng_gate.proofs.Exclusive.{no_fault}
+use Rattle.bng_config.proofs.Exclusive.{no_fault}
 use Rattle.bng_gate.specs.Words.{Serves}
-use Rattle.bng_gate.specs.Configuration.{IsRead, HasFault}
+use Rattle.bng_config.specs.Configuration.{IsRead, HasFault}
 use Rattle.bng_gate.specs.Run.{World, Prepares, FailsToRead, Opens, Fails, IsUnopened, IsUnwritten, RunEnds, IsFaultless}
 
 -- the statuses, one by one
@@ -31,7 +31,7 @@ fails_serves : (words : List (List ℕ)) (old new : World) (what : Opening) → 
 fails_serves words old new Configuration f = (f.0.name, f.0.command)
 fails_serves words old new Control f = (f.1.opens.name, f.1.opens.command)
 fails_serves words old new Core f = (f.1.opens.name, f.1.opens.command)
-fails_serves words old new Access f = (f.1.opens.name, f.1.opens.command)
+fails_serves words old new (Access number) f = (f.1.opens.name, f.1.opens.command)
 
 pub no_command : (words : List (List ℕ)) (old new : World) (status : ℕ) → RunEnds words old new status → ((name : List ℕ) → ¬ Serves words name) → (status ≡ 1) ⊎ (status ≡ 5)
 no_command words old new status r none =
@@ -70,7 +70,7 @@ fails_read : (words : List (List ℕ)) (old new : World) (what : Opening) (text 
 fails_read words old new Configuration text fault f some grew broken = unread old.files.contents new.files.contents text some grew f.0.contents
 fails_read words old new Control text fault f some grew broken = read_well words old.files new.files f.0 text fault f.1 some grew broken
 fails_read words old new Core text fault f some grew broken = read_well words old.files new.files f.0 text fault f.1 some grew broken
-fails_read words old new Access text fault f some grew broken = read_well words old.files new.files f.0 text fault f.1 some grew broken
+fails_read words old new (Access number) text fault f some grew broken = read_well words old.files new.files f.0 text fault f.1 some grew broken
 
 pub faulty : (words : List (List ℕ)) (old new : World) (status : ℕ) → RunEnds words old new status → IsSome old.files.contents → (text : List ℕ) (fault : Fault)
     → Grows old.files.contents new.files.contents (text ∷ []) → HasFault text fault → (status ≡ 2) ⊎ (status ≡ 4) ⊎ (status ≡ 5)
@@ -87,7 +87,7 @@ fails_rose : (words : List (List ℕ)) (old new : World) (what : Opening) → Fa
 fails_rose words old new Configuration f none = none.files f.0.rose
 fails_rose words old new Control f none = none.plant f.2.rose
 fails_rose words old new Core f none = none.plant f.2.rose
-fails_rose words old new Access f none = none.plant f.2.rose
+fails_rose words old new (Access number) f none = none.plant f.2.fails.rose
 
 pub complete : (words : List (List ℕ)) (old new : World) (status : ℕ) → RunEnds words old new status → (name : List ℕ) → Serves words name
     → ((text : List ℕ) (fault : Fault) → Grows old.files.contents new.files.contents (text ∷ []) → ¬ HasFault text fault) → IsFaultless old new → (status ≡ 0) ⊎ (status ≡ 4)

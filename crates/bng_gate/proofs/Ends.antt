@@ -3,8 +3,8 @@ use Rattle.std.proofs.Common.{◌≡◌, ℕ, ◌≤◌, ◌⊎◌, ⊎_elim, in
 use Rattle.bng_base.specs.Causes.{Rose}
 use Rattle.bng_base.specs.Told.{PlantTold, ClockTold, EntropyTold, FilesTold, TraceTold, SinkTold, Grows}
 use Rattle.bng_base.specs.Stretch.{Outside}
-use Rattle.bng_desk.specs.declared.config.Config.{Config}
-use Rattle.bng_gate.specs.declared.configuration.fault.Fault.{Fault}
+use Rattle.bng_config.specs.declared.config.Config.{Config}
+use Rattle.bng_config.specs.declared.fault.Fault.{Fault}
 use Rattle.bng_gate.specs.declared.texts.Opening.{Opening}
 use Rattle.bng_gate.specs.declared.texts.Opening.TheVariants.{Configuration, Control, Core, Access}
 use Rattle.bng_gate.specs.declared.texts.Refusal.{Refusal}
@@ -45,7 +45,7 @@ module _ (words : List (List ℕ)) (f f' : FilesTold) (p : PlantTold) (k : Clock
       at (CannotOpen Configuration) w said = ends_unopened words _ _ status refl said.0 (record { what = Configuration; fails = (w, (refl, refl)); told = said.1; heard = refl; sent = refl; out = refl })
       at (CannotOpen Control) w said = absurd w
       at (CannotOpen Core) w said = absurd w
-      at (CannotOpen Access) w said = absurd w
+      at (CannotOpen (Access number)) w said = absurd w
       at OutOfMemory w said = ends_starved words _ _ status refl said.0 (record { name = w.0; command = w.1; told = said.1; out = refl })
       at OutputFailed w said = absurd w
 
@@ -66,6 +66,6 @@ module _ (words : List (List ℕ)) (config : Config) (f f' : FilesTold) (p p' : 
       at (CannotOpen Configuration) w said = absurd w.0
       at (CannotOpen Control) w said = ends_unopened words first last status refl said.0 (record { what = Control; fails = (config, prepares, w.0); told = said.1; heard = w.0.before.heard; sent = w.0.before.sent; out = w.1 })
       at (CannotOpen Core) w said = ends_unopened words first last status refl said.0 (record { what = Core; fails = (config, prepares, w.0); told = said.1; heard = w.0.before.heard; sent = w.0.before.sent; out = w.1 })
-      at (CannotOpen Access) w said = ends_unopened words first last status refl said.0 (record { what = Access; fails = (config, prepares, w.0); told = said.1; heard = w.0.before.heard; sent = w.0.before.sent; out = w.1 })
+      at (CannotOpen (Access number)) w said = ends_unopened words first last status refl said.0 (record { what = Access number; fails = (config, prepares, w.0); told = said.1; heard = w.0.fails.before.heard; sent = w.0.fails.before.sent; out = w.1 })
       at OutOfMemory w said = ends_starved words first last status refl said.0 (record { name = prepares.opens.name; command = prepares.opens.command; told = said.1; out = w })
       at OutputFailed w said = ends_unwritten words first last status refl said.0 (inl w)

@@ -8,7 +8,7 @@ use Rattle.std.proofs.lemmas.List.{take-append-le}
 use Rattle.std.proofs.Math.Seq.{take-length}
 use Rattle.bng_base.specs.Stretch.{Outside, Extends}
 use Rattle.bng_base.proofs.ChainLaws.{told_more_turn}
-use Rattle.bng_desk.specs.declared.config.Config.{Config}
+use Rattle.bng_config.specs.declared.config.Config.{Config}
 use Rattle.bng_desk.specs.Model.{Desk, is_over}
 use Rattle.bng_desk.specs.Turn.{Turn, Step, stretch_of}
 use Rattle.bng_gate.specs.Serving.{Run, run_stretch, took_stop, EndsServing}
@@ -78,11 +78,9 @@ pub none_before : (turns : List (Option Turn)) (t : Option Turn) → list_any to
     → list_any took_stop (take (length (turns ++ t ∷ []) - 1) (turns ++ t ∷ [])) ≡ false
 none_before turns t none = ap (list_any took_stop) (front_of_more turns t) ∙ none
 
--- what is told goes on by a turn of the same configuration
-pub told_turn : (d mid : Desk) (o o₁ o₂ : Outside) (turns : List (Option Turn)) (t : Option Turn) → Run d turns mid
-    → Extends o o₁ (run_stretch d.config turns) → Extends o₁ o₂ (stretch_of mid.config t) → Extends o o₂ (run_stretch d.config (turns ++ t ∷ []))
-told_turn d mid o o₁ o₂ turns t run so_far here =
-    told_more_turn (stretch_of d.config) o o₁ o₂ turns t so_far (subst (λ (c : Config). Extends o₁ o₂ (stretch_of c t)) (run_config d mid turns run) here)
+-- what is told goes on by a turn
+pub told_turn : (o o₁ o₂ : Outside) (turns : List (Option Turn)) (t : Option Turn) → Extends o o₁ (run_stretch turns) → Extends o₁ o₂ (stretch_of t) → Extends o o₂ (run_stretch (turns ++ t ∷ []))
+told_turn o o₁ o₂ turns t so_far here = told_more_turn stretch_of o o₁ o₂ turns t so_far here
 
 -- the turns of a desk that was new and is over
 pub ended : (d d' : Desk) (turns : List (Option Turn)) → Run d turns d' → d.turns ≡ 0 → d.stopped ≡ false → is_over d' ≡ true → length turns ≤ d.rounds

@@ -13,8 +13,8 @@ fn say_text<X: Sink>(sink: &mut X, text: &[u8]) -> Wrote
 }
 
 /// Writes a line, part after part, until one fails.
-pub fn say<X: Sink>(sink: &mut X, line: Line) -> Wrote
-    ensures { Says (X.told sink.old) (X.told sink.new) (line_text line) result }
+pub fn say<X: Sink>(sink: &mut X, line: &Line) -> Wrote
+    ensures { Says (X.told sink.old) (X.told sink.new) (line_text line.now) result }
 {
     if say_text(sink, line.front.as_bytes()) == Wrote::Failed {
         return Wrote::Failed;

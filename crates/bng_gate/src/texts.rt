@@ -56,7 +56,7 @@ pub fn status(refusal: Refusal) -> u8
 }
 
 /// The line that says so.
-pub fn line(refusal: Refusal) -> Line
+pub fn line_of(refusal: Refusal) -> Line
     ensures { line_text result ≡ refusal_text refusal }
 {
     match refusal {

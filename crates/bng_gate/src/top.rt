@@ -1,5 +1,5 @@
 //! The top call.
-ghost use Rattle.std.specs.Prelude.{◌≡◌, ◌⊎◌, ℕ, List, [], ◌∷◌, IsSome, OnOk, IfOk, IfErr};
+ghost use Rattle.std.specs.Prelude.{◌≡◌, ◌≤◌, ◌⊎◌, ℕ, List, [], ◌∷◌, IsSome, OnOk, IfOk, IfErr, length};
 ghost use Rattle.bng_base.specs.Told.{Grows};
 ghost use Rattle.bng_config.specs.declared.config.Config.{Config as Settings};
 ghost use Rattle.bng_config.specs.declared.fault.Fault.{Fault as Rule};
@@ -58,11 +58,27 @@ fn bind_ports<P: Plant>(ports: &[AccessPort], plant: &mut P) -> Result<(), u8>
     ensures bound { OnOk result (BindsPorts (length ports.now) ports.now (P.told plant.old) (P.told plant.new)) }
     ensures failed { IfErr result (λ number. FailsAtPort number ports.now (P.told plant.old) (P.told plant.new)) }
 {
-    for (place, port) in ports.iter().enumerate() {
+    for place in 0..ports.len() {
+        let port = &ports[place];
         let number = place as u8 + 1;
-        if plant.bind(Role::Access(number), port.local, Some(port.peer)) == Bound::Failed {
-            return Err(number);
+        match plant.bind(Role::Access(number), port.local, Some(port.peer)) {
+            Bound::Ok => {}
+            Bound::Failed => return Err(number),
         }
+    }
+    Ok(())
+}
+
+// Binds Control and then the core, and says which could not be bound.
+fn bind_ends<P: Plant>(config: &Config, plant: &mut P) -> Result<(), Opening>
+    ensures bound { OnOk result (Binds config.now 2 (P.told plant.old) (P.told plant.new)) }
+    ensures failed { IfErr result (λ what. FailsAt config.now (P.told plant.old) (P.told plant.new) what) }
+{
+    if plant.bind(Role::Control, config.control_local, None) == Bound::Failed {
+        return Err(Opening::Control);
+    }
+    if plant.bind(Role::Core, config.core_local, Some(config.core_peer)) == Bound::Failed {
+        return Err(Opening::Core);
     }
     Ok(())
 }
@@ -73,11 +89,8 @@ fn bind_all<P: Plant>(config: &Config, plant: &mut P) -> Result<(), Opening>
     ensures bound { OnOk result (Binds config.now (binds_most config.now) (P.told plant.old) (P.told plant.new)) }
     ensures failed { IfErr result (λ what. FailsAt config.now (P.told plant.old) (P.told plant.new) what) }
 {
-    if plant.bind(Role::Control, config.control_local, None) == Bound::Failed {
-        return Err(Opening::Control);
-    }
-    if plant.bind(Role::Core, config.core_local, Some(config.core_peer)) == Bound::Failed {
-        return Err(Opening::Core);
+    if let Err(what) = bind_ends(config, plant) {
+        return Err(what);
     }
     match bind_ports(config.access.as_slice(), plant) {
         Ok(()) => Ok(()),
@@ -132,7 +145,7 @@ where
 fn refuse<X: Sink>(err: &mut X, refusal: Refusal) -> u8
     ensures { Told (X.told err.old) (X.told err.new) refusal result }
 {
-    match say(err, texts::line(refusal)) {
+    match say(err, &texts::line_of(refusal)) {
         Wrote::Ok => texts::status(refusal),
         Wrote::Failed => OUTPUT_FAILED,
     }

@@ -1,4 +1,4 @@
-use super::{Opening, Refusal, line, status};
+use super::{Opening, Refusal, line_of, status};
 use bng_config::{Fault, Key};
 
 #[test]
@@ -51,7 +51,7 @@ fn a_run_that_fails_says_so_in_one_line(rt: HostRuntime) {
     ];
     for (refusal, wanted, front, middle, back) in rows {
         assert_eq!(rt; status(refusal), wanted);
-        let line = line(refusal);
+        let line = line_of(refusal);
         assert_eq!(rt; line.front, front);
         assert_eq!(rt; line.middle.as_str(), middle);
         assert_eq!(rt; line.back, back);

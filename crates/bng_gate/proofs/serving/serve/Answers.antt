@@ -33,7 +33,7 @@ serving-preserved g c =
     record {
       turns = so_far.turns ++ here.turn ∷ [];
       run = chain_more Step c.args.desk.now c.serving.desk c.turn-turned.new.self so_far.turns here.turn so_far.run here.step;
-      told = told_turn c.args.desk.now c.serving.desk first mid last so_far.turns here.turn so_far.run so_far.told here.told;
+      told = told_turn first mid last so_far.turns here.turn so_far.told here.told;
       before = none_before so_far.turns here.turn (none_took c.args.desk.now c.serving.desk so_far.turns so_far.run c.requires.serving serves);
       within = omega (arith, length-append so_far.turns (here.turn ∷ []), c.requires.turns);
       later = here.moment;

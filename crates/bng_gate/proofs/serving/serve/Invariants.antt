@@ -11,7 +11,7 @@ invariant-serving g l =
     record {
       turns : List (Option Turn);
       run : Run l.fn.desk turns l.desk;
-      told : Extends (record { plant = g.P.Plant.told l.fn.plant; clock = g.C.Clock.told l.fn.clock; trace = g.T.Trace.told l.fn.trace }) (record { plant = g.P.Plant.told l.plant; clock = g.C.Clock.told l.clock; trace = g.T.Trace.told l.trace }) (run_stretch l.fn.desk.config turns);
+      told : Extends (record { plant = g.P.Plant.told l.fn.plant; clock = g.C.Clock.told l.fn.clock; trace = g.T.Trace.told l.fn.trace }) (record { plant = g.P.Plant.told l.plant; clock = g.C.Clock.told l.clock; trace = g.T.Trace.told l.trace }) (run_stretch turns);
       before : list_any took_stop (take (length turns - 1) turns) ≡ false;
       within : length turns ≤ l.fn.desk.rounds;
       later : l.desk.moment ≤ (g.C.Clock.told l.clock).last;

@@ -7,7 +7,7 @@ use Rattle.bng_gate.proofs.top.run.Goals as goal
 pub returns-clause-headline : goal.returns-clause-headline
 returns-clause-headline g c = λ done.
     let served = c.run_to_end.ensures.served done in
-    (served.config, served.prepares, headline served.config _ _ served.runs)
+    (served.config, served.prepares, headline served.prepares.text served.config _ _ served.prepares.read served.runs)
 
 pub returns-clause-no_command : goal.returns-clause-no_command
 returns-clause-no_command g c = no_command _ _ _ _ c.run_to_end.ensures

@@ -4,7 +4,7 @@ use Rattle.bng_base.specs.Stretch.{Outside, Extends}
 use Rattle.bng_base.specs.declared.outside.ClockAnswer.TheVariants.{Now, Wall}
 use Rattle.bng_base.proofs.ToldLaws.{grows_if_told_more}
 use Rattle.bng_base.specs.Told.{Grows}
-use Rattle.bng_desk.specs.declared.config.Config.{Config}
+use Rattle.bng_config.specs.declared.config.Config.{Config}
 use Rattle.bng_desk.specs.Model.{Desk}
 use Rattle.bng_desk.specs.Report.{report_text, by_number}
 use Rattle.bng_gate.specs.Run.{opened}
@@ -20,7 +20,7 @@ returns-in-Ok-write-clause-served g c =
     let run : Run (opened c.args.config c.now-now.result) c.serve.ensures.turns c.serve.new.desk = subst (λ (d : Desk). Run d c.serve.ensures.turns c.serve.new.desk) new c.serve.ensures.run in
     let last = c.serve.new.desk in
     let kept : last.config ≡ c.args.config = run_config (opened c.args.config c.now-now.result) last c.serve.ensures.turns run in
-    let text : ℕ → List ℕ = λ _. report_text last.config.circuit.address last.input 0 (by_number last.drops) in
+    let text : ℕ → List ℕ = λ _. report_text last.config.statics last.traffic (by_number last.drops) in
     let appended : c.report.new.out.items ≡ text 0 = search rules in
     let written : Grows (g.O.Sink.told c.args.out.now).bytes (g.O.Sink.told c.write.new.self).bytes c.as_slice.result.now = search rules in
     record {
@@ -34,8 +34,8 @@ returns-in-Ok-write-clause-served g c =
       last = c.serve.new.desk;
       run = run;
       ends = subst (λ (d : Desk). EndsServing d.rounds c.serve.ensures.turns) new c.serve.ensures.ends;
-      told = subst (λ (d : Desk). Extends opening served (run_stretch d.config c.serve.ensures.turns)) new c.serve.ensures.told;
-      printed = subst (λ (f : Config). Grows (g.O.Sink.told c.args.out.now).bytes (g.O.Sink.told c.write.new.self).bytes (report_text f.circuit.address last.input 0 (by_number last.drops))) kept
+      told = c.serve.ensures.told;
+      printed = subst (λ (f : Config). Grows (g.O.Sink.told c.args.out.now).bytes (g.O.Sink.told c.write.new.self).bytes (report_text f.statics last.traffic (by_number last.drops))) kept
           (subst (λ (octets : List ℕ). Grows (g.O.Sink.told c.args.out.now).bytes (g.O.Sink.told c.write.new.self).bytes octets) (c.as_slice.ensures.value ∙ appended) written);
       later = search rules;
     }

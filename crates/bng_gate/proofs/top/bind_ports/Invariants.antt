@@ -1,0 +1,6 @@
+use Rattle.bng_gate.specs.Run.{BindsPorts}
+use Rattle.bng_gate.proofs.top.bind_ports.Given as goal
+
+-- the ports so far were bound
+abbrev pub invariant-loop-place : goal.invariant-loop-place
+invariant-loop-place g l = BindsPorts l.place l.ports (g.P.Plant.told l.fn.plant) (g.P.Plant.told l.plant)
