@@ -1,9 +1,9 @@
 //! The provisioned circuits.
-ghost use Rattle.std.specs.Prelude.{◌≡◌, ◌≤◌, ◌∷◌, ◌↔◌, ℕ, IsTrue, length, IfOk, IfErr, OnOk, OnErr};
+ghost use Rattle.std.specs.Prelude.{◌≡◌, ◌≤◌, ◌↔◌, ℕ, IsTrue, length, IfOk, IfErr, OnOk, OnErr};
 ghost use Rattle.std.specs.List.{Any};
 ghost use Rattle.toml.specs.View.{view};
-ghost use Rattle.bng_config.specs.Keys.{static_keys, of_entries};
-ghost use Rattle.bng_config.specs.Configuration.{StandsAt, IsSession, IsAddress, IsCircuit, IsSound, AreSound, IsFirstOf, EachPlace, entries, IsKeyOrMemory};
+ghost use Rattle.bng_config.specs.Keys.{static_keys};
+ghost use Rattle.bng_config.specs.Configuration.{StandsAt, IsSession, IsAddress, IsCircuit, IsSound, AreSound, IsFirstOf, EachPlace, circuit_keys, entries, IsKeyOrMemory};
 
 use crate::fault::{ConfigError, Key};
 use crate::find::{count_at, value_of};
@@ -27,8 +27,8 @@ pub(crate) fn circuits_of(
     requires few { ports ≤ 16 }
     ensures all { IfOk result (λ circuits. length circuits.items ≡ entries (view document.now) Key.Statics) }
     ensures found { IfOk result (λ circuits. EachPlace (IsCircuit (view document.now)) circuits.items) }
-    ensures sound { OnOk result (AreSound (view document.now) (Key.Statics ∷ of_entries static_keys (entries (view document.now) Key.Statics))) }
-    ensures refused { IfErr result (IsKeyOrMemory (IsFirstOf (view document.now) (Key.Statics ∷ of_entries static_keys (entries (view document.now) Key.Statics)))) }
+    ensures sound { OnOk result (AreSound (view document.now) (circuit_keys (view document.now))) }
+    ensures refused { IfErr result (IsKeyOrMemory (IsFirstOf (view document.now) (circuit_keys (view document.now)))) }
 {
     let count = count_of(document)?;
     let mut circuits = Vec::new(alloc);

@@ -1,8 +1,8 @@
 use Rattle.std.proofs.Common.{◌≡◌}
 use Rattle.std.proofs.lemmas.Result.{err_from_is_err_and}
 use Rattle.toml.specs.View.{view}
-use Rattle.bng_config.specs.Configuration.{IsFirstOf, IsFirstFault}
-use Rattle.bng_config.proofs.Parts.{port_keys, circuit_keys, first_of_ends, first_of_ports, first_of_circuits, sound_keys, told_of}
+use Rattle.bng_config.specs.Configuration.{IsFirstOf, IsFirstFault, port_keys, circuit_keys}
+use Rattle.bng_config.proofs.Parts.{first_of_ends, first_of_ports, first_of_circuits, sound_keys, told_of}
 use Rattle.bng_config.proofs.reading.configuration_of.Goals as goal
 
 pub returns-in_err-ends-clause-refused : goal.returns-in_err-ends-clause-refused
