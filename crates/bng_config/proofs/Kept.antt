@@ -9,10 +9,9 @@ use Rattle.bng_config.specs.declared.config.Config.{Config}
 use Rattle.bng_config.specs.declared.fault.Key.{Key}
 use Rattle.bng_config.specs.declared.fault.Key.TheVariants.{Access, Statics}
 use Rattle.bng_config.specs.Keys.{path_of, first_keys, access_keys, static_keys}
-use Rattle.bng_config.specs.Configuration.{IsSound, AreSound, value_at, entries, item_count, Configures, IsRead}
+use Rattle.bng_config.specs.Configuration.{IsSound, AreSound, value_at, entries, item_count, port_keys, circuit_keys, Configures, IsRead}
 use Rattle.bng_config.specs.Rules.{IsPlaced, KeepsRules, ends_of}
 use Rattle.bng_config.proofs.New.{other_end, other_session, other_address}
-use Rattle.bng_config.proofs.Parts.{port_keys, circuit_keys}
 use Rattle.bng_config.proofs.Faults.{sound_front, sound_back, sound_entry}
 
 -- an element and later ones that differ from it, before a list whose elements differ

@@ -1,27 +1,13 @@
 -- The keys, part by part.
-use Rattle.std.proofs.Common.{List, ◌∷◌, ◌++◌, inl, inr, ap, refl, ◌≡◌, BTreeMap, String, Global, ℕ, ◌≤◌, length, Some}
-use Rattle.std.specs.Prelude.{IsUtf8}
+use Rattle.std.proofs.Common.{◌++◌}
 use Rattle.toml.specs.Data.{Data}
-use Rattle.toml.specs.Parse.{parse_document}
-use Rattle.toml.specs.View.{view, table_view}
-use Rattle.toml.specs.declared.value.Value.{Value, Table}
-use Rattle.bng_config.specs.declared.config.Config.{Config}
 use Rattle.bng_config.specs.declared.fault.Key.{Key}
-use Rattle.bng_config.specs.declared.fault.Key.TheVariants.{Access, Statics}
-use Rattle.bng_config.specs.declared.fault.Fault.{Fault}
 use Rattle.bng_config.specs.declared.fault.Fault.TheVariants.{TooLong, NotToml, OutsideForm}
 use Rattle.bng_config.specs.declared.fault.ConfigError.{ConfigError}
 use Rattle.bng_config.specs.declared.fault.ConfigError.TheVariants.{Refused, OutOfMemory}
-use Rattle.bng_config.specs.Keys.{first_keys, access_keys, static_keys, of_entries}
-use Rattle.bng_config.specs.Configuration.{AreSound, IsFirstOf, IsFirstFault, IsKeyOrMemory, IsFaultOrMemory, IsRead, HasFault, keys, entries, longest_text}
+use Rattle.bng_config.specs.Keys.{first_keys}
+use Rattle.bng_config.specs.Configuration.{AreSound, IsFirstOf, IsFirstFault, IsKeyOrMemory, keys, port_keys, circuit_keys}
 use Rattle.bng_config.proofs.Faults.{first_front, first_back, sound_append}
-
--- the keys of the access ports, and of the circuits
-abbrev pub port_keys : Data → List Key
-port_keys document = Access ∷ of_entries access_keys (entries document Access)
-
-abbrev pub circuit_keys : Data → List Key
-circuit_keys document = Statics ∷ of_entries static_keys (entries document Statics)
 
 module _ (document : Data) where
   pub first_of_ends : (key : Key) → IsFirstOf document first_keys key → IsFirstFault document key

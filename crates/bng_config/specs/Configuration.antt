@@ -17,7 +17,7 @@ use Rattle.bng_config.specs.declared.fault.Fault.TheVariants.{TooLong, NotToml, 
 use Rattle.bng_config.specs.declared.fault.ConfigError.{ConfigError}
 use Rattle.bng_config.specs.declared.fault.ConfigError.TheVariants.{Refused, OutOfMemory}
 use Rattle.bng_config.specs.Address.{address_text, peer_text, mac_text}
-use Rattle.bng_config.specs.Keys.{Step, named, placed, path_of, keys_in_order}
+use Rattle.bng_config.specs.Keys.{Step, named, placed, path_of, first_keys, access_keys, static_keys, of_entries}
 use Rattle.bng_config.specs.Rules.{IsSessionNumber}
 
 -- the longest text that is read, in octets
@@ -50,9 +50,16 @@ count_of (Some items) = item_count items
 abbrev pub entries : Data → Key → ℕ
 entries document key = count_of (option_and_then as_array (value_at (path_of key) document))
 
+-- the keys of the access ports, and of the circuits, each after that of the list
+abbrev pub port_keys : Data → List Key
+port_keys document = Access ∷ of_entries access_keys (entries document Access)
+
+abbrev pub circuit_keys : Data → List Key
+circuit_keys document = Statics ∷ of_entries static_keys (entries document Statics)
+
 -- the order in which the keys of the document are looked at
 abbrev pub keys : Data → List Key
-keys document = keys_in_order (entries document Access) (entries document Statics)
+keys document = first_keys ++ port_keys document ++ circuit_keys document
 
 -- a list of this many items at least and at most
 pub record IsList (low high : ℕ) (d : Data) : Type 0 where

@@ -47,11 +47,6 @@ abbrev pub of_entries : (ℕ → List Key) → ℕ → List Key
 of_entries keys_at zero = []
 of_entries keys_at (suc n) = of_entries keys_at n ++ keys_at n
 
--- the order in which the keys are looked at, where there are this many access ports and this many circuits
-abbrev pub keys_in_order : ℕ → ℕ → List Key
-keys_in_order ports circuits =
-    first_keys ++ (Access ∷ of_entries access_keys ports) ++ (Statics ∷ of_entries static_keys circuits)
-
 -- a place is written from 1 on
 abbrev pub step_text : Step → List ℕ
 step_text (named name) = name

@@ -1,11 +1,11 @@
 //! The access ports.
-ghost use Rattle.std.specs.Prelude.{◌≡◌, ◌≤◌, ◌∷◌, ◌⊎◌, ◌↔◌, ℕ, IsTrue, length, IfOk, IfErr, OnOk, OnErr};
+ghost use Rattle.std.specs.Prelude.{◌≡◌, ◌≤◌, ◌⊎◌, ◌↔◌, ℕ, IsTrue, length, IfOk, IfErr, OnOk, OnErr};
 ghost use Rattle.std.specs.List.{Any};
 ghost use Rattle.toml.specs.View.{view};
-ghost use Rattle.bng_config.specs.Keys.{access_keys, of_entries};
-ghost use Rattle.bng_config.specs.Configuration.{StandsAt, IsPeer, IsPort, IsSound, AreSound, IsFirstOf, EachPlace, entries, IsKeyOrMemory};
+ghost use Rattle.bng_config.specs.Keys.{access_keys};
+ghost use Rattle.bng_config.specs.Configuration.{StandsAt, IsPeer, IsPort, IsSound, AreSound, IsFirstOf, EachPlace, port_keys, entries, IsKeyOrMemory};
 
-use crate::fault::{ConfigError, Fault, Key};
+use crate::fault::{ConfigError, Key};
 use crate::find::count_at;
 use crate::values::{mac_at, peer_at};
 use bng_base::{AccessPort, Peer};
@@ -27,22 +27,14 @@ pub(crate) fn ports_of(
     ensures all { IfOk result (λ ports. length ports.items ≡ entries (view document.now) Key.Access) }
     ensures few { IfOk result (λ ports. length ports.items ≤ 16) }
     ensures found { IfOk result (λ ports. EachPlace (IsPort (view document.now)) ports.items) }
-    ensures sound { OnOk result (AreSound (view document.now) (Key.Access ∷ of_entries access_keys (entries (view document.now) Key.Access))) }
-    ensures refused { IfErr result (IsKeyOrMemory (IsFirstOf (view document.now) (Key.Access ∷ of_entries access_keys (entries (view document.now) Key.Access)))) }
+    ensures sound { OnOk result (AreSound (view document.now) (port_keys (view document.now))) }
+    ensures refused { IfErr result (IsKeyOrMemory (IsFirstOf (view document.now) (port_keys (view document.now)))) }
 {
-    let count = match count_of(document) {
-        Ok(count) => count,
-        Err(key) => return Err(ConfigError::Refused(Fault::OutsideForm(key))),
-    };
+    let count = count_of(document)?;
     let mut ports = Vec::new(alloc);
     for place in 0..count {
-        let port = match port_at(document, place, control, core, ports.as_slice()) {
-            Ok(port) => port,
-            Err(key) => return Err(ConfigError::Refused(Fault::OutsideForm(key))),
-        };
-        if ports.push(port).is_err() {
-            return Err(ConfigError::OutOfMemory);
-        }
+        let port = port_at(document, place, control, core, ports.as_slice())?;
+        ports.push(port)?;
     }
     Ok(ports)
 }

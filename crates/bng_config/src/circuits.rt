@@ -1,11 +1,11 @@
 //! The provisioned circuits.
-ghost use Rattle.std.specs.Prelude.{◌≡◌, ◌≤◌, ◌∷◌, ◌↔◌, ℕ, IsTrue, length, IfOk, IfErr, OnOk, OnErr};
+ghost use Rattle.std.specs.Prelude.{◌≡◌, ◌≤◌, ◌↔◌, ℕ, IsTrue, length, IfOk, IfErr, OnOk, OnErr};
 ghost use Rattle.std.specs.List.{Any};
 ghost use Rattle.toml.specs.View.{view};
-ghost use Rattle.bng_config.specs.Keys.{static_keys, of_entries};
-ghost use Rattle.bng_config.specs.Configuration.{StandsAt, IsSession, IsAddress, IsCircuit, IsSound, AreSound, IsFirstOf, EachPlace, entries, IsKeyOrMemory};
+ghost use Rattle.bng_config.specs.Keys.{static_keys};
+ghost use Rattle.bng_config.specs.Configuration.{StandsAt, IsSession, IsAddress, IsCircuit, IsSound, AreSound, IsFirstOf, EachPlace, circuit_keys, entries, IsKeyOrMemory};
 
-use crate::fault::{ConfigError, Fault, Key};
+use crate::fault::{ConfigError, Key};
 use crate::find::{count_at, value_of};
 use crate::values::{address_at, mac_at, port_number_at, session_at};
 use arrayvec::ArrayVec;
@@ -27,22 +27,14 @@ pub(crate) fn circuits_of(
     requires few { ports ≤ 16 }
     ensures all { IfOk result (λ circuits. length circuits.items ≡ entries (view document.now) Key.Statics) }
     ensures found { IfOk result (λ circuits. EachPlace (IsCircuit (view document.now)) circuits.items) }
-    ensures sound { OnOk result (AreSound (view document.now) (Key.Statics ∷ of_entries static_keys (entries (view document.now) Key.Statics))) }
-    ensures refused { IfErr result (IsKeyOrMemory (IsFirstOf (view document.now) (Key.Statics ∷ of_entries static_keys (entries (view document.now) Key.Statics)))) }
+    ensures sound { OnOk result (AreSound (view document.now) (circuit_keys (view document.now))) }
+    ensures refused { IfErr result (IsKeyOrMemory (IsFirstOf (view document.now) (circuit_keys (view document.now)))) }
 {
-    let count = match count_of(document) {
-        Ok(count) => count,
-        Err(key) => return Err(ConfigError::Refused(Fault::OutsideForm(key))),
-    };
+    let count = count_of(document)?;
     let mut circuits = Vec::new(alloc);
     for place in 0..count {
-        let circuit = match circuit_at(document, place, ports, circuits.as_slice()) {
-            Ok(circuit) => circuit,
-            Err(key) => return Err(ConfigError::Refused(Fault::OutsideForm(key))),
-        };
-        if circuits.push(circuit).is_err() {
-            return Err(ConfigError::OutOfMemory);
-        }
+        let circuit = circuit_at(document, place, ports, circuits.as_slice())?;
+        circuits.push(circuit)?;
     }
     Ok(circuits)
 }

@@ -1,3 +1,5 @@
+use std::alloc::AllocFailed;
+
 /// A key that is read, in the order in which the keys are looked at. The numbers are places of entries, from 0.
 #[derive(Clone, Copy, PartialEq, Eq, Debug)]
 pub enum Key {
@@ -45,4 +47,27 @@ pub enum ConfigError {
     Refused(Fault),
     /// Memory ran out, which says nothing of the text.
     OutOfMemory,
+}
+
+impl From<Key> for ConfigError {
+    ghost use Rattle.std.specs.Prelude.{◌≡◌};
+    ghost use Rattle.bng_config.specs.declared.fault.ConfigError.TheVariants.{Refused};
+    ghost use Rattle.bng_config.specs.declared.fault.Fault.TheVariants.{OutsideForm};
+
+    ghost from_gives = { λ key e. e ≡ Refused (OutsideForm key) };
+
+    fn from(key: Key) -> ConfigError {
+        ConfigError::Refused(Fault::OutsideForm(key))
+    }
+}
+
+impl<T: Drop> From<AllocFailed<T>> for ConfigError {
+    ghost use Rattle.std.specs.Prelude.{◌≡◌};
+    ghost use Rattle.bng_config.specs.declared.fault.ConfigError.TheVariants.{OutOfMemory};
+
+    ghost from_gives = { λ _ e. e ≡ OutOfMemory };
+
+    fn from(_error: AllocFailed<T>) -> ConfigError {
+        ConfigError::OutOfMemory
+    }
 }

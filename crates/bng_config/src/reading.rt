@@ -53,10 +53,7 @@ fn configuration_of(alloc: Global, document: &Value) -> Result<Config, ConfigErr
     ensures found { IfOk result (λ c. Configures (view document.now) c) }
     ensures refused { IfErr result (IsKeyOrMemory (IsFirstFault (view document.now))) }
 {
-    let ends = match ends_of(document) {
-        Ok(ends) => ends,
-        Err(key) => return Err(ConfigError::Refused(Fault::OutsideForm(key))),
-    };
+    let ends = ends_of(document)?;
     let access = ports_of(alloc, document, ends.control_local, ends.core_local)?;
     let statics = circuits_of(alloc, document, access.len())?;
     Ok(Config {
