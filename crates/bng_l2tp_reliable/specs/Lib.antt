@@ -1,0 +1,6 @@
+pub mod Numbers
+pub mod ChannelState
+pub mod Flight
+pub mod Calls
+pub mod Timers
+pub mod Ring

@@ -1,0 +1,79 @@
+//! The messages of a channel in a ring of places, so that none is moved once it is there.
+ghost use Rattle.std.specs.Prelude.{◌≡◌, ◌+◌, ◌<◌, ◌≤◌, ◌++◌, ◌∷◌, [], drop, length, slice_get, List};
+ghost use Rattle.std.specs.Option.{option_copied};
+
+use crate::message::Message;
+use std::marker::Model;
+
+/// How many messages there is room for: 64 that wait and 8 in flight.
+pub(crate) const PLACES: usize = 72;
+
+/// A queue of messages. Contracts see them, oldest first.
+#[derive(Drop)]
+pub(crate) struct Ring {
+    places: [Message; 72],
+    oldest: usize,
+    len: usize,
+}
+
+impl Model for Ring {
+    ghost use Rattle.std.specs.Prelude.{◌<◌, ◌≤◌, List};
+    ghost use Rattle.bng_l2tp_reliable.specs.ChannelState.{Message as Octets};
+    ghost use Rattle.bng_l2tp_reliable.specs.Ring.{window};
+
+    ghost Value = { List Octets };
+
+    ghost view = { λ r. window r.oldest r.len r.places };
+
+    ghost invariant = { λ r. (r.oldest < 72) × (r.len ≤ 72) };
+}
+
+impl Ring {
+    /// A queue without messages.
+    pub(crate) fn new() -> Ring
+        ensures { result ≡ [] }
+    {
+        Ring {
+            places: Default::default(),
+            oldest: 0,
+            len: 0,
+        }
+    }
+
+    /// How many messages there are.
+    pub(crate) fn len(&self) -> usize
+        ensures value { result ≡ length self.now }
+        ensures fits { result ≤ PLACES }
+    {
+        self.len
+    }
+
+    /// Appends a message.
+    pub(crate) fn push(&mut self, message: Message)
+        requires { length self.old < PLACES }
+        ensures { self.new ≡ self.old ++ message ∷ [] }
+    {
+        self.places[(self.oldest + self.len) % PLACES] = message;
+        self.len += 1;
+    }
+
+    /// Forgets the oldest messages.
+    pub(crate) fn forget(&mut self, count: usize)
+        requires { count ≤ length self.old }
+        ensures { self.new ≡ drop count self.old }
+    {
+        self.oldest = (self.oldest + count) % PLACES;
+        self.len -= count;
+    }
+
+    /// The message at a place, from 0.
+    pub(crate) fn get(&self, place: usize) -> Option<&Message>
+        ensures { option_copied result ≡ slice_get self.now place }
+    {
+        if place < self.len {
+            Some(&self.places[(self.oldest + place) % PLACES])
+        } else {
+            None
+        }
+    }
+}
