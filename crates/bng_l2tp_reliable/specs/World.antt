@@ -41,8 +41,8 @@ abbrev pub gone_out : End → ℕ
 gone_out e = length e.sent - length (waiting e.channel)
 
 -- the messages that count as acknowledged: those that the channel keeps no longer
-abbrev pub acknowledged : End → List Message
-acknowledged e = take (length e.sent - length e.channel.messages) e.sent
+abbrev pub acknowledged_of : End → List Message
+acknowledged_of e = take (length e.sent - length e.channel.messages) e.sent
 
 -- what an end may do next, or what may happen to it. A packet that never arrives is lost.
 pub data Act : Type 0 where
@@ -161,4 +161,4 @@ IsPrefixOf xs ys = (rest : List Message) × (xs ++ rest ≡ ys)
 -- What was delivered is the beginning of what was sent, and what counts as acknowledged was delivered.
 pub record IsReliable (from to : End) : Type 0 where
   pub in_order : IsPrefixOf to.delivered from.sent
-  pub acknowledged : IsPrefixOf (acknowledged from) to.delivered
+  pub acknowledged : IsPrefixOf (acknowledged_of from) to.delivered
