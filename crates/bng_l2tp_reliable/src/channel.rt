@@ -2,8 +2,10 @@
 ghost use Rattle.std.specs.Prelude.{◌≡◌, ◌≢◌, ◌⊎◌, ◌+◌, ◌-◌, ◌^◌, ◌<◌, ◌≤◌, ◌↔◌, ℕ, length, IsTrue, IsSome, IsNone, true, false, min, [], slice_get};
 ghost use Rattle.bng_l2tp_reliable.specs.Calls.{oldest_ns, acknowledged, heard_of, next_out, flight_at};
 ghost use Rattle.bng_l2tp_reliable.specs.Timers.{never, silence_due};
+ghost use Rattle.bng_l2tp_reliable.specs.Flight.{IsUnanswered, flight_due};
+ghost use Rattle.std.specs.List.{Any};
 
-use crate::answers::{Due, Heard, Queued};
+use crate::answers::{Due, Heard, Queued, or_else};
 use crate::message::{copied, message_of};
 use crate::number::{heard, nr_after, steps_back, steps_on, steps_to};
 use crate::outgoing::Outgoing;
@@ -37,6 +39,8 @@ pub struct Channel {
 }
 
 impl Model for Channel {
+    ghost use Rattle.std.specs.List.{AllPairs};
+    ghost use Rattle.bng_l2tp_reliable.specs.Flight.{IsOlder};
     ghost use Rattle.bng_l2tp_reliable.specs.ChannelState.{ChannelState, IsChannel};
 
     ghost Value = { ChannelState };
@@ -61,7 +65,7 @@ impl Model for Channel {
       heard = c.heard;
       greeted = c.greeted;
       moment = c.moment;
-    }) };
+    }) × AllPairs IsOlder c.sends.items };
 }
 
 impl Channel {
@@ -128,16 +132,19 @@ impl Channel {
     /// silence. A message goes out again 1, 3, 7, 15 and 23 seconds after it went out first, and is given up after 31.
     pub fn due(&mut self, now: u64) -> Due
         ensures answer { result ≡ due_of self.old now }
+        ensures give_up { (result ≡ Due.GiveUp) ↔ Any (IsUnanswered now) self.old.sends }
+        ensures hello { (result ≡ Due.Hello) ↔ ((flight_due self.old.sends now ≡ Due.Nothing)
+            × (self.old.greeted ≡ false) × (self.old.heard + HELLO_AFTER ≤ now)) }
         ensures after { self.new ≡ after_due self.old now result }
         ensures sound { IsChannel self.new }
     {
         let due = self.due_at(now);
+        self.moment = now;
         match due {
             Due::Nothing | Due::GiveUp => {}
-            Due::Resend => send_again(self.sends.as_mut_slice(), now),
+            Due::Resend => send_again(&mut self.sends, now),
             Due::Hello => self.greeted = true,
         }
-        self.moment = now;
         due
     }
 
@@ -197,12 +204,10 @@ impl Channel {
 
     // What is due.
     fn due_at(&self, now: u64) -> Due
-        ensures { result ≡ due_of self.now now }
+        ensures answer { result ≡ due_of self.now now }
+        ensures give_up { (result ≡ Due.GiveUp) ↔ Any (IsUnanswered now) self.now.sends }
     {
-        match flight_due(&self.sends, now) {
-            Due::Nothing => self.silence_due(now),
-            due => due,
-        }
+        or_else(flight_due(&self.sends, now), self.silence_due(now))
     }
 
     // What a silence asks for.

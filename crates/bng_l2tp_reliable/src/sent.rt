@@ -49,7 +49,13 @@ pub(crate) fn first(moment: u64) -> Sent
 }
 
 /// Each message goes out again.
-pub(crate) fn send_again(sends: &mut [Sent], now: u64)
+pub(crate) fn send_again(sends: &mut Sends, now: u64)
+    ensures { sends.new.items ≡ map (sent_again now) sends.old.items }
+{
+    each_again(sends.as_mut_slice(), now);
+}
+
+fn each_again(sends: &mut [Sent], now: u64)
     ensures { sends.new ≡ map (sent_again now) sends.old }
 {
     for sent in sends.iter_mut() {
