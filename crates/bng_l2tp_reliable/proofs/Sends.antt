@@ -29,7 +29,7 @@ mapped_more f xs ys i d y in_xs in_ys done rest new =
 pub pairs_dropped : (n : ℕ) (xs ys : List Sent) → ys ≡ drop n xs → AllPairs IsOlder xs → AllPairs IsOlder ys
 pairs_dropped n xs ys is h =
     subst (AllPairs IsOlder) (sym is) (λ i j d before within.
-      rw (get_or-drop n xs i d, get_or-drop n xs j d) (h (n + i) (n + j) d (omega arith) (omega (arith, length-drop n xs))))
+    rw (get_or-drop n xs i d, get_or-drop n xs j d) (h (n + i) (n + j) d (omega arith) (omega (arith, length-drop n xs))))
 
 -- where another goes out for the first time,
 pub pairs_pushed : (moment : ℕ) (xs ys : List Sent) → ys ≡ xs ++ sent_first moment ∷ [] → AllPairs IsOlder xs → AllPairs IsOlder ys
@@ -40,9 +40,9 @@ pairs_pushed moment xs ys is h =
 pub pairs_again : (moment : ℕ) (xs ys : List Sent) → ys ≡ map (sent_again moment) xs → AllPairs IsOlder xs → AllPairs IsOlder ys
 pairs_again moment xs ys is h =
     subst (AllPairs IsOlder) (sym is) (λ i j d before within.
-      let in_xs : j < length xs = omega (arith, length-map xs (sent_again moment)) in
-      let fewer = (h i j d before in_xs).resends in
-      rw (get_or-map (sent_again moment) xs i d d (omega arith), get_or-map (sent_again moment) xs j d d in_xs) (record { resends = omega arith; together = λ again. refl }))
+    let in_xs : j < length xs = omega (arith, length-map xs (sent_again moment)) in
+    let fewer = (h i j d before in_xs).resends in
+    rw (get_or-map (sent_again moment) xs i d d (omega arith), get_or-map (sent_again moment) xs j d d in_xs) (record { resends = omega arith; together = λ again. refl }))
 
 -- after the fifth time
 wait_last : (n : ℕ) → 5 ≤ n → wait n ≡ 8000
@@ -69,15 +69,15 @@ pub given_up : (moment : ℕ) (xs : List Sent) → AllPairs IsOlder xs → (flig
 given_up moment [] h = (λ is. cc, λ any. absurd (omega (arith, any.2)))
 given_up moment (oldest ∷ others) h = (
   λ is.
-    let tests = both_tests (is_over oldest moment) (nat_lt oldest.resends 5) is in
-    let late = ltb-false oldest.resends 5 tests.1 in
-    let over = leb-true (oldest.moment + wait oldest.resends) moment tests.0 in
-    (0, oldest, omega arith, refl, (late, omega (arith, wait_last oldest.resends late))),
+      let tests = both_tests (is_over oldest moment) (nat_lt oldest.resends 5) is in
+      let late = ltb-false oldest.resends 5 tests.1 in
+      let over = leb-true (oldest.moment + wait oldest.resends) moment tests.0 in
+      (0, oldest, omega arith, refl, (late, omega (arith, wait_last oldest.resends late))),
   λ any.
-    let late = oldest_too moment oldest others any.0 any.1 h any.2 any.3 any.4 in
-    let over : is_over oldest moment ≡ true = le-leb _ _ (omega (arith, wait_last oldest.resends late.0)) in
-    let few : nat_lt oldest.resends 5 ≡ false = le-ltb _ _ late.0 in
-    tests_of _ _ over few,
+      let late = oldest_too moment oldest others any.0 any.1 h any.2 any.3 any.4 in
+      let over : is_over oldest moment ≡ true = le-leb _ _ (omega (arith, wait_last oldest.resends late.0)) in
+      let few : nat_lt oldest.resends 5 ≡ false = le-ltb _ _ late.0 in
+      tests_of _ _ over few,
 )
 
 -- a silence never asks to give up

@@ -1,8 +1,9 @@
 //! One end of a channel.
-ghost use Rattle.std.specs.Prelude.{◌≡◌, ◌≢◌, ◌⊎◌, ◌+◌, ◌-◌, ◌^◌, ◌<◌, ◌≤◌, ◌↔◌, ℕ, length, IsTrue, IsSome, IsNone, true, false, min, [], slice_get};
+ghost use Rattle.std.specs.Prelude.{◌≡◌, ◌≢◌, ◌⊎◌, ◌+◌, ◌-◌, ◌^◌, ◌<◌, ◌≤◌, ◌↔◌, ℕ, length, IsTrue, IsSome, IsNone, IsSomeAnd, true, false, min, [], slice_get};
 ghost use Rattle.bng_l2tp_reliable.specs.Calls.{oldest_ns, acknowledged, heard_of, next_out, flight_at};
 ghost use Rattle.bng_l2tp_reliable.specs.Timers.{never, silence_due};
-ghost use Rattle.bng_l2tp_reliable.specs.Flight.{IsUnanswered, flight_due};
+ghost use Rattle.bng_l2tp_reliable.specs.Flight.{IsUnanswered, flight_due, wait};
+ghost use Rattle.bng_l2tp_reliable.specs.Numbers.{steps_to, steps_back};
 ghost use Rattle.std.specs.List.{Any};
 
 use crate::answers::{Due, Heard, Queued, or_else};
@@ -26,7 +27,7 @@ pub const HELLO_AFTER: u64 = 60_000;
 ///
 /// A contract sees the messages that are not acknowledged, how often and when those in flight went out, its two numbers,
 /// and the moments of its timers.
-#[derive(Drop)]
+#[derive(Debug, Drop)]
 pub struct Channel {
     window: usize,
     messages: Ring,
@@ -114,6 +115,8 @@ impl Channel {
         ensures answer { result ≡ heard_of self.old.nr ns zlb }
         ensures acked { (result ≡ Heard.Acked) ↔ IsTrue zlb }
         ensures deliver { (result ≡ Heard.Deliver) ↔ ((zlb ≡ false) × (ns ≡ self.old.nr)) }
+        // The last number received is the one before that of the next message.
+        ensures repeated { (result ≡ Heard.Repeat) ↔ ((zlb ≡ false) × (steps_to ns (steps_back self.old.nr 1) ≤ 32767)) }
         ensures after { self.new ≡ received self.old ns nr zlb now }
         ensures sound { IsChannel self.new }
     {
@@ -132,6 +135,8 @@ impl Channel {
     /// silence. A message goes out again 1, 3, 7, 15 and 23 seconds after it went out first, and is given up after 31.
     pub fn due(&mut self, now: u64) -> Due
         ensures answer { result ≡ due_of self.old now }
+        ensures resend { (result ≡ Due.Resend) ↔ IsSomeAnd (slice_get self.old.sends 0)
+            (λ oldest. (oldest.resends < 5) × (oldest.moment + wait oldest.resends ≤ now)) }
         ensures give_up { (result ≡ Due.GiveUp) ↔ Any (IsUnanswered now) self.old.sends }
         ensures hello { (result ≡ Due.Hello) ↔ ((flight_due self.old.sends now ≡ Due.Nothing)
             × (self.old.greeted ≡ false) × (self.old.heard + HELLO_AFTER ≤ now)) }

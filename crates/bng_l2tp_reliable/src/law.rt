@@ -14,12 +14,11 @@ use crate::answers::Heard;
 pub fn delivers_in_order()
     ensures to_right { (events : List Event) (window window' moment moment' : ℕ)
         → let start : World = record { left = new_end window moment; right = new_end window' moment' } in
-          ArriveRecently start events → IsReliable (run start events).left (run start events).right }
+        ArriveRecently start events → IsReliable (run start events).left (run start events).right }
     ensures to_left { (events : List Event) (window window' moment moment' : ℕ)
         → let start : World = record { left = new_end window moment; right = new_end window' moment' } in
-          ArriveRecently start events → IsReliable (run start events).right (run start events).left }
-{
-}
+        ArriveRecently start events → IsReliable (run start events).right (run start events).left }
+{}
 
 /// Numbers modulo 65,536 tell which of two messages comes first, where they are no more than 32,768 messages apart: the
 /// next one, a repeated one, or one ahead of a missing one.
@@ -27,5 +26,4 @@ pub fn numbers_tell_the_order()
     ensures next { (n : ℕ) → heard_of (n % 65536) (n % 65536) false ≡ Heard.Deliver }
     ensures repeated { (n count : ℕ) → n < count → count ≤ n + 32768 → heard_of (count % 65536) (n % 65536) false ≡ Heard.Repeat }
     ensures ahead { (n count : ℕ) → count < n → n < count + 32768 → heard_of (count % 65536) (n % 65536) false ≡ Heard.Ahead }
-{
-}
+{}

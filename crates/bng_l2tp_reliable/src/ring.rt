@@ -8,9 +8,9 @@ use std::marker::Model;
 pub(crate) const PLACES: usize = 72;
 
 /// A queue of messages. Contracts see them, oldest first.
-#[derive(Drop)]
+#[derive(Debug, Drop)]
 pub(crate) struct Ring {
-    places: [Message; 72],
+    places: [Message; PLACES],
     oldest: usize,
     len: usize,
 }

@@ -25,12 +25,7 @@ impl Sent {
     pub(crate) fn wait(&self) -> u64
         ensures { result ≡ wait_of self.now.resends }
     {
-        match self.resends {
-            0 => 1000,
-            1 => 2000,
-            2 => 4000,
-            _ => 8000,
-        }
+        WAITS[(self.resends as usize).min(WAITS.len() - 1)]
     }
 
     /// Whether the wait is over.
