@@ -197,24 +197,24 @@ lets_out_by e other (Some out) next h =
     }) refl refl next.nr (one_more_out e other out next h)
 
 -- what a channel lets out again
-record IsAgain (c : ChannelState) (place : ℕ) (out : Outgoing) : Type 0 where
-  below : place < length c.sends
-  ns : out.ns ≡ steps_on (oldest_ns c) place
-  nr : out.nr ≡ c.nr
-  here : IsAt c.messages place out.message
+pub record IsAgain (c : ChannelState) (place : ℕ) (out : Outgoing) : Type 0 where
+  pub below : place < length c.sends
+  pub ns : out.ns ≡ steps_on (oldest_ns c) place
+  pub nr : out.nr ≡ c.nr
+  pub here : IsAt c.messages place out.message
 
-abbrev IsAgainOf : ChannelState → ℕ → Option Outgoing → Type 0
+abbrev pub IsAgainOf : ChannelState → ℕ → Option Outgoing → Type 0
 IsAgainOf c place None = Unit {0}
 IsAgainOf c place (Some out) = IsAgain c place out
 
-again_by : (c : ChannelState) (place : ℕ) (o : Option Message) → slice_get (in_flight c) place ≡ o → IsAgainOf c place (option_map (numbered c (steps_on (oldest_ns c) place)) o)
+pub again_by : (c : ChannelState) (place : ℕ) (o : Option Message) → slice_get (in_flight c) place ≡ o → IsAgainOf c place (option_map (numbered c (steps_on (oldest_ns c) place)) o)
 again_by c place None found = tt
 again_by c place (Some message) found =
     let taken = at_taken (length c.sends) c.messages place message (at_place (in_flight c) place message found) in
     record { below = taken.0; ns = refl; nr = refl; here = taken.1 }
 
 -- a message in flight goes out again
-sends_again_by : (e other : End) (place : ℕ) (out : Option Outgoing) → IsAgainOf e.channel place out → Both e other → Both (sends_out e other e.channel out) other
+pub sends_again_by : (e other : End) (place : ℕ) (out : Option Outgoing) → IsAgainOf e.channel place out → Both e other → Both (sends_out e other e.channel out) other
 sends_again_by e other place None again h = h
 sends_again_by e other place (Some out) again h =
     let number = gone_out-is e other h.there in

@@ -29,6 +29,9 @@ pub record Both (e other : End) : Type 0 where
   pub there : Flows e other
   pub back : Flows other e
 
+pub turned : (e other : End) → Both e other → Both other e
+turned e other h = record { there = h.back; back = h.there }
+
 -- how many messages have gone out: those acknowledged, and those in flight
 pub gone_out-is : (e other : End) → Flows e other → gone_out e ≡ acked e + length e.channel.sends
 gone_out-is e other h = omega (arith, length-drop (length e.channel.sends) e.channel.messages, h.sound.known, h.fits)

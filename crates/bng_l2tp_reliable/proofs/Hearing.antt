@@ -14,7 +14,7 @@ use Rattle.bng_l2tp_reliable.proofs.Flows.{Flows, Both, acked, gone_out-is}
 
 -- An Nr acknowledges the messages in flight that had been delivered when it was sent: by number, those before it. An older one
 -- acknowledges none.
-acknowledged_by : (a n r nr ns : ℕ) (b : Bool) → n ≤ 8 → ns ≡ (a + n) % 65536 → nr ≡ r % 65536 → r ≤ a + n → a + n ≤ r + 32775 → nat_le (steps_to (steps_back ns n) nr) n ≡ b → (if b then steps_to (steps_back ns n) nr else 0) ≡ r - a
+pub acknowledged_by : (a n r nr ns : ℕ) (b : Bool) → n ≤ 8 → ns ≡ (a + n) % 65536 → nr ≡ r % 65536 → r ≤ a + n → a + n ≤ r + 32775 → nat_le (steps_to (steps_back ns n) nr) n ≡ b → (if b then steps_to (steps_back ns n) nr else 0) ≡ r - a
 acknowledged_by a n r nr ns true few ns_is nr_is not_ahead near is = omega (arith, leb-true _ _ is)
 acknowledged_by a n r nr ns false few ns_is nr_is not_ahead near is = omega (arith, leb-false _ _ is)
 
@@ -107,7 +107,7 @@ acknowledged_there e other p moment delivered h is recent nr more =
       packets = all_on e.sent _ _ _ _ e.packets (omega arith) more t.packets;
     }
 
-heard_by : (e other : End) (which moment : ℕ) (o : Option Packet) → slice_get other.packets which ≡ o → IsRecentPacket e other o → Both e other → Both (hears e o moment) other
+pub heard_by : (e other : End) (which moment : ℕ) (o : Option Packet) → slice_get other.packets which ≡ o → IsRecentPacket e other o → Both e other → Both (hears e o moment) other
 heard_by e other which moment None found recent h = h
 heard_by e other which moment (Some p) found recent h =
     let is : IsOf other.sent (gone_out other) (length other.delivered) p = one_of (IsOf other.sent (gone_out other) (length other.delivered)) other.packets which p h.back.packets found in

@@ -1,9 +1,10 @@
 -- What holds of two ends holds after every run.
-use Rattle.std.proofs.Common.{ℕ, List, [], ◌∷◌}
-use Rattle.bng_l2tp_reliable.specs.World.{World, End, Act, Event, Sends, LetsOut, SendsAgain, Acknowledges, IsDue, Hears, AtLeft, AtRight, acts, happens, run, new_end, IsRecent, ArriveRecently, IsReliable}
-use Rattle.bng_l2tp_reliable.proofs.Flows.{Flows, Both, start, reliable}
+use Rattle.std.proofs.Common.{ℕ, ◌<◌, length, List, [], ◌∷◌}
+use Rattle.bng_l2tp_reliable.specs.World.{World, End, Act, Event, Sends, LetsOut, SendsAgain, Acknowledges, IsDue, Hears, AtLeft, AtRight, acts, happens, run, new_end, exchange, acknowledged_of, IsRecent, ArriveRecently, IsReliable}
+use Rattle.bng_l2tp_reliable.proofs.Flows.{Flows, Both, turned, start, reliable}
 use Rattle.bng_l2tp_reliable.proofs.Acts.{sends, lets_out, sends_again, acknowledges, is_due}
 use Rattle.bng_l2tp_reliable.proofs.Hearing.{heard}
+use Rattle.bng_l2tp_reliable.proofs.Progress.{acknowledged_more}
 
 after_act : (e other : End) (act : Act) → IsRecent e other act → Both e other → Both (acts e other act) other
 after_act e other (Sends message moment) recent h = sends e other message moment h
@@ -12,9 +13,6 @@ after_act e other (SendsAgain place) recent h = sends_again e other place h
 after_act e other Acknowledges recent h = acknowledges e other h
 after_act e other (IsDue moment) recent h = is_due e other moment h
 after_act e other (Hears which moment) recent h = heard e other which moment recent h
-
-turned : (e other : End) → Both e other → Both other e
-turned e other h = record { there = h.back; back = h.there }
 
 after_run : (w : World) (events : List Event) → ArriveRecently w events → Both w.left w.right → Both (run w events).left (run w events).right
 after_run w [] recent h = h
@@ -35,3 +33,6 @@ module _ (events : List Event) (window window' moment moment' : ℕ) where
 
   pub to_left : ArriveRecently begins events → IsReliable (run begins events).right (run begins events).left
   to_left recent = reliable _ _ (both recent).back
+
+  pub goes_on : (arrived arrived' : ℕ) → ArriveRecently begins events → 0 < length (run begins events).left.channel.sends → length (acknowledged_of (run begins events).left) < length (acknowledged_of (run (run begins events) (exchange (run begins events) arrived arrived')).left)
+  goes_on arrived arrived' recent flying = acknowledged_more (run begins events) arrived arrived' (both recent) flying

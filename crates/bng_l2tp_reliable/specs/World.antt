@@ -151,9 +151,19 @@ abbrev pub ArriveRecently : World → List Event → Type 0
 ArriveRecently w [] = Unit {0}
 ArriveRecently w (event ∷ events) = IsRecentEvent w event × ArriveRecently (happens w event) events
 
+-- The oldest message in flight goes out again from the left and arrives, and a ZLB comes back: nothing is lost among these.
+abbrev pub exchange : World → ℕ → ℕ → List Event
+exchange w moment moment' =
+    AtLeft (SendsAgain 0) ∷ AtRight (Hears (length w.left.packets) moment) ∷ AtRight Acknowledges ∷
+    AtLeft (Hears (length w.right.packets) moment') ∷ []
+
 -- an end that has sent nothing, to a peer with that Receive Window Size
 abbrev pub new_end : ℕ → ℕ → End
 new_end window moment = record { channel = begun window moment; sent = []; delivered = []; packets = [] }
+
+-- both ends before anything happens
+abbrev pub start : ℕ → ℕ → ℕ → ℕ → World
+start window window' moment moment' = record { left = new_end window moment; right = new_end window' moment' }
 
 abbrev pub IsPrefixOf : List Message → List Message → Type 0
 IsPrefixOf xs ys = (rest : List Message) × (xs ++ rest ≡ ys)
