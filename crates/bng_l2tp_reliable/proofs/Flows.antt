@@ -36,8 +36,8 @@ turned e other h = record { there = h.back; back = h.there }
 pub gone_out-is : (e other : End) → Flows e other → gone_out e ≡ acked e + length e.channel.sends
 gone_out-is e other h = omega (arith, length-drop (length e.channel.sends) e.channel.messages, h.sound.known, h.fits)
 
-pub start : (window window' moment moment' : ℕ) → Flows (new_end window moment) (new_end window' moment')
-start window window' moment moment' = record {
+pub new : (window window' moment moment' : ℕ) → Flows (new_end window moment) (new_end window' moment')
+new window window' moment moment' = record {
   sound = record { window = omega arith; flying = omega arith; known = omega arith; few = omega arith; ns = omega arith; nr = omega arith };
   fits = omega arith;
   kept = refl;

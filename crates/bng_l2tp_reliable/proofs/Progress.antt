@@ -10,7 +10,7 @@ use Rattle.bng_l2tp_reliable.specs.declared.outgoing.Outgoing.{Outgoing}
 use Rattle.bng_l2tp_reliable.specs.Numbers.{steps_on}
 use Rattle.bng_l2tp_reliable.specs.ChannelState.{ChannelState, Message, in_flight}
 use Rattle.bng_l2tp_reliable.specs.Calls.{numbered, flight_at, oldest_ns, acknowledged, received}
-use Rattle.bng_l2tp_reliable.specs.World.{World, End, Packet, acts, SendsAgain, Hears, Acknowledges, sends_out, hears, gone_out, with_delivered, acknowledged_of, run, exchange}
+use Rattle.bng_l2tp_reliable.specs.World.{End, Packet, acts, SendsAgain, Hears, Acknowledges, sends_out, hears, gone_out, with_delivered, acknowledged_of}
 use Rattle.bng_l2tp_reliable.proofs.Flows.{Flows, Both, turned, acked, gone_out-is}
 use Rattle.bng_l2tp_reliable.proofs.Acts.{IsAgain, IsAgainOf, again_by, sends_again_by, acknowledges}
 use Rattle.bng_l2tp_reliable.proofs.Hearing.{heard_by, acknowledged_by}
@@ -78,29 +78,29 @@ oldest_again c flying known =
     let found = slice_get-get_or (in_flight c) 0 blank (omega (arith, length-take (length c.sends) c.messages)) in
     (numbered c (steps_on (oldest_ns c) 0) (get_or (in_flight c) 0 blank), ap (λ o. option_map (numbered c (steps_on (oldest_ns c) 0)) o) found)
 
-module _ (w : World) (arrived arrived' : ℕ) where
-  -- the left end after the exchange, by what goes out, what arrives there and what comes back
-  abbrev left_by : Option Outgoing → End
-  left_by o =
-      let e = sends_out w.left w.right w.left.channel o in
-      let other = acts (hears w.right (slice_get e.packets (length w.left.packets)) arrived) e Acknowledges in
-      hears e (slice_get other.packets (length w.right.packets)) arrived'
+module _ (e other : End) (arrived arrived' : ℕ) where
+  -- the end after the exchange, by what goes out, what arrives at the other end and what comes back
+  abbrev end_by : Option Outgoing → End
+  end_by o =
+      let sender = sends_out e other e.channel o in
+      let hearer = acts (hears other (slice_get sender.packets (length e.packets)) arrived) sender Acknowledges in
+      hears sender (slice_get hearer.packets (length other.packets)) arrived'
 
-  more_by : (out : Outgoing) → IsAgain w.left.channel 0 out → Both w.left w.right → acked w.left < acked (left_by (Some out))
+  more_by : (out : Outgoing) → IsAgain e.channel 0 out → Both e other → acked e < acked (end_by (Some out))
   more_by out again h =
-      let e = after_out w.left w.right out arrived arrived' h again in
-      let P : Option Packet → Type 0 = λ q. acked w.left < acked (hears e (slice_get (acts (hears w.right q arrived) e Acknowledges).packets (length w.right.packets)) arrived') in
-      let Q : Option Packet → Type 0 = λ q. acked w.left < acked (hears e q arrived') in
-      let sent = last_of w.left.packets (packet_of w.left w.right out) in
-      let back = last_of w.right.packets (z w.left w.right out arrived arrived' h again) in
-      subst P (sym sent) (subst Q (sym back) (more_acknowledged w.left w.right out arrived arrived' h again))
+      let sender = after_out e other out arrived arrived' h again in
+      let P : Option Packet → Type 0 = λ q. acked e < acked (hears sender (slice_get (acts (hears other q arrived) sender Acknowledges).packets (length other.packets)) arrived') in
+      let Q : Option Packet → Type 0 = λ q. acked e < acked (hears sender q arrived') in
+      let sent = last_of e.packets (packet_of e other out) in
+      let back = last_of other.packets (z e other out arrived arrived' h again) in
+      subst P (sym sent) (subst Q (sym back) (more_acknowledged e other out arrived arrived' h again))
 
-  pub acknowledged_more : Both w.left w.right → 0 < length w.left.channel.sends → length (acknowledged_of w.left) < length (acknowledged_of (run w (exchange w arrived arrived')).left)
+  pub acknowledged_more : Both e other → 0 < length e.channel.sends → length (acknowledged_of e) < length (acknowledged_of (end_by (flight_at e.channel 0)))
   acknowledged_more h flying =
-      let oldest = oldest_again w.left.channel flying h.there.sound.known in
-      let R : Option Outgoing → Type 0 = λ o. IsAgainOf w.left.channel 0 o in
-      let P : Option Outgoing → Type 0 = λ o. acked w.left < acked (left_by o) in
-      let again = subst R oldest.1 (again_by w.left.channel 0 _ refl) in
+      let oldest = oldest_again e.channel flying h.there.sound.known in
+      let R : Option Outgoing → Type 0 = λ o. IsAgainOf e.channel 0 o in
+      let P : Option Outgoing → Type 0 = λ o. acked e < acked (end_by o) in
+      let again = subst R oldest.1 (again_by e.channel 0 _ refl) in
       let more = subst P (sym oldest.1) (more_by oldest.0 again h) in
-      let after = left_by (flight_at w.left.channel 0) in
-      omega (arith, more, length-take (acked w.left) w.left.sent, length-take (acked after) after.sent)
+      let after = end_by (flight_at e.channel 0) in
+      omega (arith, more, length-take (acked e) e.sent, length-take (acked after) after.sent)

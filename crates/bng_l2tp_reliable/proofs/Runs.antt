@@ -1,7 +1,7 @@
 -- What holds of two ends holds after every run.
 use Rattle.std.proofs.Common.{ℕ, ◌<◌, length, List, [], ◌∷◌}
-use Rattle.bng_l2tp_reliable.specs.World.{World, End, Act, Event, Sends, LetsOut, SendsAgain, Acknowledges, IsDue, Hears, AtLeft, AtRight, acts, happens, run, new_end, exchange, acknowledged_of, IsRecent, ArriveRecently, IsReliable}
-use Rattle.bng_l2tp_reliable.proofs.Flows.{Flows, Both, turned, start, reliable}
+use Rattle.bng_l2tp_reliable.specs.World.{World, End, Act, Event, Sends, LetsOut, SendsAgain, Acknowledges, IsDue, Hears, AtLeft, AtRight, acts, happens, run, start, exchange, acknowledged_of, IsRecent, ArriveRecently, IsReliable}
+use Rattle.bng_l2tp_reliable.proofs.Flows.{Flows, Both, turned, new, reliable}
 use Rattle.bng_l2tp_reliable.proofs.Acts.{sends, lets_out, sends_again, acknowledges, is_due}
 use Rattle.bng_l2tp_reliable.proofs.Hearing.{heard}
 use Rattle.bng_l2tp_reliable.proofs.Progress.{acknowledged_more}
@@ -21,18 +21,21 @@ after_run w (AtRight act ∷ events) recent h =
     after_run (happens w (AtRight act)) events recent.1 (turned _ _ (after_act w.right w.left act recent.0 (turned _ _ h)))
 
 -- after every run from the start
-module _ (events : List Event) (window window' moment moment' : ℕ) where
-  abbrev begins : World
-  begins = record { left = new_end window moment; right = new_end window' moment' }
+module _ (events : List Event) (window window' moment moment' : ℕ) (recent : ArriveRecently (start window window' moment moment') events) where
+  abbrev w : World
+  w = run (start window window' moment moment') events
 
-  both : ArriveRecently begins events → Both (run begins events).left (run begins events).right
-  both recent = after_run begins events recent (record { there = start window window' moment moment'; back = start window' window moment' moment })
+  both : Both w.left w.right
+  both = after_run (start window window' moment moment') events recent (record { there = new window window' moment moment'; back = new window' window moment' moment })
 
-  pub to_right : ArriveRecently begins events → IsReliable (run begins events).left (run begins events).right
-  to_right recent = reliable _ _ (both recent).there
+  pub to_right : IsReliable w.left w.right
+  to_right = reliable _ _ both.there
 
-  pub to_left : ArriveRecently begins events → IsReliable (run begins events).right (run begins events).left
-  to_left recent = reliable _ _ (both recent).back
+  pub to_left : IsReliable w.right w.left
+  to_left = reliable _ _ both.back
 
-  pub goes_on : (arrived arrived' : ℕ) → ArriveRecently begins events → 0 < length (run begins events).left.channel.sends → length (acknowledged_of (run begins events).left) < length (acknowledged_of (run (run begins events) (exchange (run begins events) arrived arrived')).left)
-  goes_on arrived arrived' recent flying = acknowledged_more (run begins events) arrived arrived' (both recent) flying
+  pub more_to_right : (arrived arrived' : ℕ) → 0 < length w.left.channel.sends → length (acknowledged_of w.left) < length (acknowledged_of (run w (exchange AtLeft AtRight w.left w.right arrived arrived')).left)
+  more_to_right arrived arrived' flying = acknowledged_more w.left w.right arrived arrived' both flying
+
+  pub more_to_left : (arrived arrived' : ℕ) → 0 < length w.right.channel.sends → length (acknowledged_of w.right) < length (acknowledged_of (run w (exchange AtRight AtLeft w.right w.left arrived arrived')).right)
+  more_to_left arrived arrived' flying = acknowledged_more w.right w.left arrived arrived' (turned _ _ both) flying

@@ -151,11 +151,11 @@ abbrev pub ArriveRecently : World → List Event → Type 0
 ArriveRecently w [] = Unit {0}
 ArriveRecently w (event ∷ events) = IsRecentEvent w event × ArriveRecently (happens w event) events
 
--- The oldest message in flight goes out again from the left and arrives, and a ZLB comes back: nothing is lost among these.
-abbrev pub exchange : World → ℕ → ℕ → List Event
-exchange w moment moment' =
-    AtLeft (SendsAgain 0) ∷ AtRight (Hears (length w.left.packets) moment) ∷ AtRight Acknowledges ∷
-    AtLeft (Hears (length w.right.packets) moment') ∷ []
+-- The oldest message in flight goes out again from an end and arrives, and a ZLB comes back: nothing is lost among these.
+abbrev pub exchange : (Act → Event) → (Act → Event) → End → End → ℕ → ℕ → List Event
+exchange here there e other arrived arrived' =
+    here (SendsAgain 0) ∷ there (Hears (length e.packets) arrived) ∷ there Acknowledges ∷
+    here (Hears (length other.packets) arrived') ∷ []
 
 -- an end that has sent nothing, to a peer with that Receive Window Size
 abbrev pub new_end : ℕ → ℕ → End

@@ -1,5 +1,5 @@
 //! One end of a channel.
-ghost use Rattle.std.specs.Prelude.{◌≡◌, ◌≢◌, ◌⊎◌, ◌+◌, ◌-◌, ◌^◌, ◌<◌, ◌≤◌, ◌↔◌, ℕ, length, IsTrue, IsSome, IsNone, IsSomeAnd, true, false, min, [], slice_get};
+ghost use Rattle.std.specs.Prelude.{◌≡◌, ◌≢◌, ◌⊎◌, ◌+◌, ◌-◌, ◌^◌, ◌<◌, ◌≤◌, ◌↔◌, ℕ, length, IsTrue, IsSome, IsNone, IsSomeAnd, true, false, [], slice_get};
 ghost use Rattle.bng_l2tp_reliable.specs.Calls.{oldest_ns, acknowledged, heard_of, next_out, flight_at};
 ghost use Rattle.bng_l2tp_reliable.specs.Timers.{never, silence_due};
 ghost use Rattle.bng_l2tp_reliable.specs.Flight.{IsUnanswered, flight_due, wait};
@@ -230,7 +230,8 @@ impl Channel {
     fn next_out(&self) -> Option<Outgoing>
         ensures answer { result ≡ next_out self.now }
         ensures none { IsNone result ↔ ((length self.now.sends ≡ self.now.window) ⊎ (waiting self.now ≡ [])) }
-        ensures room { IsSome result → (length self.now.sends < self.now.window) × (length self.now.sends < length self.now.messages) }
+        ensures room { IsSome result
+            → (length self.now.sends < self.now.window) × (length self.now.sends < length self.now.messages) }
     {
         let place = self.sends.len();
         if self.window <= place || self.messages.len() <= place {

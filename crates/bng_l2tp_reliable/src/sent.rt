@@ -1,5 +1,5 @@
 //! When a message in flight goes out again.
-ghost use Rattle.std.specs.Prelude.{◌≡◌, ◌+◌, ◌^◌, ◌≤◌, ◌<◌, ◌↔◌, min, map, drop, length, IsTrue, List, unwrap_or};
+ghost use Rattle.std.specs.Prelude.{◌≡◌, ◌≤◌, min, map, drop, length, unwrap_or};
 ghost use Rattle.bng_l2tp_reliable.specs.Timers.{never};
 ghost use Rattle.bng_l2tp_reliable.specs.Flight.{wait as wait_of, is_over as is_over_at, sent_first, sent_again, flight_due as due_in, flight_deadline as deadline_in};
 
