@@ -40,33 +40,15 @@ pub struct Channel {
 }
 
 impl Model for Channel {
-    ghost use Rattle.std.specs.List.{AllPairs};
-    ghost use Rattle.bng_l2tp_reliable.specs.Flight.{IsOlder};
-    ghost use Rattle.bng_l2tp_reliable.specs.ChannelState.{ChannelState, IsChannel};
+    ghost use Rattle.bng_l2tp_reliable.specs.ChannelState.{ChannelState};
 
     ghost Value = { ChannelState };
 
-    ghost view = { λ c. record {
-      window = c.window;
-      messages = c.messages;
-      sends = c.sends.items;
-      ns = c.ns;
-      nr = c.nr;
-      heard = c.heard;
-      greeted = c.greeted;
-      moment = c.moment;
-    } };
+    ghost use Rattle.bng_l2tp_reliable.specs.Shown.{shown, IsKept};
 
-    ghost invariant = { λ c. IsChannel (record {
-      window = c.window;
-      messages = c.messages;
-      sends = c.sends.items;
-      ns = c.ns;
-      nr = c.nr;
-      heard = c.heard;
-      greeted = c.greeted;
-      moment = c.moment;
-    }) × AllPairs IsOlder c.sends.items };
+    ghost view = { shown };
+
+    ghost invariant = { IsKept };
 }
 
 impl Channel {

@@ -21,7 +21,7 @@ pub fn delivers_in_order()
 {}
 
 /// After every such run: where the oldest message in flight goes out again and arrives, and a ZLB comes back, more
-/// messages count as acknowledged than before. So a network that lets these through brings each message over.
+/// messages count as acknowledged than before.
 pub fn goes_on()
     ensures to_right { (events : List Event) (window window' moment moment' arrived arrived' : ℕ)
         → let begin = start window window' moment moment' in
