@@ -10,15 +10,9 @@ use crate::answers::{Due, Heard, Queued, or_else};
 use crate::message::{copied, message_of};
 use crate::number::{heard, nr_after, steps_back, steps_on, steps_to};
 use crate::outgoing::Outgoing;
-use crate::ring::Ring;
+use crate::ring::{IN_FLIGHT_MOST, Ring, WAITING_MOST};
 use crate::sent::{Sends, first, flight_deadline, flight_due, forget, send_again};
 use std::marker::Model;
-
-/// The most messages that wait for the window.
-pub const WAITING_MOST: usize = 64;
-
-/// The most messages in flight, whatever window the peer has.
-pub const IN_FLIGHT_MOST: usize = 8;
 
 /// After how long a silence a HELLO is asked for, in milliseconds (RFC 2661 section 5.5).
 pub const HELLO_AFTER: u64 = 60_000;

@@ -4,6 +4,7 @@ ghost use Rattle.bng_l2tp_reliable.specs.Timers.{never};
 ghost use Rattle.bng_l2tp_reliable.specs.Flight.{wait as wait_of, is_over as is_over_at, sent_first, sent_again, flight_due as due_in, flight_deadline as deadline_in};
 
 use crate::answers::Due;
+use crate::ring::IN_FLIGHT_MOST;
 use arrayvec::ArrayVec;
 
 /// How long a message waits for its acknowledgement before each time that it goes out again, in milliseconds (RFC 2661
@@ -18,7 +19,7 @@ pub struct Sent {
 }
 
 /// For each message in flight, oldest first.
-pub(crate) type Sends = ArrayVec<Sent, 8>;
+pub(crate) type Sends = ArrayVec<Sent, IN_FLIGHT_MOST>;
 
 impl Sent {
     /// How long it waits for its acknowledgement from then on, in milliseconds.
