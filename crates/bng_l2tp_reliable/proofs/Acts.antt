@@ -1,23 +1,22 @@
 -- Each act of an end that hears nothing keeps what holds of the messages in both directions.
-use Rattle.std.proofs.Common.{◌≡◌, ℕ, ◌+◌, ◌-◌, ◌%◌, ◌<◌, ◌≤◌, Bool, true, false, cond, List, [], ◌∷◌, ◌++◌, Option, Some, None, length, map, take, drop, refl, sym, ap, subst, ◌∙◌, arith, length-append, length-drop}
+use Rattle.std.proofs.Common.{◌≡◌, ℕ, ◌+◌, ◌-◌, ◌%◌, ◌<◌, Bool, true, false, List, [], ◌∷◌, ◌++◌, Option, Some, None, length, drop, refl, sym, ap, subst, ◌∙◌, arith, length-append, length-drop}
 use Rattle.std.specs.Prelude.{nat_lt, if◌then◌else◌, option_map}
-use Rattle.std.specs.List.{slice_get, AllByRecursion}
+use Rattle.std.specs.List.{slice_get}
 use Rattle.std.proofs.lemmas.Bool.{ltb-true}
 use Rattle.std.proofs.lemmas.List.{drop-append-le, take-append-le, length-map}
 use Rattle.bng_l2tp_reliable.specs.declared.answers.Queued.TheVariants.{Ok, WindowQueueFull}
 use Rattle.bng_l2tp_reliable.specs.declared.answers.Due.{Due}
 use Rattle.bng_l2tp_reliable.specs.declared.answers.Due.TheVariants.{Nothing, Resend, Hello, GiveUp}
-use Rattle.bng_l2tp_reliable.specs.declared.sent.Sent.{Sent}
 use Rattle.bng_l2tp_reliable.specs.declared.outgoing.Outgoing.{Outgoing}
-use Rattle.bng_l2tp_reliable.specs.Numbers.{steps_on, steps_back}
-use Rattle.bng_l2tp_reliable.specs.ChannelState.{ChannelState, Message, IsChannel, waiting, in_flight}
+use Rattle.bng_l2tp_reliable.specs.Numbers.{steps_on}
+use Rattle.bng_l2tp_reliable.specs.ChannelState.{ChannelState, Message, waiting, in_flight}
 use Rattle.bng_l2tp_reliable.specs.Flight.{sent_first, sent_again}
 use Rattle.bng_l2tp_reliable.specs.Calls.{next_out, after_next, flight_at, numbered, oldest_ns}
 use Rattle.bng_l2tp_reliable.specs.Timers.{after_due, due_of}
-use Rattle.bng_l2tp_reliable.specs.World.{End, Packet, acts, Act, Sends, LetsOut, SendsAgain, Acknowledges, IsDue, gone_out, with_sent, sends_out}
+use Rattle.bng_l2tp_reliable.specs.World.{End, Packet, acts, Sends, LetsOut, SendsAgain, Acknowledges, IsDue, gone_out, with_sent, sends_out}
 use Rattle.bng_l2tp_reliable.proofs.Items.{IsAt, at_place, at_dropped, at_taken}
-use Rattle.bng_l2tp_reliable.proofs.Packets.{IsOf, HasNumber, IsNumbered, all_sent, all_on, all_and}
-use Rattle.bng_l2tp_reliable.proofs.Flows.{Flows, Both, acked, gone_out-is, back_as_before}
+use Rattle.bng_l2tp_reliable.proofs.Packets.{IsOf, IsNumbered, all_sent, all_on, all_and}
+use Rattle.bng_l2tp_reliable.proofs.Flows.{Both, acked, gone_out-is, back_as_before}
 
 -- The channel is as before, but for its moments and for how often its messages in flight went out.
 pub moved : (e other : End) (c : ChannelState) → c.window ≡ e.channel.window → c.messages ≡ e.channel.messages → length c.sends ≡ length e.channel.sends → c.ns ≡ e.channel.ns → c.nr ≡ e.channel.nr → Both e other → Both (record e { channel = c }) other

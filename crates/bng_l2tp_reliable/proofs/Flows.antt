@@ -1,9 +1,9 @@
 -- What holds at any moment of the messages from one end to the other.
-use Rattle.std.proofs.Common.{◌≡◌, ℕ, ◌+◌, ◌-◌, ◌%◌, ◌≤◌, List, [], ◌∷◌, ◌++◌, length, take, drop, refl, sym, ap, subst, ◌∙◌, arith, length-drop, take-add}
+use Rattle.std.proofs.Common.{◌≡◌, ℕ, ◌+◌, ◌-◌, ◌%◌, ◌≤◌, List, ◌++◌, length, take, drop, refl, sym, ap, subst, ◌∙◌, arith, length-drop, take-add}
 use Rattle.std.specs.List.{AllByRecursion}
 use Rattle.std.proofs.lemmas.List.{take-append-drop}
-use Rattle.bng_l2tp_reliable.specs.ChannelState.{ChannelState, Message, IsChannel, waiting}
-use Rattle.bng_l2tp_reliable.specs.World.{End, gone_out, acknowledged_of, new_end, IsPrefixOf, IsReliable}
+use Rattle.bng_l2tp_reliable.specs.ChannelState.{Message, IsChannel}
+use Rattle.bng_l2tp_reliable.specs.World.{End, gone_out, new_end, IsReliable}
 use Rattle.bng_l2tp_reliable.proofs.Packets.{IsOf}
 
 -- how many messages count as acknowledged

@@ -1,12 +1,12 @@
 -- A packet that arrives keeps what holds of the messages in both directions, if it is recent.
 use Rattle.std.proofs.Common.{◌≡◌, ℕ, ◌+◌, ◌-◌, ◌%◌, ◌<◌, ◌≤◌, Bool, true, false, List, [], ◌∷◌, ◌++◌, Option, Some, None, length, take, drop, refl, sym, ap, subst, ◌∙◌, arith, length-append, length-drop, drop-drop, eqb-true}
 use Rattle.std.specs.Prelude.{nat_le, ◌==◌, if◌then◌else◌, is_none}
-use Rattle.std.specs.List.{slice_get, AllByRecursion}
+use Rattle.std.specs.List.{slice_get}
 use Rattle.std.proofs.lemmas.Bool.{leb-true, leb-false}
-use Rattle.bng_l2tp_reliable.specs.declared.answers.Heard.TheVariants.{Deliver, Repeat, Ahead, Acked}
+use Rattle.bng_l2tp_reliable.specs.declared.answers.Heard.TheVariants.{Deliver, Repeat, Ahead}
 use Rattle.bng_l2tp_reliable.specs.Numbers.{steps_on, steps_back, steps_to}
-use Rattle.bng_l2tp_reliable.specs.ChannelState.{ChannelState, Message, IsChannel, waiting}
-use Rattle.bng_l2tp_reliable.specs.Calls.{acknowledged, oldest_ns, received, heard_of, nr_after}
+use Rattle.bng_l2tp_reliable.specs.ChannelState.{Message}
+use Rattle.bng_l2tp_reliable.specs.Calls.{acknowledged, received, heard_of, nr_after}
 use Rattle.bng_l2tp_reliable.specs.World.{End, Packet, acts, Hears, hears, gone_out, with_delivered, IsRecentPacket}
 use Rattle.bng_l2tp_reliable.proofs.Items.{IsAt, taken_on}
 use Rattle.bng_l2tp_reliable.proofs.Packets.{IsOf, HasNumber, IsNumbered, all_on, one_of}

@@ -1,18 +1,18 @@
 -- Where nothing is lost, the oldest message in flight comes to count as acknowledged.
-use Rattle.std.proofs.Common.{◌≡◌, ℕ, zero, suc, ◌+◌, ◌-◌, ◌%◌, ◌<◌, ◌≤◌, Bool, true, false, List, [], ◌∷◌, ◌++◌, Option, Some, None, length, get_or, take, drop, refl, sym, ap, subst, ◌∙◌, arith, length-append, length-drop, eq-eqb}
+use Rattle.std.proofs.Common.{◌≡◌, ℕ, ◌-◌, ◌%◌, ◌<◌, ◌≤◌, Bool, true, false, List, [], ◌∷◌, ◌++◌, Option, Some, None, length, get_or, refl, sym, ap, subst, ◌∙◌, arith, length-append, length-drop}
 use Rattle.std.specs.Prelude.{◌==◌, if◌then◌else◌, option_map}
 use Rattle.std.specs.List.{slice_get}
-use Rattle.std.proofs.lemmas.List.{length-take, length-take-le}
+use Rattle.std.proofs.lemmas.List.{length-take}
 use Rattle.std.proofs.lemmas.Option.{slice_get-get_or}
 use Rattle.std.proofs.lemmas.Bool.{eqb-false}
-use Rattle.bng_l2tp_reliable.specs.declared.answers.Heard.TheVariants.{Deliver, Repeat, Ahead, Acked}
+use Rattle.bng_l2tp_reliable.specs.declared.answers.Heard.TheVariants.{Deliver, Repeat, Ahead}
 use Rattle.bng_l2tp_reliable.specs.declared.outgoing.Outgoing.{Outgoing}
 use Rattle.bng_l2tp_reliable.specs.Numbers.{steps_on}
 use Rattle.bng_l2tp_reliable.specs.ChannelState.{ChannelState, Message, in_flight}
-use Rattle.bng_l2tp_reliable.specs.Calls.{numbered, flight_at, oldest_ns, acknowledged, received}
-use Rattle.bng_l2tp_reliable.specs.World.{End, Packet, acts, SendsAgain, Hears, Acknowledges, sends_out, hears, gone_out, with_delivered, acknowledged_of}
-use Rattle.bng_l2tp_reliable.proofs.Flows.{Flows, Both, turned, acked, gone_out-is}
-use Rattle.bng_l2tp_reliable.proofs.Acts.{IsAgain, IsAgainOf, again_by, sends_again_by, acknowledges}
+use Rattle.bng_l2tp_reliable.specs.Calls.{numbered, flight_at, oldest_ns, acknowledged}
+use Rattle.bng_l2tp_reliable.specs.World.{End, Packet, acts, Acknowledges, sends_out, hears, gone_out, with_delivered, acknowledged_of}
+use Rattle.bng_l2tp_reliable.proofs.Flows.{Both, turned, acked, gone_out-is}
+use Rattle.bng_l2tp_reliable.proofs.Acts.{IsAgain, IsAgainOf, again_by, sends_again_by}
 use Rattle.bng_l2tp_reliable.proofs.Hearing.{heard_by, acknowledged_by}
 
 -- the last item

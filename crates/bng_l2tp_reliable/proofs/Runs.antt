@@ -1,7 +1,7 @@
 -- What holds of two ends holds after every run.
 use Rattle.std.proofs.Common.{ℕ, ◌<◌, length, List, [], ◌∷◌}
 use Rattle.bng_l2tp_reliable.specs.World.{World, End, Act, Event, Sends, LetsOut, SendsAgain, Acknowledges, IsDue, Hears, AtLeft, AtRight, acts, happens, run, start, exchange, acknowledged_of, IsRecent, ArriveRecently, IsReliable}
-use Rattle.bng_l2tp_reliable.proofs.Flows.{Flows, Both, turned, new, reliable}
+use Rattle.bng_l2tp_reliable.proofs.Flows.{Both, turned, new, reliable}
 use Rattle.bng_l2tp_reliable.proofs.Acts.{sends, lets_out, sends_again, acknowledges, is_due}
 use Rattle.bng_l2tp_reliable.proofs.Hearing.{heard}
 use Rattle.bng_l2tp_reliable.proofs.Progress.{acknowledged_more}

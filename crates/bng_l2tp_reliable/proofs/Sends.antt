@@ -1,6 +1,6 @@
 -- Lists of what was sent, entry by entry.
-use Rattle.std.proofs.Common.{◌≡◌, ℕ, zero, suc, ◌+◌, ◌<◌, ◌≤◌, Bool, true, false, List, [], ◌∷◌, ◌++◌, Some, None, length, get_or, take, drop, set, map, refl, ap, subst, sym, ◌∙◌, arith, length-drop, get_or-drop}
-use Rattle.std.specs.Prelude.{◌↔◌, nat_lt, nat_le, unwrap_or, if◌then◌else◌}
+use Rattle.std.proofs.Common.{◌≡◌, ℕ, zero, suc, ◌+◌, ◌<◌, ◌≤◌, Bool, true, false, List, [], ◌∷◌, ◌++◌, length, get_or, take, drop, set, map, refl, ap, subst, sym, ◌∙◌, arith, length-drop, get_or-drop}
+use Rattle.std.specs.Prelude.{◌↔◌, nat_lt, unwrap_or, if◌then◌else◌}
 use Rattle.std.specs.List.{AllPairs, Any}
 use Rattle.std.proofs.lemmas.Bool.{leb-true, le-leb, ltb-false, le-ltb}
 use Rattle.std.proofs.lemmas.List.{take_more, take_more_set, drop_more, drop-set-lt, map-append, length-map, get_or-map}
@@ -10,7 +10,7 @@ use Rattle.bng_l2tp_reliable.specs.declared.sent.Sent.{Sent}
 use Rattle.bng_l2tp_reliable.specs.declared.answers.Due.{Due}
 use Rattle.bng_l2tp_reliable.specs.declared.answers.Due.TheVariants.{Nothing, Resend, Hello, GiveUp}
 use Rattle.bng_l2tp_reliable.specs.ChannelState.{ChannelState}
-use Rattle.bng_l2tp_reliable.specs.Timers.{or_else, silence_due, due_of}
+use Rattle.bng_l2tp_reliable.specs.Timers.{or_else, due_of}
 use Rattle.bng_l2tp_reliable.specs.Flight.{IsOlder, IsUnanswered, sent_first, sent_again, flight_due, waits, wait, is_over}
 
 -- one entry more is mapped in place

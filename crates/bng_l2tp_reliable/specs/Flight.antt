@@ -2,7 +2,7 @@
 use Rattle.std.specs.Prelude.{◌≡◌, ℕ, ◌<◌, ◌≤◌, ◌+◌, ◌-◌, ◌^◌, Bool, nat_le, nat_lt, min, List, [], ◌∷◌, length, Some, None, Option, unwrap_or, slice_get, if◌then◌else◌}
 use Rattle.bng_l2tp_reliable.specs.declared.sent.Sent.{Sent}
 use Rattle.bng_l2tp_reliable.specs.declared.answers.Due.{Due}
-use Rattle.bng_l2tp_reliable.specs.declared.answers.Due.TheVariants.{Nothing, Resend, Hello, GiveUp}
+use Rattle.bng_l2tp_reliable.specs.declared.answers.Due.TheVariants.{Nothing, Resend, GiveUp}
 
 -- how long a message waits before each time that it goes out again
 abbrev pub waits : List ℕ

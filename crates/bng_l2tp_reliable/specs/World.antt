@@ -2,7 +2,7 @@
 --
 -- The world counts messages without end; packets carry the numbers that the channels give them, modulo 65,536. Each step of an end is the
 -- step of its channel.
-use Rattle.std.specs.Prelude.{◌≡◌, ℕ, ◌+◌, ◌-◌, ◌≤◌, Bool, true, false, is_none, List, [], ◌∷◌, ◌++◌, length, take, Option, Some, None, slice_get}
+use Rattle.std.specs.Prelude.{◌≡◌, ℕ, ◌+◌, ◌-◌, ◌≤◌, is_none, List, [], ◌∷◌, ◌++◌, length, take, Option, Some, None, slice_get}
 use Rattle.bng_l2tp_reliable.specs.declared.answers.Queued.{Queued}
 use Rattle.bng_l2tp_reliable.specs.declared.answers.Queued.TheVariants.{Ok, WindowQueueFull}
 use Rattle.bng_l2tp_reliable.specs.declared.answers.Heard.{Heard}

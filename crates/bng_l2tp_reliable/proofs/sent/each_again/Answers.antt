@@ -1,4 +1,4 @@
-use Rattle.std.proofs.Common.{◌<◌, ◌≡◌, ℕ, length, ap, arith}
+use Rattle.std.proofs.Common.{◌<◌, ℕ, length, ap, arith}
 use Rattle.bng_l2tp_reliable.specs.declared.sent.Sent.{Sent}
 use Rattle.bng_l2tp_reliable.specs.Flight.{sent_again}
 use Rattle.bng_l2tp_reliable.proofs.Sends.{mapped_more}

@@ -1,4 +1,4 @@
-use Rattle.std.proofs.Common.{◌≡◌, ◌+◌, take, drop, map}
+use Rattle.std.proofs.Common.{◌≡◌, take, drop, map}
 use Rattle.bng_l2tp_reliable.specs.Flight.{sent_again}
 use Rattle.bng_l2tp_reliable.proofs.sent.each_again.Given as goal
 
