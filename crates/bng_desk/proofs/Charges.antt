@@ -26,9 +26,9 @@ pub charged_few : (f : Traffic → ℕ) → IsRaised f → (p : ℕ) (b : Bool) 
 charged_few f few p b n ts =
     let was = get_or ts p no_traffic in
     ⊎_elim
-        (λ (in_place : p < length ts). omega (arith, few b n was, sum_by-set f ts p (with_octets b n was) no_traffic in_place))
-        (λ (past : length ts ≤ p). omega (arith, ap (sum_by f) (set_past ts p (with_octets b n was) past)))
-        (cases_lt p (length ts))
+    (λ (in_place : p < length ts). omega (arith, few b n was, sum_by-set f ts p (with_octets b n was) no_traffic in_place))
+    (λ (past : length ts ≤ p). omega (arith, ap (sum_by f) (set_past ts p (with_octets b n was) past)))
+    (cases_lt p (length ts))
 
 one_few : (f : Traffic → ℕ) → IsRaised f → (sent : Bool) (p : ℕ) (b : Bool) (n : ℕ) (ts : List Traffic) → n ≤ 4160 → sum_by f (cond sent (charged p b n ts) ts) ≤ sum_by f ts + 4160
 one_few f few true p b n ts le = omega (arith, charged_few f few p b n ts)

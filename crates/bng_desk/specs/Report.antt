@@ -1,19 +1,14 @@
 -- The report.
-use Rattle.std.specs.Prelude.{ℕ, ◌/◌, ◌%◌, ◌^◌, List, [], ◌∷◌, ◌++◌, codes}
+use Rattle.std.specs.Prelude.{ℕ, List, [], ◌∷◌, ◌++◌, codes}
 use Rattle.std.specs.Fmt.{decimal}
 use Rattle.bng_base.specs.declared.address.Ip4.{Ip4}
+use Rattle.bng_config.specs.Address.{address_text}
 use Rattle.bng_base.specs.declared.fate.DropCause.{DropCause}
 use Rattle.bng_base.specs.declared.fate.DropCause.TheVariants.{Malformed, NoSession, NotOpen, Expired, Spoofed, TooBig, Exceeded, LinkFailed, WantOfMemory}
 use Rattle.bng_base.specs.declared.settings.Static.{Static}
 use Rattle.bng_desk.specs.declared.drops.Drops.{Drops}
 use Rattle.bng_desk.specs.declared.traffic.Traffic.{Traffic}
 use Rattle.bng_desk.specs.Model.{input_of, output_of}
-
--- four decimal numbers, the most significant octet first, parted by dots (RFC 1123 section 2.1)
-abbrev pub address_text : Ip4 → List ℕ
-address_text a =
-    decimal (a.0 / 2 ^ 24) ++ codes "." ++ decimal (a.0 / 2 ^ 16 % 256) ++ codes "."
-    ++ decimal (a.0 / 2 ^ 8 % 256) ++ codes "." ++ decimal (a.0 % 256)
 
 -- the drops, by the number of the cause
 abbrev pub by_number : Drops → List ℕ

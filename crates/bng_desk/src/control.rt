@@ -1,7 +1,8 @@
-ghost use Rattle.std.specs.Prelude.{◌≡◌, ◌||◌, ℕ, Bool, List, codes, if◌then◌else◌};
+ghost use Rattle.std.specs.Prelude.{◌≡◌, ℕ, Bool, List, codes, if◌then◌else◌};
 ghost use Rattle.bng_desk.specs.Control.{is_near, is_stop, Answers, Heeds};
 
 use crate::calls::{receive, send};
+use crate::flags::either;
 use crate::reading::Ended;
 use bng_base::{Frame, Peer, Received, Role};
 use bng_plant::Plant;
@@ -50,12 +51,6 @@ fn answer<P: Plant>(plant: &mut P, from: Peer, cut: bool, text: &[u8]) -> bool
     }
     let _sent = send(plant, Role::Control, from, reply_to(stop));
     stop
-}
-
-fn either(a: bool, b: bool) -> bool
-    ensures { result ≡ (a || b) }
-{
-    a || b
 }
 
 /// Takes datagrams of Control until Empty, Failed or the number of a turn, and answers each from 127.0.0.0/8 as it is taken.

@@ -1,4 +1,4 @@
-ghost use Rattle.std.specs.Prelude.{◌≡◌, ◌≤◌, ◌<◌, ◌+◌, ◌^◌, ◌&&◌, length};
+ghost use Rattle.std.specs.Prelude.{◌≡◌, ◌≤◌, ◌<◌, ◌+◌, ◌^◌, length};
 ghost use Rattle.bng_base.specs.declared.outside.Role.TheVariants.{Access, Core};
 ghost use Rattle.bng_base.specs.Stretch.{ExtendsPlant};
 ghost use Rattle.bng_desk.specs.Data.{ports_up_to, data_roles};
@@ -9,6 +9,7 @@ ghost use Rattle.bng_config.specs.Rules.{KeepsRules};
 
 use crate::calls::{receive, send};
 use crate::drops::count;
+use crate::flags::both;
 use crate::reading::Ended;
 use crate::traffic::{Sums, settle};
 use bng_base::{Frame, Peer, Received, Role};
@@ -178,12 +179,6 @@ fn read_role<P: Plant>(
         ended: Ended::Full,
         idle,
     }
-}
-
-fn both(a: bool, b: bool) -> bool
-    ensures { result ≡ (a && b) }
-{
-    a && b
 }
 
 // Reads each access port in its order, and says whether nothing was taken.

@@ -1,4 +1,4 @@
-ghost use Rattle.std.specs.Prelude.{◌≡◌, ◌≤◌, ◌^◌, ◌||◌, ◌&&◌, ◌++◌, true, false, IfOk, OnOk, OnErr, if◌then◌else◌, length, replicate};
+ghost use Rattle.std.specs.Prelude.{◌≡◌, ◌≤◌, ◌^◌, ◌++◌, true, false, IfOk, OnOk, OnErr, if◌then◌else◌, length, replicate};
 ghost use Rattle.bng_base.specs.Stretch.{ExtendsPlant};
 ghost use Rattle.bng_desk.specs.Charging.{no_traffic};
 ghost use Rattle.bng_desk.specs.Counting.{no_drops};
@@ -10,6 +10,7 @@ ghost use Rattle.bng_desk.specs.Turn.{MakesTurn, DoesNothing, waiting_stretch};
 use crate::control::heed;
 use crate::data::read_data;
 use crate::drops::NO_DROPS;
+use crate::flags::{both, either};
 use crate::report::report;
 use crate::traffic::{NO_TRAFFIC, Sums, Traffic};
 use bng_base::Frame;
@@ -76,18 +77,6 @@ fn wait_if<P: Plant>(plant: &mut P, idle: bool)
     if idle {
         plant.wait(WAIT_MOST);
     }
-}
-
-fn both(a: bool, b: bool) -> bool
-    ensures { result ≡ (a && b) }
-{
-    a && b
-}
-
-fn either(a: bool, b: bool) -> bool
-    ensures { result ≡ (a || b) }
-{
-    a || b
 }
 
 // One traffic for each circuit, with nothing carried yet.

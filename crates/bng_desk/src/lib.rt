@@ -10,6 +10,7 @@ mod control;
 mod data;
 mod desk;
 mod drops;
+mod flags;
 mod reading;
 mod report;
 mod traffic;

@@ -1,6 +1,7 @@
 ghost use Rattle.std.specs.Prelude.{◌≡◌, ◌++◌, ◌<◌, ◌^◌, IfOk, OnOk, length, string_bytes};
 ghost use Rattle.bng_desk.specs.Model.{input_of, output_of};
-ghost use Rattle.bng_desk.specs.Report.{address_text, report_text, static_line, static_lines, drop_line, drop_lines, causes, quantities, cause_name};
+ghost use Rattle.bng_config.specs.Address.{address_text};
+ghost use Rattle.bng_desk.specs.Report.{report_text, static_line, static_lines, drop_line, drop_lines, causes, quantities, cause_name};
 
 use crate::traffic::Traffic;
 use bng_base::{DropCause, Ip4, Static};

@@ -43,8 +43,8 @@ input_at : (p i n : ℕ) (b : Bool) (ts : List Traffic) → i < length ts → (g
 input_at p i n b ts lt = ⊎_elim
     (λ (here : p ≡ i). input_here p i n b ts lt here)
     (λ (there : p ≢ i).
-        ap (λ (t : Traffic). t.input) (get_or-set_other ts p i (with_octets b n (get_or ts p no_traffic)) no_traffic (λ e. there (sym e)))
-        ∙ input_there b n (get_or ts i no_traffic).input (p == i) (false_from_ne_true (p == i) (λ t. there ((Decides-eqb p i).0 t))))
+    ap (λ (t : Traffic). t.input) (get_or-set_other ts p i (with_octets b n (get_or ts p no_traffic)) no_traffic (λ e. there (sym e)))
+    ∙ input_there b n (get_or ts i no_traffic).input (p == i) (false_from_ne_true (p == i) (λ t. there ((Decides-eqb p i).0 t))))
     (same_or_not p i)
   where
     input_there : (b : Bool) (n t : ℕ) (c : Bool) → c ≡ false → t ≡ t + cond (b && c) n 0
@@ -62,8 +62,8 @@ output_at : (p i n : ℕ) (b : Bool) (ts : List Traffic) → i < length ts → (
 output_at p i n b ts lt = ⊎_elim
     (λ (here : p ≡ i). output_here p i n b ts lt here)
     (λ (there : p ≢ i).
-        ap (λ (t : Traffic). t.output) (get_or-set_other ts p i (with_octets b n (get_or ts p no_traffic)) no_traffic (λ e. there (sym e)))
-        ∙ output_there b n (get_or ts i no_traffic).output (p == i) (false_from_ne_true (p == i) (λ t. there ((Decides-eqb p i).0 t))))
+    ap (λ (t : Traffic). t.output) (get_or-set_other ts p i (with_octets b n (get_or ts p no_traffic)) no_traffic (λ e. there (sym e)))
+    ∙ output_there b n (get_or ts i no_traffic).output (p == i) (false_from_ne_true (p == i) (λ t. there ((Decides-eqb p i).0 t))))
     (same_or_not p i)
   where
     output_there : (b : Bool) (n t : ℕ) (c : Bool) → c ≡ false → t ≡ t + cond (not b && c) n 0
@@ -184,17 +184,17 @@ module _ (config : Config) (rules : KeepsRules config) (sixed : IsSixed config) 
   addresses_apart : (p i : ℕ) (c s : Static) → slice_get config.statics p ≡ Some c → slice_get config.statics i ≡ Some s → p ≢ i → c.address ≢ s.address
   addresses_apart p i c s at_p at_i differ same = ⊎_elim
       (λ (lt : p < i). rules.addresses p i c lt (slice_get_within config.statics i s at_i)
-          (ap (λ (x : Static). x.address) (get_or_from_slice_get config.statics p c c at_p) ∙ same ∙ sym (ap (λ (x : Static). x.address) (get_or_from_slice_get config.statics i s c at_i))))
+      (ap (λ (x : Static). x.address) (get_or_from_slice_get config.statics p c c at_p) ∙ same ∙ sym (ap (λ (x : Static). x.address) (get_or_from_slice_get config.statics i s c at_i))))
       (λ (ge : i ≤ p). rules.addresses i p c (omega (arith, differ)) (slice_get_within config.statics p c at_p)
-          (ap (λ (x : Static). x.address) (get_or_from_slice_get config.statics i s c at_i) ∙ sym same ∙ sym (ap (λ (x : Static). x.address) (get_or_from_slice_get config.statics p c c at_p))))
+      (ap (λ (x : Static). x.address) (get_or_from_slice_get config.statics i s c at_i) ∙ sym same ∙ sym (ap (λ (x : Static). x.address) (get_or_from_slice_get config.statics p c c at_p))))
       (cases_lt p i)
 
   sessions_apart : (p i : ℕ) (c s : Static) → slice_get config.statics p ≡ Some c → slice_get config.statics i ≡ Some s → p ≢ i → c.session ≢ s.session
   sessions_apart p i c s at_p at_i differ same = ⊎_elim
       (λ (lt : p < i). rules.sessions p i c lt (slice_get_within config.statics i s at_i)
-          (ap (λ (x : Static). x.session) (get_or_from_slice_get config.statics p c c at_p) ∙ same ∙ sym (ap (λ (x : Static). x.session) (get_or_from_slice_get config.statics i s c at_i))))
+      (ap (λ (x : Static). x.session) (get_or_from_slice_get config.statics p c c at_p) ∙ same ∙ sym (ap (λ (x : Static). x.session) (get_or_from_slice_get config.statics i s c at_i))))
       (λ (ge : i ≤ p). rules.sessions i p c (omega (arith, differ)) (slice_get_within config.statics p c at_p)
-          (ap (λ (x : Static). x.session) (get_or_from_slice_get config.statics i s c at_i) ∙ sym same ∙ sym (ap (λ (x : Static). x.session) (get_or_from_slice_get config.statics p c c at_p))))
+      (ap (λ (x : Static). x.session) (get_or_from_slice_get config.statics i s c at_i) ∙ sym same ∙ sym (ap (λ (x : Static). x.session) (get_or_from_slice_get config.statics p c c at_p))))
       (cases_lt p i)
 
   not_equal : (a b : ℕ) → a ≢ b → (a == b) ≡ false
@@ -233,14 +233,14 @@ module _ (config : Config) (rules : KeepsRules config) (sixed : IsSixed config) 
       let session : big_from 16 2 frame ≡ c.session.0 = session_of port c packet lc lp (session_small p c at_p) in
       ⊎_elim
       (λ (e : p ≡ i).
-          let same = one_there p i c s at_p at_i e in
-          let b₁ : (c.port == s.port) ≡ true = (Decides-eqb c.port s.port).1 (ap (λ (x : Static). x.port) same) in
-          let b₂ : bytes_eq (take 6 frame) s.mac.0 ≡ true = (bytes_eq-Decides (take 6 frame) s.mac.0).1 (destination_of port c packet lc lp ∙ ap (λ (x : Static). x.mac.0) same) in
-          let b₃ : (big_from 16 2 frame == s.session.0) ≡ true = (Decides-eqb (big_from 16 2 frame) s.session.0).1 (session ∙ ap (λ (x : Static). x.session.0) same) in
-          all_three _ _ _ b₁ b₂ b₃ ∙ sym ((Decides-eqb p i).1 e))
+      let same = one_there p i c s at_p at_i e in
+      let b₁ : (c.port == s.port) ≡ true = (Decides-eqb c.port s.port).1 (ap (λ (x : Static). x.port) same) in
+      let b₂ : bytes_eq (take 6 frame) s.mac.0 ≡ true = (bytes_eq-Decides (take 6 frame) s.mac.0).1 (destination_of port c packet lc lp ∙ ap (λ (x : Static). x.mac.0) same) in
+      let b₃ : (big_from 16 2 frame == s.session.0) ≡ true = (Decides-eqb (big_from 16 2 frame) s.session.0).1 (session ∙ ap (λ (x : Static). x.session.0) same) in
+      all_three _ _ _ b₁ b₂ b₃ ∙ sym ((Decides-eqb p i).1 e))
       (λ (n : p ≢ i).
-          let b₃ : (big_from 16 2 frame == s.session.0) ≡ false = not_equal (big_from 16 2 frame) s.session.0 (λ e. sessions_apart p i c s at_p at_i n (same_session c.session s.session (sym session ∙ e))) in
-          last_fails _ _ _ b₃ ∙ sym (not_equal p i n))
+      let b₃ : (big_from 16 2 frame == s.session.0) ≡ false = not_equal (big_from 16 2 frame) s.session.0 (λ e. sessions_apart p i c s at_p at_i n (same_session c.session s.session (sym session ∙ e))) in
+      last_fails _ _ _ b₃ ∙ sym (not_equal p i n))
       (same_or_not p i)
     where
       all_three : (x y z : Bool) → x ≡ true → y ≡ true → z ≡ true → (x && (y && z)) ≡ true
@@ -265,7 +265,7 @@ module _ (config : Config) (rules : KeepsRules config) (sixed : IsSixed config) 
   out_way i s h at (inl up) = ap (λ (d : Datagram). cond (not (is_core d.role) && (h.place == i)) (length h.packet) 0) up.out ∙ sym (ap (out_for s) up.out)
   out_way i s h at (inr down) =
       let long : length (circuit_frame down.port down.circuit h.packet) ≡ 22 + length h.packet =
-          length_of down.port down.circuit h.packet (circuit_six h.place down.circuit down.at) (port_six down.circuit.port down.port down.its_port) in
+      length_of down.port down.circuit h.packet (circuit_six h.place down.circuit down.at) (port_six down.circuit.port down.port down.its_port) in
       let left : length h.packet ≡ length (circuit_frame down.port down.circuit h.packet) - 22 = omega (arith, long) in
       ap (λ (d : Datagram). cond (not (is_core d.role) && (h.place == i)) (length h.packet) 0) down.out
       ∙ ap (λ (b : Bool). cond b (length h.packet) 0) (sym (test_on h.place i down.circuit s down.port h.packet down.at at down.its_port))
@@ -321,21 +321,29 @@ module _ (config : Config) (rules : KeepsRules config) (sixed : IsSixed config) 
     at_place i lt =
         ⊎_elim
         (λ (found : (x : Static) × (i < length config.statics) × (slice_get config.statics i ≡ Some x) × (get_or config.statics i x ≡ x)).
-            let s = found.0 in
-            let ts = replicate (length config.statics) no_traffic in
-            let in_range : i < length ts = omega (arith, lt, length-replicate (length config.statics) no_traffic) in
-            let none : get_or ts i no_traffic ≡ no_traffic = get_or-replicate (length config.statics) i no_traffic no_traffic lt in
-            let input : (get_or (charged_all ts (all_handled rs)) i no_traffic).input ≡ (traffic_of sent s).input =
-                omega (arith, input_sum ts (all_handled rs) i in_range, ap (λ (t : Traffic). t.input) none,
-                    same_sums (in_at i) (λ h. cond (went h) (in_for s h.out) 0) (all_handled rs) (each_handled (λ h. in_at i h ≡ cond (went h) (in_for s h.out) 0) (in_each i s found.2) rs all),
-                    sum_all (in_for s) (λ d. elsewhere s d d.role refl)) in
-            let output : (get_or (charged_all ts (all_handled rs)) i no_traffic).output ≡ (traffic_of sent s).output =
-                omega (arith, output_sum ts (all_handled rs) i in_range, ap (λ (t : Traffic). t.output) none,
-                    same_sums (out_at i) (λ h. cond (went h) (out_for s h.out) 0) (all_handled rs) (each_handled (λ h. out_at i h ≡ cond (went h) (out_for s h.out) 0) (out_each i s found.2) rs all),
-                    sum_all (out_for s) (λ d. out_elsewhere s d d.role refl)) in
-            same_traffic (get_or (charged_all ts (all_handled rs)) i no_traffic) (traffic_of sent s) input output
-            ∙ ap (traffic_of sent) (sym found.3)
-            ∙ sym (mapped i s lt))
+        let s = found.0 in
+        let ts = replicate (length config.statics) no_traffic in
+        let in_range : i < length ts = omega (arith, lt, length-replicate (length config.statics) no_traffic) in
+        let none : get_or ts i no_traffic ≡ no_traffic = get_or-replicate (length config.statics) i no_traffic no_traffic lt in
+        let input : (get_or (charged_all ts (all_handled rs)) i no_traffic).input ≡ (traffic_of sent s).input =
+        omega (
+          arith,
+          input_sum ts (all_handled rs) i in_range,
+          ap (λ (t : Traffic). t.input) none,
+          same_sums (in_at i) (λ h. cond (went h) (in_for s h.out) 0) (all_handled rs) (each_handled (λ h. in_at i h ≡ cond (went h) (in_for s h.out) 0) (in_each i s found.2) rs all),
+          sum_all (in_for s) (λ d. elsewhere s d d.role refl),
+        ) in
+        let output : (get_or (charged_all ts (all_handled rs)) i no_traffic).output ≡ (traffic_of sent s).output =
+        omega (
+          arith,
+          output_sum ts (all_handled rs) i in_range,
+          ap (λ (t : Traffic). t.output) none,
+          same_sums (out_at i) (λ h. cond (went h) (out_for s h.out) 0) (all_handled rs) (each_handled (λ h. out_at i h ≡ cond (went h) (out_for s h.out) 0) (out_each i s found.2) rs all),
+          sum_all (out_for s) (λ d. out_elsewhere s d d.role refl),
+        ) in
+        same_traffic (get_or (charged_all ts (all_handled rs)) i no_traffic) (traffic_of sent s) input output
+        ∙ ap (traffic_of sent) (sym found.3)
+        ∙ sym (mapped i s lt))
         (λ past. absurd (omega (arith, past.0)))
         (slice_get_cases config.statics i).1
       where
@@ -379,15 +387,23 @@ module _ (config : Config) (rules : KeepsRules config) (sixed : IsSixed config) 
     input_total n ts [] e placed = omega arith
     input_total n ts (h ∷ hs) e placed =
         let here : went h ≡ true → h.place < length ts = λ w. let lt = All-head (IsIn n) h hs placed w in omega (arith, lt, e) in
-        omega (arith, input_total n (charged_with ts h) hs (length_step (went h) h.place (length h.packet) (is_core h.out.role) ts ∙ e) (All-tail (IsIn n) h hs placed),
-            input_total_step (went h) h.place (length h.packet) (is_core h.out.role) ts here, sum_by-cons in_total h hs)
+        omega (
+          arith,
+          input_total n (charged_with ts h) hs (length_step (went h) h.place (length h.packet) (is_core h.out.role) ts ∙ e) (All-tail (IsIn n) h hs placed),
+          input_total_step (went h) h.place (length h.packet) (is_core h.out.role) ts here,
+          sum_by-cons in_total h hs,
+        )
 
     output_total : (n : ℕ) (ts : List Traffic) (hs : List Handled) → length ts ≡ n → All (IsIn n) hs → output_of (charged_all ts hs) ≡ output_of ts + sum_by out_total hs
     output_total n ts [] e placed = omega arith
     output_total n ts (h ∷ hs) e placed =
         let here : went h ≡ true → h.place < length ts = λ w. let lt = All-head (IsIn n) h hs placed w in omega (arith, lt, e) in
-        omega (arith, output_total n (charged_with ts h) hs (length_step (went h) h.place (length h.packet) (is_core h.out.role) ts ∙ e) (All-tail (IsIn n) h hs placed),
-            output_total_step (went h) h.place (length h.packet) (is_core h.out.role) ts here, sum_by-cons out_total h hs)
+        omega (
+          arith,
+          output_total n (charged_with ts h) hs (length_step (went h) h.place (length h.packet) (is_core h.out.role) ts ∙ e) (All-tail (IsIn n) h hs placed),
+          output_total_step (went h) h.place (length h.packet) (is_core h.out.role) ts here,
+          sum_by-cons out_total h hs,
+        )
 
     abbrev core_octets : Datagram → ℕ
     core_octets d = cond (is_core d.role) (length d.octets) 0
@@ -403,7 +419,7 @@ module _ (config : Config) (rules : KeepsRules config) (sixed : IsSixed config) 
     out_total_way h (inl up) = ap (λ (d : Datagram). cond (not (is_core d.role)) (length h.packet) 0) up.out ∙ sym (ap circuit_octets up.out)
     out_total_way h (inr down) =
         let long : length (circuit_frame down.port down.circuit h.packet) ≡ 22 + length h.packet =
-            length_of down.port down.circuit h.packet (circuit_six h.place down.circuit down.at) (port_six down.circuit.port down.port down.its_port) in
+        length_of down.port down.circuit h.packet (circuit_six h.place down.circuit down.at) (port_six down.circuit.port down.port down.its_port) in
         let left : length h.packet ≡ length (circuit_frame down.port down.circuit h.packet) - 22 = omega (arith, long) in
         ap (λ (d : Datagram). cond (not (is_core d.role)) (length h.packet) 0) down.out ∙ left ∙ sym (ap circuit_octets down.out)
 
@@ -437,14 +453,24 @@ module _ (config : Config) (rules : KeepsRules config) (sixed : IsSixed config) 
     input_is_all =
         let n = length config.statics in
         let ts = replicate n no_traffic in
-        omega (arith, ap input_of charged_is_sent, input_total n ts (all_handled rs) (length-replicate n no_traffic) all_placed, sum_by-replicate (λ (t : Traffic). t.input) n no_traffic,
-            same_sums in_total (λ h. cond (went h) (core_octets h.out) 0) (all_handled rs) (each_handled (λ h. in_total h ≡ cond (went h) (core_octets h.out) 0) (λ role h is. when (went h) _ _ (λ w. in_total_way h (went_way config role h is w))) rs all),
-            sum_all core_octets (λ d. no_core d d.role refl))
+        omega (
+          arith,
+          ap input_of charged_is_sent,
+          input_total n ts (all_handled rs) (length-replicate n no_traffic) all_placed,
+          sum_by-replicate (λ (t : Traffic). t.input) n no_traffic,
+          same_sums in_total (λ h. cond (went h) (core_octets h.out) 0) (all_handled rs) (each_handled (λ h. in_total h ≡ cond (went h) (core_octets h.out) 0) (λ role h is. when (went h) _ _ (λ w. in_total_way h (went_way config role h is w))) rs all),
+          sum_all core_octets (λ d. no_core d d.role refl),
+        )
 
     pub output_is_all : output_of (all_traffic config sent) ≡ octets_to_circuits sent
     output_is_all =
         let n = length config.statics in
         let ts = replicate n no_traffic in
-        omega (arith, ap output_of charged_is_sent, output_total n ts (all_handled rs) (length-replicate n no_traffic) all_placed, sum_by-replicate (λ (t : Traffic). t.output) n no_traffic,
-            same_sums out_total (λ h. cond (went h) (circuit_octets h.out) 0) (all_handled rs) (each_handled (λ h. out_total h ≡ cond (went h) (circuit_octets h.out) 0) (λ role h is. when (went h) _ _ (λ w. out_total_way h (went_way config role h is w))) rs all),
-            sum_all circuit_octets (λ d. no_circuit d d.role refl))
+        omega (
+          arith,
+          ap output_of charged_is_sent,
+          output_total n ts (all_handled rs) (length-replicate n no_traffic) all_placed,
+          sum_by-replicate (λ (t : Traffic). t.output) n no_traffic,
+          same_sums out_total (λ h. cond (went h) (circuit_octets h.out) 0) (all_handled rs) (each_handled (λ h. out_total h ≡ cond (went h) (circuit_octets h.out) 0) (λ role h is. when (went h) _ _ (λ w. out_total_way h (went_way config role h is w))) rs all),
+          sum_all circuit_octets (λ d. no_circuit d d.role refl),
+        )

@@ -26,9 +26,9 @@ pub port_more : (ports : List AccessPort) (k : ℕ) (d : AccessPort) (p₀ p₁ 
 port_more ports k d p₀ p₁ p₂ lt so_far bound heard taken sent later =
     let up : suc k ≡ k + 1 = omega arith in
     let list : take k (port_binds 1 ports) ++ record { role = Access (k + 1); local = (get_or ports k d).local } ∷ [] ≡ take (k + 1) (port_binds 1 ports) =
-        ap (λ (bs : List Bind). take k (port_binds 1 ports) ++ bs) (same_number (k + 1) (1 + k) (get_or ports k d) [] (omega arith))
-        ∙ sym (binds_more 1 ports k d lt)
-        ∙ ap (λ (n : ℕ). take n (port_binds 1 ports)) up in
+    ap (λ (bs : List Bind). take k (port_binds 1 ports) ++ bs) (same_number (k + 1) (1 + k) (get_or ports k d) [] (omega arith))
+    ∙ sym (binds_more 1 ports k d lt)
+    ∙ ap (λ (n : ℕ). take n (port_binds 1 ports)) up in
     record {
       bound = subst (λ (bs : List Bind). Grows p₀.bound p₂.bound bs) list (grows_more p₀.bound p₁.bound p₂.bound (take k (port_binds 1 ports)) (record { role = Access (k + 1); local = (get_or ports k d).local } ∷ []) so_far.bound bound);
       heard = heard ∙ so_far.heard;

@@ -17,4 +17,4 @@ returns g c =
     let config = c.args.config.now in
     subst (λ (b : Bool). HandlesRoles config (data_roles config) 448 (told c.args.plant.now) (told c.read_role-core.new.plant) c.args.sums.now c.read_role-core.new.sums b) (sym c.both.ensures)
     (roles_more config (ports_up_to (length config.access)) Core 224 224 (told c.args.plant.now) (told c.read_ports-idle.new.plant) (told c.read_role-core.new.plant) c.args.sums.now c.read_ports-idle.new.sums c.read_role-core.new.sums
-        c.read_ports-idle.result c.read_role-core.result refl c.read_ports-idle.ensures c.read_role-core.ensures)
+    c.read_ports-idle.result c.read_role-core.result refl c.read_ports-idle.ensures c.read_role-core.ensures)

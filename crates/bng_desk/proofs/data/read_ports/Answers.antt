@@ -35,7 +35,7 @@ loop-place-preserved g c =
     let up : suc place ≡ place + 1 = omega arith in
     let count : 224 / ports * place + 224 / ports ≡ 224 / ports * (place + 1) = sym (mul-suc (224 / ports) place) ∙ ap (λ (n : ℕ). 224 / ports * n) up in
     let read = roles_more config (ports_up_to place) (Access (place + 1)) (224 / ports * place) (224 / ports) (told c.args.plant.now) (told c.loop-place.plant) (told c.read_role-read.new.plant)
-        c.args.sums.now c.loop-place.sums c.read_role-read.new.sums c.loop-place.idle c.read_role-read.result most c.loop-place.invariant c.read_role-read.ensures in
+    c.args.sums.now c.loop-place.sums c.read_role-read.new.sums c.loop-place.idle c.read_role-read.result most c.loop-place.invariant c.read_role-read.ensures in
     subst (λ (b : Bool). HandlesRoles config (ports_up_to (place + 1)) (224 / ports * (place + 1)) (told c.args.plant.now) (told c.read_role-read.new.plant) c.args.sums.now c.read_role-read.new.sums b) (sym c.both-idle.ensures)
     (subst (λ (roles : List Role). HandlesRoles config roles (224 / ports * (place + 1)) (told c.args.plant.now) (told c.read_role-read.new.plant) c.args.sums.now c.read_role-read.new.sums (c.loop-place.idle && c.read_role-read.result.idle)) (sym more)
     (subst (λ (n : ℕ). HandlesRoles config (ports_up_to place ++ Access (place + 1) ∷ []) n (told c.args.plant.now) (told c.read_role-read.new.plant) c.args.sums.now c.read_role-read.new.sums (c.loop-place.idle && c.read_role-read.result.idle)) count read))
@@ -48,5 +48,5 @@ returns g c =
     let same : length config.access ≡ ports = sym (ap (λ (ps : List AccessPort). length ps) c.as_slice-ports.ensures) in
     let all : c.loop-place.place ≡ length config.access = omega (arith, same, c.loop-place.auto.place-end, c.loop-place-test.false) in
     let read = roles_wider config (ports_up_to c.loop-place.place) (224 / ports * c.loop-place.place) 224 (told c.args.plant.now) (told c.loop-place.plant) c.args.sums.now c.loop-place.sums c.loop-place.idle
-        (omega (arith, mul-le-mul_left (224 / ports) c.loop-place.auto.place-end, div-mul-le_self 224 ports)) c.loop-place.invariant in
+    (omega (arith, mul-le-mul_left (224 / ports) c.loop-place.auto.place-end, div-mul-le_self 224 ports)) c.loop-place.invariant in
     subst (λ (n : ℕ). HandlesRoles config (ports_up_to n) 224 (told c.args.plant.now) (told c.loop-place.plant) c.args.sums.now c.loop-place.sums c.loop-place.idle) all read

@@ -28,7 +28,7 @@ loop-place-preserved c =
     let so_far : string_bytes c.loop-place.text ≡ old ++ before = c.loop-place.invariant in
     let next : suc n ≡ n + 1 = omega arith in
     let more : before ++ line ≡ static_lines (take (n + 1) ss) ts =
-        ap (λ (s : Static). before ++ static_line s.address (get_or ts n no_traffic)) c.index-circuits-place.is
-        ∙ sym (lines_more ss ts n circuit (omega arith) (omega arith))
-        ∙ ap (λ (k : ℕ). static_lines (take k ss) ts) next in
+    ap (λ (s : Static). before ++ static_line s.address (get_or ts n no_traffic)) c.index-circuits-place.is
+    ∙ sym (lines_more ss ts n circuit (omega arith) (omega arith))
+    ∙ ap (λ (k : ℕ). static_lines (take k ss) ts) next in
     written ∙ ap (λ (octets : List ℕ). octets ++ line) so_far ∙ append_assoc old before line ∙ ap (λ (octets : List ℕ). old ++ octets) more
