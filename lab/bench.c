@@ -29,19 +29,32 @@ static int bound(const char *port) {
     return fd;
 }
 
-/* loop ACCESS CORE CORE_PEER CONTROL: until a datagram comes at CONTROL */
+/* One packet from one socket to the other: without its first octets, or with as many more in front. 0 where none is there. */
+static int pass(int in, int out, struct sockaddr_in *peer, char *room, ssize_t front) {
+    struct sockaddr_in from;
+    socklen_t length = sizeof from;
+    ssize_t count = recvfrom(in, room + FRONT, LONGEST, 0, (struct sockaddr *)&from, &length);
+    if (count < 0)
+        return 0;
+    if (count > front)
+        sendto(out, room + FRONT + front, (size_t)(count - front), 0, (struct sockaddr *)peer, sizeof *peer);
+    return 1;
+}
+
+/* loop ACCESS CORE CORE_PEER ACCESS_PEER CONTROL: until a datagram comes at CONTROL */
 static int forward(char **ports) {
-    int access = bound(ports[0]), core = bound(ports[1]), control = bound(ports[3]);
-    struct sockaddr_in peer = loopback(ports[2]), from;
-    struct pollfd waits[2] = {{access, POLLIN, 0}, {control, POLLIN, 0}};
-    char room[LONGEST];
-    while (!(waits[1].revents & POLLIN)) {
-        socklen_t length = sizeof from;
-        ssize_t count = recvfrom(access, room, sizeof room, 0, (struct sockaddr *)&from, &length);
-        if (count < 0)
-            poll(waits, 2, 100);
-        else if (count > FRONT)
-            sendto(core, room + FRONT, (size_t)count - FRONT, 0, (struct sockaddr *)&peer, sizeof peer);
+    int access = bound(ports[0]), core = bound(ports[1]), control = bound(ports[4]);
+    struct sockaddr_in core_peer = loopback(ports[2]), access_peer = loopback(ports[3]);
+    struct pollfd waits[3] = {{access, POLLIN, 0}, {core, POLLIN, 0}, {control, POLLIN, 0}};
+    static char room[FRONT + LONGEST];
+    while (!(waits[2].revents & POLLIN)) {
+        int passed = 0;
+        while (pass(access, core, &core_peer, room, FRONT))
+            passed++;
+        while (pass(core, access, &access_peer, room, -FRONT))
+            passed++;
+        if (passed == 0)
+            poll(waits, 3, 100);
     }
     return 0;
 }
@@ -52,10 +65,10 @@ static double seconds(void) {
     return (double)now.tv_sec + 1e-9 * (double)now.tv_nsec;
 }
 
-/* load ACCESS_FD CORE_FD ACCESS SECONDS, the frame on standard input: prints the packets that came back, those that
+/* load OUT_FD IN_FD PORT SECONDS, what to send to PORT on standard input: prints the packets that came back, those that
    did not, and the seconds */
 static int load(char **words) {
-    int access = atoi(words[0]), core = atoi(words[1]);
+    int outward = atoi(words[0]), inward = atoi(words[1]);
     struct sockaddr_in to = loopback(words[2]);
     static char frame[LONGEST], rooms[BATCH][LONGEST];
     size_t length = fread(frame, 1, sizeof frame, stdin);
@@ -70,15 +83,15 @@ static int load(char **words) {
     double start = seconds(), limit = atof(words[3]), now = start;
     while (now - start < limit || away > 0) {
         if (now - start < limit && away + BATCH <= WINDOW) {
-            int count = sendmmsg(access, sends, BATCH, 0);
+            int count = sendmmsg(outward, sends, BATCH, 0);
             away += count > 0 ? count : 0;
         }
-        int count = recvmmsg(core, gets, BATCH, MSG_DONTWAIT, NULL);
+        int count = recvmmsg(inward, gets, BATCH, MSG_DONTWAIT, NULL);
         if (count > 0) {
             came += count;
             away -= count;
         } else if (away + BATCH > WINDOW || now - start >= limit) {
-            struct pollfd wait = {core, POLLIN, 0};
+            struct pollfd wait = {inward, POLLIN, 0};
             if (poll(&wait, 1, 200) == 0) {
                 lost += away;
                 away = 0;
@@ -91,10 +104,10 @@ static int load(char **words) {
 }
 
 int main(int count, char **words) {
-    if (count == 6 && strcmp(words[1], "loop") == 0)
+    if (count == 7 && strcmp(words[1], "loop") == 0)
         return forward(words + 2);
     if (count == 6 && strcmp(words[1], "load") == 0)
         return load(words + 2);
-    fprintf(stderr, "usage: bench loop ACCESS CORE CORE_PEER CONTROL | bench load ACCESS_FD CORE_FD ACCESS SECONDS\n");
+    fprintf(stderr, "usage: bench loop ACCESS CORE CORE_PEER ACCESS_PEER CONTROL | bench load OUT_FD IN_FD PORT SECONDS\n");
     return 1;
 }

@@ -1,4 +1,4 @@
-"""Measures what the real program forwards from a subscriber to the core, beside a plain loop in C, both over sockets of
+"""Measures what the real program forwards between a subscriber and the core, beside a plain loop in C, both over sockets of
 the loopback, in turns on the same machine. The numbers are of this machine and this moment; the ratios say more."""
 
 import collections
@@ -30,11 +30,15 @@ class Spent:
 Run = collections.namedtuple("Run", "pace used faults came lost")
 
 
-def measure(tool, lab, size, seconds):
+def measure(tool, lab, way, size, seconds):
     before = Spent(lab.program.pid)
-    ends = (lab.access.fileno(), lab.core.fileno())
-    command = [tool, "load", *map(str, ends), str(lab.ports["access"]), str(seconds)]
-    octets = frame(packet(length=size))
+    if way == "up":
+        ends, to = (lab.access.fileno(), lab.core.fileno()), "access"
+        octets = frame(packet(length=size))
+    else:
+        ends, to = (lab.core.fileno(), lab.access.fileno()), "core"
+        octets = packet("192.0.2.1", "10.0.0.2", length=size)
+    command = [tool, "load", *map(str, ends), str(lab.ports[to]), str(seconds)]
     done = subprocess.run(
         command, input=octets, stdout=subprocess.PIPE, pass_fds=ends, timeout=seconds + 20, check=True
     )
@@ -52,13 +56,13 @@ def median(runs):
 
 def table(results):
     """The medians of each size."""
-    print("          packets/s                    us/packet                    page faults/packet")
-    print("octets      plain C        bng  ratio    plain C     bng  ratio      plain C     bng   lost")
-    for size, runs in results.items():
+    print("               packets/s                    us/packet                    page faults/packet")
+    print("way  octets      plain C        bng  ratio    plain C     bng  ratio      plain C     bng   lost")
+    for (way, size), runs in results.items():
         plain, ours = map(median, runs)
         pace = f"{plain.pace:11,.0f} {ours.pace:10,.0f} {ours.pace / max(plain.pace, 1):6.2f}"
         used = f"{plain.used:10.2f} {ours.used:7.2f} {plain.used / max(ours.used, 0.01):6.2f}"
-        print(f"{size:6} {pace} {used} {plain.faults:12.4f} {ours.faults:7.4f} {sum(run.lost for run in runs[1]):6}")
+        print(f"{way:4} {size:6} {pace} {used} {plain.faults:12.4f} {ours.faults:7.4f} {sum(run.lost for run in runs[1]):6}")
     print("A ratio is ours to plain C's: in packets for the same wall time, and for the same processor time.")
 
 
@@ -72,29 +76,31 @@ def main(rounds=5, seconds=1.0):
         source = os.path.join(os.path.dirname(os.path.abspath(__file__)), "bench.c")
         subprocess.run([compiler, "-O2", "-Wall", "-o", tool, source], check=True)
         ours.start([os.path.join(HOME, "bng"), "serve", ours.configuration], patience=BUILDING, stderr=None)
-        ports = [plain.ports["access"], plain.ports["core"], plain.core.getsockname()[1], plain.ports["control"]]
+        peers = [plain.core.getsockname()[1], plain.access.getsockname()[1]]
+        ports = [plain.ports["access"], plain.ports["core"], *peers, plain.ports["control"]]
         plain.start([tool, "loop", *map(str, ports)])
-        results = {size: ([], []) for size in SIZES}
-        octets = lost = 0
+        results = {(way, size): ([], []) for way in ("up", "down") for size in SIZES}
+        octets = {"up": 0, "down": 0}
+        lost = 0
         machine = f"{os.cpu_count()} processors, load {os.getloadavg()[0]:.1f}"
         print(f"{rounds} runs of {seconds} s at each size, in turns; {machine}")
-        for size in SIZES:
+        for way, size in results:
             for turn in range(rounds + 1):
-                for lab, runs in zip((plain, ours), results[size]):
+                for lab, runs in zip((plain, ours), results[way, size]):
                     # The first turn warms up.
-                    run = measure(tool, lab, size, seconds if turn else 0.2)
+                    run = measure(tool, lab, way, size, seconds if turn else 0.2)
                     if turn:
                         runs.append(run)
                     if lab is ours:
-                        octets += size * run.came
+                        octets[way] += size * run.came
                         lost += run.lost
         for lab in (plain, ours):
             lab.send(b"stop", lab.control, "control")
         plain.end()
         status, out, _ = ours.end()
         table(results)
-        said = int(out.split("total in=")[1].split()[0])
-        print(f"The report says {said:,} octets, and {octets:,} came, {lost} packets lost on the way.")
+        said = out.splitlines()[0]
+        print(f"The report says {said}, and in={octets['up']} out={octets['down']} came, {lost} packets lost on the way.")
         return status
 
 

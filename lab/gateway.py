@@ -24,6 +24,7 @@ local = "127.0.0.1:{access}"
 peer = "127.0.0.1:{access_peer}"
 mac = "02:00:00:00:00:fe"
 [[static]]
+port = 1
 mac = "02:00:00:00:00:01"
 session = 1025
 address = "10.0.0.2"
@@ -60,9 +61,14 @@ def frame(payload, port="0200000000fe", subscriber="020000000001", session=1025,
     return front + session.to_bytes(2, "big") + length.to_bytes(2, "big") + b"\x00\x21" + payload
 
 
-def report(total=0, **drops):
-    """The report after serving: input octets of the one subscriber, and the packets dropped by cause."""
-    lines = [f"total in={total} out=0", f"static 10.0.0.2 in={total} out=0"]
+def delivery(payload):
+    """The frame in which the gateway hands an IPv4 packet to the subscriber."""
+    return frame(payload, port="020000000001", subscriber="0200000000fe")
+
+
+def report(total=0, out=0, **drops):
+    """The report after serving: octets from the one subscriber and to it, and the packets dropped by cause."""
+    lines = [f"total in={total} out={out}", f"static 10.0.0.2 in={total} out={out}"]
     lines += [f"drop {cause} {drops.get(cause, 0)}" for cause in CAUSES]
     return "".join(line + "\n" for line in lines)
 

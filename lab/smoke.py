@@ -4,7 +4,7 @@ import os
 import subprocess
 import sys
 
-from gateway import CRATE, PROGRAM, USAGE, Lab, frame, is_built, packet, report, run, udp
+from gateway import CRATE, PROGRAM, USAGE, Lab, delivery, frame, is_built, packet, report, run, udp
 
 PACKET = packet()
 LOWERED = bytes.fromhex("45000054 00010000 3f01afa5 0a000002 c0000201") + PACKET[20:]
@@ -36,6 +36,28 @@ def forwards_one_packet(checks, command, patience):
         return err
 
 
+def forwards_both_ways(checks, command, patience):
+    up, down = packet(length=20, ttl=2, number=2), packet("192.0.2.1", "10.0.0.2", length=20, ttl=2, number=2)
+    passed_up, passed_down = packet(length=20, ttl=1, number=2), packet("192.0.2.1", "10.0.0.2", length=20, ttl=1, number=2)
+    with Lab() as lab:
+        lab.start(command(lab.configuration), patience)
+        lab.send(frame(up).ljust(60, b"\0"))
+        checks.same("a padded frame's packet comes without padding", lab.receive(lab.core)[0], passed_up)
+        lab.send(down, lab.core, "core")
+        want = (delivery(passed_down), lab.ports["access"])
+        checks.same("the subscriber gets the core's packet in a frame", lab.receive(lab.access), want)
+        lab.send(packet("192.0.2.1", "10.0.0.9"), lab.core, "core")
+        lab.send(down, lab.stranger, "core")
+        lab.send(packet("192.0.2.1", "10.0.0.2", ttl=1), lab.core, "core")
+        lab.send(down, lab.core, "core")
+        checks.same("packets for nobody, of nobody and for no other hop go nowhere", lab.receive(lab.access), want)
+        lab.send(b"stats", lab.control, "control")
+        checks.same("other words are unknown", lab.receive(lab.control)[0], b"unknown\n")
+        checks.same("stop is answered after traffic both ways", lab.stop(), b"stopping\n")
+        status, out, _ = lab.end()
+        checks.same("both directions are counted", (status, out), (0, report(20, 40, Malformed=1, NoSession=1, Expired=1)))
+
+
 def drops_and_counts_bad_input(checks, command, patience):
     bad_sum = bytearray(PACKET)
     bad_sum[11] ^= 1
@@ -53,7 +75,6 @@ def drops_and_counts_bad_input(checks, command, patience):
             lab.send(octets)
         lab.send(frame(PACKET), lab.stranger)
         lab.send(frame(packet("10.0.0.3")))
-        lab.send(b"what?", lab.stranger, "control")
         lab.send(frame(PACKET))
         lab.send(frame(packet(length=1400, ttl=2, number=2)))
         checks.same("bad input goes nowhere", lab.receive(lab.core)[0], LOWERED)
@@ -94,6 +115,7 @@ def refuses_bad_configurations(checks):
             "core.local": (local, "9000"),
             "access.1.peer": (peer, '"127.0.0.1:0"'),
             "access.1.mac": ("02:00:00:00:00:fe", "02:00:00:00:00:FE"),
+            "static.1.port": ("port = 1", "port = 2"),
             "static.1.address": ("10.0.0.2", "10.0.0.256"),
         }
         for key, (right, wrong) in faults.items():
@@ -136,6 +158,7 @@ def try_all(checks):
         built = lambda configuration: [PROGRAM, "serve", configuration]
         err = forwards_one_packet(checks, built, 10)
         checks.same("nothing is said on standard error", err, "")
+        forwards_both_ways(checks, built, 10)
         drops_and_counts_bad_input(checks, built, 10)
         forwards_bursts_in_order(checks, built, 10)
         refuses_bad_beginnings(checks)
