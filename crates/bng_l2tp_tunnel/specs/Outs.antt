@@ -1,0 +1,51 @@
+-- The datagrams of a tunnel, by RFC 2661 sections 3.1 and 5.8.
+use Rattle.std.specs.Prelude.{ℕ, zero, suc, Bool, nat_le, if◌then◌else◌, List, [], ◌∷◌, ◌++◌, length, take, drop, slice_range, map, option_to_list}
+use Rattle.std.specs.List.{flat_map, range_with_len}
+use Rattle.byteorder.specs.Endian.{big_bytes}
+use Rattle.bng_l2tp_reliable.specs.declared.outgoing.Outgoing.{Outgoing}
+use Rattle.bng_l2tp_reliable.specs.ChannelState.{ChannelState}
+use Rattle.bng_l2tp_reliable.specs.Calls.{next_out, after_next, flight_at}
+use Rattle.bng_l2tp_wire.specs.Messages.{control_text}
+use Rattle.bng_l2tp_tunnel.specs.declared.acknowledging.Acknowledging.{Acknowledging}
+use Rattle.bng_l2tp_tunnel.specs.declared.acknowledging.Acknowledging.TheVariants.{Never, ByAny, ByZlb}
+
+-- the text of a control message with this Tunnel ID, Ns and Nr
+abbrev pub with_numbers : (tunnel ns nr : ℕ) → List ℕ → List ℕ
+with_numbers tunnel ns nr text = take 4 text ++ big_bytes 2 tunnel ++ slice_range text 6 8 ++ big_bytes 2 ns ++ big_bytes 2 nr ++ drop 12 text
+
+-- A message of the channel as it goes out to a tunnel of the peer. Octets that are too few for a header go out as they are.
+unfoldable pub datagram : ℕ → Outgoing → List ℕ
+datagram tunnel o =
+    if nat_le 12 (length o.message.items) then with_numbers tunnel o.ns o.nr o.message.items else o.message.items
+
+-- the channel after it was asked so often for the next message that the window lets out
+unfoldable pub after_out : ℕ → ChannelState → ChannelState
+after_out zero c = c
+after_out (suc n) c = after_next (after_out n c) (next_out (after_out n c))
+
+-- the messages that it let out
+unfoldable pub let_out : ℕ → ChannelState → List Outgoing
+let_out n c = flat_map (λ k. option_to_list (next_out (after_out k c))) (range_with_len 0 n)
+
+-- No more than eight messages are in flight, so after as many the window lets out none.
+abbrev pub flight_most : ℕ
+flight_most = 8
+
+-- the messages in flight, oldest first
+unfoldable pub resent : ChannelState → List Outgoing
+resent c = flat_map (λ k. option_to_list (flight_at c k)) (range_with_len 0 flight_most)
+
+-- a message without AVPs, which only acknowledges
+abbrev pub zlb : ℕ → ChannelState → List ℕ
+zlb tunnel c = control_text (record { tunnel = tunnel; session = 0; ns = c.ns; nr = c.nr; avps = [] })
+
+-- What goes out, and the ZLB that is due besides. Each message acknowledges as well as a ZLB.
+abbrev pub with_zlb : Acknowledging → ℕ → ChannelState → List (List ℕ) → List (List ℕ)
+with_zlb Never tunnel c outs = outs
+with_zlb ByAny tunnel c [] = zlb tunnel c ∷ []
+with_zlb ByAny tunnel c (o ∷ os) = o ∷ os
+with_zlb ByZlb tunnel c outs = outs ++ zlb tunnel c ∷ []
+
+-- the datagrams that go out to a tunnel of the peer: the messages that the window lets out, and then the ZLB
+abbrev pub outs_of : Acknowledging → ℕ → ChannelState → List (List ℕ)
+outs_of acknowledging tunnel c = with_zlb acknowledging tunnel (after_out flight_most c) (map (datagram tunnel) (let_out flight_most c))

@@ -1,0 +1,80 @@
+-- Why a tunnel is refused, by RFC 2661 sections 4.4.2, 5.1.1 and 7.2.1: a list of cases, of which the first that holds counts.
+use Rattle.std.specs.Prelude.{ℕ, Bool, true, false, ◌==◌, ◌&&◌, ◌||◌, not, if◌then◌else◌, bytes_eq, List, [], ◌∷◌, ◌++◌, Option, Some, None, is_some, is_none}
+use Rattle.std.specs.List.{list_any}
+use Rattle.md5.specs.Md5.{md5}
+use Rattle.bng_l2tp_wire.specs.Avps.{L2tpAvp}
+use Rattle.bng_l2tp_wire.specs.declared.kind.TheConstants.{PROTOCOL_VERSION, CHALLENGE, CHALLENGE_RESPONSE}
+use Rattle.bng_l2tp_wire.specs.declared.message.TheConstants.{SCCRQ, SCCCN}
+use Rattle.bng_l2tp_tunnel.specs.declared.refusal.Refusal.{Refusal}
+use Rattle.bng_l2tp_tunnel.specs.declared.refusal.Refusal.TheVariants.{NotConfigured, WrongVersion, UnknownAvp, WrongAvp, NotAuthorized, Unexpected, NoNumber}
+use Rattle.bng_l2tp_tunnel.specs.Values.{is_known, value_of, message_type}
+use Rattle.bng_l2tp_tunnel.specs.Messages.{is_type, is_of_call, is_taken, lacks_needed, has_unreadable}
+use Rattle.bng_l2tp_tunnel.specs.TunnelState.{TunnelState}
+
+-- Version 1 and Revision 0 (section 4.4.3)
+abbrev pub version : List ℕ
+version = 1 ∷ 0 ∷ []
+
+abbrev pub is_other_than : List ℕ → Option (List ℕ) → Bool
+is_other_than wanted None = false
+is_other_than wanted (Some value) = not (bytes_eq value wanted)
+
+-- a Protocol Version is there, and it is not 1.0
+abbrev pub has_other_version : Option (List ℕ) → List L2tpAvp → Bool
+has_other_version secret avps = is_other_than version (value_of secret PROTOCOL_VERSION avps)
+
+-- an AVP that is not known and must be
+abbrev pub has_unknown : List L2tpAvp → Bool
+has_unknown avps = list_any (λ a. a.mandatory && not (is_known a)) avps
+
+-- the answer to a Challenge in a message of this type (section 4.4.3, as CHAP's of RFC 1994 section 4.1 with the type for its Identifier)
+abbrev pub challenge_response : (type : ℕ) (secret challenge : List ℕ) → List ℕ
+challenge_response type secret challenge = md5 (type ∷ secret ++ challenge)
+
+abbrev pub is_value : List ℕ → Option (List ℕ) → Bool
+is_value wanted None = false
+is_value wanted (Some value) = bytes_eq value wanted
+
+-- the answer that an SCCCN must have where the tunnel has a secret, and so sent a Challenge
+abbrev pub has_answer : Option (List ℕ) → List ℕ → List L2tpAvp → Bool
+has_answer None challenge avps = true
+has_answer (Some secret) challenge avps =
+    is_value (challenge_response SCCCN secret challenge) (value_of (Some secret) CHALLENGE_RESPONSE avps)
+
+-- a Challenge is there, and no secret to answer it with
+abbrev pub is_asked_in_vain : Option (List ℕ) → List L2tpAvp → Bool
+is_asked_in_vain secret avps = is_some (value_of secret CHALLENGE avps) && is_none secret
+
+-- an SCCRQ asks for an answer that cannot be made, or an SCCCN has not the right one
+abbrev pub fails_challenge : Option (List ℕ) → List ℕ → Option ℕ → List L2tpAvp → Bool
+fails_challenge secret challenge type avps =
+    is_type type SCCRQ && is_asked_in_vain secret avps || is_type type SCCCN && not (has_answer secret challenge avps)
+
+-- a case, and what it refuses
+pub record Case : Type 0 where
+  pub holds : Bool
+  pub refusal : Refusal
+
+abbrev pub if_so : Bool → Refusal → Case
+if_so holds refusal = record { holds = holds; refusal = refusal }
+
+-- The cases of a message of this type with these AVPs. What a call's message says is looked at by its call alone.
+abbrev pub cases : TunnelState → List L2tpAvp → List Case
+cases s avps =
+    let type = message_type avps in
+    if_so (not s.known) NotConfigured
+    ∷ if_so (not (is_of_call type) && has_other_version s.secret avps) WrongVersion
+    ∷ if_so (not (is_of_call type) && has_unknown avps) UnknownAvp
+    ∷ if_so (not (is_of_call type) && (lacks_needed s.secret type avps || has_unreadable s.secret avps)) WrongAvp
+    ∷ if_so (fails_challenge s.secret s.challenge type avps) NotAuthorized
+    ∷ if_so (not (is_taken s.phase type)) Unexpected
+    ∷ if_so (is_type type SCCRQ && s.number == 0) NoNumber
+    ∷ []
+
+abbrev pub first_of : List Case → Option Refusal
+first_of [] = None
+first_of (c ∷ cs) = if c.holds then Some c.refusal else first_of cs
+
+-- why the message is refused, where it is
+unfoldable pub refusal_of : TunnelState → List L2tpAvp → Option Refusal
+refusal_of s avps = first_of (cases s avps)

@@ -1,0 +1,166 @@
+ghost use Rattle.std.specs.Prelude.{◌≡◌, ◌+◌, ◌≤◌, ◌++◌, [], ◌∷◌, length};
+ghost use Rattle.std.specs.List.{AllByRecursion};
+ghost use Rattle.arrayvec.specs.ArrayVec.{array_vec_len};
+ghost use Rattle.bng_l2tp_wire.specs.Avps.{AvpFits};
+ghost use Rattle.bng_l2tp_wire.specs.Messages.{control_text};
+ghost use Rattle.bng_l2tp_wire.specs.View.{avp_of, avps_of};
+ghost use Rattle.bng_l2tp_tunnel.specs.View.{octets_of};
+ghost use Rattle.bng_l2tp_tunnel.specs.Spelling.{avp as must_avp, sccrp as sccrp_of, stop_ccn as stop_ccn_of, cdn as cdn_of, hello as hello_of, unsent};
+
+use crate::judge::{VERSION, challenge_response};
+use crate::refusal::Code;
+use crate::values::Value;
+use arrayvec::ArrayVec;
+use bng_base::{Frame, Written};
+use bng_l2tp_wire::kind::{
+    ASSIGNED_SESSION_ID, ASSIGNED_TUNNEL_ID, CHALLENGE, CHALLENGE_RESPONSE, FRAMING_CAPABILITIES,
+    HOST_NAME, MESSAGE_TYPE, PROTOCOL_VERSION, RECEIVE_WINDOW_SIZE, RESULT_CODE,
+};
+use bng_l2tp_wire::message::{CDN, HELLO, SCCRP, STOP_CCN};
+use bng_l2tp_wire::{Avp, Control};
+
+/// How many messages the gateway takes before it acknowledges one (RFC 2661 section 4.4.3).
+const OWN_WINDOW: u16 = 8;
+
+/// Both synchronous and asynchronous framing (RFC 2661 section 4.4.3).
+const BOTH_FRAMINGS: [u8; 4] = [0, 0, 0, 3];
+
+type AvpList<'a> = ArrayVec<Avp<'a>, 64>;
+
+// An AVP that the peer must know, and that is not hidden.
+fn avp<'a>(kind: u16, value: &'a [u8]) -> Avp<'a>
+    ensures { avp_of result ≡ must_avp kind value.now }
+{
+    Avp {
+        mandatory: true,
+        hidden: false,
+        reserved: 0,
+        vendor: 0,
+        kind,
+        value,
+    }
+}
+
+/// The text of a control message that is known to fit.
+pub(crate) fn spelled(tunnel: u16, session: u16, ns: u16, nr: u16, avps: AvpList<'_>) -> Frame
+{
+    let message = Control {
+        tunnel,
+        session,
+        ns,
+        nr,
+        avps,
+    };
+    let mut frame = Frame::new();
+    match message.write(&mut frame) {
+        Written::Done => frame,
+        Written::Full => unreachable!(),
+    }
+}
+
+// The answer to the peer's Challenge, where it sent one.
+fn response_to(
+    secret: &Option<ArrayVec<u8, 64>>,
+    asked: &Option<Value>,
+) -> Option<[u8; 16]>
+{
+    match (secret, asked) {
+        (Some(secret), Some(asked)) => Some(challenge_response(
+            SCCRP,
+            secret.as_slice(),
+            asked.as_slice(),
+        )),
+        _ => None,
+    }
+}
+
+fn push_challenge<'a>(
+    avps: &mut AvpList<'a>,
+    secret: &Option<ArrayVec<u8, 64>>,
+    challenge: &'a [u8; 16],
+)
+{
+    if secret.is_some() {
+        avps.push(avp(CHALLENGE, challenge));
+    }
+}
+
+fn push_response<'a>(avps: &mut AvpList<'a>, response: &'a Option<[u8; 16]>)
+{
+    if let Some(response) = response {
+        avps.push(avp(CHALLENGE_RESPONSE, response));
+    }
+}
+
+/// The SCCRP of a tunnel with this number, to a peer that sent this Challenge, if one (RFC 2661 section 6.2).
+pub(crate) fn sccrp(
+    name: &[u8],
+    number: u16,
+    secret: &Option<ArrayVec<u8, 64>>,
+    challenge: &[u8; 16],
+    asked: &Option<Value>,
+) -> Frame
+{
+    let message = SCCRP.to_be_bytes();
+    let number = number.to_be_bytes();
+    let window = OWN_WINDOW.to_be_bytes();
+    let response = response_to(secret, asked);
+    let mut avps = ArrayVec::new();
+    avps.push(avp(MESSAGE_TYPE, &message));
+    avps.push(avp(PROTOCOL_VERSION, &VERSION));
+    avps.push(avp(FRAMING_CAPABILITIES, &BOTH_FRAMINGS));
+    avps.push(avp(HOST_NAME, name));
+    avps.push(avp(ASSIGNED_TUNNEL_ID, &number));
+    avps.push(avp(RECEIVE_WINDOW_SIZE, &window));
+    push_challenge(&mut avps, secret, challenge);
+    push_response(&mut avps, &response);
+    spelled(0, 0, 0, 0, avps)
+}
+
+// The octets of a Result Code AVP.
+fn code_octets(code: Code) -> ArrayVec<u8, 4> {
+    let mut octets = ArrayVec::new();
+    let [r1, r0] = code.result.to_be_bytes();
+    octets.push(r1);
+    octets.push(r0);
+    if let Some(error) = code.error {
+        let [e1, e0] = error.to_be_bytes();
+        octets.push(e1);
+        octets.push(e0);
+    }
+    octets
+}
+
+/// The StopCCN of the tunnel with this number (RFC 2661 section 6.4), to a tunnel of the peer and with these numbers.
+pub(crate) fn stop_ccn(tunnel: u16, nr: u16, number: u16, code: Code) -> Frame
+{
+    let message = STOP_CCN.to_be_bytes();
+    let number = number.to_be_bytes();
+    let code = code_octets(code);
+    let mut avps = ArrayVec::new();
+    avps.push(avp(MESSAGE_TYPE, &message));
+    avps.push(avp(ASSIGNED_TUNNEL_ID, &number));
+    avps.push(avp(RESULT_CODE, code.as_slice()));
+    spelled(tunnel, 0, 0, nr, avps)
+}
+
+/// The CDN of a call of which none was made, for a session of the peer (RFC 2661 section 6.12).
+pub(crate) fn cdn(session: u16, code: Code) -> Frame
+{
+    let message = CDN.to_be_bytes();
+    let code = code_octets(code);
+    let mut avps = ArrayVec::new();
+    avps.push(avp(MESSAGE_TYPE, &message));
+    avps.push(avp(ASSIGNED_SESSION_ID, &[0, 0]));
+    avps.push(avp(RESULT_CODE, code.as_slice()));
+    spelled(0, session, 0, 0, avps)
+}
+
+/// The HELLO (RFC 2661 section 6.5).
+pub(crate) fn hello() -> Frame
+{
+    let message = HELLO.to_be_bytes();
+    let mut avps = ArrayVec::new();
+    avps.push(avp(MESSAGE_TYPE, &message));
+    spelled(0, 0, 0, 0, avps)
+}
