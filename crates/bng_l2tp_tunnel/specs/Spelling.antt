@@ -5,6 +5,7 @@ use Rattle.bng_l2tp_wire.specs.Avps.{L2tpAvp}
 use Rattle.bng_l2tp_wire.specs.Messages.{ControlMessage}
 use Rattle.bng_l2tp_wire.specs.declared.kind.TheConstants.{MESSAGE_TYPE, RESULT_CODE, PROTOCOL_VERSION, FRAMING_CAPABILITIES, HOST_NAME, ASSIGNED_TUNNEL_ID, RECEIVE_WINDOW_SIZE, CHALLENGE, CHALLENGE_RESPONSE, ASSIGNED_SESSION_ID}
 use Rattle.bng_l2tp_wire.specs.declared.message.TheConstants.{SCCRP, STOP_CCN, HELLO, CDN}
+use Rattle.bng_l2tp_tunnel.specs.declared.refusal.ResultCode.{ResultCode}
 use Rattle.bng_l2tp_tunnel.specs.declared.refusal.Refusal.{Refusal}
 use Rattle.bng_l2tp_tunnel.specs.declared.refusal.Refusal.TheVariants.{NotConfigured, WrongVersion, UnknownAvp, WrongAvp, NotAuthorized, Unexpected, NoNumber}
 use Rattle.bng_l2tp_tunnel.specs.Refusals.{version, challenge_response}
@@ -54,26 +55,22 @@ abbrev pub sccrp : (name : List ℕ) (number : ℕ) (secret : Option (List ℕ))
 sccrp name number secret challenge asked =
     unsent 0 (sccrp_front name number ++ challenge_avps secret challenge ++ response_avps secret asked)
 
--- a Result Code, and an Error Code where it has one (section 4.4.2)
-pub record ResultCode : Type 0 where
-  pub result : ℕ
-  pub error : Option ℕ
-
 abbrev pub result_only : ℕ → ResultCode
-result_only result = record { result = result; error = None }
+result_only code = record { code = code; error = None }
 
 -- a general error, which the Error Code tells
 abbrev pub general_error : ℕ → ResultCode
-general_error error = record { result = 2; error = Some error }
+general_error error = record { code = 2; error = Some error }
 
 abbrev pub error_octets : Option ℕ → List ℕ
 error_octets None = []
 error_octets (Some error) = big_bytes 2 error
 
+-- a Result Code, and an Error Code where it has one (section 4.4.2)
 abbrev pub code_octets : ResultCode → List ℕ
-code_octets code = big_bytes 2 code.result ++ error_octets code.error
+code_octets c = big_bytes 2 c.code ++ error_octets c.error
 
--- the Result Codes of a StopCCN (section 4.4.2): 4 the requester is not authorized, 5 its protocol version is not supported, 2 with 8 an AVP that
+-- The Result Codes of a StopCCN (section 4.4.2): 4 the requester is not authorized, 5 its protocol version is not supported, 2 with 8 an AVP that
 -- must be known is not, 2 with 3 a field is out of range, 7 an error of the state machine, 2 with 4 no resources are left
 abbrev pub code_of : Refusal → ResultCode
 code_of NotConfigured = result_only 4

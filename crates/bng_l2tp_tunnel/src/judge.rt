@@ -66,10 +66,7 @@ pub(crate) fn has_unknown(avps: &[Avp<'_>]) -> bool
 }
 
 /// Whether a Protocol Version is there that is not 1.0.
-pub(crate) fn has_other_version(
-    avps: &[Avp<'_>],
-    secret: &Option<ArrayVec<u8, 64>>,
-) -> bool
+pub(crate) fn has_other_version(avps: &[Avp<'_>], secret: &Option<ArrayVec<u8, 64>>) -> bool
     ensures { result ≡ is_of_other_version (octets_of secret.now) (avps_of avps.now) }
 {
     match value_of(avps, secret, PROTOCOL_VERSION) {
@@ -131,11 +128,7 @@ pub(crate) fn challenge_response(message: u16, secret: &[u8], challenge: &[u8]) 
 }
 
 // Whether the answer to the gateway's Challenge is there, if there was one.
-fn has_answer(
-    avps: &[Avp<'_>],
-    secret: &Option<ArrayVec<u8, 64>>,
-    challenge: &[u8],
-) -> bool
+fn has_answer(avps: &[Avp<'_>], secret: &Option<ArrayVec<u8, 64>>, challenge: &[u8]) -> bool
     ensures { result ≡ answers (octets_of secret.now) challenge.now (avps_of avps.now) }
 {
     let Some(shared) = secret else {

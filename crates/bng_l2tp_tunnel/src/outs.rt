@@ -16,6 +16,7 @@ pub(crate) type Outs = ArrayVec<Frame, 10>;
 const HEADER: usize = 12;
 // Where Tunnel ID and Ns stand in it.
 const TUNNEL_AT: usize = 4;
+
 const NS_AT: usize = 8;
 
 /// A message of the channel as it goes out to a tunnel of the peer.

@@ -48,11 +48,7 @@ pub(crate) fn place_of<'a>(avps: &[Avp<'a>], kind: u16) -> Option<Placed<'a>>
     None
 }
 
-fn is_unreadable(
-    avp: &Avp<'_>,
-    vector: &Option<Avp<'_>>,
-    secret: &Option<ArrayVec<u8, 64>>,
-) -> bool
+fn is_unreadable(avp: &Avp<'_>, vector: &Option<Avp<'_>>, secret: &Option<ArrayVec<u8, 64>>) -> bool
     ensures { result ≡ cannot_be_read (octets_of secret.now) (record { avp = avp_of avp.now; vector = option_map avp_of vector.now }) }
 {
     avp.hidden && (vector.is_none() || secret.is_none())

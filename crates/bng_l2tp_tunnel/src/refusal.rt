@@ -23,8 +23,8 @@ pub enum Refusal {
 
 /// What a Result Code AVP says (RFC 2661 section 4.4.2): a Result Code, and an Error Code where it has one.
 #[derive(Clone, Copy, PartialEq, Eq, Debug)]
-pub(crate) struct Code {
-    pub(crate) result: u16,
+pub(crate) struct ResultCode {
+    pub(crate) code: u16,
     pub(crate) error: Option<u16>,
 }
 
@@ -46,23 +46,19 @@ const NO_RESOURCES: u16 = 4;
 // An AVP that must be known is not.
 const UNKNOWN_AVP: u16 = 8;
 
-fn result_only(result: u16) -> Code {
-    Code {
-        result,
-        error: None,
-    }
+fn result_only(code: u16) -> ResultCode {
+    ResultCode { code, error: None }
 }
 
-fn general_error(error: u16) -> Code {
-    Code {
-        result: GENERAL_ERROR,
+fn general_error(error: u16) -> ResultCode {
+    ResultCode {
+        code: GENERAL_ERROR,
         error: Some(error),
     }
 }
 
 /// The code of a StopCCN that tells a refusal.
-pub(crate) fn code_of(refusal: Refusal) -> Code
-{
+pub(crate) fn code_of(refusal: Refusal) -> ResultCode {
     match refusal {
         Refusal::NotConfigured | Refusal::NotAuthorized => result_only(UNAUTHORIZED),
         Refusal::WrongVersion => result_only(UNSUPPORTED_VERSION),
@@ -74,13 +70,11 @@ pub(crate) fn code_of(refusal: Refusal) -> Code
 }
 
 /// The code of a StopCCN of a gateway that shuts down.
-pub(crate) fn shut_down() -> Code
-{
+pub(crate) fn shut_down() -> ResultCode {
     result_only(SHUT_DOWN)
 }
 
 /// The code of a refusal for want of resources.
-pub(crate) fn no_resources() -> Code
-{
+pub(crate) fn no_resources() -> ResultCode {
     general_error(NO_RESOURCES)
 }

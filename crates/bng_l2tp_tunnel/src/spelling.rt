@@ -8,7 +8,7 @@ ghost use Rattle.bng_l2tp_tunnel.specs.View.{octets_of};
 ghost use Rattle.bng_l2tp_tunnel.specs.Spelling.{avp as must_avp, sccrp as sccrp_of, stop_ccn as stop_ccn_of, cdn as cdn_of, hello as hello_of, unsent};
 
 use crate::judge::{VERSION, challenge_response};
-use crate::refusal::Code;
+use crate::refusal::ResultCode;
 use crate::values::Value;
 use arrayvec::ArrayVec;
 use bng_base::{Frame, Written};
@@ -42,8 +42,7 @@ fn avp<'a>(kind: u16, value: &'a [u8]) -> Avp<'a>
 }
 
 /// The text of a control message that is known to fit.
-pub(crate) fn spelled(tunnel: u16, session: u16, ns: u16, nr: u16, avps: AvpList<'_>) -> Frame
-{
+pub(crate) fn spelled(tunnel: u16, session: u16, ns: u16, nr: u16, avps: AvpList<'_>) -> Frame {
     let message = Control {
         tunnel,
         session,
@@ -59,11 +58,7 @@ pub(crate) fn spelled(tunnel: u16, session: u16, ns: u16, nr: u16, avps: AvpList
 }
 
 // The answer to the peer's Challenge, where it sent one.
-fn response_to(
-    secret: &Option<ArrayVec<u8, 64>>,
-    asked: &Option<Value>,
-) -> Option<[u8; 16]>
-{
+fn response_to(secret: &Option<ArrayVec<u8, 64>>, asked: &Option<Value>) -> Option<[u8; 16]> {
     match (secret, asked) {
         (Some(secret), Some(asked)) => Some(challenge_response(
             SCCRP,
@@ -78,15 +73,13 @@ fn push_challenge<'a>(
     avps: &mut AvpList<'a>,
     secret: &Option<ArrayVec<u8, 64>>,
     challenge: &'a [u8; 16],
-)
-{
+) {
     if secret.is_some() {
         avps.push(avp(CHALLENGE, challenge));
     }
 }
 
-fn push_response<'a>(avps: &mut AvpList<'a>, response: &'a Option<[u8; 16]>)
-{
+fn push_response<'a>(avps: &mut AvpList<'a>, response: &'a Option<[u8; 16]>) {
     if let Some(response) = response {
         avps.push(avp(CHALLENGE_RESPONSE, response));
     }
@@ -99,8 +92,7 @@ pub(crate) fn sccrp(
     secret: &Option<ArrayVec<u8, 64>>,
     challenge: &[u8; 16],
     asked: &Option<Value>,
-) -> Frame
-{
+) -> Frame {
     let message = SCCRP.to_be_bytes();
     let number = number.to_be_bytes();
     let window = OWN_WINDOW.to_be_bytes();
@@ -118,9 +110,9 @@ pub(crate) fn sccrp(
 }
 
 // The octets of a Result Code AVP.
-fn code_octets(code: Code) -> ArrayVec<u8, 4> {
+fn code_octets(code: ResultCode) -> ArrayVec<u8, 4> {
     let mut octets = ArrayVec::new();
-    let [r1, r0] = code.result.to_be_bytes();
+    let [r1, r0] = code.code.to_be_bytes();
     octets.push(r1);
     octets.push(r0);
     if let Some(error) = code.error {
@@ -132,8 +124,7 @@ fn code_octets(code: Code) -> ArrayVec<u8, 4> {
 }
 
 /// The StopCCN of the tunnel with this number (RFC 2661 section 6.4), to a tunnel of the peer and with these numbers.
-pub(crate) fn stop_ccn(tunnel: u16, nr: u16, number: u16, code: Code) -> Frame
-{
+pub(crate) fn stop_ccn(tunnel: u16, nr: u16, number: u16, code: ResultCode) -> Frame {
     let message = STOP_CCN.to_be_bytes();
     let number = number.to_be_bytes();
     let code = code_octets(code);
@@ -145,8 +136,7 @@ pub(crate) fn stop_ccn(tunnel: u16, nr: u16, number: u16, code: Code) -> Frame
 }
 
 /// The CDN of a call of which none was made, for a session of the peer (RFC 2661 section 6.12).
-pub(crate) fn cdn(session: u16, code: Code) -> Frame
-{
+pub(crate) fn cdn(session: u16, code: ResultCode) -> Frame {
     let message = CDN.to_be_bytes();
     let code = code_octets(code);
     let mut avps = ArrayVec::new();
@@ -157,8 +147,7 @@ pub(crate) fn cdn(session: u16, code: Code) -> Frame
 }
 
 /// The HELLO (RFC 2661 section 6.5).
-pub(crate) fn hello() -> Frame
-{
+pub(crate) fn hello() -> Frame {
     let message = HELLO.to_be_bytes();
     let mut avps = ArrayVec::new();
     avps.push(avp(MESSAGE_TYPE, &message));

@@ -53,16 +53,14 @@ impl Model for Tunnel {
     } };
 }
 
-fn copied(text: &ArrayVec<u8, 64>) -> ArrayVec<u8, 64>
-{
+fn copied(text: &ArrayVec<u8, 64>) -> ArrayVec<u8, 64> {
     let Ok(list) = ArrayVec::try_from(text.as_slice()) else {
         unreachable!();
     };
     list
 }
 
-fn copied_secret(secret: &Option<ArrayVec<u8, 64>>) -> Option<ArrayVec<u8, 64>>
-{
+fn copied_secret(secret: &Option<ArrayVec<u8, 64>>) -> Option<ArrayVec<u8, 64>> {
     match secret {
         Some(secret) => Some(copied(secret)),
         None => None,
@@ -70,8 +68,7 @@ fn copied_secret(secret: &Option<ArrayVec<u8, 64>>) -> Option<ArrayVec<u8, 64>>
 }
 
 // A step that sends these datagrams, and tells nothing else.
-fn sends(outs: Outs) -> TunnelStep
-{
+fn sends(outs: Outs) -> TunnelStep {
     TunnelStep {
         outs,
         established: false,
@@ -83,8 +80,7 @@ fn sends(outs: Outs) -> TunnelStep
     }
 }
 
-fn nothing() -> TunnelStep
-{
+fn nothing() -> TunnelStep {
     sends(ArrayVec::new())
 }
 
@@ -106,12 +102,7 @@ impl Tunnel {
         }
     }
 
-    pub fn on_message(
-        &mut self,
-        message: &Control<'_>,
-        random: &[u8; 16],
-        now: u64,
-    ) -> TunnelStep {
+    pub fn on_message(&mut self, message: &Control<'_>, random: &[u8; 16], now: u64) -> TunnelStep {
         match self.phase {
             Phase::Idle => self.open(message, random, now),
             Phase::Replied | Phase::Established => self.hear(message, now),

@@ -149,10 +149,7 @@ pub fn message_type(message: &Control<'_>) -> Option<u16>
 
 /// The sender's Assigned Tunnel ID (RFC 2661 section 4.4.3), read with the secret that is shared with it, if any. None comes
 /// exactly where there is none of two octets, or where it is hidden and has no Random Vector before it or there is no secret.
-pub fn assigned_tunnel(
-    message: &Control<'_>,
-    secret: &Option<ArrayVec<u8, 64>>,
-) -> Option<u16>
+pub fn assigned_tunnel(message: &Control<'_>, secret: &Option<ArrayVec<u8, 64>>) -> Option<u16>
     ensures { result ≡ tunnel_of (octets_of secret.now) (avps_of message.now.avps.items) }
 {
     number_at(message.avps.as_slice(), secret, ASSIGNED_TUNNEL_ID)
