@@ -24,8 +24,11 @@ abbrev pub has_other_version : Option (List ℕ) → List L2tpAvp → Bool
 has_other_version secret avps = is_other_than version (value_of secret PROTOCOL_VERSION avps)
 
 -- an AVP that is not known and must be
+abbrev pub must_be_known : L2tpAvp → Bool
+must_be_known a = a.mandatory && not (is_known a)
+
 abbrev pub has_unknown : List L2tpAvp → Bool
-has_unknown avps = list_any (λ a. a.mandatory && not (is_known a)) avps
+has_unknown avps = list_any must_be_known avps
 
 -- the answer to a Challenge in a message of this type (section 4.4.3, as CHAP's of RFC 1994 section 4.1 with the type for its Identifier)
 abbrev pub challenge_response : (type : ℕ) (secret challenge : List ℕ) → List ℕ

@@ -34,11 +34,15 @@ abbrev pub challenge_avps : Option (List ℕ) → List ℕ → List L2tpAvp
 challenge_avps None challenge = []
 challenge_avps (Some secret) challenge = avp CHALLENGE challenge ∷ []
 
+abbrev pub answer_avps : Option (List ℕ) → List L2tpAvp
+answer_avps None = []
+answer_avps (Some response) = avp CHALLENGE_RESPONSE response ∷ []
+
 -- the answer to the peer's Challenge, where it sent one
 abbrev pub response_avps : Option (List ℕ) → Option (List ℕ) → List L2tpAvp
-response_avps None asked = []
-response_avps (Some secret) None = []
-response_avps (Some secret) (Some asked) = avp CHALLENGE_RESPONSE (challenge_response SCCRP secret asked) ∷ []
+response_avps None asked = answer_avps None
+response_avps (Some secret) None = answer_avps None
+response_avps (Some secret) (Some asked) = answer_avps (Some (challenge_response SCCRP secret asked))
 
 abbrev pub sccrp_front : (name : List ℕ) (number : ℕ) → List L2tpAvp
 sccrp_front name number =

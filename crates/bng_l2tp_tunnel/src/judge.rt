@@ -3,7 +3,7 @@ ghost use Rattle.bng_l2tp_wire.specs.View.{avp_of, avps_of};
 ghost use Rattle.bng_l2tp_tunnel.specs.Values.{is_known as is_known_avp, value_of as value_in_message};
 ghost use Rattle.bng_l2tp_tunnel.specs.View.{octets_of};
 ghost use Rattle.bng_l2tp_tunnel.specs.Messages.{is_type as is_of_type, is_of_call as belongs_to_call, is_taken as is_taken_in, has_right_length as is_right_length, is_wrong as is_wrong_value, lacks_needed as lacks};
-ghost use Rattle.bng_l2tp_tunnel.specs.Refusals.{has_other_version as is_of_other_version, has_unknown as has_one_unknown, challenge_response, has_answer as answers, is_asked_in_vain as asks_in_vain, fails_challenge as fails};
+ghost use Rattle.bng_l2tp_tunnel.specs.Refusals.{has_other_version as is_of_other_version, must_be_known as must_be, has_unknown as has_one_unknown, challenge_response, has_answer as answers, is_asked_in_vain as asks_in_vain, fails_challenge as fails};
 
 use crate::phase::Phase;
 use crate::values::value_of;
@@ -53,14 +53,22 @@ fn is_known(avp: &Avp<'_>) -> bool
     avp.vendor == 0 && avp.reserved == 0 && matches!(avp.kind, 0..=19 | 21..=39)
 }
 
+fn must_be_known(avp: &Avp<'_>) -> bool
+    ensures { result ≡ must_be (avp_of avp.now) }
+{
+    avp.mandatory && !is_known(avp)
+}
+
 /// Whether an AVP is not known and must be (RFC 2661 section 4.1).
 pub(crate) fn has_unknown(avps: &[Avp<'_>]) -> bool
     ensures { result ≡ has_one_unknown (avps_of avps.now) }
 {
-    for avp in avps {
-        if avp.mandatory && !is_known(avp) {
+    let mut left = avps;
+    while let [avp, after @ ..] = left {
+        if must_be_known(avp) {
             return true;
         }
+        left = after;
     }
     false
 }

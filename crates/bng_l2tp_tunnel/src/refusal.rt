@@ -1,6 +1,5 @@
-ghost use Rattle.std.specs.Prelude.{◌≡◌, [], ◌∷◌};
-ghost use Rattle.bng_l2tp_tunnel.specs.Refusals.{if_so, first_of};
-ghost use Rattle.bng_l2tp_tunnel.specs.Spelling.{code_of, shut_down, no_resources};
+ghost use Rattle.std.specs.Prelude.{◌≡◌};
+ghost use Rattle.bng_l2tp_tunnel.specs.Spelling.{result_only as only_result, general_error as error_of, code_of as code_of_refusal, shut_down as code_of_shut_down, no_resources as code_of_want};
 
 /// Why a tunnel is refused (RFC 2661 sections 4.4.2 and 7.2.1). Each is told by a StopCCN.
 #[derive(Clone, Copy, PartialEq, Eq, Debug)]
@@ -46,11 +45,15 @@ const NO_RESOURCES: u16 = 4;
 // An AVP that must be known is not.
 const UNKNOWN_AVP: u16 = 8;
 
-fn result_only(code: u16) -> ResultCode {
+fn result_only(code: u16) -> ResultCode
+    ensures { result ≡ only_result code }
+{
     ResultCode { code, error: None }
 }
 
-fn general_error(error: u16) -> ResultCode {
+fn general_error(error: u16) -> ResultCode
+    ensures { result ≡ error_of error }
+{
     ResultCode {
         code: GENERAL_ERROR,
         error: Some(error),
@@ -58,7 +61,9 @@ fn general_error(error: u16) -> ResultCode {
 }
 
 /// The code of a StopCCN that tells a refusal.
-pub(crate) fn code_of(refusal: Refusal) -> ResultCode {
+pub(crate) fn code_of(refusal: Refusal) -> ResultCode
+    ensures { result ≡ code_of_refusal refusal }
+{
     match refusal {
         Refusal::NotConfigured | Refusal::NotAuthorized => result_only(UNAUTHORIZED),
         Refusal::WrongVersion => result_only(UNSUPPORTED_VERSION),
@@ -70,11 +75,15 @@ pub(crate) fn code_of(refusal: Refusal) -> ResultCode {
 }
 
 /// The code of a StopCCN of a gateway that shuts down.
-pub(crate) fn shut_down() -> ResultCode {
+pub(crate) fn shut_down() -> ResultCode
+    ensures { result ≡ code_of_shut_down }
+{
     result_only(SHUT_DOWN)
 }
 
 /// The code of a refusal for want of resources.
-pub(crate) fn no_resources() -> ResultCode {
+pub(crate) fn no_resources() -> ResultCode
+    ensures { result ≡ code_of_want }
+{
     general_error(NO_RESOURCES)
 }

@@ -1,17 +1,17 @@
-ghost use Rattle.std.specs.Prelude.{◌≡◌, ◌+◌, ◌≤◌, ◌++◌, [], ◌∷◌, length};
+ghost use Rattle.std.specs.Prelude.{◌≡◌, ◌+◌, ◌*◌, ◌≤◌, ◌<◌, ◌++◌, [], ◌∷◌, length, option_map};
 ghost use Rattle.std.specs.List.{AllByRecursion};
 ghost use Rattle.arrayvec.specs.ArrayVec.{array_vec_len};
-ghost use Rattle.bng_l2tp_wire.specs.Avps.{AvpFits};
+ghost use Rattle.bng_l2tp_wire.specs.Avps.{AvpFits, avps_text};
 ghost use Rattle.bng_l2tp_wire.specs.Messages.{control_text};
 ghost use Rattle.bng_l2tp_wire.specs.View.{avp_of, avps_of};
 ghost use Rattle.bng_l2tp_tunnel.specs.View.{octets_of};
-ghost use Rattle.bng_l2tp_tunnel.specs.Spelling.{avp as must_avp, sccrp as sccrp_of, stop_ccn as stop_ccn_of, cdn as cdn_of, hello as hello_of, unsent};
+ghost use Rattle.bng_l2tp_tunnel.specs.Spelling.{avp as must_avp, sccrp as sccrp_of, stop_ccn as stop_ccn_of, cdn as cdn_of, hello as hello_of, code_octets as octets_of_code, challenge_avps, response_avps, answer_avps};
 
 use crate::judge::{VERSION, challenge_response};
 use crate::refusal::ResultCode;
 use crate::values::Value;
 use arrayvec::ArrayVec;
-use bng_base::{Frame, Written};
+use bng_base::{Frame, LONGEST, Written};
 use bng_l2tp_wire::kind::{
     ASSIGNED_SESSION_ID, ASSIGNED_TUNNEL_ID, CHALLENGE, CHALLENGE_RESPONSE, FRAMING_CAPABILITIES,
     HOST_NAME, MESSAGE_TYPE, PROTOCOL_VERSION, RECEIVE_WINDOW_SIZE, RESULT_CODE,
@@ -42,7 +42,12 @@ fn avp<'a>(kind: u16, value: &'a [u8]) -> Avp<'a>
 }
 
 /// The text of a control message that is known to fit.
-pub(crate) fn spelled(tunnel: u16, session: u16, ns: u16, nr: u16, avps: AvpList<'_>) -> Frame {
+pub(crate) fn spelled(tunnel: u16, session: u16, ns: u16, nr: u16, avps: AvpList<'_>) -> Frame
+    requires fit { AllByRecursion AvpFits (avps_of avps.items) }
+    requires short { 12 + length (avps_text (avps_of avps.items)) ≤ LONGEST }
+    ensures text { result.payload ≡ control_text (record { tunnel = tunnel; session = session; ns = ns; nr = nr; avps = avps_of avps.entry.items }) }
+    ensures size { length result.payload ≡ 12 + length (avps_text (avps_of avps.entry.items)) }
+{
     let message = Control {
         tunnel,
         session,
@@ -58,7 +63,9 @@ pub(crate) fn spelled(tunnel: u16, session: u16, ns: u16, nr: u16, avps: AvpList
 }
 
 // The answer to the peer's Challenge, where it sent one.
-fn response_to(secret: &Option<ArrayVec<u8, 64>>, asked: &Option<Value>) -> Option<[u8; 16]> {
+fn response_to(secret: &Option<ArrayVec<u8, 64>>, asked: &Option<Value>) -> Option<[u8; 16]>
+    ensures { response_avps (octets_of secret.now) (octets_of asked.now) ≡ answer_avps result }
+{
     match (secret, asked) {
         (Some(secret), Some(asked)) => Some(challenge_response(
             SCCRP,
@@ -73,13 +80,20 @@ fn push_challenge<'a>(
     avps: &mut AvpList<'a>,
     secret: &Option<ArrayVec<u8, 64>>,
     challenge: &'a [u8; 16],
-) {
+)
+    requires { array_vec_len avps.old < 64 }
+    ensures items { avps_of avps.new.items ≡ avps_of avps.old.items ++ challenge_avps (octets_of secret.now) challenge.now }
+    ensures len { array_vec_len avps.new ≤ array_vec_len avps.old + 1 }
+{
     if secret.is_some() {
         avps.push(avp(CHALLENGE, challenge));
     }
 }
 
-fn push_response<'a>(avps: &mut AvpList<'a>, response: &'a Option<[u8; 16]>) {
+fn push_response<'a>(avps: &mut AvpList<'a>, response: &'a Option<[u8; 16]>)
+    requires { array_vec_len avps.old < 64 }
+    ensures items { avps_of avps.new.items ≡ avps_of avps.old.items ++ answer_avps response.now }
+{
     if let Some(response) = response {
         avps.push(avp(CHALLENGE_RESPONSE, response));
     }
@@ -92,7 +106,11 @@ pub(crate) fn sccrp(
     secret: &Option<ArrayVec<u8, 64>>,
     challenge: &[u8; 16],
     asked: &Option<Value>,
-) -> Frame {
+) -> Frame
+    requires { length name.now ≤ 64 }
+    ensures text { result.payload ≡ control_text (sccrp_of name.now number (octets_of secret.now) challenge.now (octets_of asked.now)) }
+    ensures size { length result.payload ≤ 512 }
+{
     let message = SCCRP.to_be_bytes();
     let number = number.to_be_bytes();
     let window = OWN_WINDOW.to_be_bytes();
@@ -110,7 +128,9 @@ pub(crate) fn sccrp(
 }
 
 // The octets of a Result Code AVP.
-fn code_octets(code: ResultCode) -> ArrayVec<u8, 4> {
+fn code_octets(code: ResultCode) -> ArrayVec<u8, 4>
+    ensures { result.items ≡ octets_of_code code }
+{
     let mut octets = ArrayVec::new();
     let [r1, r0] = code.code.to_be_bytes();
     octets.push(r1);
@@ -124,7 +144,10 @@ fn code_octets(code: ResultCode) -> ArrayVec<u8, 4> {
 }
 
 /// The StopCCN of the tunnel with this number (RFC 2661 section 6.4), to a tunnel of the peer and with these numbers.
-pub(crate) fn stop_ccn(tunnel: u16, nr: u16, number: u16, code: ResultCode) -> Frame {
+pub(crate) fn stop_ccn(tunnel: u16, nr: u16, number: u16, code: ResultCode) -> Frame
+    ensures text { result.payload ≡ control_text (record (stop_ccn_of number code) { tunnel = tunnel; nr = nr }) }
+    ensures size { length result.payload ≤ 512 }
+{
     let message = STOP_CCN.to_be_bytes();
     let number = number.to_be_bytes();
     let code = code_octets(code);
@@ -136,7 +159,10 @@ pub(crate) fn stop_ccn(tunnel: u16, nr: u16, number: u16, code: ResultCode) -> F
 }
 
 /// The CDN of a call of which none was made, for a session of the peer (RFC 2661 section 6.12).
-pub(crate) fn cdn(session: u16, code: ResultCode) -> Frame {
+pub(crate) fn cdn(session: u16, code: ResultCode) -> Frame
+    ensures text { result.payload ≡ control_text (cdn_of session 0 code) }
+    ensures size { length result.payload ≤ 512 }
+{
     let message = CDN.to_be_bytes();
     let code = code_octets(code);
     let mut avps = ArrayVec::new();
@@ -147,7 +173,10 @@ pub(crate) fn cdn(session: u16, code: ResultCode) -> Frame {
 }
 
 /// The HELLO (RFC 2661 section 6.5).
-pub(crate) fn hello() -> Frame {
+pub(crate) fn hello() -> Frame
+    ensures text { result.payload ≡ control_text hello_of }
+    ensures size { length result.payload ≤ 512 }
+{
     let message = HELLO.to_be_bytes();
     let mut avps = ArrayVec::new();
     avps.push(avp(MESSAGE_TYPE, &message));
