@@ -4,3 +4,4 @@ pub mod Flight
 pub mod Calls
 pub mod Timers
 pub mod Ring
+pub mod World

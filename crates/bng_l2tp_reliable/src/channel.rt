@@ -37,8 +37,7 @@ pub struct Channel {
 }
 
 impl Model for Channel {
-    ghost use Rattle.std.specs.Prelude.{◌+◌, ◌≤◌, length};
-    ghost use Rattle.bng_l2tp_reliable.specs.ChannelState.{ChannelState};
+    ghost use Rattle.bng_l2tp_reliable.specs.ChannelState.{ChannelState, IsChannel};
 
     ghost Value = { ChannelState };
 
@@ -53,10 +52,16 @@ impl Model for Channel {
       moment = c.moment;
     } };
 
-    ghost invariant = { λ c. (c.window ≤ 8)
-      × (length c.sends.items ≤ c.window)
-      × (length c.sends.items ≤ length c.messages)
-      × (length c.messages ≤ length c.sends.items + 64) };
+    ghost invariant = { λ c. IsChannel (record {
+      window = c.window;
+      messages = c.messages;
+      sends = c.sends.items;
+      ns = c.ns;
+      nr = c.nr;
+      heard = c.heard;
+      greeted = c.greeted;
+      moment = c.moment;
+    }) };
 }
 
 impl Channel {
@@ -143,15 +148,7 @@ impl Channel {
         ensures after { self.new ≡ after_next self.old result }
         ensures sound { IsChannel self.new }
     {
-        if self.sends.len() >= self.window {
-            return None;
-        }
-        let message = copied(self.messages.get(self.sends.len())?);
-        let out = Outgoing {
-            ns: self.ns,
-            nr: self.nr,
-            message,
-        };
+        let out = self.next_out()?;
         self.sends.push(first(self.moment));
         self.ns = steps_on(self.ns, 1);
         Some(out)
@@ -172,14 +169,14 @@ impl Channel {
         ensures none { IsNone result ↔ (length (in_flight self.now) ≤ at) }
         ensures sound { IsChannel self.now }
     {
-        if at as usize >= self.sends.len() {
+        let place = at as usize;
+        if self.sends.len() <= place {
             return None;
         }
-        let message = copied(self.messages.get(at as usize)?);
         Some(Outgoing {
             ns: steps_on(self.oldest_ns(), at as u16),
             nr: self.nr,
-            message,
+            message: copied(self.messages.at(place)),
         })
     }
 
@@ -217,6 +214,23 @@ impl Channel {
         } else {
             Due::Nothing
         }
+    }
+
+    // The next message that the window lets out.
+    fn next_out(&self) -> Option<Outgoing>
+        ensures answer { result ≡ next_out self.now }
+        ensures none { IsNone result ↔ ((length self.now.sends ≡ self.now.window) ⊎ (waiting self.now ≡ [])) }
+        ensures room { IsSome result → (length self.now.sends < self.now.window) × (length self.now.sends < length self.now.messages) }
+    {
+        let place = self.sends.len();
+        if self.window <= place || self.messages.len() <= place {
+            return None;
+        }
+        Some(Outgoing {
+            ns: self.ns,
+            nr: self.nr,
+            message: copied(self.messages.at(place)),
+        })
     }
 
     // The Ns of the oldest message in flight.

@@ -9,6 +9,7 @@
 
 mod answers;
 mod channel;
+mod law;
 mod message;
 mod number;
 mod outgoing;
@@ -19,6 +20,7 @@ mod tests;
 
 pub use crate::answers::{Due, Heard, Queued};
 pub use crate::channel::{Channel, HELLO_AFTER, IN_FLIGHT_MOST, WAITING_MOST};
+pub use crate::law::{delivers_in_order, numbers_tell_the_order};
 pub use crate::message::{MESSAGE_MOST, Message};
 pub use crate::outgoing::Outgoing;
 pub use crate::sent::{Sent, WAITS};

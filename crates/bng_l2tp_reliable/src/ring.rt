@@ -1,6 +1,5 @@
 //! The messages of a channel in a ring of places, so that none is moved once it is there.
 ghost use Rattle.std.specs.Prelude.{◌≡◌, ◌+◌, ◌<◌, ◌≤◌, ◌++◌, ◌∷◌, [], drop, length, slice_get, List};
-ghost use Rattle.std.specs.Option.{option_copied};
 
 use crate::message::Message;
 use std::marker::Model;
@@ -17,7 +16,7 @@ pub(crate) struct Ring {
 }
 
 impl Model for Ring {
-    ghost use Rattle.std.specs.Prelude.{◌<◌, ◌≤◌, List};
+    ghost use Rattle.std.specs.Prelude.{◌≡◌, ◌<◌, ◌≤◌, List, length};
     ghost use Rattle.bng_l2tp_reliable.specs.ChannelState.{Message as Octets};
     ghost use Rattle.bng_l2tp_reliable.specs.Ring.{window};
 
@@ -25,7 +24,7 @@ impl Model for Ring {
 
     ghost view = { λ r. window r.oldest r.len r.places };
 
-    ghost invariant = { λ r. (r.oldest < 72) × (r.len ≤ 72) };
+    ghost invariant = { λ r. (r.oldest < 72) × (r.len ≤ 72) × (length r.places ≡ 72) };
 }
 
 impl Ring {
@@ -67,13 +66,10 @@ impl Ring {
     }
 
     /// The message at a place, from 0.
-    pub(crate) fn get(&self, place: usize) -> Option<&Message>
-        ensures { option_copied result ≡ slice_get self.now place }
+    pub(crate) fn at(&self, place: usize) -> &Message
+        requires { place < length self.now }
+        ensures { slice_get self.now place ≡ Some result.now }
     {
-        if place < self.len {
-            Some(&self.places[(self.oldest + place) % PLACES])
-        } else {
-            None
-        }
+        &self.places[(self.oldest + place) % PLACES]
     }
 }

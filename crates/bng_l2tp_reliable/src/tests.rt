@@ -75,7 +75,10 @@ fn sent_numbers_go_on_from_65535_to_0(rt: HostRuntime) -> Result<(), Fail> {
     assert_eq!(rt; numbers_of(channel.flight(0)), Some((0, 0)));
     assert_eq!(rt; numbers_of(channel.flight(1)), None);
     let third = channel.next().ok_or("no message")?;
-    assert_eq!(rt; (third.ns, third.nr, third.message.as_slice()), (1, 0, [2].as_slice()));
+    assert_eq!(rt;
+        (third.ns, third.nr, third.message.as_slice()),
+        (1, 0, [2].as_slice())
+    );
     Ok(())
 }
 
@@ -97,7 +100,10 @@ fn sixty_four_messages_wait(rt: HostRuntime) -> Result<(), Fail> {
     channel.receive(0, 5, true, 0);
     for ns in 8..13 {
         let out = channel.next().ok_or("no message")?;
-        assert_eq!(rt; (out.ns, out.message.as_slice()), (ns, [ns as u8].as_slice()));
+        assert_eq!(rt;
+            (out.ns, out.message.as_slice()),
+            (ns, [ns as u8].as_slice())
+        );
     }
     assert_eq!(rt; numbers_of(channel.next()), None);
     Ok(())
