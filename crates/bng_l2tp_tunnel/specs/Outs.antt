@@ -1,6 +1,5 @@
 -- The datagrams of a tunnel, by RFC 2661 sections 3.1 and 5.8.
-use Rattle.std.specs.Prelude.{ℕ, zero, suc, Bool, nat_le, if◌then◌else◌, List, [], ◌∷◌, ◌++◌, length, take, drop, slice_range, map, option_to_list}
-use Rattle.std.specs.List.{flat_map, range_with_len}
+use Rattle.std.specs.Prelude.{ℕ, zero, suc, ◌+◌, nat_lt, if◌then◌else◌, List, [], ◌∷◌, ◌++◌, length, take, drop, map, option_to_list}
 use Rattle.byteorder.specs.Endian.{big_bytes}
 use Rattle.bng_l2tp_reliable.specs.declared.outgoing.Outgoing.{Outgoing}
 use Rattle.bng_l2tp_reliable.specs.ChannelState.{ChannelState}
@@ -9,14 +8,18 @@ use Rattle.bng_l2tp_wire.specs.Messages.{control_text}
 use Rattle.bng_l2tp_tunnel.specs.declared.acknowledging.Acknowledging.{Acknowledging}
 use Rattle.bng_l2tp_tunnel.specs.declared.acknowledging.Acknowledging.TheVariants.{Never, ByAny, ByZlb}
 
--- the text of a control message with this Tunnel ID, Ns and Nr
+-- a text with these octets written over those at a place
+abbrev pub overwritten : ℕ → List ℕ → List ℕ → List ℕ
+overwritten at octets text = take at text ++ octets ++ drop (at + length octets) text
+
+-- The text of a control message with this Tunnel ID, Ns and Nr. Tunnel ID stands at octet 4, and Ns and Nr from octet 8 on.
 abbrev pub with_numbers : (tunnel ns nr : ℕ) → List ℕ → List ℕ
-with_numbers tunnel ns nr text = take 4 text ++ big_bytes 2 tunnel ++ slice_range text 6 8 ++ big_bytes 2 ns ++ big_bytes 2 nr ++ drop 12 text
+with_numbers tunnel ns nr text = overwritten 8 (big_bytes 2 ns ++ big_bytes 2 nr) (overwritten 4 (big_bytes 2 tunnel) text)
 
 -- A message of the channel as it goes out to a tunnel of the peer. Octets that are too few for a header go out as they are.
 unfoldable pub datagram : ℕ → Outgoing → List ℕ
 datagram tunnel o =
-    if nat_le 12 (length o.message.items) then with_numbers tunnel o.ns o.nr o.message.items else o.message.items
+    if nat_lt (length o.message.items) 12 then o.message.items else with_numbers tunnel o.ns o.nr o.message.items
 
 -- the channel after it was asked so often for the next message that the window lets out
 unfoldable pub after_out : ℕ → ChannelState → ChannelState
@@ -25,15 +28,17 @@ after_out (suc n) c = after_next (after_out n c) (next_out (after_out n c))
 
 -- the messages that it let out
 unfoldable pub let_out : ℕ → ChannelState → List Outgoing
-let_out n c = flat_map (λ k. option_to_list (next_out (after_out k c))) (range_with_len 0 n)
+let_out zero c = []
+let_out (suc n) c = let_out n c ++ option_to_list (next_out (after_out n c))
 
--- No more than eight messages are in flight, so after as many the window lets out none.
+-- how many messages are in flight at most: after as many the window lets out none
 abbrev pub flight_most : ℕ
 flight_most = 8
 
--- the messages in flight, oldest first
-unfoldable pub resent : ChannelState → List Outgoing
-resent c = flat_map (λ k. option_to_list (flight_at c k)) (range_with_len 0 flight_most)
+-- the messages in flight before a place, oldest first
+unfoldable pub flight_before : ℕ → ChannelState → List Outgoing
+flight_before zero c = []
+flight_before (suc n) c = flight_before n c ++ option_to_list (flight_at c n)
 
 -- a message without AVPs, which only acknowledges
 abbrev pub zlb : ℕ → ChannelState → List ℕ

@@ -24,7 +24,7 @@ use Rattle.bng_l2tp_tunnel.specs.Messages.{is_type, is_of_call}
 use Rattle.bng_l2tp_tunnel.specs.TunnelState.{TunnelState}
 use Rattle.bng_l2tp_tunnel.specs.Refusals.{refusal_of}
 use Rattle.bng_l2tp_tunnel.specs.Spelling.{sccrp, stop_ccn, cdn, hello, code_of, shut_down, no_resources}
-use Rattle.bng_l2tp_tunnel.specs.Outs.{datagram, resent, zlb, outs_of, after_out, flight_most}
+use Rattle.bng_l2tp_tunnel.specs.Outs.{datagram, flight_before, zlb, outs_of, after_out, flight_most}
 
 -- what a call gives, and the tunnel after it
 pub record Step : Type 0 where
@@ -174,7 +174,7 @@ message_step s m random now = in_phase s.phase s m random now
 -- what the timers of the channel ask for
 abbrev pub reminded : TunnelState → ℕ → Due → Step
 reminded s now Nothing = nothing s
-reminded s now Resend = record { said = sends (map (datagram (to_peer s)) (resent s.channel)); after = s }
+reminded s now Resend = record { said = sends (map (datagram (to_peer s)) (flight_before flight_most s.channel)); after = s }
 reminded s now Hello = answered Never s hello now
 reminded s now GiveUp = clears (nothing s)
 

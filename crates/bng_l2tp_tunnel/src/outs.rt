@@ -1,7 +1,8 @@
-ghost use Rattle.std.specs.Prelude.{◌≡◌, ◌+◌, ◌≤◌, ◌++◌, [], ◌∷◌, length, map};
+ghost use Rattle.std.specs.Prelude.{◌≡◌, ◌+◌, ◌<◌, ◌≤◌, ◌++◌, length, map, option_to_list, None};
+ghost use Rattle.bng_l2tp_reliable.specs.Calls.{next_out};
 ghost use Rattle.arrayvec.specs.ArrayVec.{array_vec_len};
 ghost use Rattle.bng_l2tp_tunnel.specs.View.{payloads};
-ghost use Rattle.bng_l2tp_tunnel.specs.Outs.{datagram as datagram_to, after_out, let_out as lets_out, resent as resent_of, with_zlb, outs_of, flight_most, zlb as zlb_of};
+ghost use Rattle.bng_l2tp_tunnel.specs.Outs.{datagram as datagram_to, after_out, let_out as lets_out, flight_before, with_zlb, outs_of as outs_to, flight_most, zlb as zlb_of};
 
 use crate::acknowledging::Acknowledging;
 use crate::spelling::spelled;
@@ -19,7 +20,8 @@ const TUNNEL_AT: usize = 4;
 
 const NS_AT: usize = 8;
 
-/// A message of the channel as it goes out to a tunnel of the peer.
+// A message of the channel as it goes out to a tunnel of the peer.
+#[tactic(auto, unfolding(crate::specs::Outs::datagram))]
 fn datagram(tunnel: u16, out: &Outgoing) -> Frame
     ensures { result.payload ≡ datagram_to tunnel out.now }
 {
@@ -37,6 +39,8 @@ fn datagram(tunnel: u16, out: &Outgoing) -> Frame
 
 fn push_some(outs: &mut Outs, tunnel: u16, out: Option<Outgoing>)
     requires { array_vec_len outs.old < 10 }
+    ensures outs { payloads outs.new.items ≡ payloads outs.old.items ++ map (datagram_to tunnel) (option_to_list out) }
+    ensures len { array_vec_len outs.new ≤ array_vec_len outs.old + 1 }
 {
     if let Some(out) = out {
         outs.push(datagram(tunnel, &out));
@@ -48,6 +52,7 @@ fn let_out(channel: &mut Channel, tunnel: u16) -> Outs
     ensures outs { payloads result.items ≡ map (datagram_to tunnel) (lets_out flight_most channel.old) }
     ensures few { array_vec_len result ≤ 8 }
     ensures channel { channel.new ≡ after_out flight_most channel.old }
+    ensures until { next_out channel.new ≡ None }
 {
     let mut outs = ArrayVec::new();
     for _ in 0..IN_FLIGHT_MOST {
@@ -58,7 +63,7 @@ fn let_out(channel: &mut Channel, tunnel: u16) -> Outs
 
 /// The messages in flight, oldest first.
 pub(crate) fn resent(channel: &Channel, tunnel: u16) -> Outs
-    ensures { payloads result.items ≡ map (datagram_to tunnel) (resent_of channel.now) }
+    ensures { payloads result.items ≡ map (datagram_to tunnel) (flight_before flight_most channel.now) }
 {
     let mut outs = ArrayVec::new();
     for place in 0..8u8 {
@@ -75,19 +80,31 @@ pub(crate) fn zlb(channel: &Channel, tunnel: u16) -> Frame
     spelled(tunnel, 0, ns, nr, ArrayVec::new())
 }
 
+// Puts the ZLB that is due after the datagrams of a step.
+fn push_zlb(outs: &mut Outs, channel: &Channel, tunnel: u16, acknowledging: Acknowledging)
+    requires { array_vec_len outs.old < 10 }
+    ensures { payloads outs.new.items ≡ with_zlb acknowledging tunnel channel.now (payloads outs.old.items) }
+{
+    match acknowledging {
+        Acknowledging::Never => {}
+        Acknowledging::ByAny => {
+            if outs.is_empty() {
+                outs.push(zlb(channel, tunnel));
+            }
+        }
+        Acknowledging::ByZlb => {
+            outs.push(zlb(channel, tunnel));
+        }
+    }
+}
+
 /// The datagrams that go out to a tunnel of the peer: the messages that the window lets out, and then the ZLB.
 pub(crate) fn outs_of(channel: &mut Channel, tunnel: u16, acknowledging: Acknowledging) -> Outs
-    ensures outs { payloads result.items ≡ outs_of acknowledging tunnel channel.old }
+    ensures outs { payloads result.items ≡ outs_to acknowledging tunnel channel.old }
     ensures channel { channel.new ≡ after_out flight_most channel.old }
+    ensures until { next_out channel.new ≡ None }
 {
     let mut outs = let_out(channel, tunnel);
-    let due = match acknowledging {
-        Acknowledging::Never => false,
-        Acknowledging::ByAny => outs.is_empty(),
-        Acknowledging::ByZlb => true,
-    };
-    if due {
-        outs.push(zlb(channel, tunnel));
-    }
+    push_zlb(&mut outs, channel, tunnel, acknowledging);
     outs
 }
