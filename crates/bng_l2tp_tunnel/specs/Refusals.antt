@@ -61,17 +61,30 @@ pub record Case : Type 0 where
 abbrev pub if_so : Bool → Refusal → Case
 if_so holds refusal = record { holds = holds; refusal = refusal }
 
--- The cases of a message of this type with these AVPs. What a call's message says is looked at by its call alone.
-abbrev pub cases : TunnelState → List L2tpAvp → List Case
-cases s avps =
-    let type = message_type avps in
+-- What a call's message says is looked at by its call alone.
+abbrev pub is_of_wrong_version : Option (List ℕ) → Option ℕ → List L2tpAvp → Bool
+is_of_wrong_version secret type avps = not (is_of_call type) && has_other_version secret avps
+
+abbrev pub has_unknown_avp : Option ℕ → List L2tpAvp → Bool
+has_unknown_avp type avps = not (is_of_call type) && has_unknown avps
+
+abbrev pub has_wrong_avp : Option (List ℕ) → Option ℕ → List L2tpAvp → Bool
+has_wrong_avp secret type avps = not (is_of_call type) && (lacks_needed secret type avps || has_unreadable secret avps)
+
+-- an SCCRQ for which no tunnel number may be taken
+abbrev pub lacks_number : ℕ → Option ℕ → Bool
+lacks_number number type = is_type type SCCRQ && number == 0
+
+-- the cases of a message of this type with these AVPs
+abbrev pub cases : TunnelState → Option ℕ → List L2tpAvp → List Case
+cases s type avps =
     if_so (not s.known) NotConfigured
-    ∷ if_so (not (is_of_call type) && has_other_version s.secret avps) WrongVersion
-    ∷ if_so (not (is_of_call type) && has_unknown avps) UnknownAvp
-    ∷ if_so (not (is_of_call type) && (lacks_needed s.secret type avps || has_unreadable s.secret avps)) WrongAvp
+    ∷ if_so (is_of_wrong_version s.secret type avps) WrongVersion
+    ∷ if_so (has_unknown_avp type avps) UnknownAvp
+    ∷ if_so (has_wrong_avp s.secret type avps) WrongAvp
     ∷ if_so (fails_challenge s.secret s.challenge type avps) NotAuthorized
     ∷ if_so (not (is_taken s.phase type)) Unexpected
-    ∷ if_so (is_type type SCCRQ && s.number == 0) NoNumber
+    ∷ if_so (lacks_number s.number type) NoNumber
     ∷ []
 
 abbrev pub first_of : List Case → Option Refusal
@@ -80,4 +93,4 @@ first_of (c ∷ cs) = if c.holds then Some c.refusal else first_of cs
 
 -- why the message is refused, where it is
 unfoldable pub refusal_of : TunnelState → List L2tpAvp → Option Refusal
-refusal_of s avps = first_of (cases s avps)
+refusal_of s avps = first_of (cases s (message_type avps) avps)

@@ -99,13 +99,17 @@ abbrev pub replied : TunnelState → ControlMessage → List ℕ → ℕ → Ste
 replied s m random now =
     answered ByAny (made s m random now) (sccrp s.name s.number s.secret random (value_of s.secret CHALLENGE m.avps)) now
 
+-- an SCCRQ that is refused
+abbrev pub refused : TunnelState → List L2tpAvp → Refusal → Step
+refused s avps refusal =
+    clears (record {
+      said = sends (turned_away (assigned_tunnel s.secret avps) refusal);
+      after = record s { peer_number = assigned_tunnel s.secret avps };
+    })
+
 abbrev pub opened_by : TunnelState → ControlMessage → List ℕ → ℕ → Option Refusal → Step
 opened_by s m random now None = replied s m random now
-opened_by s m random now (Some refusal) =
-    clears (record {
-      said = sends (turned_away (assigned_tunnel s.secret m.avps) refusal);
-      after = record s { peer_number = assigned_tunnel s.secret m.avps };
-    })
+opened_by s m random now (Some refusal) = refused s m.avps refusal
 
 -- an SCCRQ that is the first message of its channel
 abbrev pub begins : ControlMessage → Bool
@@ -124,6 +128,10 @@ call_refused s avps now =
     let step = answered ByAny s (cdn (unwrap_or (number_in (value_of s.secret ASSIGNED_SESSION_ID avps)) 0) 0 no_resources) now in
     record step { said = record step.said { call = true; ended = true } }
 
+-- a StopCCN of the peer
+abbrev pub ended : TunnelState → Step
+ended s = clears (record { said = sends (zlb (to_peer s) s.channel ∷ []); after = s })
+
 abbrev pub established : Step → Step
 established step = record { said = record step.said { established = true }; after = record step.after { phase = Established } }
 
@@ -131,7 +139,7 @@ established step = record { said = record step.said { established = true }; afte
 abbrev pub accepted : TunnelState → Option ℕ → Step
 accepted s type =
     if is_type type SCCCN then established (flushed ByZlb s)
-    else (if is_type type STOP_CCN then clears (record { said = sends (zlb (to_peer s) s.channel ∷ []); after = s })
+    else (if is_type type STOP_CCN then ended s
     else flushed ByZlb s)
 
 abbrev pub judged : TunnelState → Option ℕ → ℕ → Option Refusal → Step

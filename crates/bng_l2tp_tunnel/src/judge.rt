@@ -3,9 +3,10 @@ ghost use Rattle.bng_l2tp_wire.specs.View.{avp_of, avps_of};
 ghost use Rattle.bng_l2tp_tunnel.specs.Values.{is_known as is_known_avp, value_of as value_in_message};
 ghost use Rattle.bng_l2tp_tunnel.specs.View.{octets_of};
 ghost use Rattle.bng_l2tp_tunnel.specs.Messages.{is_type as is_of_type, is_of_call as belongs_to_call, is_taken as is_taken_in, has_right_length as is_right_length, is_wrong as is_wrong_value, lacks_needed as lacks};
-ghost use Rattle.bng_l2tp_tunnel.specs.Refusals.{has_other_version as is_of_other_version, must_be_known as must_be, has_unknown as has_one_unknown, challenge_response, has_answer as answers, is_asked_in_vain as asks_in_vain, fails_challenge as fails};
+ghost use Rattle.bng_l2tp_tunnel.specs.Refusals.{has_other_version as is_of_other_version, must_be_known as must_be, has_unknown as has_one_unknown, challenge_response, has_answer as answers, is_asked_in_vain as asks_in_vain, fails_challenge as fails, is_of_wrong_version as has_wrong_version, has_unknown_avp as has_unknown_one, has_wrong_avp as has_wrong_one, lacks_number as lacks_a_number};
 
 use crate::phase::Phase;
+use crate::placed::has_unreadable;
 use crate::values::value_of;
 use arrayvec::ArrayVec;
 use bng_digest::chap_value;
@@ -59,8 +60,8 @@ fn must_be_known(avp: &Avp<'_>) -> bool
     avp.mandatory && !is_known(avp)
 }
 
-/// Whether an AVP is not known and must be (RFC 2661 section 4.1).
-pub(crate) fn has_unknown(avps: &[Avp<'_>]) -> bool
+// An AVP is not known and must be.
+fn has_unknown(avps: &[Avp<'_>]) -> bool
     ensures { result ≡ has_one_unknown (avps_of avps.now) }
 {
     let mut left = avps;
@@ -73,8 +74,8 @@ pub(crate) fn has_unknown(avps: &[Avp<'_>]) -> bool
     false
 }
 
-/// Whether a Protocol Version is there that is not 1.0.
-pub(crate) fn has_other_version(avps: &[Avp<'_>], secret: &Option<ArrayVec<u8, 64>>) -> bool
+// A Protocol Version is there that is not 1.0.
+fn has_other_version(avps: &[Avp<'_>], secret: &Option<ArrayVec<u8, 64>>) -> bool
     ensures { result ≡ is_of_other_version (octets_of secret.now) (avps_of avps.now) }
 {
     match value_of(avps, secret, PROTOCOL_VERSION) {
@@ -104,12 +105,8 @@ fn is_wrong(avps: &[Avp<'_>], secret: &Option<ArrayVec<u8, 64>>, kind: u16) -> b
     }
 }
 
-/// Whether an AVP that a message of this type must have is not there or has a wrong length (RFC 2661 section 6).
-pub(crate) fn lacks_needed(
-    avps: &[Avp<'_>],
-    secret: &Option<ArrayVec<u8, 64>>,
-    found: Option<u16>,
-) -> bool
+// An AVP that a message of this type must have is not there or has a wrong length (RFC 2661 section 6).
+fn lacks_needed(avps: &[Avp<'_>], secret: &Option<ArrayVec<u8, 64>>, found: Option<u16>) -> bool
     ensures { result ≡ lacks (octets_of secret.now) found (avps_of avps.now) }
 {
     match found {
@@ -170,4 +167,40 @@ pub(crate) fn fails_challenge(
         Some(SCCCN) => !has_answer(avps, secret, challenge),
         _ => false,
     }
+}
+
+/// Whether a tunnel's message has a Protocol Version that is not 1.0.
+pub(crate) fn is_of_wrong_version(
+    avps: &[Avp<'_>],
+    secret: &Option<ArrayVec<u8, 64>>,
+    found: Option<u16>,
+) -> bool
+    ensures { result ≡ has_wrong_version (octets_of secret.now) found (avps_of avps.now) }
+{
+    !is_of_call(found) && has_other_version(avps, secret)
+}
+
+/// Whether a tunnel's message has an AVP that is not known and must be (RFC 2661 section 4.1).
+pub(crate) fn has_unknown_avp(avps: &[Avp<'_>], found: Option<u16>) -> bool
+    ensures { result ≡ has_unknown_one found (avps_of avps.now) }
+{
+    !is_of_call(found) && has_unknown(avps)
+}
+
+/// Whether a tunnel's message has not each AVP that it must have, or has a hidden one that cannot be read.
+pub(crate) fn has_wrong_avp(
+    avps: &[Avp<'_>],
+    secret: &Option<ArrayVec<u8, 64>>,
+    found: Option<u16>,
+) -> bool
+    ensures { result ≡ has_wrong_one (octets_of secret.now) found (avps_of avps.now) }
+{
+    !is_of_call(found) && (lacks_needed(avps, secret, found) || has_unreadable(avps, secret))
+}
+
+/// Whether a message is an SCCRQ for which no tunnel number may be taken.
+pub(crate) fn lacks_number(number: u16, found: Option<u16>) -> bool
+    ensures { result ≡ lacks_a_number number found }
+{
+    is_type(found, SCCRQ) && number == 0
 }

@@ -2,6 +2,7 @@
 #![tactic(auto)]
 
 mod acknowledging;
+mod hearing;
 mod judge;
 mod outs;
 mod phase;
@@ -9,6 +10,7 @@ mod placed;
 mod refusal;
 mod rules;
 mod spelling;
+mod step;
 #[cfg(test)]
 mod tests;
 mod tunnel;

@@ -1,37 +1,40 @@
-ghost use Rattle.std.specs.Prelude.{◌≡◌, ◌≤◌, ◌↔◌, length, None};
+ghost use Rattle.std.specs.Prelude.{◌≡◌, ◌≢◌, ◌≤◌, ◌<◌, ◌↔◌, ℕ, length};
+ghost use Rattle.bng_l2tp_reliable.specs.Timers.{never, due_of, after_due, deadline_of};
 ghost use Rattle.bng_l2tp_wire.specs.View.{control_of};
-ghost use Rattle.bng_l2tp_reliable.specs.Timers.{deadline_of};
 ghost use Rattle.bng_l2tp_tunnel.specs.View.{octets_of, said};
+ghost use Rattle.bng_l2tp_tunnel.specs.TunnelState.{fresh};
+ghost use Rattle.bng_l2tp_tunnel.specs.Spelling.{stop_ccn as stop_ccn_of, hello as hello_of, shut_down as code_of_shut_down};
+ghost use Rattle.bng_l2tp_tunnel.specs.Steps.{flushed, queued_text, answered, clears, message_step, reminded, due_step, send_step, stop_step, to_peer};
 
 use crate::acknowledging::Acknowledging;
-use crate::judge::{
-    fails_challenge, has_other_version, has_unknown, is_of_call, is_taken, is_type, lacks_needed,
-};
-use crate::outs::{Outs, outs_of, resent, zlb};
+use crate::outs::{outs_of, resent};
 use crate::phase::Phase;
-use crate::placed::has_unreadable;
-use crate::refusal::{Refusal, code_of, no_resources, shut_down};
+use crate::refusal::shut_down;
 use crate::rules::TunnelRules;
-use crate::spelling::{cdn, hello, sccrp, stop_ccn};
-use crate::values::{number_at, type_in, value_of, window_of};
+use crate::spelling::{hello, stop_ccn};
+use crate::step::{cleared, nothing, sends};
 use arrayvec::ArrayVec;
-use bng_base::{Frame, Peer, TunnelNo, TunnelStep};
-use bng_l2tp_reliable::{Channel, Due, Heard, Queued};
-use bng_l2tp_wire::kind::{ASSIGNED_SESSION_ID, ASSIGNED_TUNNEL_ID, CHALLENGE};
-use bng_l2tp_wire::message::{SCCCN, SCCRQ, STOP_CCN};
-use bng_l2tp_wire::{Avp, Control};
+use bng_base::{Peer, TunnelNo, TunnelStep};
+use bng_l2tp_reliable::{Channel, Due, MESSAGE_MOST, Queued};
+use bng_l2tp_wire::Control;
 use std::marker::Model;
 
-/// A tunnel of a peer (RFC 2661 section 7.2).
+/// The window of a peer that says none (RFC 2661 section 4.4.3).
+pub(crate) const DEFAULT_WINDOW: u16 = 4;
+
+/// A tunnel of a peer, as its network server sees it (RFC 2661 section 7.2).
+///
+/// A contract sees the rules it was made with, both tunnel numbers, how far it has come, the Challenge that was sent, and
+/// its channel.
 #[derive(Drop)]
 pub struct Tunnel {
-    rules: TunnelRules,
-    number: TunnelNo,
-    peer: Peer,
-    phase: Phase,
-    peer_number: Option<u16>,
-    challenge: [u8; 16],
-    channel: Channel,
+    pub(crate) rules: TunnelRules,
+    pub(crate) number: TunnelNo,
+    pub(crate) peer: Peer,
+    pub(crate) phase: Phase,
+    pub(crate) peer_number: Option<u16>,
+    pub(crate) challenge: [u8; 16],
+    pub(crate) channel: Channel,
 }
 
 impl Model for Tunnel {
@@ -53,40 +56,31 @@ impl Model for Tunnel {
     } };
 }
 
-fn copied(text: &ArrayVec<u8, 64>) -> ArrayVec<u8, 64> {
+// The same text once more.
+fn copied(text: &ArrayVec<u8, 64>) -> ArrayVec<u8, 64>
+    ensures { result.items ≡ text.now.items }
+{
     let Ok(list) = ArrayVec::try_from(text.as_slice()) else {
         unreachable!();
     };
     list
 }
 
-fn copied_secret(secret: &Option<ArrayVec<u8, 64>>) -> Option<ArrayVec<u8, 64>> {
+fn copied_secret(secret: &Option<ArrayVec<u8, 64>>) -> Option<ArrayVec<u8, 64>>
+    ensures { octets_of result ≡ octets_of secret.now }
+{
     match secret {
         Some(secret) => Some(copied(secret)),
         None => None,
     }
 }
 
-// A step that sends these datagrams, and tells nothing else.
-fn sends(outs: Outs) -> TunnelStep {
-    TunnelStep {
-        outs,
-        established: false,
-        cleared: false,
-        call: false,
-        opened: false,
-        ended: false,
-        left_out: false,
-    }
-}
-
-fn nothing() -> TunnelStep {
-    sends(ArrayVec::new())
-}
-
 impl Tunnel {
-    /// A tunnel that has taken no message yet, at that moment in milliseconds.
-    pub fn new(rules: &TunnelRules, number: TunnelNo, peer: Peer, now: u64) -> Tunnel {
+    /// A tunnel that has taken no message yet, at that moment in milliseconds. A number of 0 says that no tunnel number may
+    /// be taken.
+    pub fn new(rules: &TunnelRules, number: TunnelNo, peer: Peer, now: u64) -> Tunnel
+        ensures { result ≡ fresh rules.now number peer now }
+    {
         Tunnel {
             rules: TunnelRules {
                 name: copied(&rules.name),
@@ -98,11 +92,16 @@ impl Tunnel {
             phase: Phase::Idle,
             peer_number: None,
             challenge: [0; 16],
-            channel: Channel::new(4, now),
+            channel: Channel::new(DEFAULT_WINDOW, now),
         }
     }
 
-    pub fn on_message(&mut self, message: &Control<'_>, random: &[u8; 16], now: u64) -> TunnelStep {
+    /// Takes a message of the peer, at that moment in milliseconds. `random` is the Challenge where one is sent.
+    #[tactic(auto, unfolding(crate::specs::Steps::message_step))]
+    pub fn on_message(&mut self, message: &Control<'_>, random: &[u8; 16], now: u64) -> TunnelStep
+        ensures said { said result ≡ (message_step self.old (control_of message.now) random.now now).said }
+        ensures after { self.new ≡ (message_step self.old (control_of message.now) random.now now).after }
+    {
         match self.phase {
             Phase::Idle => self.open(message, random, now),
             Phase::Replied | Phase::Established => self.hear(message, now),
@@ -110,19 +109,35 @@ impl Tunnel {
         }
     }
 
-    pub fn due(&mut self, now: u64) -> TunnelStep {
+    /// Does what the timers of the channel ask for at that moment, in milliseconds: messages go out again, a HELLO is
+    /// sent, or the tunnel is cleared (RFC 2661 sections 5.5 and 5.8).
+    #[tactic(auto, unfolding(crate::specs::Steps::due_step))]
+    pub fn due(&mut self, now: u64) -> TunnelStep
+        ensures said { said result ≡ (due_step self.old now).said }
+        ensures after { self.new ≡ (due_step self.old now).after }
+    {
         match self.phase {
             Phase::Idle | Phase::Cleared => nothing(),
             Phase::Replied | Phase::Established => self.remind(now),
         }
     }
 
-    pub fn deadline(&self) -> u64 {
+    /// The first moment, in milliseconds, at which the channel's timers ask for something, if no other call comes before;
+    /// 2^64 - 1 where there is no such moment.
+    pub fn deadline(&self) -> u64
+        ensures answer { result ≡ deadline_of self.now.channel }
+        ensures first { (moment : ℕ) → moment < never → (result ≤ moment) ↔ (due_of self.now.channel moment ≢ Due.Nothing) }
+    {
         self.channel.deadline()
     }
 
+    /// Sends a call's message, whose Tunnel ID, Ns and Nr are filled in as it goes out. Nothing is sent over a tunnel that
+    /// was not made or was cleared.
+    #[tactic(auto, unfolding(crate::specs::Steps::send_step))]
     pub fn send(&mut self, message: &[u8], now: u64) -> TunnelStep
-        requires { length message.now ≤ 512 }
+        requires { length message.now ≤ MESSAGE_MOST }
+        ensures said { said result ≡ (send_step self.old message.now now).said }
+        ensures after { self.new ≡ (send_step self.old message.now now).after }
     {
         match self.phase {
             Phase::Idle | Phase::Cleared => nothing(),
@@ -130,42 +145,65 @@ impl Tunnel {
         }
     }
 
-    pub fn stop(&mut self, now: u64) -> TunnelStep {
+    /// Tells the peer once that the gateway shuts down, which clears the tunnel (RFC 2661 section 6.4).
+    #[tactic(auto, unfolding(crate::specs::Steps::stop_step))]
+    pub fn stop(&mut self, now: u64) -> TunnelStep
+        ensures said { said result ≡ (stop_step self.old now).said }
+        ensures after { self.new ≡ (stop_step self.old now).after }
+    {
         match self.phase {
             Phase::Idle | Phase::Cleared => nothing(),
-            Phase::Replied | Phase::Established => {
-                let stop = stop_ccn(0, 0, self.number.0, shut_down());
-                let mut step = self.queue(stop.payload(), now, Acknowledging::Never);
-                step.cleared = true;
-                self.phase = Phase::Cleared;
-                step
-            }
+            Phase::Replied | Phase::Established => self.shut_down(now),
         }
     }
 
-    pub fn peer_number(&self) -> Option<u16> {
+    /// The peer's Assigned Tunnel ID (RFC 2661 section 4.4.3). None comes exactly where none was read.
+    pub fn peer_number(&self) -> Option<u16>
+        ensures { result ≡ self.now.peer_number }
+    {
         self.peer_number
     }
 
-    pub fn peer(&self) -> Peer {
+    /// The peer whose tunnel it is.
+    pub fn peer(&self) -> Peer
+        ensures { result ≡ self.now.peer }
+    {
         self.peer
     }
 
-    pub fn number(&self) -> TunnelNo {
+    /// The gateway's number of the tunnel.
+    pub fn number(&self) -> TunnelNo
+        ensures { result.0 ≡ self.now.number }
+    {
         self.number
     }
 
-    fn to_peer(&self) -> u16 {
+    // The tunnel of the peer that datagrams go to.
+    pub(crate) fn to_peer(&self) -> u16
+        ensures { result ≡ to_peer self.now }
+    {
         self.peer_number.unwrap_or(0)
     }
 
-    fn flush(&mut self, acknowledging: Acknowledging) -> TunnelStep {
+    // Sends what the window lets out, and the ZLB that is due.
+    pub(crate) fn flush(&mut self, acknowledging: Acknowledging) -> TunnelStep
+        ensures said { said result ≡ (flushed acknowledging self.old).said }
+        ensures after { self.new ≡ (flushed acknowledging self.old).after }
+    {
         let tunnel = self.to_peer();
         sends(outs_of(&mut self.channel, tunnel, acknowledging))
     }
 
-    fn queue(&mut self, text: &[u8], now: u64, acknowledging: Acknowledging) -> TunnelStep
-        requires { length text.now ≤ 512 }
+    // Hands a message to the channel, and sends what the window lets out.
+    pub(crate) fn queue(
+        &mut self,
+        text: &[u8],
+        now: u64,
+        acknowledging: Acknowledging,
+    ) -> TunnelStep
+        requires { length text.now ≤ MESSAGE_MOST }
+        ensures said { said result ≡ (queued_text acknowledging self.old text.now now).said }
+        ensures after { self.new ≡ (queued_text acknowledging self.old text.now now).after }
     {
         let queued = self.channel.send(text, now);
         let mut step = self.flush(acknowledging);
@@ -173,141 +211,37 @@ impl Tunnel {
         step
     }
 
-    fn refusal(&self, avps: &[Avp<'_>]) -> Option<Refusal> {
-        let found = type_in(avps);
-        let secret = &self.rules.secret;
-        let of_tunnel = !is_of_call(found);
-        if !self.rules.known {
-            return Some(Refusal::NotConfigured);
-        }
-        if of_tunnel && has_other_version(avps, secret) {
-            return Some(Refusal::WrongVersion);
-        }
-        if of_tunnel && has_unknown(avps) {
-            return Some(Refusal::UnknownAvp);
-        }
-        if of_tunnel && (lacks_needed(avps, secret, found) || has_unreadable(avps, secret)) {
-            return Some(Refusal::WrongAvp);
-        }
-        if fails_challenge(avps, secret, &self.challenge, found) {
-            return Some(Refusal::NotAuthorized);
-        }
-        if !is_taken(self.phase, found) {
-            return Some(Refusal::Unexpected);
-        }
-        if is_type(found, SCCRQ) && self.number.0 == 0 {
-            return Some(Refusal::NoNumber);
-        }
-        None
-    }
-
-    fn open(&mut self, message: &Control<'_>, random: &[u8; 16], now: u64) -> TunnelStep {
-        let avps = message.avps.as_slice();
-        let mut step = nothing();
-        if is_type(type_in(avps), SCCRQ) && message.ns == 0 {
-            self.peer_number = number_at(avps, &self.rules.secret, ASSIGNED_TUNNEL_ID);
-            match self.refusal(avps) {
-                None => return self.reply(message, random, now),
-                Some(refusal) => {
-                    if let Some(tunnel) = self.peer_number {
-                        step.outs.push(stop_ccn(tunnel, 1, 0, code_of(refusal)));
-                    }
-                }
-            }
-        }
+    // The StopCCN of a gateway that shuts down.
+    fn shut_down(&mut self, now: u64) -> TunnelStep
+        ensures said { said result ≡ (clears (answered Acknowledging.Never self.old (stop_ccn_of self.old.number code_of_shut_down) now)).said }
+        ensures after { self.new ≡ (clears (answered Acknowledging.Never self.old (stop_ccn_of self.old.number code_of_shut_down) now)).after }
+    {
+        let stop = stop_ccn(0, 0, self.number.0, shut_down());
+        let step = self.queue(stop.payload(), now, Acknowledging::Never);
         self.phase = Phase::Cleared;
-        step.cleared = true;
-        step
+        cleared(step)
     }
 
-    fn reply(&mut self, message: &Control<'_>, random: &[u8; 16], now: u64) -> TunnelStep {
-        let avps = message.avps.as_slice();
-        let secret = &self.rules.secret;
-        let asked = value_of(avps, secret, CHALLENGE);
-        let window = window_of(avps, secret);
-        self.challenge = *random;
-        self.phase = Phase::Replied;
-        self.channel = Channel::new(window, now);
-        let _ = self.channel.receive(message.ns, message.nr, false, now);
-        let answer = sccrp(
-            self.rules.name.as_slice(),
-            self.number.0,
-            &self.rules.secret,
-            random,
-            &asked,
-        );
-        self.queue(answer.payload(), now, Acknowledging::ByAny)
+    fn greet(&mut self, now: u64) -> TunnelStep
+        ensures said { said result ≡ (answered Acknowledging.Never self.old hello_of now).said }
+        ensures after { self.new ≡ (answered Acknowledging.Never self.old hello_of now).after }
+    {
+        let message = hello();
+        self.queue(message.payload(), now, Acknowledging::Never)
     }
 
-    fn hear(&mut self, message: &Control<'_>, now: u64) -> TunnelStep {
-        let zlb = message.avps.is_empty();
-        match self.channel.receive(message.ns, message.nr, zlb, now) {
-            Heard::Deliver => self.deliver(message.avps.as_slice(), now),
-            Heard::Repeat => self.flush(Acknowledging::ByZlb),
-            Heard::Ahead | Heard::Acked => self.flush(Acknowledging::Never),
-        }
-    }
-
-    fn deliver(&mut self, avps: &[Avp<'_>], now: u64) -> TunnelStep {
-        let found = type_in(avps);
-        if self.phase == Phase::Established && is_of_call(found) {
-            return self.refuse_call(avps, now);
-        }
-        match self.refusal(avps) {
-            Some(refusal) => self.refuse(refusal, now),
-            None => self.accept(found),
-        }
-    }
-
-    fn refuse_call(&mut self, avps: &[Avp<'_>], now: u64) -> TunnelStep {
-        let session = number_at(avps, &self.rules.secret, ASSIGNED_SESSION_ID).unwrap_or(0);
-        let answer = cdn(session, no_resources());
-        let mut step = self.queue(answer.payload(), now, Acknowledging::ByAny);
-        step.call = true;
-        step.ended = true;
-        step
-    }
-
-    fn refuse(&mut self, refusal: Refusal, now: u64) -> TunnelStep {
-        let stop = stop_ccn(0, 0, self.number.0, code_of(refusal));
-        let mut step = self.queue(stop.payload(), now, Acknowledging::ByAny);
-        step.cleared = true;
-        self.phase = Phase::Cleared;
-        step
-    }
-
-    fn accept(&mut self, found: Option<u16>) -> TunnelStep {
-        match found {
-            Some(SCCCN) => {
-                let mut step = self.flush(Acknowledging::ByZlb);
-                step.established = true;
-                self.phase = Phase::Established;
-                step
-            }
-            Some(STOP_CCN) => {
-                let mut step = nothing();
-                step.outs.push(zlb(&self.channel, self.to_peer()));
-                step.cleared = true;
-                self.phase = Phase::Cleared;
-                step
-            }
-            _ => self.flush(Acknowledging::ByZlb),
-        }
-    }
-
-    fn remind(&mut self, now: u64) -> TunnelStep {
+    // What the timers of the channel ask for.
+    fn remind(&mut self, now: u64) -> TunnelStep
+        ensures said { said result ≡ (reminded (record self.old { channel = after_due self.old.channel now (due_of self.old.channel now) }) now (due_of self.old.channel now)).said }
+        ensures after { self.new ≡ (reminded (record self.old { channel = after_due self.old.channel now (due_of self.old.channel now) }) now (due_of self.old.channel now)).after }
+    {
         match self.channel.due(now) {
             Due::Nothing => nothing(),
             Due::Resend => sends(resent(&self.channel, self.to_peer())),
-            Due::Hello => {
-                let hello = hello();
-                self.queue(hello.payload(), now, Acknowledging::Never)
-            }
+            Due::Hello => self.greet(now),
             Due::GiveUp => {
-                let mut step = nothing();
-                step.cleared = true;
                 self.phase = Phase::Cleared;
-                step
+                cleared(nothing())
             }
         }
     }

@@ -6,6 +6,7 @@ ghost use Rattle.bng_l2tp_tunnel.specs.Values.{original_value, value_in as value
 ghost use Rattle.bng_l2tp_tunnel.specs.View.{placed_of, octets_of};
 
 use crate::placed::{Placed, is_of, place_of};
+use crate::tunnel::DEFAULT_WINDOW;
 use arrayvec::ArrayVec;
 use bng_digest::unhide_avp;
 use bng_l2tp_wire::kind::{ASSIGNED_TUNNEL_ID, MESSAGE_TYPE, RECEIVE_WINDOW_SIZE};
@@ -13,9 +14,6 @@ use bng_l2tp_wire::{Avp, Control};
 
 /// The most octets of the value of an AVP, whose Length has ten bits (RFC 2661 section 4.1).
 pub(crate) const VALUE_MOST: usize = 1017;
-
-/// The window of a peer that says none (RFC 2661 section 4.4.3).
-const DEFAULT_WINDOW: u16 = 4;
 
 /// What an AVP says.
 pub(crate) type Value = ArrayVec<u8, 1017>;

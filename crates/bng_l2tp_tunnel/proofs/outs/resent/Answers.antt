@@ -5,7 +5,7 @@ use Rattle.bng_l2tp_tunnel.proofs.Flights.{flight_before-none, more_flight}
 use Rattle.bng_l2tp_tunnel.proofs.outs.resent.Goals as goal
 
 pub loop-place-init : goal.loop-place-init
-loop-place-init c = record { are = rw flight_before-none (search rules); few = search rules; }
+loop-place-init c = record { are = rw flight_before-none (search rules); few = search rules }
 
 pub loop-place-preserved : goal.loop-place-preserved
 loop-place-preserved c = record {
