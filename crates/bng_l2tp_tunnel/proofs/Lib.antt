@@ -1,2 +1,3 @@
 mod Sizes
 mod Flights
+mod Answering

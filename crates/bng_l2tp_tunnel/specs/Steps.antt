@@ -122,10 +122,14 @@ opening s m random now =
 
 -- Messages of a tunnel that was made --------------------------------------------------------------------------------------------------------
 
+-- the session of the peer that a call's message names, 0 where it names none
+abbrev pub session_of : TunnelState → List L2tpAvp → ℕ
+session_of s avps = unwrap_or (number_in (value_of s.secret ASSIGNED_SESSION_ID avps)) 0
+
 -- A call's message is acknowledged and refused: no call is made.
 abbrev pub call_refused : TunnelState → List L2tpAvp → ℕ → Step
 call_refused s avps now =
-    let step = answered ByAny s (cdn (unwrap_or (number_in (value_of s.secret ASSIGNED_SESSION_ID avps)) 0) 0 no_resources) now in
+    let step = answered ByAny s (cdn (session_of s avps) 0 no_resources) now in
     record step { said = record step.said { call = true; ended = true } }
 
 -- a StopCCN of the peer

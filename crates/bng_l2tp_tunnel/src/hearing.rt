@@ -4,7 +4,7 @@ ghost use Rattle.bng_l2tp_tunnel.specs.View.{payloads, said};
 ghost use Rattle.bng_l2tp_tunnel.specs.Messages.{is_of_call as belongs_to_call};
 ghost use Rattle.bng_l2tp_tunnel.specs.Refusals.{refusal_of};
 ghost use Rattle.bng_l2tp_tunnel.specs.Spelling.{stop_ccn as stop_ccn_of, code_of as code_of_refusal};
-ghost use Rattle.bng_l2tp_tunnel.specs.Steps.{is_established, begins as does_begin, flushed, turned_away as turns_away, refused, opening, made, replied, answered, clears, call_refused, established, ended, accepted, delivered, hearing};
+ghost use Rattle.bng_l2tp_tunnel.specs.Steps.{is_established, begins as does_begin, flushed, turned_away as turns_away, refused, opening, made, replied, answered, clears, session_of, call_refused, established, ended, accepted, delivered, hearing};
 
 use crate::acknowledging::Acknowledging;
 use crate::judge::{
@@ -168,13 +168,19 @@ impl Tunnel {
         }
     }
 
+    // The session of the peer that a call's message names.
+    fn session_of(&self, avps: &[Avp<'_>]) -> u16
+        ensures { result ≡ session_of self.now (avps_of avps.now) }
+    {
+        number_at(avps, &self.rules.secret, ASSIGNED_SESSION_ID).unwrap_or(0)
+    }
+
     // Acknowledges a call's message, and refuses it: no call is made.
     fn refuse_call(&mut self, avps: &[Avp<'_>], now: u64) -> TunnelStep
         ensures said { said result ≡ (call_refused self.old (avps_of avps.now) now).said }
         ensures after { self.new ≡ (call_refused self.old (avps_of avps.now) now).after }
     {
-        let session = number_at(avps, &self.rules.secret, ASSIGNED_SESSION_ID).unwrap_or(0);
-        let answer = cdn(session, no_resources());
+        let answer = cdn(self.session_of(avps), no_resources());
         let mut step = self.queue(answer.payload(), now, Acknowledging::ByAny);
         step.call = true;
         step.ended = true;
