@@ -166,10 +166,17 @@ heard s avps now Acked = flushed Never s
 abbrev pub is_zlb : List L2tpAvp → Bool
 is_zlb avps = length avps == 0
 
+-- what a message is to the channel
+abbrev pub heard_by : TunnelState → ControlMessage → Heard
+heard_by s m = heard_of s.channel.nr m.ns (is_zlb m.avps)
+
+-- the tunnel whose channel took a message's numbers
+abbrev pub having_heard : TunnelState → ControlMessage → ℕ → TunnelState
+having_heard s m now = record s { channel = received s.channel m.ns m.nr (is_zlb m.avps) now }
+
 -- a message to a tunnel that was made
 abbrev pub hearing : TunnelState → ControlMessage → ℕ → Step
-hearing s m now =
-    heard (record s { channel = received s.channel m.ns m.nr (is_zlb m.avps) now }) m.avps now (heard_of s.channel.nr m.ns (is_zlb m.avps))
+hearing s m now = heard (having_heard s m now) m.avps now (heard_by s m)
 
 abbrev pub in_phase : Phase → TunnelState → ControlMessage → List ℕ → ℕ → Step
 in_phase Idle s m random now = opening s m random now

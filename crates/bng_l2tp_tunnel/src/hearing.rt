@@ -4,7 +4,7 @@ ghost use Rattle.bng_l2tp_tunnel.specs.View.{payloads, said};
 ghost use Rattle.bng_l2tp_tunnel.specs.Messages.{is_of_call as belongs_to_call};
 ghost use Rattle.bng_l2tp_tunnel.specs.Refusals.{refusal_of};
 ghost use Rattle.bng_l2tp_tunnel.specs.Spelling.{stop_ccn as stop_ccn_of, code_of as code_of_refusal};
-ghost use Rattle.bng_l2tp_tunnel.specs.Steps.{is_established, begins as does_begin, flushed, turned_away as turns_away, refused, opening, made, replied, answered, clears, session_of, call_refused, established, ended, accepted, delivered, hearing};
+ghost use Rattle.bng_l2tp_tunnel.specs.Steps.{is_established, begins as does_begin, flushed, turned_away as turns_away, refused, opening, made, replied, answered, clears, session_of, call_refused, established, ended, accepted, delivered, is_zlb as has_no_avps, heard_by, having_heard, hearing};
 
 use crate::acknowledging::Acknowledging;
 use crate::judge::{
@@ -30,6 +30,13 @@ fn begins(message: &Control<'_>) -> bool
     ensures { result ≡ does_begin (control_of message.now) }
 {
     is_type(type_in(message.avps.as_slice()), SCCRQ) && message.ns == 0
+}
+
+// Whether a message has no AVPs, and so only acknowledges.
+fn is_zlb(message: &Control<'_>) -> bool
+    ensures { result ≡ has_no_avps (control_of message.now).avps }
+{
+    message.avps.is_empty()
 }
 
 // The StopCCN that turns an SCCRQ away, if the peer's tunnel is known.
@@ -140,13 +147,21 @@ impl Tunnel {
         let _ = self.channel.receive(message.ns, message.nr, false, now);
     }
 
+    // Hands a message's numbers to the channel.
+    fn receive(&mut self, message: &Control<'_>, now: u64) -> Heard
+        ensures answer { result ≡ heard_by self.old (control_of message.now) }
+        ensures after { self.new ≡ having_heard self.old (control_of message.now) now }
+    {
+        let zlb = is_zlb(message);
+        self.channel.receive(message.ns, message.nr, zlb, now)
+    }
+
     // A message to a tunnel that was made.
     pub(crate) fn hear(&mut self, message: &Control<'_>, now: u64) -> TunnelStep
         ensures said { said result ≡ (hearing self.old (control_of message.now) now).said }
         ensures after { self.new ≡ (hearing self.old (control_of message.now) now).after }
     {
-        let zlb = message.avps.is_empty();
-        match self.channel.receive(message.ns, message.nr, zlb, now) {
+        match self.receive(message, now) {
             Heard::Deliver => self.deliver(message.avps.as_slice(), now),
             Heard::Repeat => self.flush(Acknowledging::ByZlb),
             Heard::Ahead | Heard::Acked => self.flush(Acknowledging::Never),
