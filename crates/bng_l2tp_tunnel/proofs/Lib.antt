@@ -1,3 +1,4 @@
 mod Sizes
 mod Flights
 mod Answering
+mod Spelled

@@ -6,3 +6,4 @@ pub mod Refusals
 pub mod Spelling
 pub mod Outs
 pub mod Steps
+pub mod Sound

@@ -1,0 +1,52 @@
+-- What holds of a tunnel at every moment and of each of its steps, by RFC 2661 sections 3.1, 5.8 and 7.2.
+use Rattle.std.specs.Prelude.{◌≡◌, ◌≢◌, ℕ, Bool, true, false, ◌&&◌, not, if◌then◌else◌, List, [], IsSome}
+use Rattle.std.specs.List.{AllByRecursion}
+use Rattle.bng_l2tp_reliable.specs.ChannelState.{Message}
+use Rattle.bng_l2tp_wire.specs.Messages.{ControlMessage, control_text}
+use Rattle.bng_l2tp_tunnel.specs.declared.phase.Phase.{Phase}
+use Rattle.bng_l2tp_tunnel.specs.declared.phase.Phase.TheVariants.{Idle, Replied, Established, Cleared}
+use Rattle.bng_l2tp_tunnel.specs.TunnelState.{TunnelState}
+use Rattle.bng_l2tp_tunnel.specs.Steps.{Step, stands, is_established, to_peer}
+
+abbrev pub is_replied : Phase → Bool
+is_replied Idle = false
+is_replied Replied = true
+is_replied Established = false
+is_replied Cleared = false
+
+abbrev pub is_cleared : Phase → Bool
+is_cleared Idle = false
+is_cleared Replied = false
+is_cleared Established = false
+is_cleared Cleared = true
+
+-- the octets are a control message
+abbrev pub IsSpelled : List ℕ → Type 0
+IsSpelled octets = (m : ControlMessage) × (octets ≡ control_text m)
+
+abbrev pub AreSpelled : List Message → Type 0
+AreSpelled messages = AllByRecursion (λ (t : Message). IsSpelled t.items) messages
+
+-- What the channel holds are control messages, and a tunnel that was made knows the peer's.
+pub record IsTunnel (s : TunnelState) : Type 0 where
+  pub spelled : AreSpelled s.channel.messages
+  pub addressed : stands s.phase ≡ true → IsSome s.peer_number
+
+-- the octets are a control message to this tunnel of the peer, with this Nr
+pub record IsSentTo (tunnel nr : ℕ) (octets : List ℕ) : Type 0 where
+  pub message : ControlMessage
+  pub text : octets ≡ control_text message
+  pub tunnel_is : message.tunnel ≡ tunnel
+  pub nr_is : message.nr ≡ nr
+
+-- the Nr of what goes out: that of the channel, which was begun by the message 0 where the tunnel had taken none
+abbrev pub acked : TunnelState → Step → ℕ
+acked s step = if stands s.phase then step.after.channel.nr else 1
+
+-- Each datagram is a control message to the peer's tunnel that acknowledges all that was delivered, and the step tells where the tunnel came
+-- to be established or was cleared.
+pub record IsSound (s : TunnelState) (step : Step) : Type 0 where
+  pub tunnel : IsTunnel step.after
+  pub outs : AllByRecursion (IsSentTo (to_peer step.after) (acked s step)) step.said.outs
+  pub established : step.said.established ≡ (is_replied s.phase && is_established step.after.phase)
+  pub cleared : step.said.cleared ≡ (not (is_cleared s.phase) && is_cleared step.after.phase)
