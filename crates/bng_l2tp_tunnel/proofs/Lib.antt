@@ -2,3 +2,5 @@ mod Sizes
 mod Flights
 mod Answering
 mod Spelled
+mod Refused
+mod Soundness

@@ -101,4 +101,4 @@ module _ (tunnel : ℕ) (c : ChannelState) (h : AreSpelled c.messages) where
   flight_sent (suc n) =
       subst (λ (os : List (List ℕ)). AllByRecursion (IsSentTo tunnel c.nr) os) (sym (map-append (datagram tunnel) (flight_before n c) (option_to_list (flight_at c n))))
       (AllByRecursion-append (IsSentTo tunnel c.nr) (map (datagram tunnel) (flight_before n c)) (map (datagram tunnel) (option_to_list (flight_at c n))) (flight_sent n)
-        (numbered_sent tunnel c (steps_on (oldest_ns c) n) (slice_get (take (length c.sends) c.messages) n) (AllByRecursion-get (λ (t : Message). IsSpelled t.items) (take (length c.sends) c.messages) n (AllByRecursion-take (λ (t : Message). IsSpelled t.items) (length c.sends) c.messages h))))
+      (numbered_sent tunnel c (steps_on (oldest_ns c) n) (slice_get (take (length c.sends) c.messages) n) (AllByRecursion-get (λ (t : Message). IsSpelled t.items) (take (length c.sends) c.messages) n (AllByRecursion-take (λ (t : Message). IsSpelled t.items) (length c.sends) c.messages h))))

@@ -3,6 +3,7 @@ ghost use Rattle.bng_l2tp_reliable.specs.Timers.{never, due_of, after_due, deadl
 ghost use Rattle.bng_l2tp_wire.specs.View.{control_of};
 ghost use Rattle.bng_l2tp_tunnel.specs.View.{octets_of, said};
 ghost use Rattle.bng_l2tp_tunnel.specs.TunnelState.{fresh};
+ghost use Rattle.bng_l2tp_tunnel.specs.Sound.{IsTunnel, IsSpelled, IsSound};
 ghost use Rattle.bng_l2tp_tunnel.specs.Spelling.{stop_ccn as stop_ccn_of, hello as hello_of, shut_down as code_of_shut_down};
 ghost use Rattle.bng_l2tp_tunnel.specs.Steps.{flushed, queued_text, answered, clears, message_step, reminded, due_step, send_step, stop_step, to_peer};
 
@@ -79,7 +80,8 @@ impl Tunnel {
     /// A tunnel that has taken no message yet, at that moment in milliseconds. A number of 0 says that no tunnel number may
     /// be taken.
     pub fn new(rules: &TunnelRules, number: TunnelNo, peer: Peer, now: u64) -> Tunnel
-        ensures { result ≡ fresh rules.now number peer now }
+        ensures fresh { result ≡ fresh rules.now number peer now }
+        ensures sound { IsTunnel result }
     {
         Tunnel {
             rules: TunnelRules {
@@ -101,6 +103,7 @@ impl Tunnel {
     pub fn on_message(&mut self, message: &Control<'_>, random: &[u8; 16], now: u64) -> TunnelStep
         ensures said { said result ≡ (message_step self.old (control_of message.now) random.now now).said }
         ensures after { self.new ≡ (message_step self.old (control_of message.now) random.now now).after }
+        ensures sound { IsTunnel self.old → IsSound self.old (record { said = said result; after = self.new }) }
     {
         match self.phase {
             Phase::Idle => self.open(message, random, now),
@@ -115,6 +118,7 @@ impl Tunnel {
     pub fn due(&mut self, now: u64) -> TunnelStep
         ensures said { said result ≡ (due_step self.old now).said }
         ensures after { self.new ≡ (due_step self.old now).after }
+        ensures sound { IsTunnel self.old → IsSound self.old (record { said = said result; after = self.new }) }
     {
         match self.phase {
             Phase::Idle | Phase::Cleared => nothing(),
@@ -138,6 +142,7 @@ impl Tunnel {
         requires { length message.now ≤ MESSAGE_MOST }
         ensures said { said result ≡ (send_step self.old message.now now).said }
         ensures after { self.new ≡ (send_step self.old message.now now).after }
+        ensures sound { IsTunnel self.old → IsSpelled message.now → IsSound self.old (record { said = said result; after = self.new }) }
     {
         match self.phase {
             Phase::Idle | Phase::Cleared => nothing(),
@@ -150,6 +155,7 @@ impl Tunnel {
     pub fn stop(&mut self, now: u64) -> TunnelStep
         ensures said { said result ≡ (stop_step self.old now).said }
         ensures after { self.new ≡ (stop_step self.old now).after }
+        ensures sound { IsTunnel self.old → IsSound self.old (record { said = said result; after = self.new }) }
     {
         match self.phase {
             Phase::Idle | Phase::Cleared => nothing(),

@@ -1,0 +1,18 @@
+use Rattle.std.proofs.Common.{rules}
+use Rattle.bng_l2tp_tunnel.specs.View.{said}
+use Rattle.bng_l2tp_wire.specs.View.{control_of}
+use Rattle.bng_l2tp_tunnel.specs.Steps.{message_step}
+use Rattle.bng_l2tp_tunnel.proofs.Soundness.{as_said, message_sound}
+use Rattle.bng_l2tp_tunnel.proofs.tunnel.Tunnel.on_message.Goals as goal
+
+pub returns-in-Idle-clause-sound : goal.returns-in-Idle-clause-sound
+unfolding message_step
+returns-in-Idle-clause-sound c = λ t.
+    as_said c.args.self.now (message_step c.args.self.now (control_of c.args.message.now) c.args.random.now c.args.now) (said c.open.result) c.open.new.self (search rules) (search rules)
+    (message_sound c.args.self.now (control_of c.args.message.now) c.args.random.now c.args.now t)
+
+pub returns-in-Replied-clause-sound : goal.returns-in-Replied-clause-sound
+unfolding message_step
+returns-in-Replied-clause-sound c = λ t.
+    as_said c.args.self.now (message_step c.args.self.now (control_of c.args.message.now) c.args.random.now c.args.now) (said c.hear.result) c.hear.new.self (search rules) (search rules)
+    (message_sound c.args.self.now (control_of c.args.message.now) c.args.random.now c.args.now t)
