@@ -1,10 +1,10 @@
 -- The messages that a channel lets out, and those in flight, one more at a time.
-use Rattle.std.proofs.Common.{◌≡◌, ◌≤◌, ◌+◌, ◌++◌, ℕ, Option, None, Some, List, [], ◌∷◌, length, map, option_to_list, refl, sym, ap, ◌∙◌, inl, inr, ◌⊎◌, rules, arith, add-one, length-append, cond, nat_lt, slice_get, option_map}
+use Rattle.std.proofs.Common.{◌≡◌, ◌≤◌, ◌+◌, ◌++◌, ℕ, zero, suc, Option, None, Some, List, [], ◌∷◌, length, map, option_to_list, refl, sym, ap, subst, ◌∙◌, inl, inr, ◌⊎◌, rules, arith, add-one, length-append, cond, nat_lt, slice_get, option_map}
 use Rattle.std.proofs.lemmas.Bool.Decides.{nat_tests}
 use Rattle.std.proofs.lemmas.List.{map-append}
 use Rattle.bng_l2tp_reliable.specs.declared.outgoing.Outgoing.{Outgoing}
 use Rattle.bng_l2tp_reliable.specs.declared.sent.Sent.{Sent}
-use Rattle.bng_l2tp_reliable.specs.ChannelState.{ChannelState, IsChannel}
+use Rattle.bng_l2tp_reliable.specs.ChannelState.{ChannelState}
 use Rattle.bng_l2tp_reliable.specs.Calls.{numbered, next_out, after_next, flight_at}
 use Rattle.bng_base.specs.Packet.{Packet}
 use Rattle.bng_l2tp_tunnel.specs.View.{payloads}
@@ -57,9 +57,29 @@ goes_on n c d (Some out) e f (inl none) = absurd (let no = sym none ∙ sym e in
 goes_on n c d (Some out) e f (inr few) = inr (omega (arith, ap (λ (x : ChannelState). length x.sends) f, few, length-append {A = Sent}))
 
 -- a full window lets out none
-pub full_window : (n : ℕ) (c : ChannelState) → IsChannel c → 8 ≤ n → (next_out c ≡ None) ⊎ (n ≤ length c.sends) → next_out c ≡ None
-full_window n c sound all (inl none) = none
-full_window n c sound all (inr many) = no_room (length c.sends) c.window (option_map (numbered c c.ns) (slice_get c.messages (length c.sends))) (omega (arith, sound.window))
+pub full_window : (n : ℕ) (c : ChannelState) → c.window ≤ 8 → 8 ≤ n → (next_out c ≡ None) ⊎ (n ≤ length c.sends) → next_out c ≡ None
+full_window n c few all (inl none) = none
+full_window n c few all (inr many) = no_room (length c.sends) c.window (option_map (numbered c c.ns) (slice_get c.messages (length c.sends))) (omega arith)
+
+after_next-window : (c : ChannelState) (out : Option Outgoing) → (after_next c out).window ≡ c.window
+after_next-window c None = refl
+after_next-window c (Some out) = refl
+
+pub after_out-window : (n : ℕ) (c : ChannelState) → (after_out n c).window ≡ c.window
+unfolding after_out
+after_out-window zero c = refl
+after_out-window (suc n) c = after_next-window (after_out n c) (next_out (after_out n c)) ∙ after_out-window n c
+
+goes_so_far : (n : ℕ) (c : ChannelState) → (next_out (after_out n c) ≡ None) ⊎ (n ≤ length (after_out n c).sends)
+unfolding after_out
+goes_so_far zero c = inr (omega arith)
+goes_so_far (suc n) c =
+    let P : ℕ → Type 0 = λ k. (next_out (after_next (after_out n c) (next_out (after_out n c))) ≡ None) ⊎ (k ≤ length (after_next (after_out n c) (next_out (after_out n c))).sends) in
+    subst P (add-one n) (goes_on n (after_out n c) (after_next (after_out n c) (next_out (after_out n c))) (next_out (after_out n c)) refl refl (goes_so_far n c))
+
+-- after so many the window lets out none
+pub drained : (c : ChannelState) → c.window ≤ 8 → next_out (after_out 8 c) ≡ None
+drained c few = full_window 8 (after_out 8 c) (omega (arith, after_out-window 8 c)) (omega arith) (goes_so_far 8 c)
 
 -- the octets of one datagram more
 pub payloads-push : (before after : List Packet) (last : Packet) (octets : List ℕ) → after ≡ before ++ last ∷ [] → last.payload ≡ octets → payloads after ≡ payloads before ++ octets ∷ []

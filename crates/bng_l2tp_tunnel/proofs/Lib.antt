@@ -1,4 +1,5 @@
 mod Sizes
+mod Placing
 mod Flights
 mod Answering
 mod Spelled

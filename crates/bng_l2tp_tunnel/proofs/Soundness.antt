@@ -1,5 +1,6 @@
 -- Each step of a tunnel is sound.
-use Rattle.std.proofs.Common.{◌≡◌, ℕ, ◌+◌, ◌==◌, Bool, true, false, ◌&&◌, ◌||◌, not, cond, nat_lt, Option, None, Some, List, [], ◌∷◌, ◌++◌, length, drop, map, refl, sym, ap, subst, ◌∙◌, arith}
+use Rattle.std.proofs.Common.{◌≡◌, ℕ, ◌+◌, ◌==◌, Bool, true, false, ◌&&◌, ◌||◌, not, cond, nat_lt, Option, None, Some, List, [], ◌∷◌, ◌++◌, length, drop, map, refl, sym, ap, subst, ◌∙◌, ◌≤◌, ◌<◌, option_map, slice_get, arith, length-append}
+use Rattle.std.proofs.lemmas.List.{length-map}
 use Rattle.std.specs.Prelude.{IsSome, unwrap_or}
 use Rattle.std.specs.List.{AllByRecursion, list_any}
 use Rattle.bng_l2tp_reliable.specs.declared.answers.Heard.{Heard}
@@ -7,8 +8,9 @@ use Rattle.bng_l2tp_reliable.specs.declared.answers.Heard.TheVariants.{Deliver, 
 use Rattle.bng_l2tp_reliable.specs.declared.answers.Due.{Due}
 use Rattle.bng_l2tp_reliable.specs.declared.answers.Due.TheVariants.{Nothing, Resend, Hello, GiveUp}
 use Rattle.bng_l2tp_reliable.specs.ChannelState.{ChannelState, Message, waiting, begun}
-use Rattle.bng_l2tp_reliable.specs.Calls.{queued, received, acknowledged}
+use Rattle.bng_l2tp_reliable.specs.Calls.{queued, received, acknowledged, numbered, next_out}
 use Rattle.bng_l2tp_reliable.specs.Timers.{after_due, due_of}
+use Rattle.bng_l2tp_reliable.specs.Flight.{sent_again}
 use Rattle.bng_l2tp_wire.specs.Avps.{L2tpAvp}
 use Rattle.bng_l2tp_wire.specs.Messages.{ControlMessage, control_text}
 use Rattle.bng_l2tp_wire.specs.declared.kind.TheConstants.{CHALLENGE}
@@ -27,12 +29,23 @@ use Rattle.bng_l2tp_tunnel.specs.Refusals.{refusal_of}
 use Rattle.bng_l2tp_tunnel.specs.Spelling.{sccrp, stop_ccn, cdn, hello, code_of, shut_down, no_resources}
 use Rattle.bng_l2tp_tunnel.specs.Steps.{Step, sends, nothing, stands, is_established, to_peer, flushed, queued_text, answered, clears, turned_away, made, replied, refused, opened_by, begins, opening, session_of, call_refused, ended, established, accepted, judged, delivered, heard, is_zlb, heard_by, having_heard, hearing, in_phase, message_step, reminded, due_step, send_step, stop_step}
 use Rattle.bng_l2tp_tunnel.proofs.Refused.{passed, replied_if, has_tunnel}
-use Rattle.bng_l2tp_tunnel.specs.Sound.{is_replied, is_cleared, IsSpelled, AreSpelled, IsTunnel, IsSentTo, acked, IsSound}
+use Rattle.bng_l2tp_tunnel.specs.Sound.{is_replied, is_cleared, IsSpelled, AreSpelled, IsTunnel, IsSentTo, IsAnswered, acked, IsSound}
 use Rattle.bng_l2tp_tunnel.proofs.Spelled.{AllByRecursion-append, AllByRecursion-drop, after_out-keeps, let_out_sent, flight_sent}
+use Rattle.bng_l2tp_tunnel.proofs.Flights.{after_out-window, drained}
+
+-- what is known of a tunnel whose channel just took a message's numbers
+pub record IsReady (s : TunnelState) : Type 0 where
+  pub spelled : AreSpelled s.channel.messages
+  pub window : s.channel.window ≤ flight_most
+  pub addressed : stands s.phase ≡ true → IsSome s.peer_number
+
+pub ready : (s : TunnelState) → IsTunnel s → IsReady s
+ready s t = record { spelled = t.spelled; window = t.window; addressed = t.addressed }
 
 -- what a step over a channel keeps
 pub record IsGood (s : TunnelState) (step : Step) : Type 0 where
   pub spelled : AreSpelled step.after.channel.messages
+  pub window : step.after.channel.window ≤ flight_most
   pub peer : step.after.peer_number ≡ s.peer_number
   pub outs : AllByRecursion (IsSentTo (to_peer s) step.after.channel.nr) step.said.outs
 
@@ -43,12 +56,13 @@ with_zlb_sent ByAny tunnel c (o ∷ os) h = h
 with_zlb_sent ByZlb tunnel c outs h =
     AllByRecursion-append (IsSentTo tunnel c.nr) outs (zlb tunnel c ∷ []) h (record { message = record { tunnel = tunnel; session = 0; ns = c.ns; nr = c.nr; avps = [] }; text = refl; tunnel_is = refl; nr_is = refl }, tt)
 
-pub flushed_good : (ack : Acknowledging) (s : TunnelState) → AreSpelled s.channel.messages → IsGood s (flushed ack s)
-flushed_good ack s h =
+pub flushed_good : (ack : Acknowledging) (s : TunnelState) → AreSpelled s.channel.messages → s.channel.window ≤ flight_most → IsGood s (flushed ack s)
+flushed_good ack s h w =
     let keeps = after_out-keeps flight_most s.channel in
     let sent = let_out_sent (to_peer s) s.channel h flight_most in
     record {
       spelled = subst (λ (ms : List Message). AreSpelled ms) (sym keeps.0) h;
+      window = omega (arith, w, after_out-window flight_most s.channel);
       peer = refl;
       outs = with_zlb_sent ack (to_peer s) (after_out flight_most s.channel) (map (datagram (to_peer s)) (let_out flight_most s.channel))
           (subst (λ (nr : ℕ). AllByRecursion (IsSentTo (to_peer s) nr) (map (datagram (to_peer s)) (let_out flight_most s.channel))) (sym keeps.1) sent);
@@ -59,11 +73,11 @@ queued_spelled c message now h k =
     elim (nat_lt (length (waiting c)) 64) as (λ b. AreSpelled (cond b (c.messages ++ message ∷ []) c.messages))
     [ true ↦ AllByRecursion-append (λ (t : Message). IsSpelled t.items) c.messages (message ∷ []) h (k, tt) | false ↦ h ]
 
-pub queued_good : (ack : Acknowledging) (s : TunnelState) (text : List ℕ) (now : ℕ) → AreSpelled s.channel.messages → IsSpelled text → IsGood s (queued_text ack s text now)
-queued_good ack s text now h k =
+pub queued_good : (ack : Acknowledging) (s : TunnelState) (text : List ℕ) (now : ℕ) → AreSpelled s.channel.messages → s.channel.window ≤ flight_most → IsSpelled text → IsGood s (queued_text ack s text now)
+queued_good ack s text now h w k =
     let next = record s { channel = queued s.channel (record { items = text }) now } in
-    let good = flushed_good ack next (queued_spelled s.channel (record { items = text }) now h k) in
-    record { spelled = good.spelled; peer = good.peer; outs = good.outs }
+    let good = flushed_good ack next (queued_spelled s.channel (record { items = text }) now h k) w in
+    record { spelled = good.spelled; window = good.window; peer = good.peer; outs = good.outs }
 
 received_spelled : (c : ChannelState) (ns nr : ℕ) (none : Bool) (now : ℕ) → AreSpelled c.messages → AreSpelled (received c ns nr none now).messages
 received_spelled c ns nr none now h = AllByRecursion-drop (λ (t : Message). IsSpelled t.items) (acknowledged c nr) c.messages h
@@ -88,10 +102,10 @@ standing Established e = refl
 standing Cleared e = absurd cc
 
 -- a step of a tunnel that stands
-pub sound_if_good : (s : TunnelState) (step : Step) → IsTunnel s → stands s.phase ≡ true → IsGood s step → step.said.established ≡ (is_replied s.phase && is_established step.after.phase)
+pub sound_if_good : (s : TunnelState) (step : Step) → IsReady s → stands s.phase ≡ true → IsGood s step → (stands step.after.phase ≡ true → next_out step.after.channel ≡ None) → step.said.established ≡ (is_replied s.phase && is_established step.after.phase)
     → step.said.cleared ≡ (not (is_cleared s.phase) && is_cleared step.after.phase) → IsSound s step
-sound_if_good s step t e good f g = record {
-  tunnel = record { spelled = good.spelled; addressed = λ _. subst (λ (n : Option ℕ). IsSome n) (sym good.peer) (t.addressed e) };
+sound_if_good s step t e good until f g = record {
+  tunnel = record { spelled = good.spelled; window = good.window; until = until; addressed = λ _. subst (λ (n : Option ℕ). IsSome n) (sym good.peer) (t.addressed e) };
   outs = subst (λ (nr : ℕ). AllByRecursion (IsSentTo (to_peer step.after) nr) step.said.outs) (sym (ap (λ (b : Bool). cond b step.after.channel.nr 1) e))
       (subst (λ (tunnel : ℕ). AllByRecursion (IsSentTo tunnel step.after.channel.nr) step.said.outs) (sym (ap (λ (n : Option ℕ). unwrap_or n 0) good.peer)) good.outs);
   established = f;
@@ -110,43 +124,43 @@ no_end Cleared = refl
 pub nothing_sound : (s : TunnelState) → IsTunnel s → IsSound s (nothing s)
 nothing_sound s t = record { tunnel = t; outs = tt; established = (stays s.phase).0; cleared = (stays s.phase).1 }
 
-module _ (s : TunnelState) (t : IsTunnel s) (e : stands s.phase ≡ true) where
+module _ (s : TunnelState) (t : IsReady s) (e : stands s.phase ≡ true) where
   pub flushed_sound : (ack : Acknowledging) → IsSound s (flushed ack s)
-  flushed_sound ack = sound_if_good s (flushed ack s) t e (flushed_good ack s t.spelled) (stays s.phase).0 (stays s.phase).1
+  flushed_sound ack = sound_if_good s (flushed ack s) t e (flushed_good ack s t.spelled t.window) (λ _. drained s.channel t.window) (stays s.phase).0 (stays s.phase).1
 
   pub queued_sound : (ack : Acknowledging) (text : List ℕ) (now : ℕ) → IsSpelled text → IsSound s (queued_text ack s text now)
-  queued_sound ack text now k = sound_if_good s (queued_text ack s text now) t e (queued_good ack s text now t.spelled k) (stays s.phase).0 (stays s.phase).1
+  queued_sound ack text now k = sound_if_good s (queued_text ack s text now) t e (queued_good ack s text now t.spelled t.window k) (λ _. drained (queued s.channel (record { items = text }) now) t.window) (stays s.phase).0 (stays s.phase).1
 
   pub clears_sound : (step : Step) → IsGood s step → step.said.established ≡ false → IsSound s (clears step)
   clears_sound step g f =
       let end = ends s.phase (standing s.phase e) in
-      sound_if_good s (clears step) t e (record { spelled = g.spelled; peer = g.peer; outs = g.outs }) (f ∙ end.0) end.1
+      sound_if_good s (clears step) t e (record { spelled = g.spelled; window = g.window; peer = g.peer; outs = g.outs }) (λ no. absurd cc) (f ∙ end.0) end.1
 
   pub refuse_sound : (refusal : Refusal) (now : ℕ) → IsSound s (clears (answered ByAny s (stop_ccn s.number (code_of refusal)) now))
   refuse_sound refusal now =
       let text = control_text (stop_ccn s.number (code_of refusal)) in
-      clears_sound (queued_text ByAny s text now) (queued_good ByAny s text now t.spelled (stop_ccn s.number (code_of refusal), refl)) refl
+      clears_sound (queued_text ByAny s text now) (queued_good ByAny s text now t.spelled t.window (stop_ccn s.number (code_of refusal), refl)) refl
 
   pub stop_sound : (now : ℕ) → IsSound s (clears (answered Never s (stop_ccn s.number shut_down) now))
   stop_sound now =
       let text = control_text (stop_ccn s.number shut_down) in
-      clears_sound (queued_text Never s text now) (queued_good Never s text now t.spelled (stop_ccn s.number shut_down, refl)) refl
+      clears_sound (queued_text Never s text now) (queued_good Never s text now t.spelled t.window (stop_ccn s.number shut_down, refl)) refl
 
   pub call_sound : (avps : List L2tpAvp) (now : ℕ) → IsSound s (call_refused s avps now)
   call_sound avps now =
       let text = control_text (cdn (session_of s avps) 0 no_resources) in
-      let g = queued_good ByAny s text now t.spelled (cdn (session_of s avps) 0 no_resources, refl) in
-      sound_if_good s (call_refused s avps now) t e (record { spelled = g.spelled; peer = g.peer; outs = g.outs }) (stays s.phase).0 (stays s.phase).1
+      let g = queued_good ByAny s text now t.spelled t.window (cdn (session_of s avps) 0 no_resources, refl) in
+      sound_if_good s (call_refused s avps now) t e (record { spelled = g.spelled; window = g.window; peer = g.peer; outs = g.outs }) (λ _. drained (queued s.channel (record { items = text }) now) t.window) (stays s.phase).0 (stays s.phase).1
 
   pub ended_sound : IsSound s (ended s)
   ended_sound =
       clears_sound (record { said = sends (zlb (to_peer s) s.channel ∷ []); after = s })
-      (record { spelled = t.spelled; peer = refl; outs = (zlb_sent (to_peer s) s.channel, tt) }) refl
+      (record { spelled = t.spelled; window = t.window; peer = refl; outs = (zlb_sent (to_peer s) s.channel, tt) }) refl
 
   pub established_sound : is_replied s.phase ≡ true → IsSound s (established (flushed ByZlb s))
   established_sound r =
-      let g = flushed_good ByZlb s t.spelled in
-      sound_if_good s (established (flushed ByZlb s)) t e (record { spelled = g.spelled; peer = g.peer; outs = g.outs }) (sym (ap (λ (b : Bool). b && true) r)) (no_end s.phase)
+      let g = flushed_good ByZlb s t.spelled t.window in
+      sound_if_good s (established (flushed ByZlb s)) t e (record { spelled = g.spelled; window = g.window; peer = g.peer; outs = g.outs }) (λ _. drained s.channel t.window) (sym (ap (λ (b : Bool). b && true) r)) (no_end s.phase)
 
   pub accepted_sound : (type : Option ℕ) → is_taken s.phase type ≡ true → IsSound s (accepted s type)
   accepted_sound type taken =
@@ -175,11 +189,66 @@ module _ (s : TunnelState) (t : IsTunnel s) (e : stands s.phase ≡ true) where
   heard_sound avps now Ahead = flushed_sound Never
   heard_sound avps now Acked = flushed_sound Never
 
-  pub reminded_sound : (now : ℕ) (due : Due) → IsSound s (reminded s now due)
-  reminded_sound now Nothing = nothing_sound s t
-  reminded_sound now Resend = sound_if_good s _ t e (record { spelled = t.spelled; peer = refl; outs = flight_sent (to_peer s) s.channel t.spelled flight_most }) (stays s.phase).0 (stays s.phase).1
-  reminded_sound now Hello = queued_sound Never (control_text hello) now (hello, refl)
-  reminded_sound now GiveUp = clears_sound (nothing s) (record { spelled = t.spelled; peer = refl; outs = tt }) refl
+  pub reminded_sound : (now : ℕ) (due : Due) → next_out s.channel ≡ None → IsSound s (reminded s now due)
+  reminded_sound now Nothing none = nothing_sound s (record { spelled = t.spelled; window = t.window; addressed = t.addressed; until = λ _. none })
+  reminded_sound now Resend none = sound_if_good s _ t e (record { spelled = t.spelled; window = t.window; peer = refl; outs = flight_sent (to_peer s) s.channel t.spelled flight_most }) (λ _. none) (stays s.phase).0 (stays s.phase).1
+  reminded_sound now Hello none = queued_sound Never (control_text hello) now (hello, refl)
+  reminded_sound now GiveUp none = clears_sound (nothing s) (record { spelled = t.spelled; window = t.window; peer = refl; outs = tt }) refl
+
+-- where a ZLB is due something goes out
+some_any : (tunnel : ℕ) (c : ChannelState) (outs : List (List ℕ)) → 0 < length (with_zlb ByAny tunnel c outs)
+some_any tunnel c [] = omega arith
+some_any tunnel c (o ∷ os) = omega arith
+
+some_zlb : (tunnel : ℕ) (c : ChannelState) (outs : List (List ℕ)) → 0 < length (with_zlb ByZlb tunnel c outs)
+some_zlb tunnel c outs = omega (arith, length-append outs (zlb tunnel c ∷ []))
+
+module _ (s : TunnelState) where
+  flushed_some : 0 < length (flushed ByZlb s).said.outs
+  flushed_some = some_zlb (to_peer s) (after_out flight_most s.channel) (map (datagram (to_peer s)) (let_out flight_most s.channel))
+
+  queued_some : (text : List ℕ) (now : ℕ) → 0 < length (queued_text ByAny s text now).said.outs
+  queued_some text now =
+      let c = queued s.channel (record { items = text }) now in
+      some_any (to_peer s) (after_out flight_most c) (map (datagram (to_peer s)) (let_out flight_most c))
+
+  accepted_some : (type : Option ℕ) → 0 < length (accepted s type).said.outs
+  accepted_some type =
+      first (is_type type SCCCN) (is_type type STOP_CCN)
+    where
+      second : (b : Bool) → 0 < length (cond b (ended s) (flushed ByZlb s)).said.outs
+      second true = omega arith
+      second false = flushed_some
+      first : (a b : Bool) → 0 < length (cond a (established (flushed ByZlb s)) (cond b (ended s) (flushed ByZlb s))).said.outs
+      first true b = flushed_some
+      first false b = second b
+
+  judged_some : (type : Option ℕ) (now : ℕ) (r : Option Refusal) → 0 < length (judged s type now r).said.outs
+  judged_some type now None = accepted_some type
+  judged_some type now (Some refusal) = queued_some (control_text (stop_ccn s.number (code_of refusal))) now
+
+  delivered_some : (avps : List L2tpAvp) (now : ℕ) → 0 < length (delivered s avps now).said.outs
+  delivered_some avps now =
+      elim (is_established s.phase && is_of_call (message_type avps)) as (λ b. 0 < length (cond b (call_refused s avps now) (judged s (message_type avps) now (refusal_of s avps))).said.outs)
+      [ true ↦ queued_some (control_text (cdn (session_of s avps) 0 no_resources)) now | false ↦ judged_some (message_type avps) now (refusal_of s avps) ]
+
+  pub heard_answered : (avps : List L2tpAvp) (now : ℕ) (answer : Heard) → IsAnswered answer (heard s avps now answer).said.outs
+  heard_answered avps now Deliver = delivered_some avps now
+  heard_answered avps now Repeat = flushed_some
+  heard_answered avps now Ahead = tt
+  heard_answered avps now Acked = tt
+
+-- a message to a tunnel that stands is answered
+pub message_answered : (s : TunnelState) (m : ControlMessage) (random : List ℕ) (now : ℕ) → stands s.phase ≡ true → IsAnswered (heard_by s m) (message_step s m random now).said.outs
+unfolding message_step
+message_answered s m random now e =
+    by_phase s.phase e
+  where
+    by_phase : (p : Phase) → stands p ≡ true → IsAnswered (heard_by s m) (in_phase p s m random now).said.outs
+    by_phase Idle e = absurd cc
+    by_phase Replied e = heard_answered (having_heard s m now) m.avps now (heard_by s m)
+    by_phase Established e = heard_answered (having_heard s m now) m.avps now (heard_by s m)
+    by_phase Cleared e = absurd cc
 
 -- only the phase before a step counts
 pub sound_from : (r s : TunnelState) (step : Step) → r.phase ≡ s.phase → IsSound r step → IsSound s step
@@ -193,7 +262,7 @@ sound_from r s step e x = record {
 pub hearing_sound : (s : TunnelState) (m : ControlMessage) (now : ℕ) → IsTunnel s → stands s.phase ≡ true → IsSound s (hearing s m now)
 hearing_sound s m now t e =
     sound_from (having_heard s m now) s (hearing s m now) refl
-    (heard_sound (having_heard s m now) (record { spelled = received_spelled s.channel m.ns m.nr (is_zlb m.avps) now t.spelled; addressed = t.addressed }) e m.avps now (heard_by s m))
+    (heard_sound (having_heard s m now) (record { spelled = received_spelled s.channel m.ns m.nr (is_zlb m.avps) now t.spelled; window = t.window; addressed = t.addressed }) e m.avps now (heard_by s m))
 
 -- Opening -----------------------------------------------------------------------------------------------------------------------------------
 
@@ -221,7 +290,7 @@ module _ (s : TunnelState) (m : ControlMessage) (random : List ℕ) (now : ℕ) 
   closed_sound step after f outs =
       let end = ends s.phase (ap is_cleared e) in
       record {
-        tunnel = record { spelled = after.spelled; addressed = λ no. absurd cc };
+        tunnel = record { spelled = after.spelled; window = after.window; addressed = λ no. absurd cc; until = λ no. absurd cc };
         outs = subst (λ (nr : ℕ). AllByRecursion (IsSentTo (to_peer step.after) nr) step.said.outs) (sym (ap (λ (p : Phase). cond (stands p) step.after.channel.nr 1) e)) outs;
         established = f ∙ end.0;
         cleared = end.1;
@@ -232,7 +301,7 @@ module _ (s : TunnelState) (m : ControlMessage) (random : List ℕ) (now : ℕ) 
       let both = and_true (is_type (message_type m.avps) SCCRQ) (m.ns == 0) b in
       let answer = sccrp s.name s.number s.secret random (value_of s.secret CHALLENGE m.avps) in
       let there = has_tunnel s m.avps both.0 (passed s m.avps q).wrong in
-      let x = queued_sound (made s m random now) (record { spelled = received_spelled (begun (window_of s.secret m.avps) now) m.ns m.nr false now tt; addressed = λ _. there }) refl ByAny (control_text answer) now (answer, refl) in
+      let x = queued_sound (made s m random now) (record { spelled = received_spelled (begun (window_of s.secret m.avps) now) m.ns m.nr false now tt; window = omega arith; addressed = λ _. there }) refl ByAny (control_text answer) now (answer, refl) in
       let nr = made_nr s m random now both.1 in
       record {
         tunnel = x.tunnel;
@@ -246,7 +315,7 @@ module _ (s : TunnelState) (m : ControlMessage) (random : List ℕ) (now : ℕ) 
   opened_sound b None q = replied_sound b q
   opened_sound b (Some refusal) q =
       closed_sound (record { said = sends (turned_away (assigned_tunnel s.secret m.avps) refusal); after = record s { peer_number = assigned_tunnel s.secret m.avps } })
-      (record { spelled = t.spelled; addressed = λ yes. absurd (let no = sym yes ∙ ap stands e in cc) }) refl (turned_away_sent (assigned_tunnel s.secret m.avps) refusal)
+      (record { spelled = t.spelled; window = t.window; addressed = λ yes. absurd (let no = sym yes ∙ ap stands e in cc); until = λ yes. absurd (let no = sym yes ∙ ap stands e in cc) }) refl (turned_away_sent (assigned_tunnel s.secret m.avps) refusal)
 
   pub opening_sound : IsSound s (opening s m random now)
   opening_sound =
@@ -273,6 +342,20 @@ after_due_spelled c now Resend h = h
 after_due_spelled c now Hello h = h
 after_due_spelled c now GiveUp h = h
 
+after_due-window : (c : ChannelState) (now : ℕ) (due : Due) → (after_due c now due).window ≡ c.window
+after_due-window c now Nothing = refl
+after_due-window c now Resend = refl
+after_due-window c now Hello = refl
+after_due-window c now GiveUp = refl
+
+-- the timers let nothing out
+after_due-next_out : (c : ChannelState) (now : ℕ) (due : Due) → next_out c ≡ None → next_out (after_due c now due) ≡ None
+after_due-next_out c now Nothing e = e
+after_due-next_out c now Resend e =
+    ap (λ (n : ℕ). cond (nat_lt n c.window) (option_map (numbered c c.ns) (slice_get c.messages n)) None) (length-map c.sends (sent_again now)) ∙ e
+after_due-next_out c now Hello e = e
+after_due-next_out c now GiveUp e = e
+
 if_stands : (s : TunnelState) (step : Step) → IsTunnel s → (stands s.phase ≡ true → IsSound s step) → IsSound s (cond (stands s.phase) step (nothing s))
 if_stands s step t h =
     by (stands s.phase) h
@@ -287,17 +370,21 @@ due_sound s now t =
     let after = record s { channel = after_due s.channel now (due_of s.channel now) } in
     if_stands s (reminded after now (due_of s.channel now)) t
     (λ e. sound_from after s (reminded after now (due_of s.channel now)) refl
-    (reminded_sound after (record { spelled = after_due_spelled s.channel now (due_of s.channel now) t.spelled; addressed = t.addressed }) e now (due_of s.channel now)))
+    (reminded_sound after (record { spelled = after_due_spelled s.channel now (due_of s.channel now) t.spelled; window = omega (arith, t.window, after_due-window s.channel now (due_of s.channel now)); addressed = t.addressed }) e now (due_of s.channel now)
+      (after_due-next_out s.channel now (due_of s.channel now) (t.until e))))
 
 pub send_sound : (s : TunnelState) (text : List ℕ) (now : ℕ) → IsTunnel s → IsSpelled text → IsSound s (send_step s text now)
 unfolding send_step
-send_sound s text now t k = if_stands s (queued_text Never s text now) t (λ e. queued_sound s t e Never text now k)
+send_sound s text now t k = if_stands s (queued_text Never s text now) t (λ e. queued_sound s (ready s t) e Never text now k)
 
 pub stop_step_sound : (s : TunnelState) (now : ℕ) → IsTunnel s → IsSound s (stop_step s now)
 unfolding stop_step
-stop_step_sound s now t = if_stands s (clears (answered Never s (stop_ccn s.number shut_down) now)) t (λ e. stop_sound s t e now)
+stop_step_sound s now t = if_stands s (clears (answered Never s (stop_ccn s.number shut_down) now)) t (λ e. stop_sound s (ready s t) e now)
 
 -- what a call gave, and the tunnel after it, are a sound step
 pub as_said : (s : TunnelState) (step : Step) (said : Said) (after : TunnelState) → said ≡ step.said → after ≡ step.after → IsSound s step → IsSound s (record { said = said; after = after })
 as_said s step said after e f x =
     subst (λ (w : Said). IsSound s (record { said = w; after = after })) (sym e) (subst (λ (a : TunnelState). IsSound s (record { said = step.said; after = a })) (sym f) (record { tunnel = x.tunnel; outs = x.outs; established = x.established; cleared = x.cleared }))
+
+pub as_answered : (answer : Heard) (outs wanted : List (List ℕ)) → outs ≡ wanted → IsAnswered answer wanted → IsAnswered answer outs
+as_answered answer outs wanted e h = subst (λ (os : List (List ℕ)). IsAnswered answer os) (sym e) h

@@ -1,11 +1,15 @@
 -- What holds of a tunnel at every moment and of each of its steps, by RFC 2661 sections 3.1, 5.8 and 7.2.
-use Rattle.std.specs.Prelude.{◌≡◌, ◌≢◌, ℕ, Bool, true, false, ◌&&◌, not, if◌then◌else◌, List, [], IsSome}
+use Rattle.std.specs.Prelude.{◌≡◌, ◌<◌, ◌≤◌, ℕ, Bool, true, false, ◌&&◌, not, if◌then◌else◌, List, length, None, IsSome}
 use Rattle.std.specs.List.{AllByRecursion}
+use Rattle.bng_l2tp_reliable.specs.declared.answers.Heard.{Heard}
+use Rattle.bng_l2tp_reliable.specs.declared.answers.Heard.TheVariants.{Deliver, Repeat, Ahead, Acked}
 use Rattle.bng_l2tp_reliable.specs.ChannelState.{Message}
+use Rattle.bng_l2tp_reliable.specs.Calls.{next_out}
 use Rattle.bng_l2tp_wire.specs.Messages.{ControlMessage, control_text}
 use Rattle.bng_l2tp_tunnel.specs.declared.phase.Phase.{Phase}
 use Rattle.bng_l2tp_tunnel.specs.declared.phase.Phase.TheVariants.{Idle, Replied, Established, Cleared}
 use Rattle.bng_l2tp_tunnel.specs.TunnelState.{TunnelState}
+use Rattle.bng_l2tp_tunnel.specs.Outs.{flight_most}
 use Rattle.bng_l2tp_tunnel.specs.Steps.{Step, stands, is_established, to_peer}
 
 abbrev pub is_replied : Phase → Bool
@@ -27,10 +31,12 @@ IsSpelled octets = (m : ControlMessage) × (octets ≡ control_text m)
 abbrev pub AreSpelled : List Message → Type 0
 AreSpelled messages = AllByRecursion (λ (t : Message). IsSpelled t.items) messages
 
--- What the channel holds are control messages, and a tunnel that was made knows the peer's.
+-- What the channel holds are control messages. A tunnel that was made knows the peer's, and holds no message back that the window lets out.
 pub record IsTunnel (s : TunnelState) : Type 0 where
   pub spelled : AreSpelled s.channel.messages
+  pub window : s.channel.window ≤ flight_most
   pub addressed : stands s.phase ≡ true → IsSome s.peer_number
+  pub until : stands s.phase ≡ true → next_out s.channel ≡ None
 
 -- the octets are a control message to this tunnel of the peer, with this Nr
 pub record IsSentTo (tunnel nr : ℕ) (octets : List ℕ) : Type 0 where
@@ -38,6 +44,13 @@ pub record IsSentTo (tunnel nr : ℕ) (octets : List ℕ) : Type 0 where
   pub text : octets ≡ control_text message
   pub tunnel_is : message.tunnel ≡ tunnel
   pub nr_is : message.nr ≡ nr
+
+-- a message that is delivered or came again is acknowledged in the step, since each datagram acknowledges
+abbrev pub IsAnswered : Heard → List (List ℕ) → Type 0
+IsAnswered Deliver outs = 0 < length outs
+IsAnswered Repeat outs = 0 < length outs
+IsAnswered Ahead outs = Unit {0}
+IsAnswered Acked outs = Unit {0}
 
 -- the Nr of what goes out: that of the channel, which was begun by the message 0 where the tunnel had taken none
 abbrev pub acked : TunnelState → Step → ℕ

@@ -1,5 +1,5 @@
 -- What the AVPs of a control message say, by RFC 2661 sections 4.1 to 4.4. Numbers have their most significant octet first.
-use Rattle.std.specs.Prelude.{ℕ, ◌+◌, ◌==◌, Bool, ◌&&◌, ◌||◌, not, nat_le, if◌then◌else◌, List, [], ◌∷◌, length, slice_range, find, Option, Some, None, is_none}
+use Rattle.std.specs.Prelude.{◌≡◌, ℕ, ◌+◌, ◌==◌, Bool, ◌&&◌, ◌||◌, not, nat_le, if◌then◌else◌, List, [], ◌∷◌, length, slice_get, slice_range, take, reverse, find, Option, Some, None, is_none}
 use Rattle.byteorder.specs.Endian.{big_from}
 use Rattle.bng_digest.specs.Hiding.{revealed_avp}
 use Rattle.bng_l2tp_wire.specs.Avps.{L2tpAvp}
@@ -31,6 +31,12 @@ placed_after vector (a ∷ rest) = record { avp = a; vector = vector } ∷ place
 -- the AVPs of a message
 abbrev pub placed : List L2tpAvp → List PlacedAvp
 placed avps = placed_after None avps
+
+-- an AVP of a message at a place, with the last Random Vector before that place
+pub record IsPlaced (avps : List L2tpAvp) (p : PlacedAvp) : Type 0 where
+  pub place : ℕ
+  pub is : slice_get avps place ≡ Some p.avp
+  pub vector : p.vector ≡ find is_vector (reverse (take place avps))
 
 -- The text that a hidden value is made of: the length of the value, the value, and padding (section 4.3). This is the value, where it is
 -- there.

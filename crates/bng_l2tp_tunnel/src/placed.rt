@@ -1,8 +1,8 @@
-ghost use Rattle.std.specs.Prelude.{◌≡◌, find};
+ghost use Rattle.std.specs.Prelude.{◌≡◌, find, IfSome};
 ghost use Rattle.std.specs.List.{list_any};
 ghost use Rattle.std.specs.Option.{option_map};
 ghost use Rattle.bng_l2tp_wire.specs.View.{avp_of, avps_of};
-ghost use Rattle.bng_l2tp_tunnel.specs.Values.{is_of as is_avp_of, is_vector as is_random_vector, placed, is_unreadable as cannot_be_read};
+ghost use Rattle.bng_l2tp_tunnel.specs.Values.{IsPlaced, is_of as is_avp_of, is_vector as is_random_vector, placed, is_unreadable as cannot_be_read};
 ghost use Rattle.bng_l2tp_tunnel.specs.Messages.{has_unreadable as has_one_unreadable};
 ghost use Rattle.bng_l2tp_tunnel.specs.View.{placed_of, octets_of};
 
@@ -32,7 +32,8 @@ fn is_vector(avp: &Avp<'_>) -> bool
 
 /// The first AVP of this Attribute Type.
 pub(crate) fn place_of<'a>(avps: &[Avp<'a>], kind: u16) -> Option<Placed<'a>>
-    ensures { option_map placed_of result ≡ find (λ p. is_avp_of kind p.avp) (placed (avps_of avps.now)) }
+    ensures first { option_map placed_of result ≡ find (λ p. is_avp_of kind p.avp) (placed (avps_of avps.now)) }
+    ensures vector { IfSome result (λ p. IsPlaced (avps_of avps.now) (placed_of p)) }
 {
     let mut vector = None;
     let mut left = avps;

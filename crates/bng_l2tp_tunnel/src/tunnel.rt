@@ -1,11 +1,12 @@
-ghost use Rattle.std.specs.Prelude.{◌≡◌, ◌≢◌, ◌≤◌, ◌<◌, ◌↔◌, ℕ, length};
+ghost use Rattle.std.specs.Prelude.{◌≡◌, ◌≢◌, ◌≤◌, ◌<◌, ◌↔◌, ℕ, length, true, IsTrue};
+ghost use Rattle.bng_l2tp_reliable.specs.ChannelState.{waiting};
 ghost use Rattle.bng_l2tp_reliable.specs.Timers.{never, due_of, after_due, deadline_of};
 ghost use Rattle.bng_l2tp_wire.specs.View.{control_of};
-ghost use Rattle.bng_l2tp_tunnel.specs.View.{octets_of, said};
+ghost use Rattle.bng_l2tp_tunnel.specs.View.{octets_of, payloads, said};
 ghost use Rattle.bng_l2tp_tunnel.specs.TunnelState.{fresh};
-ghost use Rattle.bng_l2tp_tunnel.specs.Sound.{IsTunnel, IsSpelled, IsSound};
+ghost use Rattle.bng_l2tp_tunnel.specs.Sound.{IsTunnel, IsSpelled, IsSound, IsAnswered};
 ghost use Rattle.bng_l2tp_tunnel.specs.Spelling.{stop_ccn as stop_ccn_of, hello as hello_of, shut_down as code_of_shut_down};
-ghost use Rattle.bng_l2tp_tunnel.specs.Steps.{flushed, queued_text, answered, clears, message_step, reminded, due_step, send_step, stop_step, to_peer};
+ghost use Rattle.bng_l2tp_tunnel.specs.Steps.{flushed, queued_text, answered, clears, stands, heard_by, message_step, reminded, due_step, send_step, stop_step, to_peer};
 
 use crate::acknowledging::Acknowledging;
 use crate::outs::{outs_of, resent};
@@ -16,7 +17,7 @@ use crate::spelling::{hello, stop_ccn};
 use crate::step::{cleared, nothing, sends};
 use arrayvec::ArrayVec;
 use bng_base::{Peer, TunnelNo, TunnelStep};
-use bng_l2tp_reliable::{Channel, Due, MESSAGE_MOST, Queued};
+use bng_l2tp_reliable::{Channel, Due, MESSAGE_MOST, Queued, WAITING_MOST};
 use bng_l2tp_wire::Control;
 use std::marker::Model;
 
@@ -104,6 +105,7 @@ impl Tunnel {
         ensures said { said result ≡ (message_step self.old (control_of message.now) random.now now).said }
         ensures after { self.new ≡ (message_step self.old (control_of message.now) random.now now).after }
         ensures sound { IsTunnel self.old → IsSound self.old (record { said = said result; after = self.new }) }
+        ensures acknowledged { stands self.old.phase ≡ true → IsAnswered (heard_by self.old (control_of message.now)) (payloads result.outs.items) }
     {
         match self.phase {
             Phase::Idle => self.open(message, random, now),
@@ -143,6 +145,7 @@ impl Tunnel {
         ensures said { said result ≡ (send_step self.old message.now now).said }
         ensures after { self.new ≡ (send_step self.old message.now now).after }
         ensures sound { IsTunnel self.old → IsSpelled message.now → IsSound self.old (record { said = said result; after = self.new }) }
+        ensures left_out { IsTrue result.left_out ↔ ((stands self.old.phase ≡ true) × (length (waiting self.old.channel) ≡ WAITING_MOST)) }
     {
         match self.phase {
             Phase::Idle | Phase::Cleared => nothing(),
@@ -210,6 +213,7 @@ impl Tunnel {
         requires { length text.now ≤ MESSAGE_MOST }
         ensures said { said result ≡ (queued_text acknowledging self.old text.now now).said }
         ensures after { self.new ≡ (queued_text acknowledging self.old text.now now).after }
+        ensures full { IsTrue result.left_out ↔ (length (waiting self.old.channel) ≡ WAITING_MOST) }
     {
         let queued = self.channel.send(text, now);
         let mut step = self.flush(acknowledging);

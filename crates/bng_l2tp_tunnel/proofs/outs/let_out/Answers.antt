@@ -28,4 +28,4 @@ loop-preserved c =
     }
 
 pub returns-clause-until : goal.returns-clause-until
-returns-clause-until c = full_window c.loop.counter c.loop.channel (c.loop.invariant.sound (omega arith)) c.loop-test.false c.loop.invariant.until
+returns-clause-until c = full_window c.loop.counter c.loop.channel (c.loop.invariant.sound (omega arith)).window c.loop-test.false c.loop.invariant.until
