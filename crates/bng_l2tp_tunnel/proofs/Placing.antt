@@ -1,5 +1,5 @@
 -- An AVP is read with the last Random Vector before it.
-use Rattle.std.proofs.Common.{◌≡◌, ℕ, Bool, true, false, cond, Option, None, Some, List, [], ◌∷◌, ◌++◌, length, take, find, reverse, slice_get, refl, sym, ap, subst, ◌∙◌, append_assoc}
+use Rattle.std.proofs.Common.{◌≡◌, Bool, true, false, cond, Option, None, Some, List, [], ◌∷◌, ◌++◌, length, take, find, reverse, slice_get, refl, sym, ap, subst, ◌∙◌, append_assoc}
 use Rattle.std.proofs.lemmas.List.{reverse-append}
 use Rattle.bng_l2tp_wire.specs.Avps.{L2tpAvp}
 use Rattle.bng_l2tp_tunnel.specs.Values.{PlacedAvp, IsPlaced, is_vector, placed_after, placed}
@@ -21,9 +21,9 @@ module _ (test : PlacedAvp → Bool) where
   found_after seen [] v p e q = absurd cc
   found_after seen (a ∷ rest) v p e q =
       by (test (record { avp = a; vector = v })) (
-        λ then.
-        subst (λ (xs : List L2tpAvp). IsPlaced xs p) (append_assoc seen (a ∷ []) rest)
-        (found_after (seen ++ a ∷ []) rest (cond (is_vector a) (Some a) v) p (ap (λ (o : Option L2tpAvp). cond (is_vector a) (Some a) o) e ∙ sym (last_vector seen a)) then)
+      λ then.
+      subst (λ (xs : List L2tpAvp). IsPlaced xs p) (append_assoc seen (a ∷ []) rest)
+      (found_after (seen ++ a ∷ []) rest (cond (is_vector a) (Some a) v) p (ap (λ (o : Option L2tpAvp). cond (is_vector a) (Some a) o) e ∙ sym (last_vector seen a)) then)
       ) q
     where
       here : record { avp = a; vector = v } ≡ p → IsPlaced (seen ++ a ∷ rest) p
@@ -32,6 +32,7 @@ module _ (test : PlacedAvp → Bool) where
         is = slice_get-middle seen rest a ∙ ap (λ (x : PlacedAvp). Some x.avp) same;
         vector = sym (ap (λ (x : PlacedAvp). x.vector) same) ∙ e ∙ ap (λ (xs : List L2tpAvp). find is_vector (reverse xs)) (sym (take-front seen (a ∷ rest)));
       }
+
       by : (b : Bool) → (find test (placed_after (cond (is_vector a) (Some a) v) rest) ≡ Some p → IsPlaced (seen ++ a ∷ rest) p)
           → cond b (Some (record { avp = a; vector = v })) (find test (placed_after (cond (is_vector a) (Some a) v) rest)) ≡ Some p → IsPlaced (seen ++ a ∷ rest) p
       by true later same = here (cc)

@@ -1,5 +1,5 @@
 -- What holds of a message that is not refused.
-use Rattle.std.proofs.Common.{◌≡◌, ℕ, ◌==◌, Bool, true, false, ◌&&◌, ◌||◌, not, cond, Option, None, Some, List, [], ◌∷◌, length, refl, sym, ap, subst, ◌∙◌, arith}
+use Rattle.std.proofs.Common.{◌≡◌, ℕ, ◌==◌, Bool, true, false, ◌||◌, not, cond, Option, None, Some, List, length, refl, ap, subst}
 use Rattle.std.specs.Prelude.{IsSome}
 use Rattle.std.proofs.lemmas.Bool.{eqb-true}
 use Rattle.byteorder.specs.Endian.{big_from}
@@ -10,9 +10,9 @@ use Rattle.bng_l2tp_tunnel.specs.declared.phase.Phase.{Phase}
 use Rattle.bng_l2tp_tunnel.specs.declared.phase.Phase.TheVariants.{Idle, Replied, Established, Cleared}
 use Rattle.bng_l2tp_tunnel.specs.declared.refusal.Refusal.{Refusal}
 use Rattle.bng_l2tp_tunnel.specs.Values.{number_in, value_of, message_type, assigned_tunnel}
-use Rattle.bng_l2tp_tunnel.specs.Messages.{is_type, is_taken, is_of_call, is_wrong, lacks_needed, has_unreadable}
+use Rattle.bng_l2tp_tunnel.specs.Messages.{is_type, is_taken, is_wrong, lacks_needed, has_unreadable}
 use Rattle.bng_l2tp_tunnel.specs.TunnelState.{TunnelState}
-use Rattle.bng_l2tp_tunnel.specs.Refusals.{is_of_wrong_version, has_unknown_avp, has_wrong_avp, fails_challenge, lacks_number, refusal_of}
+use Rattle.bng_l2tp_tunnel.specs.Refusals.{is_of_wrong_version, has_unknown_avp, has_wrong_avp, fails_challenge, refusal_of}
 use Rattle.bng_l2tp_tunnel.specs.Sound.{is_replied}
 
 first_none : (b : Bool) (r : Refusal) (rest : Option Refusal) → cond b (Some r) rest ≡ None → (b ≡ false) × (rest ≡ None)

@@ -1,8 +1,8 @@
 -- Each step of a tunnel is sound.
-use Rattle.std.proofs.Common.{◌≡◌, ℕ, ◌+◌, ◌==◌, Bool, true, false, ◌&&◌, ◌||◌, not, cond, nat_lt, Option, None, Some, List, [], ◌∷◌, ◌++◌, length, drop, map, refl, sym, ap, subst, ◌∙◌, ◌≤◌, ◌<◌, option_map, slice_get, arith, length-append}
+use Rattle.std.proofs.Common.{◌≡◌, ℕ, ◌==◌, Bool, true, false, ◌&&◌, not, cond, nat_lt, Option, None, Some, List, [], ◌∷◌, ◌++◌, length, map, refl, sym, ap, subst, ◌∙◌, ◌≤◌, ◌<◌, option_map, slice_get, arith, length-append}
 use Rattle.std.proofs.lemmas.List.{length-map}
 use Rattle.std.specs.Prelude.{IsSome, unwrap_or}
-use Rattle.std.specs.List.{AllByRecursion, list_any}
+use Rattle.std.specs.List.{AllByRecursion}
 use Rattle.bng_l2tp_reliable.specs.declared.answers.Heard.{Heard}
 use Rattle.bng_l2tp_reliable.specs.declared.answers.Heard.TheVariants.{Deliver, Repeat, Ahead, Acked}
 use Rattle.bng_l2tp_reliable.specs.declared.answers.Due.{Due}
@@ -21,15 +21,15 @@ use Rattle.bng_l2tp_tunnel.specs.declared.phase.Phase.{Phase}
 use Rattle.bng_l2tp_tunnel.specs.declared.phase.Phase.TheVariants.{Idle, Replied, Established, Cleared}
 use Rattle.bng_l2tp_tunnel.specs.TunnelState.{TunnelState}
 use Rattle.bng_l2tp_tunnel.specs.View.{Said}
-use Rattle.bng_l2tp_tunnel.specs.Outs.{datagram, let_out, after_out, flight_most, flight_before, zlb, with_zlb}
+use Rattle.bng_l2tp_tunnel.specs.Outs.{datagram, let_out, after_out, flight_most, zlb, with_zlb}
 use Rattle.bng_l2tp_tunnel.specs.declared.refusal.Refusal.{Refusal}
 use Rattle.bng_l2tp_tunnel.specs.Values.{value_of, message_type, assigned_tunnel, window_of}
 use Rattle.bng_l2tp_tunnel.specs.Messages.{is_type, is_of_call, is_taken}
 use Rattle.bng_l2tp_tunnel.specs.Refusals.{refusal_of}
 use Rattle.bng_l2tp_tunnel.specs.Spelling.{sccrp, stop_ccn, cdn, hello, code_of, shut_down, no_resources}
-use Rattle.bng_l2tp_tunnel.specs.Steps.{Step, sends, nothing, stands, is_established, to_peer, flushed, queued_text, answered, clears, turned_away, made, replied, refused, opened_by, begins, opening, session_of, call_refused, ended, established, accepted, judged, delivered, heard, is_zlb, heard_by, having_heard, hearing, in_phase, message_step, reminded, due_step, send_step, stop_step}
+use Rattle.bng_l2tp_tunnel.specs.Steps.{Step, sends, nothing, stands, is_established, to_peer, flushed, queued_text, answered, clears, turned_away, made, replied, opened_by, begins, opening, session_of, call_refused, ended, established, accepted, judged, delivered, heard, is_zlb, heard_by, having_heard, hearing, in_phase, message_step, reminded, due_step, send_step, stop_step}
 use Rattle.bng_l2tp_tunnel.proofs.Refused.{passed, replied_if, has_tunnel}
-use Rattle.bng_l2tp_tunnel.specs.Sound.{is_replied, is_cleared, IsSpelled, AreSpelled, IsTunnel, IsSentTo, IsAnswered, acked, IsSound}
+use Rattle.bng_l2tp_tunnel.specs.Sound.{is_replied, is_cleared, IsSpelled, AreSpelled, IsTunnel, IsSentTo, IsAnswered, is_delivered, is_for_call, IsSound}
 use Rattle.bng_l2tp_tunnel.proofs.Spelled.{AllByRecursion-append, AllByRecursion-drop, after_out-keeps, let_out_sent, flight_sent}
 use Rattle.bng_l2tp_tunnel.proofs.Flights.{after_out-window, drained}
 
@@ -219,6 +219,7 @@ module _ (s : TunnelState) where
       second : (b : Bool) → 0 < length (cond b (ended s) (flushed ByZlb s)).said.outs
       second true = omega arith
       second false = flushed_some
+
       first : (a b : Bool) → 0 < length (cond a (established (flushed ByZlb s)) (cond b (ended s) (flushed ByZlb s))).said.outs
       first true b = flushed_some
       first false b = second b
@@ -371,7 +372,7 @@ due_sound s now t =
     if_stands s (reminded after now (due_of s.channel now)) t
     (λ e. sound_from after s (reminded after now (due_of s.channel now)) refl
     (reminded_sound after (record { spelled = after_due_spelled s.channel now (due_of s.channel now) t.spelled; window = omega (arith, t.window, after_due-window s.channel now (due_of s.channel now)); addressed = t.addressed }) e now (due_of s.channel now)
-      (after_due-next_out s.channel now (due_of s.channel now) (t.until e))))
+    (after_due-next_out s.channel now (due_of s.channel now) (t.until e))))
 
 pub send_sound : (s : TunnelState) (text : List ℕ) (now : ℕ) → IsTunnel s → IsSpelled text → IsSound s (send_step s text now)
 unfolding send_step
@@ -385,6 +386,51 @@ stop_step_sound s now t = if_stands s (clears (answered Never s (stop_ccn s.numb
 pub as_said : (s : TunnelState) (step : Step) (said : Said) (after : TunnelState) → said ≡ step.said → after ≡ step.after → IsSound s step → IsSound s (record { said = said; after = after })
 as_said s step said after e f x =
     subst (λ (w : Said). IsSound s (record { said = w; after = after })) (sym e) (subst (λ (a : TunnelState). IsSound s (record { said = step.said; after = a })) (sym f) (record { tunnel = x.tunnel; outs = x.outs; established = x.established; cleared = x.cleared }))
+
+-- Calls --------------------------------------------------------------------------------------------------------------------------------------
+
+module _ (s : TunnelState) where
+  accepted_call : (type : Option ℕ) → (accepted s type).said.call ≡ false
+  accepted_call type =
+      first (is_type type SCCCN) (is_type type STOP_CCN)
+    where
+      first : (a b : Bool) → (cond a (established (flushed ByZlb s)) (cond b (ended s) (flushed ByZlb s))).said.call ≡ false
+      first true b = refl
+      first false true = refl
+      first false false = refl
+
+  judged_call : (type : Option ℕ) (now : ℕ) (r : Option Refusal) → (judged s type now r).said.call ≡ false
+  judged_call type now None = accepted_call type
+  judged_call type now (Some refusal) = refl
+
+  heard_call : (avps : List L2tpAvp) (now : ℕ) (answer : Heard) → (heard s avps now answer).said.call ≡ (is_established s.phase && (is_delivered answer && is_of_call (message_type avps)))
+  heard_call avps now Deliver =
+      elim (is_established s.phase && is_of_call (message_type avps)) as (λ b. (cond b (call_refused s avps now) (judged s (message_type avps) now (refusal_of s avps))).said.call ≡ b)
+      [ true ↦ refl | false ↦ judged_call (message_type avps) now (refusal_of s avps) ]
+  heard_call avps now Repeat = and_false (is_established s.phase)
+  heard_call avps now Ahead = and_false (is_established s.phase)
+  heard_call avps now Acked = and_false (is_established s.phase)
+
+opened_call : (s : TunnelState) (m : ControlMessage) (random : List ℕ) (now : ℕ) → (opening s m random now).said.call ≡ false
+opened_call s m random now =
+    by (begins m) (refusal_of s m.avps)
+  where
+    by : (b : Bool) (r : Option Refusal) → (cond b (opened_by s m random now r) (clears (nothing s))).said.call ≡ false
+    by true None = refl
+    by true (Some refusal) = refl
+    by false r = refl
+
+-- a message is told to be a call's exactly where it is one
+pub message_call : (s : TunnelState) (m : ControlMessage) (random : List ℕ) (now : ℕ) → (message_step s m random now).said.call ≡ is_for_call s m
+unfolding message_step
+message_call s m random now =
+    by_phase s.phase refl
+  where
+    by_phase : (p : Phase) → s.phase ≡ p → (in_phase p s m random now).said.call ≡ is_for_call s m
+    by_phase Idle e = opened_call s m random now ∙ sym (ap (λ (p : Phase). is_established p && (is_delivered (heard_by s m) && is_of_call (message_type m.avps))) e)
+    by_phase Replied e = heard_call (having_heard s m now) m.avps now (heard_by s m)
+    by_phase Established e = heard_call (having_heard s m now) m.avps now (heard_by s m)
+    by_phase Cleared e = sym (ap (λ (p : Phase). is_established p && (is_delivered (heard_by s m) && is_of_call (message_type m.avps))) e)
 
 pub as_answered : (answer : Heard) (outs wanted : List (List ℕ)) → outs ≡ wanted → IsAnswered answer wanted → IsAnswered answer outs
 as_answered answer outs wanted e h = subst (λ (os : List (List ℕ)). IsAnswered answer os) (sym e) h

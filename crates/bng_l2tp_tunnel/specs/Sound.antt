@@ -9,8 +9,10 @@ use Rattle.bng_l2tp_wire.specs.Messages.{ControlMessage, control_text}
 use Rattle.bng_l2tp_tunnel.specs.declared.phase.Phase.{Phase}
 use Rattle.bng_l2tp_tunnel.specs.declared.phase.Phase.TheVariants.{Idle, Replied, Established, Cleared}
 use Rattle.bng_l2tp_tunnel.specs.TunnelState.{TunnelState}
+use Rattle.bng_l2tp_tunnel.specs.Values.{message_type}
+use Rattle.bng_l2tp_tunnel.specs.Messages.{is_of_call}
 use Rattle.bng_l2tp_tunnel.specs.Outs.{flight_most}
-use Rattle.bng_l2tp_tunnel.specs.Steps.{Step, stands, is_established, to_peer}
+use Rattle.bng_l2tp_tunnel.specs.Steps.{Step, stands, is_established, to_peer, heard_by}
 
 abbrev pub is_replied : Phase → Bool
 is_replied Idle = false
@@ -51,6 +53,16 @@ IsAnswered Deliver outs = 0 < length outs
 IsAnswered Repeat outs = 0 < length outs
 IsAnswered Ahead outs = Unit {0}
 IsAnswered Acked outs = Unit {0}
+
+abbrev pub is_delivered : Heard → Bool
+is_delivered Deliver = true
+is_delivered Repeat = false
+is_delivered Ahead = false
+is_delivered Acked = false
+
+-- a message that the channel of an established tunnel delivers, and that is of a call
+abbrev pub is_for_call : TunnelState → ControlMessage → Bool
+is_for_call s m = is_established s.phase && (is_delivered (heard_by s m) && is_of_call (message_type m.avps))
 
 -- the Nr of what goes out: that of the channel, which was begun by the message 0 where the tunnel had taken none
 abbrev pub acked : TunnelState → Step → ℕ

@@ -1,5 +1,5 @@
 -- What the calls of a tunnel do, by RFC 2661 sections 5.5, 5.7, 5.8, 6 and 7.2.
-use Rattle.std.specs.Prelude.{ℕ, Bool, true, false, ◌&&◌, not, ◌==◌, if◌then◌else◌, List, [], ◌∷◌, map, length, Option, Some, None, unwrap_or}
+use Rattle.std.specs.Prelude.{ℕ, Bool, true, false, ◌&&◌, ◌==◌, if◌then◌else◌, List, [], ◌∷◌, map, length, Option, Some, None, unwrap_or}
 use Rattle.bng_l2tp_reliable.specs.declared.answers.Queued.{Queued}
 use Rattle.bng_l2tp_reliable.specs.declared.answers.Queued.TheVariants.{Ok, WindowQueueFull}
 use Rattle.bng_l2tp_reliable.specs.declared.answers.Heard.{Heard}

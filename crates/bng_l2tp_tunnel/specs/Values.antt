@@ -1,5 +1,5 @@
 -- What the AVPs of a control message say, by RFC 2661 sections 4.1 to 4.4. Numbers have their most significant octet first.
-use Rattle.std.specs.Prelude.{◌≡◌, ℕ, ◌+◌, ◌==◌, Bool, ◌&&◌, ◌||◌, not, nat_le, if◌then◌else◌, List, [], ◌∷◌, length, slice_get, slice_range, take, reverse, find, Option, Some, None, is_none}
+use Rattle.std.specs.Prelude.{◌≡◌, ℕ, ◌==◌, Bool, ◌&&◌, ◌||◌, not, nat_le, if◌then◌else◌, List, [], ◌∷◌, length, slice_get, slice_range, take, reverse, find, Option, Some, None, is_none}
 use Rattle.byteorder.specs.Endian.{big_from}
 use Rattle.bng_digest.specs.Hiding.{revealed_avp}
 use Rattle.bng_l2tp_wire.specs.Avps.{L2tpAvp}

@@ -1,4 +1,3 @@
-use Rattle.std.proofs.Common.{◌≡◌}
 use Rattle.bng_l2tp_tunnel.specs.Outs.{zlb}
 use Rattle.bng_l2tp_tunnel.proofs.Flights.{payloads-push}
 use Rattle.bng_l2tp_tunnel.proofs.outs.push_zlb.Goals as goal

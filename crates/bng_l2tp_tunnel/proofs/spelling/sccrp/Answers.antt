@@ -1,4 +1,4 @@
-use Rattle.std.proofs.Common.{rules, ◌≡◌, ◌≤◌, ◌+◌, List, length, ap, ◌∙◌, arith}
+use Rattle.std.proofs.Common.{rules, ◌≡◌, List, length, ap, ◌∙◌, arith}
 use Rattle.bng_l2tp_wire.specs.Avps.{L2tpAvp, avps_text}
 use Rattle.bng_l2tp_wire.specs.Messages.{control_text}
 use Rattle.bng_l2tp_wire.specs.View.{avps_of}

@@ -1,4 +1,4 @@
-use Rattle.std.proofs.Common.{◌≡◌, sym, ap, ◌∙◌}
+use Rattle.std.proofs.Common.{sym, ap, ◌∙◌}
 use Rattle.bng_l2tp_wire.specs.View.{avps_of, control_of}
 use Rattle.bng_l2tp_tunnel.specs.View.{said}
 use Rattle.bng_l2tp_tunnel.proofs.Answering.{delivers_said, delivers_after}

@@ -1,4 +1,4 @@
-use Rattle.std.proofs.Common.{◌≡◌, refl, ap, ◌∙◌}
+use Rattle.std.proofs.Common.{ap, ◌∙◌}
 use Rattle.bng_l2tp_wire.specs.Messages.{control_text}
 use Rattle.bng_l2tp_tunnel.specs.declared.acknowledging.Acknowledging.TheVariants.{Never}
 use Rattle.bng_l2tp_tunnel.specs.declared.phase.Phase.TheVariants.{Cleared}
