@@ -330,3 +330,46 @@ fn a_calls_message_goes_out_and_the_last_is_one_stop_ccn(rt: HostRuntime) -> Res
     assert!(rt; again.outs.is_empty() && !again.cleared);
     Ok(())
 }
+
+// The peer takes one message before it acknowledges it.
+#[test]
+fn the_window_holds_messages_back(rt: HostRuntime) -> Result<(), Fail> {
+    let alloc = rt.alloc();
+    let sccrq =
+        "c8020040000000000000000080080000000000018008000000020100800a0000000300000003800a000000076c616331800800000009000580080000000a0001";
+    let mut tunnel = tunnel(0x0401, false, true);
+    takes(alloc, &mut tunnel, sccrq, 0)?;
+    takes(alloc, &mut tunnel, SCCCN, 0)?;
+    // a CDN for session 3 of the peer
+    let cdn = hex::decode(
+        alloc,
+        "c80200240000000300000000800800000000000e80080000000e00028008000000010003",
+    )?;
+    assert!(rt; cdn.len() <= 512);
+    assert!(rt; tunnel.send(cdn.as_slice(), 0).outs.len() == 1);
+    for _ in 0..64 {
+        let step = tunnel.send(cdn.as_slice(), 0);
+        assert!(rt; step.outs.is_empty() && !step.left_out);
+    }
+    assert!(rt; tunnel.send(cdn.as_slice(), 0).left_out);
+    // a ZLB that acknowledges the first, and a HELLO that acknowledges the second
+    let step = takes(alloc, &mut tunnel, "c802000c0401000000020002", 0)?;
+    assert_eq!(rt;
+        outs(alloc, &step)?.as_str(),
+        "c80200240005000300020002800800000000000e80080000000e00028008000000010003 "
+    );
+    let step = takes(
+        alloc,
+        &mut tunnel,
+        "c802001404010000000200038008000000000006",
+        0,
+    )?;
+    assert_eq!(rt;
+        outs(alloc, &step)?.as_str(),
+        "c80200240005000300030003800800000000000e80080000000e00028008000000010003 c802000c0005000000040003 "
+    );
+    // no StopCCN goes out while another message is in flight
+    let stopped = tunnel.stop(0);
+    assert!(rt; stopped.cleared && stopped.outs.is_empty());
+    Ok(())
+}

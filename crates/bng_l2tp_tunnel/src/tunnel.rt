@@ -27,7 +27,7 @@ pub(crate) const DEFAULT_WINDOW: u16 = 4;
 /// A tunnel of a peer, as its network server sees it (RFC 2661 section 7.2).
 ///
 /// A contract sees the rules it was made with, both tunnel numbers, how far it has come, the Challenge that was sent, and
-/// its channel.
+/// its channel. It holds its channel's queue, some 33 KB, in itself.
 #[derive(Drop)]
 pub struct Tunnel {
     pub(crate) rules: TunnelRules,
@@ -78,8 +78,8 @@ fn copied_secret(secret: &Option<ArrayVec<u8, 64>>) -> Option<ArrayVec<u8, 64>>
 }
 
 impl Tunnel {
-    /// A tunnel that has taken no message yet, at that moment in milliseconds. A number of 0 says that no tunnel number may
-    /// be taken.
+    /// A tunnel with this number that has taken no message of the peer yet, at that moment in milliseconds. A number of 0 says
+    /// that no tunnel number may be taken.
     pub fn new(rules: &TunnelRules, number: TunnelNo, peer: Peer, now: u64) -> Tunnel
         ensures fresh { result ≡ fresh rules.now number peer now }
         ensures sound { IsTunnel result }
@@ -99,7 +99,18 @@ impl Tunnel {
         }
     }
 
-    /// Takes a message of the peer, at that moment in milliseconds. `random` is the Challenge where one is sent.
+    /// Takes a control message of the peer, at that moment in milliseconds (RFC 2661 sections 5 to 7). `random` is the
+    /// Challenge of the SCCRP, where there is a secret.
+    ///
+    /// The first message is an SCCRQ with Ns 0, which is answered by an SCCRP, or is refused. A refused one gets a StopCCN
+    /// outside of any channel, and none where the peer's Assigned Tunnel ID cannot be read; no tunnel is made then, nor by
+    /// another first message, which gets no answer. Later messages go through the channel: one that it delivers is taken,
+    /// or refused by a StopCCN over the channel that clears the tunnel. A StopCCN of the peer clears it too. A message of a
+    /// call of an established tunnel is refused by a CDN with Result Code 2 and Error Code 4. Nothing more is done for a
+    /// tunnel that was cleared.
+    ///
+    /// `established` says that an SCCCN was taken, `cleared` that the tunnel was cleared or none is made, `call` and `ended`
+    /// that the message is a call's and was refused, and `left_out` that 64 messages waited and the answer was left out.
     #[tactic(auto, unfolding(crate::specs::Steps::message_step))]
     pub fn on_message(&mut self, message: &Control<'_>, random: &[u8; 16], now: u64) -> TunnelStep
         ensures said { said result ≡ (message_step self.old (control_of message.now) random.now now).said }
@@ -115,8 +126,9 @@ impl Tunnel {
         }
     }
 
-    /// Does what the timers of the channel ask for at that moment, in milliseconds: messages go out again, a HELLO is
-    /// sent, or the tunnel is cleared (RFC 2661 sections 5.5 and 5.8).
+    /// Does what the timers of the channel ask for at that moment, in milliseconds (RFC 2661 sections 5.5 and 5.8): the
+    /// messages in flight go out again, a HELLO is sent, or the tunnel is cleared, since the peer does not answer. Nothing is
+    /// done for a tunnel that was not made or was cleared.
     #[tactic(auto, unfolding(crate::specs::Steps::due_step))]
     pub fn due(&mut self, now: u64) -> TunnelStep
         ensures said { said result ≡ (due_step self.old now).said }
@@ -138,8 +150,9 @@ impl Tunnel {
         self.channel.deadline()
     }
 
-    /// Sends a call's message, whose Tunnel ID, Ns and Nr are filled in as it goes out. Nothing is sent over a tunnel that
-    /// was not made or was cleared.
+    /// Sends a call's control message of at most 512 octets, whose Tunnel ID, Ns and Nr are filled in as it goes out (RFC 2661
+    /// section 3.1), at that moment in milliseconds. It waits for the window, and `left_out` says that 64 messages wait and it
+    /// was left out. Nothing is sent over a tunnel that was not made or was cleared.
     #[tactic(auto, unfolding(crate::specs::Steps::send_step))]
     pub fn send(&mut self, message: &[u8], now: u64) -> TunnelStep
         requires { length message.now ≤ MESSAGE_MOST }
@@ -154,7 +167,8 @@ impl Tunnel {
         }
     }
 
-    /// Tells the peer once that the gateway shuts down, which clears the tunnel (RFC 2661 section 6.4).
+    /// Tells the peer by a StopCCN with Result Code 6 that the gateway shuts down, at that moment in milliseconds (RFC 2661
+    /// section 6.4), which clears the tunnel. A tunnel that was not made or was cleared tells nothing.
     #[tactic(auto, unfolding(crate::specs::Steps::stop_step))]
     pub fn stop(&mut self, now: u64) -> TunnelStep
         ensures said { said result ≡ (stop_step self.old now).said }
