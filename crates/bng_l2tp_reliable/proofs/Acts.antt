@@ -1,23 +1,22 @@
 -- Each act of an end that hears nothing keeps what holds of the messages in both directions.
-use Rattle.std.proofs.Common.{◌≡◌, ℕ, ◌+◌, ◌-◌, ◌%◌, ◌<◌, ◌≤◌, Bool, true, false, cond, List, [], ◌∷◌, ◌++◌, Option, Some, None, length, map, take, drop, refl, sym, ap, subst, ◌∙◌, arith, length-append, length-drop}
+use Rattle.std.proofs.Common.{◌≡◌, ℕ, ◌+◌, ◌-◌, ◌%◌, ◌<◌, Bool, true, false, List, [], ◌∷◌, ◌++◌, Option, Some, None, length, drop, refl, sym, ap, subst, ◌∙◌, arith, length-append, length-drop}
 use Rattle.std.specs.Prelude.{nat_lt, if◌then◌else◌, option_map}
-use Rattle.std.specs.List.{slice_get, AllByRecursion}
+use Rattle.std.specs.List.{slice_get}
 use Rattle.std.proofs.lemmas.Bool.{ltb-true}
 use Rattle.std.proofs.lemmas.List.{drop-append-le, take-append-le, length-map}
 use Rattle.bng_l2tp_reliable.specs.declared.answers.Queued.TheVariants.{Ok, WindowQueueFull}
 use Rattle.bng_l2tp_reliable.specs.declared.answers.Due.{Due}
 use Rattle.bng_l2tp_reliable.specs.declared.answers.Due.TheVariants.{Nothing, Resend, Hello, GiveUp}
-use Rattle.bng_l2tp_reliable.specs.declared.sent.Sent.{Sent}
 use Rattle.bng_l2tp_reliable.specs.declared.outgoing.Outgoing.{Outgoing}
-use Rattle.bng_l2tp_reliable.specs.Numbers.{steps_on, steps_back}
-use Rattle.bng_l2tp_reliable.specs.ChannelState.{ChannelState, Message, IsChannel, waiting, in_flight}
+use Rattle.bng_l2tp_reliable.specs.Numbers.{steps_on}
+use Rattle.bng_l2tp_reliable.specs.ChannelState.{ChannelState, Message, waiting, in_flight}
 use Rattle.bng_l2tp_reliable.specs.Flight.{sent_first, sent_again}
 use Rattle.bng_l2tp_reliable.specs.Calls.{next_out, after_next, flight_at, numbered, oldest_ns}
 use Rattle.bng_l2tp_reliable.specs.Timers.{after_due, due_of}
-use Rattle.bng_l2tp_reliable.specs.World.{End, Packet, acts, Act, Sends, LetsOut, SendsAgain, Acknowledges, IsDue, gone_out, with_sent, sends_out}
+use Rattle.bng_l2tp_reliable.specs.World.{End, Packet, acts, Sends, LetsOut, SendsAgain, Acknowledges, IsDue, gone_out, with_sent, sends_out}
 use Rattle.bng_l2tp_reliable.proofs.Items.{IsAt, at_place, at_dropped, at_taken}
-use Rattle.bng_l2tp_reliable.proofs.Packets.{IsOf, HasNumber, IsNumbered, all_sent, all_on, all_and}
-use Rattle.bng_l2tp_reliable.proofs.Flows.{Flows, Both, acked, gone_out-is, back_as_before}
+use Rattle.bng_l2tp_reliable.proofs.Packets.{IsOf, IsNumbered, all_sent, all_on, all_and}
+use Rattle.bng_l2tp_reliable.proofs.Flows.{Both, acked, gone_out-is, back_as_before}
 
 -- The channel is as before, but for its moments and for how often its messages in flight went out.
 pub moved : (e other : End) (c : ChannelState) → c.window ≡ e.channel.window → c.messages ≡ e.channel.messages → length c.sends ≡ length e.channel.sends → c.ns ≡ e.channel.ns → c.nr ≡ e.channel.nr → Both e other → Both (record e { channel = c }) other
@@ -197,24 +196,24 @@ lets_out_by e other (Some out) next h =
     }) refl refl next.nr (one_more_out e other out next h)
 
 -- what a channel lets out again
-record IsAgain (c : ChannelState) (place : ℕ) (out : Outgoing) : Type 0 where
-  below : place < length c.sends
-  ns : out.ns ≡ steps_on (oldest_ns c) place
-  nr : out.nr ≡ c.nr
-  here : IsAt c.messages place out.message
+pub record IsAgain (c : ChannelState) (place : ℕ) (out : Outgoing) : Type 0 where
+  pub below : place < length c.sends
+  pub ns : out.ns ≡ steps_on (oldest_ns c) place
+  pub nr : out.nr ≡ c.nr
+  pub here : IsAt c.messages place out.message
 
-abbrev IsAgainOf : ChannelState → ℕ → Option Outgoing → Type 0
+abbrev pub IsAgainOf : ChannelState → ℕ → Option Outgoing → Type 0
 IsAgainOf c place None = Unit {0}
 IsAgainOf c place (Some out) = IsAgain c place out
 
-again_by : (c : ChannelState) (place : ℕ) (o : Option Message) → slice_get (in_flight c) place ≡ o → IsAgainOf c place (option_map (numbered c (steps_on (oldest_ns c) place)) o)
+pub again_by : (c : ChannelState) (place : ℕ) (o : Option Message) → slice_get (in_flight c) place ≡ o → IsAgainOf c place (option_map (numbered c (steps_on (oldest_ns c) place)) o)
 again_by c place None found = tt
 again_by c place (Some message) found =
     let taken = at_taken (length c.sends) c.messages place message (at_place (in_flight c) place message found) in
     record { below = taken.0; ns = refl; nr = refl; here = taken.1 }
 
 -- a message in flight goes out again
-sends_again_by : (e other : End) (place : ℕ) (out : Option Outgoing) → IsAgainOf e.channel place out → Both e other → Both (sends_out e other e.channel out) other
+pub sends_again_by : (e other : End) (place : ℕ) (out : Option Outgoing) → IsAgainOf e.channel place out → Both e other → Both (sends_out e other e.channel out) other
 sends_again_by e other place None again h = h
 sends_again_by e other place (Some out) again h =
     let number = gone_out-is e other h.there in

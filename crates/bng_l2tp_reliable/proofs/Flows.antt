@@ -1,9 +1,9 @@
 -- What holds at any moment of the messages from one end to the other.
-use Rattle.std.proofs.Common.{◌≡◌, ℕ, ◌+◌, ◌-◌, ◌%◌, ◌≤◌, List, [], ◌∷◌, ◌++◌, length, take, drop, refl, sym, ap, subst, ◌∙◌, arith, length-drop, take-add}
+use Rattle.std.proofs.Common.{◌≡◌, ℕ, ◌+◌, ◌-◌, ◌%◌, ◌≤◌, List, ◌++◌, length, take, drop, refl, sym, ap, subst, ◌∙◌, arith, length-drop, take-add}
 use Rattle.std.specs.List.{AllByRecursion}
 use Rattle.std.proofs.lemmas.List.{take-append-drop}
-use Rattle.bng_l2tp_reliable.specs.ChannelState.{ChannelState, Message, IsChannel, waiting}
-use Rattle.bng_l2tp_reliable.specs.World.{End, gone_out, acknowledged_of, new_end, IsPrefixOf, IsReliable}
+use Rattle.bng_l2tp_reliable.specs.ChannelState.{Message, IsChannel}
+use Rattle.bng_l2tp_reliable.specs.World.{End, gone_out, new_end, IsReliable}
 use Rattle.bng_l2tp_reliable.proofs.Packets.{IsOf}
 
 -- how many messages count as acknowledged
@@ -29,12 +29,15 @@ pub record Both (e other : End) : Type 0 where
   pub there : Flows e other
   pub back : Flows other e
 
+pub turned : (e other : End) → Both e other → Both other e
+turned e other h = record { there = h.back; back = h.there }
+
 -- how many messages have gone out: those acknowledged, and those in flight
 pub gone_out-is : (e other : End) → Flows e other → gone_out e ≡ acked e + length e.channel.sends
 gone_out-is e other h = omega (arith, length-drop (length e.channel.sends) e.channel.messages, h.sound.known, h.fits)
 
-pub start : (window window' moment moment' : ℕ) → Flows (new_end window moment) (new_end window' moment')
-start window window' moment moment' = record {
+pub new : (window window' moment moment' : ℕ) → Flows (new_end window moment) (new_end window' moment')
+new window window' moment moment' = record {
   sound = record { window = omega arith; flying = omega arith; known = omega arith; few = omega arith; ns = omega arith; nr = omega arith };
   fits = omega arith;
   kept = refl;

@@ -1,12 +1,12 @@
 -- A packet that arrives keeps what holds of the messages in both directions, if it is recent.
 use Rattle.std.proofs.Common.{◌≡◌, ℕ, ◌+◌, ◌-◌, ◌%◌, ◌<◌, ◌≤◌, Bool, true, false, List, [], ◌∷◌, ◌++◌, Option, Some, None, length, take, drop, refl, sym, ap, subst, ◌∙◌, arith, length-append, length-drop, drop-drop, eqb-true}
 use Rattle.std.specs.Prelude.{nat_le, ◌==◌, if◌then◌else◌, is_none}
-use Rattle.std.specs.List.{slice_get, AllByRecursion}
+use Rattle.std.specs.List.{slice_get}
 use Rattle.std.proofs.lemmas.Bool.{leb-true, leb-false}
-use Rattle.bng_l2tp_reliable.specs.declared.answers.Heard.TheVariants.{Deliver, Repeat, Ahead, Acked}
+use Rattle.bng_l2tp_reliable.specs.declared.answers.Heard.TheVariants.{Deliver, Repeat, Ahead}
 use Rattle.bng_l2tp_reliable.specs.Numbers.{steps_on, steps_back, steps_to}
-use Rattle.bng_l2tp_reliable.specs.ChannelState.{ChannelState, Message, IsChannel, waiting}
-use Rattle.bng_l2tp_reliable.specs.Calls.{acknowledged, oldest_ns, received, heard_of, nr_after}
+use Rattle.bng_l2tp_reliable.specs.ChannelState.{Message}
+use Rattle.bng_l2tp_reliable.specs.Calls.{acknowledged, received, heard_of, nr_after}
 use Rattle.bng_l2tp_reliable.specs.World.{End, Packet, acts, Hears, hears, gone_out, with_delivered, IsRecentPacket}
 use Rattle.bng_l2tp_reliable.proofs.Items.{IsAt, taken_on}
 use Rattle.bng_l2tp_reliable.proofs.Packets.{IsOf, HasNumber, IsNumbered, all_on, one_of}
@@ -14,7 +14,7 @@ use Rattle.bng_l2tp_reliable.proofs.Flows.{Flows, Both, acked, gone_out-is}
 
 -- An Nr acknowledges the messages in flight that had been delivered when it was sent: by number, those before it. An older one
 -- acknowledges none.
-acknowledged_by : (a n r nr ns : ℕ) (b : Bool) → n ≤ 8 → ns ≡ (a + n) % 65536 → nr ≡ r % 65536 → r ≤ a + n → a + n ≤ r + 32775 → nat_le (steps_to (steps_back ns n) nr) n ≡ b → (if b then steps_to (steps_back ns n) nr else 0) ≡ r - a
+pub acknowledged_by : (a n r nr ns : ℕ) (b : Bool) → n ≤ 8 → ns ≡ (a + n) % 65536 → nr ≡ r % 65536 → r ≤ a + n → a + n ≤ r + 32775 → nat_le (steps_to (steps_back ns n) nr) n ≡ b → (if b then steps_to (steps_back ns n) nr else 0) ≡ r - a
 acknowledged_by a n r nr ns true few ns_is nr_is not_ahead near is = omega (arith, leb-true _ _ is)
 acknowledged_by a n r nr ns false few ns_is nr_is not_ahead near is = omega (arith, leb-false _ _ is)
 
@@ -107,7 +107,7 @@ acknowledged_there e other p moment delivered h is recent nr more =
       packets = all_on e.sent _ _ _ _ e.packets (omega arith) more t.packets;
     }
 
-heard_by : (e other : End) (which moment : ℕ) (o : Option Packet) → slice_get other.packets which ≡ o → IsRecentPacket e other o → Both e other → Both (hears e o moment) other
+pub heard_by : (e other : End) (which moment : ℕ) (o : Option Packet) → slice_get other.packets which ≡ o → IsRecentPacket e other o → Both e other → Both (hears e o moment) other
 heard_by e other which moment None found recent h = h
 heard_by e other which moment (Some p) found recent h =
     let is : IsOf other.sent (gone_out other) (length other.delivered) p = one_of (IsOf other.sent (gone_out other) (length other.delivered)) other.packets which p h.back.packets found in

@@ -5,4 +5,5 @@ pub mod Packets
 pub mod Flows
 pub mod Acts
 pub mod Hearing
+pub mod Progress
 pub mod Runs

@@ -41,26 +41,32 @@ numbered_on sent more p (Some message) h = record {
 
 pub all_sent : (sent more : List Message) (out got : ℕ) (ps : List Packet) → AllByRecursion (IsOf sent out got) ps → AllByRecursion (IsOf (sent ++ more) out got) ps
 all_sent sent more out got [] h = tt
-all_sent sent more out got (p ∷ ps) h = (record {
-  numbered = numbered_on sent more p p.message h.0.numbered;
-  counted = h.0.counted;
-  delivered = h.0.delivered;
-  shown = h.0.shown;
-  known = h.0.known;
-  near = h.0.near;
-}, all_sent sent more out got ps h.1)
+all_sent sent more out got (p ∷ ps) h = (
+  record {
+    numbered = numbered_on sent more p p.message h.0.numbered;
+    counted = h.0.counted;
+    delivered = h.0.delivered;
+    shown = h.0.shown;
+    known = h.0.known;
+    near = h.0.near;
+  },
+  all_sent sent more out got ps h.1,
+)
 
 -- more went out, or was delivered
 pub all_on : (sent : List Message) (out out' got got' : ℕ) (ps : List Packet) → out ≤ out' → got ≤ got' → AllByRecursion (IsOf sent out got) ps → AllByRecursion (IsOf sent out' got') ps
 all_on sent out out' got got' [] more_out more_got h = tt
-all_on sent out out' got got' (p ∷ ps) more_out more_got h = (record {
-  numbered = h.0.numbered;
-  counted = omega (arith, h.0.counted);
-  delivered = h.0.delivered;
-  shown = h.0.shown;
-  known = omega (arith, h.0.known);
-  near = h.0.near;
-}, all_on sent out out' got got' ps more_out more_got h.1)
+all_on sent out out' got got' (p ∷ ps) more_out more_got h = (
+  record {
+    numbered = h.0.numbered;
+    counted = omega (arith, h.0.counted);
+    delivered = h.0.delivered;
+    shown = h.0.shown;
+    known = omega (arith, h.0.known);
+    near = h.0.near;
+  },
+  all_on sent out out' got got' ps more_out more_got h.1,
+)
 
 -- one packet more
 pub all_and : (P : Packet → Type 0) (ps : List Packet) (p : Packet) → AllByRecursion P ps → P p → AllByRecursion P (ps ++ p ∷ [])

@@ -1,5 +1,5 @@
 -- What a channel answers when a message is handed to it, comes or is let out, and what becomes of it, by RFC 2661 section 5.8.
-use Rattle.std.specs.Prelude.{◌≡◌, ℕ, ◌+◌, ◌-◌, ◌%◌, Bool, true, false, ◌&&◌, not, ◌==◌, nat_le, nat_lt, List, [], ◌∷◌, ◌++◌, length, drop, Option, Some, None, slice_get, option_map, if◌then◌else◌}
+use Rattle.std.specs.Prelude.{ℕ, Bool, false, ◌&&◌, not, ◌==◌, nat_le, nat_lt, [], ◌∷◌, ◌++◌, length, drop, Option, Some, None, slice_get, option_map, if◌then◌else◌}
 use Rattle.bng_l2tp_reliable.specs.declared.answers.Queued.{Queued}
 use Rattle.bng_l2tp_reliable.specs.declared.answers.Queued.TheVariants.{Ok, WindowQueueFull}
 use Rattle.bng_l2tp_reliable.specs.declared.answers.Heard.{Heard}

@@ -1,8 +1,8 @@
 -- The messages in flight, and how long each waits for its acknowledgement, by RFC 2661 section 5.8. Times are in milliseconds.
-use Rattle.std.specs.Prelude.{ℕ, ◌+◌, ◌-◌, ◌^◌, Bool, nat_le, nat_lt, min, List, [], ◌∷◌, length, Some, None, Option, unwrap_or, slice_get, if◌then◌else◌}
+use Rattle.std.specs.Prelude.{◌≡◌, ℕ, ◌<◌, ◌≤◌, ◌+◌, ◌-◌, ◌^◌, Bool, nat_le, nat_lt, min, List, [], ◌∷◌, length, Some, None, Option, unwrap_or, slice_get, if◌then◌else◌}
 use Rattle.bng_l2tp_reliable.specs.declared.sent.Sent.{Sent}
 use Rattle.bng_l2tp_reliable.specs.declared.answers.Due.{Due}
-use Rattle.bng_l2tp_reliable.specs.declared.answers.Due.TheVariants.{Nothing, Resend, Hello, GiveUp}
+use Rattle.bng_l2tp_reliable.specs.declared.answers.Due.TheVariants.{Nothing, Resend, GiveUp}
 
 -- how long a message waits before each time that it goes out again
 abbrev pub waits : List ℕ
@@ -34,3 +34,12 @@ sent_first moment = record { moment = moment; resends = 0 }
 -- a message goes out again; a count stands still at its type's end
 abbrev pub sent_again : ℕ → Sent → Sent
 sent_again moment s = record { moment = moment; resends = min (s.resends + 1) (2 ^ 8 - 1) }
+
+-- Of two messages in flight the older went out again at least as often; where the younger went out again, both did last at one moment.
+pub record IsOlder (old young : Sent) : Type 0 where
+  pub resends : young.resends ≤ old.resends
+  pub together : 0 < young.resends → old.moment ≡ young.moment
+
+-- the fifth time that it went out again is unanswered 8 seconds later
+abbrev pub IsUnanswered : ℕ → Sent → Type 0
+IsUnanswered moment s = (5 ≤ s.resends) × (s.moment + 8000 ≤ moment)

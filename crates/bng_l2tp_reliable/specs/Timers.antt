@@ -1,5 +1,5 @@
 -- The timers of a channel, by RFC 2661 sections 5.5 and 5.8. Moments are in milliseconds.
-use Rattle.std.specs.Prelude.{ℕ, ◌+◌, ◌-◌, ◌^◌, Bool, true, ◌&&◌, not, nat_le, min, Option, Some, None, unwrap_or, map, if◌then◌else◌}
+use Rattle.std.specs.Prelude.{ℕ, ◌+◌, ◌-◌, ◌^◌, true, ◌&&◌, not, nat_le, min, Option, Some, None, unwrap_or, map, if◌then◌else◌}
 use Rattle.bng_l2tp_reliable.specs.declared.answers.Due.{Due}
 use Rattle.bng_l2tp_reliable.specs.declared.answers.Due.TheVariants.{Nothing, Resend, Hello, GiveUp}
 use Rattle.bng_l2tp_reliable.specs.ChannelState.{ChannelState}

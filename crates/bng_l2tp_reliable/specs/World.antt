@@ -2,7 +2,7 @@
 --
 -- The world counts messages without end; packets carry the numbers that the channels give them, modulo 65,536. Each step of an end is the
 -- step of its channel.
-use Rattle.std.specs.Prelude.{◌≡◌, ℕ, ◌+◌, ◌-◌, ◌≤◌, Bool, true, false, is_none, List, [], ◌∷◌, ◌++◌, length, take, Option, Some, None, slice_get}
+use Rattle.std.specs.Prelude.{◌≡◌, ℕ, ◌+◌, ◌-◌, ◌≤◌, is_none, List, [], ◌∷◌, ◌++◌, length, take, Option, Some, None, slice_get}
 use Rattle.bng_l2tp_reliable.specs.declared.answers.Queued.{Queued}
 use Rattle.bng_l2tp_reliable.specs.declared.answers.Queued.TheVariants.{Ok, WindowQueueFull}
 use Rattle.bng_l2tp_reliable.specs.declared.answers.Heard.{Heard}
@@ -151,9 +151,19 @@ abbrev pub ArriveRecently : World → List Event → Type 0
 ArriveRecently w [] = Unit {0}
 ArriveRecently w (event ∷ events) = IsRecentEvent w event × ArriveRecently (happens w event) events
 
+-- The oldest message in flight goes out again from an end and arrives, and a ZLB comes back: nothing is lost among these.
+abbrev pub exchange : (Act → Event) → (Act → Event) → End → End → ℕ → ℕ → List Event
+exchange here there e other arrived arrived' =
+    here (SendsAgain 0) ∷ there (Hears (length e.packets) arrived) ∷ there Acknowledges ∷
+    here (Hears (length other.packets) arrived') ∷ []
+
 -- an end that has sent nothing, to a peer with that Receive Window Size
 abbrev pub new_end : ℕ → ℕ → End
 new_end window moment = record { channel = begun window moment; sent = []; delivered = []; packets = [] }
+
+-- both ends before anything happens
+abbrev pub start : ℕ → ℕ → ℕ → ℕ → World
+start window window' moment moment' = record { left = new_end window moment; right = new_end window' moment' }
 
 abbrev pub IsPrefixOf : List Message → List Message → Type 0
 IsPrefixOf xs ys = (rest : List Message) × (xs ++ rest ≡ ys)

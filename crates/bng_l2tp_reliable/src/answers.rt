@@ -1,4 +1,6 @@
 //! What a channel answers.
+ghost use Rattle.std.specs.Prelude.{◌≡◌};
+ghost use Rattle.bng_l2tp_reliable.specs.Timers.{or_else as first_of};
 
 /// What became of a message that was handed to a channel.
 #[derive(Clone, Copy, PartialEq, Eq, Debug)]
@@ -33,4 +35,14 @@ pub enum Due {
     Hello,
     /// The peer does not answer; the tunnel is to be cleared (RFC 2661 section 5.8).
     GiveUp,
+}
+
+/// The first of the two that asks for something.
+pub(crate) fn or_else(first: Due, second: Due) -> Due
+    ensures { result ≡ first_of first second }
+{
+    match first {
+        Due::Nothing => second,
+        Due::Resend | Due::Hello | Due::GiveUp => first,
+    }
 }

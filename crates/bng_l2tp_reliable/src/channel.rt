@@ -1,21 +1,18 @@
 //! One end of a channel.
-ghost use Rattle.std.specs.Prelude.{◌≡◌, ◌≢◌, ◌⊎◌, ◌+◌, ◌-◌, ◌^◌, ◌<◌, ◌≤◌, ◌↔◌, ℕ, length, IsTrue, IsSome, IsNone, true, false, min, [], slice_get};
+ghost use Rattle.std.specs.Prelude.{◌≡◌, ◌≢◌, ◌⊎◌, ◌+◌, ◌-◌, ◌^◌, ◌<◌, ◌≤◌, ◌↔◌, ℕ, length, IsTrue, IsSome, IsNone, IsSomeAnd, true, false, [], slice_get};
 ghost use Rattle.bng_l2tp_reliable.specs.Calls.{oldest_ns, acknowledged, heard_of, next_out, flight_at};
 ghost use Rattle.bng_l2tp_reliable.specs.Timers.{never, silence_due};
+ghost use Rattle.bng_l2tp_reliable.specs.Flight.{IsUnanswered, flight_due, wait};
+ghost use Rattle.bng_l2tp_reliable.specs.Numbers.{steps_to, steps_back};
+ghost use Rattle.std.specs.List.{Any};
 
-use crate::answers::{Due, Heard, Queued};
+use crate::answers::{Due, Heard, Queued, or_else};
 use crate::message::{copied, message_of};
 use crate::number::{heard, nr_after, steps_back, steps_on, steps_to};
 use crate::outgoing::Outgoing;
-use crate::ring::Ring;
+use crate::ring::{IN_FLIGHT_MOST, Ring, WAITING_MOST};
 use crate::sent::{Sends, first, flight_deadline, flight_due, forget, send_again};
 use std::marker::Model;
-
-/// The most messages that wait for the window.
-pub const WAITING_MOST: usize = 64;
-
-/// The most messages in flight, whatever window the peer has.
-pub const IN_FLIGHT_MOST: usize = 8;
 
 /// After how long a silence a HELLO is asked for, in milliseconds (RFC 2661 section 5.5).
 pub const HELLO_AFTER: u64 = 60_000;
@@ -24,7 +21,7 @@ pub const HELLO_AFTER: u64 = 60_000;
 ///
 /// A contract sees the messages that are not acknowledged, how often and when those in flight went out, its two numbers,
 /// and the moments of its timers.
-#[derive(Drop)]
+#[derive(Debug, Drop)]
 pub struct Channel {
     window: usize,
     messages: Ring,
@@ -37,31 +34,15 @@ pub struct Channel {
 }
 
 impl Model for Channel {
-    ghost use Rattle.bng_l2tp_reliable.specs.ChannelState.{ChannelState, IsChannel};
+    ghost use Rattle.bng_l2tp_reliable.specs.ChannelState.{ChannelState};
 
     ghost Value = { ChannelState };
 
-    ghost view = { λ c. record {
-      window = c.window;
-      messages = c.messages;
-      sends = c.sends.items;
-      ns = c.ns;
-      nr = c.nr;
-      heard = c.heard;
-      greeted = c.greeted;
-      moment = c.moment;
-    } };
+    ghost use Rattle.bng_l2tp_reliable.specs.Shown.{shown, IsKept};
 
-    ghost invariant = { λ c. IsChannel (record {
-      window = c.window;
-      messages = c.messages;
-      sends = c.sends.items;
-      ns = c.ns;
-      nr = c.nr;
-      heard = c.heard;
-      greeted = c.greeted;
-      moment = c.moment;
-    }) };
+    ghost view = { shown };
+
+    ghost invariant = { IsKept };
 }
 
 impl Channel {
@@ -110,6 +91,8 @@ impl Channel {
         ensures answer { result ≡ heard_of self.old.nr ns zlb }
         ensures acked { (result ≡ Heard.Acked) ↔ IsTrue zlb }
         ensures deliver { (result ≡ Heard.Deliver) ↔ ((zlb ≡ false) × (ns ≡ self.old.nr)) }
+        // The last number received is the one before that of the next message.
+        ensures repeated { (result ≡ Heard.Repeat) ↔ ((zlb ≡ false) × (steps_to ns (steps_back self.old.nr 1) ≤ 32767)) }
         ensures after { self.new ≡ received self.old ns nr zlb now }
         ensures sound { IsChannel self.new }
     {
@@ -128,16 +111,21 @@ impl Channel {
     /// silence. A message goes out again 1, 3, 7, 15 and 23 seconds after it went out first, and is given up after 31.
     pub fn due(&mut self, now: u64) -> Due
         ensures answer { result ≡ due_of self.old now }
+        ensures resend { (result ≡ Due.Resend) ↔ IsSomeAnd (slice_get self.old.sends 0)
+            (λ oldest. (oldest.resends < 5) × (oldest.moment + wait oldest.resends ≤ now)) }
+        ensures give_up { (result ≡ Due.GiveUp) ↔ Any (IsUnanswered now) self.old.sends }
+        ensures hello { (result ≡ Due.Hello) ↔ ((flight_due self.old.sends now ≡ Due.Nothing)
+            × (self.old.greeted ≡ false) × (self.old.heard + HELLO_AFTER ≤ now)) }
         ensures after { self.new ≡ after_due self.old now result }
         ensures sound { IsChannel self.new }
     {
         let due = self.due_at(now);
+        self.moment = now;
         match due {
             Due::Nothing | Due::GiveUp => {}
-            Due::Resend => send_again(self.sends.as_mut_slice(), now),
+            Due::Resend => send_again(&mut self.sends, now),
             Due::Hello => self.greeted = true,
         }
-        self.moment = now;
         due
     }
 
@@ -197,12 +185,10 @@ impl Channel {
 
     // What is due.
     fn due_at(&self, now: u64) -> Due
-        ensures { result ≡ due_of self.now now }
+        ensures answer { result ≡ due_of self.now now }
+        ensures give_up { (result ≡ Due.GiveUp) ↔ Any (IsUnanswered now) self.now.sends }
     {
-        match flight_due(&self.sends, now) {
-            Due::Nothing => self.silence_due(now),
-            due => due,
-        }
+        or_else(flight_due(&self.sends, now), self.silence_due(now))
     }
 
     // What a silence asks for.
@@ -220,7 +206,8 @@ impl Channel {
     fn next_out(&self) -> Option<Outgoing>
         ensures answer { result ≡ next_out self.now }
         ensures none { IsNone result ↔ ((length self.now.sends ≡ self.now.window) ⊎ (waiting self.now ≡ [])) }
-        ensures room { IsSome result → (length self.now.sends < self.now.window) × (length self.now.sends < length self.now.messages) }
+        ensures room { IsSome result
+            → (length self.now.sends < self.now.window) × (length self.now.sends < length self.now.messages) }
     {
         let place = self.sends.len();
         if self.window <= place || self.messages.len() <= place {

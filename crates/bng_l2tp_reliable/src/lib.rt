@@ -19,8 +19,9 @@ mod sent;
 mod tests;
 
 pub use crate::answers::{Due, Heard, Queued};
-pub use crate::channel::{Channel, HELLO_AFTER, IN_FLIGHT_MOST, WAITING_MOST};
-pub use crate::law::{delivers_in_order, numbers_tell_the_order};
+pub use crate::channel::{Channel, HELLO_AFTER};
+pub use crate::law::{delivers_in_order, goes_on, numbers_tell_the_order};
 pub use crate::message::{MESSAGE_MOST, Message};
 pub use crate::outgoing::Outgoing;
+pub use crate::ring::{IN_FLIGHT_MOST, WAITING_MOST};
 pub use crate::sent::{Sent, WAITS};

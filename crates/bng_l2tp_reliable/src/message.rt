@@ -7,7 +7,7 @@ use arrayvec::ArrayVec;
 pub const MESSAGE_MOST: usize = 512;
 
 /// A control message's octets.
-pub type Message = ArrayVec<u8, 512>;
+pub type Message = ArrayVec<u8, MESSAGE_MOST>;
 
 /// A message of these octets.
 pub(crate) fn message_of(octets: &[u8]) -> Message

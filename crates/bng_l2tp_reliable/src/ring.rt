@@ -4,13 +4,19 @@ ghost use Rattle.std.specs.Prelude.{◌≡◌, ◌+◌, ◌<◌, ◌≤◌, ◌+
 use crate::message::Message;
 use std::marker::Model;
 
-/// How many messages there is room for: 64 that wait and 8 in flight.
-pub(crate) const PLACES: usize = 72;
+/// The most messages that wait for the window.
+pub const WAITING_MOST: usize = 64;
+
+/// The most messages in flight, whatever window the peer has.
+pub const IN_FLIGHT_MOST: usize = 8;
+
+/// How many messages there is room for.
+pub(crate) const PLACES: usize = WAITING_MOST + IN_FLIGHT_MOST;
 
 /// A queue of messages. Contracts see them, oldest first.
-#[derive(Drop)]
+#[derive(Debug, Drop)]
 pub(crate) struct Ring {
-    places: [Message; 72],
+    places: [Message; PLACES],
     oldest: usize,
     len: usize,
 }

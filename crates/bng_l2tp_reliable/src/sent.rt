@@ -1,9 +1,10 @@
 //! When a message in flight goes out again.
-ghost use Rattle.std.specs.Prelude.{◌≡◌, ◌+◌, ◌^◌, ◌≤◌, ◌<◌, ◌↔◌, min, map, drop, length, IsTrue, List, unwrap_or};
+ghost use Rattle.std.specs.Prelude.{◌≡◌, ◌≤◌, min, map, drop, length, unwrap_or};
 ghost use Rattle.bng_l2tp_reliable.specs.Timers.{never};
 ghost use Rattle.bng_l2tp_reliable.specs.Flight.{wait as wait_of, is_over as is_over_at, sent_first, sent_again, flight_due as due_in, flight_deadline as deadline_in};
 
 use crate::answers::Due;
+use crate::ring::IN_FLIGHT_MOST;
 use arrayvec::ArrayVec;
 
 /// How long a message waits for its acknowledgement before each time that it goes out again, in milliseconds (RFC 2661
@@ -18,19 +19,14 @@ pub struct Sent {
 }
 
 /// For each message in flight, oldest first.
-pub(crate) type Sends = ArrayVec<Sent, 8>;
+pub(crate) type Sends = ArrayVec<Sent, IN_FLIGHT_MOST>;
 
 impl Sent {
     /// How long it waits for its acknowledgement from then on, in milliseconds.
     pub(crate) fn wait(&self) -> u64
         ensures { result ≡ wait_of self.now.resends }
     {
-        match self.resends {
-            0 => 1000,
-            1 => 2000,
-            2 => 4000,
-            _ => 8000,
-        }
+        WAITS[(self.resends as usize).min(WAITS.len() - 1)]
     }
 
     /// Whether the wait is over.
@@ -49,7 +45,13 @@ pub(crate) fn first(moment: u64) -> Sent
 }
 
 /// Each message goes out again.
-pub(crate) fn send_again(sends: &mut [Sent], now: u64)
+pub(crate) fn send_again(sends: &mut Sends, now: u64)
+    ensures { sends.new.items ≡ map (sent_again now) sends.old.items }
+{
+    each_again(sends.as_mut_slice(), now);
+}
+
+fn each_again(sends: &mut [Sent], now: u64)
     ensures { sends.new ≡ map (sent_again now) sends.old }
 {
     for sent in sends.iter_mut() {

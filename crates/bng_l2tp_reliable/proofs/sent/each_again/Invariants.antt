@@ -1,6 +1,6 @@
-use Rattle.std.proofs.Common.{◌≡◌, ◌+◌, take, drop, map}
+use Rattle.std.proofs.Common.{◌≡◌, take, drop, map}
 use Rattle.bng_l2tp_reliable.specs.Flight.{sent_again}
-use Rattle.bng_l2tp_reliable.proofs.sent.send_again.Given as goal
+use Rattle.bng_l2tp_reliable.proofs.sent.each_again.Given as goal
 
 abbrev pub invariant-loop-sent : goal.invariant-loop-sent
 invariant-loop-sent l =

@@ -1,8 +1,8 @@
-use Rattle.std.proofs.Common.{◌<◌, ◌≡◌, ℕ, length, ap, arith}
+use Rattle.std.proofs.Common.{◌<◌, ℕ, length, ap, arith}
 use Rattle.bng_l2tp_reliable.specs.declared.sent.Sent.{Sent}
 use Rattle.bng_l2tp_reliable.specs.Flight.{sent_again}
 use Rattle.bng_l2tp_reliable.proofs.Sends.{mapped_more}
-use Rattle.bng_l2tp_reliable.proofs.sent.send_again.Goals as goal
+use Rattle.bng_l2tp_reliable.proofs.sent.each_again.Goals as goal
 
 pub loop-sent-preserved : goal.loop-sent-preserved
 loop-sent-preserved c =
