@@ -1,9 +1,10 @@
 -- What holds of a message that is not refused.
-use Rattle.std.proofs.Common.{◌≡◌, ℕ, ◌==◌, Bool, true, false, ◌||◌, not, cond, Option, None, Some, List, length, refl, ap, subst}
+use Rattle.std.proofs.Common.{◌≢◌, ◌≡◌, ℕ, ◌==◌, Bool, true, false, ◌||◌, not, cond, Option, None, Some, List, length, refl, ap, subst}
 use Rattle.std.specs.Prelude.{IsSome}
-use Rattle.std.proofs.lemmas.Bool.{eqb-true}
+use Rattle.std.proofs.lemmas.Bool.{eqb-true, eq-eqb}
 use Rattle.byteorder.specs.Endian.{big_from}
 use Rattle.bng_l2tp_wire.specs.Avps.{L2tpAvp}
+use Rattle.bng_l2tp_wire.specs.Messages.{ControlMessage}
 use Rattle.bng_l2tp_wire.specs.declared.kind.TheConstants.{PROTOCOL_VERSION, FRAMING_CAPABILITIES, HOST_NAME, ASSIGNED_TUNNEL_ID}
 use Rattle.bng_l2tp_wire.specs.declared.message.TheConstants.{SCCRQ, SCCCN}
 use Rattle.bng_l2tp_tunnel.specs.declared.phase.Phase.{Phase}
@@ -12,8 +13,8 @@ use Rattle.bng_l2tp_tunnel.specs.declared.refusal.Refusal.{Refusal}
 use Rattle.bng_l2tp_tunnel.specs.Values.{number_in, value_of, message_type, assigned_tunnel}
 use Rattle.bng_l2tp_tunnel.specs.Messages.{is_type, is_taken, is_wrong, lacks_needed, has_unreadable}
 use Rattle.bng_l2tp_tunnel.specs.TunnelState.{TunnelState}
-use Rattle.bng_l2tp_tunnel.specs.Refusals.{is_of_wrong_version, has_unknown_avp, has_wrong_avp, fails_challenge, refusal_of}
-use Rattle.bng_l2tp_tunnel.specs.Sound.{is_replied}
+use Rattle.bng_l2tp_tunnel.specs.Refusals.{is_of_wrong_version, has_unknown_avp, has_wrong_avp, has_answer, fails_challenge, lacks_number, refusal_of}
+use Rattle.bng_l2tp_tunnel.specs.Sound.{is_replied, IsAnswerOf}
 
 first_none : (b : Bool) (r : Refusal) (rest : Option Refusal) → cond b (Some r) rest ≡ None → (b ≡ false) × (rest ≡ None)
 first_none true r rest e = absurd cc
@@ -29,8 +30,11 @@ or_false false b e = (refl, e)
 
 -- no case holds
 pub record IsPassed (s : TunnelState) (avps : List L2tpAvp) : Type 0 where
+  pub known : s.known ≡ true
   pub wrong : has_wrong_avp s.secret (message_type avps) avps ≡ false
+  pub authorized : fails_challenge s.secret s.challenge (message_type avps) avps ≡ false
   pub taken : is_taken s.phase (message_type avps) ≡ true
+  pub numbered : lacks_number s.number (message_type avps) ≡ false
 
 pub passed : (s : TunnelState) (avps : List L2tpAvp) → refusal_of s avps ≡ None → IsPassed s avps
 unfolding refusal_of
@@ -41,7 +45,14 @@ passed s avps e =
     let d = first_none (has_wrong_avp s.secret (message_type avps) avps) _ _ c.1 in
     let f = first_none (fails_challenge s.secret s.challenge (message_type avps) avps) _ _ d.1 in
     let g = first_none (not (is_taken s.phase (message_type avps))) _ _ f.1 in
-    record { wrong = d.0; taken = not_false (is_taken s.phase (message_type avps)) g.0 }
+    let h = first_none (lacks_number s.number (message_type avps)) _ _ g.1 in
+    record {
+      known = not_false s.known a.0;
+      wrong = d.0;
+      authorized = f.0;
+      taken = not_false (is_taken s.phase (message_type avps)) g.0;
+      numbered = h.0;
+    }
 
 type_is : (type : Option ℕ) (wanted : ℕ) → is_type type wanted ≡ true → type ≡ Some wanted
 type_is None wanted e = absurd cc
@@ -77,3 +88,16 @@ has_tunnel s avps e w =
     let name = (or_false (is_wrong FRAMING_CAPABILITIES (value_of s.secret FRAMING_CAPABILITIES avps)) _ framing).1 in
     let tunnel = (or_false (is_wrong HOST_NAME (value_of s.secret HOST_NAME avps)) _ name).1 in
     number_there (value_of s.secret ASSIGNED_TUNNEL_ID avps) (or_false (is_wrong ASSIGNED_TUNNEL_ID (value_of s.secret ASSIGNED_TUNNEL_ID avps)) false tunnel).0
+
+-- an SCCRQ that is not refused has a number to give
+pub has_number : (s : TunnelState) (avps : List L2tpAvp) → is_type (message_type avps) SCCRQ ≡ true → lacks_number s.number (message_type avps) ≡ false → s.number ≢ 0
+has_number s avps e l = λ zero_is.
+    let lacks : (s.number == 0) ≡ false = subst (λ (x : Option ℕ). lacks_number s.number x ≡ false) (type_is (message_type avps) SCCRQ e) l in
+    absurd (let yes = eq-eqb s.number 0 zero_is in cc)
+
+-- an SCCCN that is not refused answers the Challenge
+pub answers : (s : TunnelState) (m : ControlMessage) → is_type (message_type m.avps) SCCCN ≡ true → fails_challenge s.secret s.challenge (message_type m.avps) m.avps ≡ false → IsAnswerOf s m
+answers s m e f = record {
+  type = type_is (message_type m.avps) SCCCN e;
+  answer = not_false (has_answer s.secret s.challenge m.avps) (subst (λ (x : Option ℕ). fails_challenge s.secret s.challenge x m.avps ≡ false) (type_is (message_type m.avps) SCCCN e) f);
+}

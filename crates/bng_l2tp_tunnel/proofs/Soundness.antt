@@ -1,5 +1,5 @@
 -- Each step of a tunnel is sound.
-use Rattle.std.proofs.Common.{◌≡◌, ℕ, ◌==◌, Bool, true, false, ◌&&◌, not, cond, nat_lt, Option, None, Some, List, [], ◌∷◌, ◌++◌, length, map, refl, sym, ap, subst, ◌∙◌, ◌≤◌, ◌<◌, option_map, slice_get, arith, length-append}
+use Rattle.std.proofs.Common.{◌≢◌, ◌≡◌, ℕ, ◌==◌, Bool, true, false, ◌&&◌, not, cond, nat_lt, Option, None, Some, List, [], ◌∷◌, ◌++◌, length, map, refl, sym, ap, subst, ◌∙◌, ◌≤◌, ◌<◌, option_map, slice_get, arith, length-append}
 use Rattle.std.proofs.lemmas.List.{length-map}
 use Rattle.std.specs.Prelude.{IsSome, unwrap_or}
 use Rattle.std.specs.List.{AllByRecursion}
@@ -25,11 +25,11 @@ use Rattle.bng_l2tp_tunnel.specs.Outs.{datagram, let_out, after_out, flight_most
 use Rattle.bng_l2tp_tunnel.specs.declared.refusal.Refusal.{Refusal}
 use Rattle.bng_l2tp_tunnel.specs.Values.{value_of, message_type, assigned_tunnel, window_of}
 use Rattle.bng_l2tp_tunnel.specs.Messages.{is_type, is_of_call, is_taken}
-use Rattle.bng_l2tp_tunnel.specs.Refusals.{refusal_of}
+use Rattle.bng_l2tp_tunnel.specs.Refusals.{fails_challenge, refusal_of}
 use Rattle.bng_l2tp_tunnel.specs.Spelling.{sccrp, stop_ccn, cdn, hello, code_of, shut_down, no_resources}
 use Rattle.bng_l2tp_tunnel.specs.Steps.{Step, sends, nothing, stands, is_established, to_peer, flushed, queued_text, answered, clears, turned_away, made, replied, opened_by, begins, opening, session_of, call_refused, ended, established, accepted, judged, delivered, heard, is_zlb, heard_by, having_heard, hearing, in_phase, message_step, reminded, due_step, send_step, stop_step}
-use Rattle.bng_l2tp_tunnel.proofs.Refused.{passed, replied_if, has_tunnel}
-use Rattle.bng_l2tp_tunnel.specs.Sound.{is_replied, is_cleared, IsSpelled, AreSpelled, IsTunnel, IsSentTo, IsAnswered, is_delivered, is_for_call, IsSound}
+use Rattle.bng_l2tp_tunnel.proofs.Refused.{passed, replied_if, has_tunnel, has_number, answers}
+use Rattle.bng_l2tp_tunnel.specs.Sound.{is_replied, is_cleared, IsSpelled, AreSpelled, IsTunnel, IsSentTo, IsAnswered, is_delivered, is_for_call, IsSound, IsAnswerOf}
 use Rattle.bng_l2tp_tunnel.proofs.Spelled.{AllByRecursion-append, AllByRecursion-drop, after_out-keeps, let_out_sent, flight_sent}
 use Rattle.bng_l2tp_tunnel.proofs.Flights.{after_out-window, drained}
 
@@ -37,15 +37,18 @@ use Rattle.bng_l2tp_tunnel.proofs.Flights.{after_out-window, drained}
 pub record IsReady (s : TunnelState) : Type 0 where
   pub spelled : AreSpelled s.channel.messages
   pub window : s.channel.window ≤ flight_most
+  pub known : stands s.phase ≡ true → s.known ≡ true
+  pub numbered : stands s.phase ≡ true → s.number ≢ 0
   pub addressed : stands s.phase ≡ true → IsSome s.peer_number
 
 pub ready : (s : TunnelState) → IsTunnel s → IsReady s
-ready s t = record { spelled = t.spelled; window = t.window; addressed = t.addressed }
+ready s t = record { spelled = t.spelled; window = t.window; known = t.known; numbered = t.numbered; addressed = t.addressed }
 
 -- what a step over a channel keeps
 pub record IsGood (s : TunnelState) (step : Step) : Type 0 where
   pub spelled : AreSpelled step.after.channel.messages
   pub window : step.after.channel.window ≤ flight_most
+  pub rules : (step.after.known ≡ s.known) × (step.after.number ≡ s.number)
   pub peer : step.after.peer_number ≡ s.peer_number
   pub outs : AllByRecursion (IsSentTo (to_peer s) step.after.channel.nr) step.said.outs
 
@@ -63,7 +66,7 @@ flushed_good ack s h w =
     record {
       spelled = subst (λ (ms : List Message). AreSpelled ms) (sym keeps.0) h;
       window = omega (arith, w, after_out-window flight_most s.channel);
-      peer = refl;
+      rules = (refl, refl); peer = refl;
       outs = with_zlb_sent ack (to_peer s) (after_out flight_most s.channel) (map (datagram (to_peer s)) (let_out flight_most s.channel))
           (subst (λ (nr : ℕ). AllByRecursion (IsSentTo (to_peer s) nr) (map (datagram (to_peer s)) (let_out flight_most s.channel))) (sym keeps.1) sent);
     }
@@ -77,7 +80,7 @@ pub queued_good : (ack : Acknowledging) (s : TunnelState) (text : List ℕ) (now
 queued_good ack s text now h w k =
     let next = record s { channel = queued s.channel (record { items = text }) now } in
     let good = flushed_good ack next (queued_spelled s.channel (record { items = text }) now h k) w in
-    record { spelled = good.spelled; window = good.window; peer = good.peer; outs = good.outs }
+    record { spelled = good.spelled; window = good.window; rules = good.rules; peer = good.peer; outs = good.outs }
 
 received_spelled : (c : ChannelState) (ns nr : ℕ) (none : Bool) (now : ℕ) → AreSpelled c.messages → AreSpelled (received c ns nr none now).messages
 received_spelled c ns nr none now h = AllByRecursion-drop (λ (t : Message). IsSpelled t.items) (acknowledged c nr) c.messages h
@@ -105,7 +108,7 @@ standing Cleared e = absurd cc
 pub sound_if_good : (s : TunnelState) (step : Step) → IsReady s → stands s.phase ≡ true → IsGood s step → (stands step.after.phase ≡ true → next_out step.after.channel ≡ None) → step.said.established ≡ (is_replied s.phase && is_established step.after.phase)
     → step.said.cleared ≡ (not (is_cleared s.phase) && is_cleared step.after.phase) → IsSound s step
 sound_if_good s step t e good until f g = record {
-  tunnel = record { spelled = good.spelled; window = good.window; until = until; addressed = λ _. subst (λ (n : Option ℕ). IsSome n) (sym good.peer) (t.addressed e) };
+  tunnel = record { spelled = good.spelled; window = good.window; until = until; known = λ _. good.rules.0 ∙ t.known e; numbered = λ _. λ z. t.numbered e (sym good.rules.1 ∙ z); addressed = λ _. subst (λ (n : Option ℕ). IsSome n) (sym good.peer) (t.addressed e) };
   outs = subst (λ (nr : ℕ). AllByRecursion (IsSentTo (to_peer step.after) nr) step.said.outs) (sym (ap (λ (b : Bool). cond b step.after.channel.nr 1) e))
       (subst (λ (tunnel : ℕ). AllByRecursion (IsSentTo tunnel step.after.channel.nr) step.said.outs) (sym (ap (λ (n : Option ℕ). unwrap_or n 0) good.peer)) good.outs);
   established = f;
@@ -134,7 +137,7 @@ module _ (s : TunnelState) (t : IsReady s) (e : stands s.phase ≡ true) where
   pub clears_sound : (step : Step) → IsGood s step → step.said.established ≡ false → IsSound s (clears step)
   clears_sound step g f =
       let end = ends s.phase (standing s.phase e) in
-      sound_if_good s (clears step) t e (record { spelled = g.spelled; window = g.window; peer = g.peer; outs = g.outs }) (λ no. absurd cc) (f ∙ end.0) end.1
+      sound_if_good s (clears step) t e (record { spelled = g.spelled; window = g.window; rules = g.rules; peer = g.peer; outs = g.outs }) (λ no. absurd cc) (f ∙ end.0) end.1
 
   pub refuse_sound : (refusal : Refusal) (now : ℕ) → IsSound s (clears (answered ByAny s (stop_ccn s.number (code_of refusal)) now))
   refuse_sound refusal now =
@@ -150,17 +153,17 @@ module _ (s : TunnelState) (t : IsReady s) (e : stands s.phase ≡ true) where
   call_sound avps now =
       let text = control_text (cdn (session_of s avps) 0 no_resources) in
       let g = queued_good ByAny s text now t.spelled t.window (cdn (session_of s avps) 0 no_resources, refl) in
-      sound_if_good s (call_refused s avps now) t e (record { spelled = g.spelled; window = g.window; peer = g.peer; outs = g.outs }) (λ _. drained (queued s.channel (record { items = text }) now) t.window) (stays s.phase).0 (stays s.phase).1
+      sound_if_good s (call_refused s avps now) t e (record { spelled = g.spelled; window = g.window; rules = g.rules; peer = g.peer; outs = g.outs }) (λ _. drained (queued s.channel (record { items = text }) now) t.window) (stays s.phase).0 (stays s.phase).1
 
   pub ended_sound : IsSound s (ended s)
   ended_sound =
       clears_sound (record { said = sends (zlb (to_peer s) s.channel ∷ []); after = s })
-      (record { spelled = t.spelled; window = t.window; peer = refl; outs = (zlb_sent (to_peer s) s.channel, tt) }) refl
+      (record { spelled = t.spelled; window = t.window; rules = (refl, refl); peer = refl; outs = (zlb_sent (to_peer s) s.channel, tt) }) refl
 
   pub established_sound : is_replied s.phase ≡ true → IsSound s (established (flushed ByZlb s))
   established_sound r =
       let g = flushed_good ByZlb s t.spelled t.window in
-      sound_if_good s (established (flushed ByZlb s)) t e (record { spelled = g.spelled; window = g.window; peer = g.peer; outs = g.outs }) (λ _. drained s.channel t.window) (sym (ap (λ (b : Bool). b && true) r)) (no_end s.phase)
+      sound_if_good s (established (flushed ByZlb s)) t e (record { spelled = g.spelled; window = g.window; rules = g.rules; peer = g.peer; outs = g.outs }) (λ _. drained s.channel t.window) (sym (ap (λ (b : Bool). b && true) r)) (no_end s.phase)
 
   pub accepted_sound : (type : Option ℕ) → is_taken s.phase type ≡ true → IsSound s (accepted s type)
   accepted_sound type taken =
@@ -190,10 +193,10 @@ module _ (s : TunnelState) (t : IsReady s) (e : stands s.phase ≡ true) where
   heard_sound avps now Acked = flushed_sound Never
 
   pub reminded_sound : (now : ℕ) (due : Due) → next_out s.channel ≡ None → IsSound s (reminded s now due)
-  reminded_sound now Nothing none = nothing_sound s (record { spelled = t.spelled; window = t.window; addressed = t.addressed; until = λ _. none })
-  reminded_sound now Resend none = sound_if_good s _ t e (record { spelled = t.spelled; window = t.window; peer = refl; outs = flight_sent (to_peer s) s.channel t.spelled flight_most }) (λ _. none) (stays s.phase).0 (stays s.phase).1
+  reminded_sound now Nothing none = nothing_sound s (record { spelled = t.spelled; window = t.window; known = t.known; numbered = t.numbered; addressed = t.addressed; until = λ _. none })
+  reminded_sound now Resend none = sound_if_good s _ t e (record { spelled = t.spelled; window = t.window; rules = (refl, refl); peer = refl; outs = flight_sent (to_peer s) s.channel t.spelled flight_most }) (λ _. none) (stays s.phase).0 (stays s.phase).1
   reminded_sound now Hello none = queued_sound Never (control_text hello) now (hello, refl)
-  reminded_sound now GiveUp none = clears_sound (nothing s) (record { spelled = t.spelled; window = t.window; peer = refl; outs = tt }) refl
+  reminded_sound now GiveUp none = clears_sound (nothing s) (record { spelled = t.spelled; window = t.window; rules = (refl, refl); peer = refl; outs = tt }) refl
 
 -- where a ZLB is due something goes out
 some_any : (tunnel : ℕ) (c : ChannelState) (outs : List (List ℕ)) → 0 < length (with_zlb ByAny tunnel c outs)
@@ -263,7 +266,7 @@ sound_from r s step e x = record {
 pub hearing_sound : (s : TunnelState) (m : ControlMessage) (now : ℕ) → IsTunnel s → stands s.phase ≡ true → IsSound s (hearing s m now)
 hearing_sound s m now t e =
     sound_from (having_heard s m now) s (hearing s m now) refl
-    (heard_sound (having_heard s m now) (record { spelled = received_spelled s.channel m.ns m.nr (is_zlb m.avps) now t.spelled; window = t.window; addressed = t.addressed }) e m.avps now (heard_by s m))
+    (heard_sound (having_heard s m now) (record { spelled = received_spelled s.channel m.ns m.nr (is_zlb m.avps) now t.spelled; window = t.window; known = t.known; numbered = t.numbered; addressed = t.addressed }) e m.avps now (heard_by s m))
 
 -- Opening -----------------------------------------------------------------------------------------------------------------------------------
 
@@ -291,7 +294,7 @@ module _ (s : TunnelState) (m : ControlMessage) (random : List ℕ) (now : ℕ) 
   closed_sound step after f outs =
       let end = ends s.phase (ap is_cleared e) in
       record {
-        tunnel = record { spelled = after.spelled; window = after.window; addressed = λ no. absurd cc; until = λ no. absurd cc };
+        tunnel = record { spelled = after.spelled; window = after.window; known = λ no. absurd cc; numbered = λ no. absurd cc; addressed = λ no. absurd cc; until = λ no. absurd cc };
         outs = subst (λ (nr : ℕ). AllByRecursion (IsSentTo (to_peer step.after) nr) step.said.outs) (sym (ap (λ (p : Phase). cond (stands p) step.after.channel.nr 1) e)) outs;
         established = f ∙ end.0;
         cleared = end.1;
@@ -301,8 +304,9 @@ module _ (s : TunnelState) (m : ControlMessage) (random : List ℕ) (now : ℕ) 
   replied_sound b q =
       let both = and_true (is_type (message_type m.avps) SCCRQ) (m.ns == 0) b in
       let answer = sccrp s.name s.number s.secret random (value_of s.secret CHALLENGE m.avps) in
-      let there = has_tunnel s m.avps both.0 (passed s m.avps q).wrong in
-      let x = queued_sound (made s m random now) (record { spelled = received_spelled (begun (window_of s.secret m.avps) now) m.ns m.nr false now tt; window = omega arith; addressed = λ _. there }) refl ByAny (control_text answer) now (answer, refl) in
+      let pass = passed s m.avps q in
+      let there = has_tunnel s m.avps both.0 pass.wrong in
+      let x = queued_sound (made s m random now) (record { spelled = received_spelled (begun (window_of s.secret m.avps) now) m.ns m.nr false now tt; window = omega arith; known = λ _. pass.known; numbered = λ _. has_number s m.avps both.0 pass.numbered; addressed = λ _. there }) refl ByAny (control_text answer) now (answer, refl) in
       let nr = made_nr s m random now both.1 in
       record {
         tunnel = x.tunnel;
@@ -316,7 +320,7 @@ module _ (s : TunnelState) (m : ControlMessage) (random : List ℕ) (now : ℕ) 
   opened_sound b None q = replied_sound b q
   opened_sound b (Some refusal) q =
       closed_sound (record { said = sends (turned_away (assigned_tunnel s.secret m.avps) refusal); after = record s { peer_number = assigned_tunnel s.secret m.avps } })
-      (record { spelled = t.spelled; window = t.window; addressed = λ yes. absurd (let no = sym yes ∙ ap stands e in cc); until = λ yes. absurd (let no = sym yes ∙ ap stands e in cc) }) refl (turned_away_sent (assigned_tunnel s.secret m.avps) refusal)
+      (record { spelled = t.spelled; window = t.window; known = λ yes. absurd (let no = sym yes ∙ ap stands e in cc); numbered = λ yes. absurd (let no = sym yes ∙ ap stands e in cc); addressed = λ yes. absurd (let no = sym yes ∙ ap stands e in cc); until = λ yes. absurd (let no = sym yes ∙ ap stands e in cc) }) refl (turned_away_sent (assigned_tunnel s.secret m.avps) refusal)
 
   pub opening_sound : IsSound s (opening s m random now)
   opening_sound =
@@ -371,7 +375,7 @@ due_sound s now t =
     let after = record s { channel = after_due s.channel now (due_of s.channel now) } in
     if_stands s (reminded after now (due_of s.channel now)) t
     (λ e. sound_from after s (reminded after now (due_of s.channel now)) refl
-    (reminded_sound after (record { spelled = after_due_spelled s.channel now (due_of s.channel now) t.spelled; window = omega (arith, t.window, after_due-window s.channel now (due_of s.channel now)); addressed = t.addressed }) e now (due_of s.channel now)
+    (reminded_sound after (record { spelled = after_due_spelled s.channel now (due_of s.channel now) t.spelled; window = omega (arith, t.window, after_due-window s.channel now (due_of s.channel now)); known = t.known; numbered = t.numbered; addressed = t.addressed }) e now (due_of s.channel now)
     (after_due-next_out s.channel now (due_of s.channel now) (t.until e))))
 
 pub send_sound : (s : TunnelState) (text : List ℕ) (now : ℕ) → IsTunnel s → IsSpelled text → IsSound s (send_step s text now)
@@ -431,6 +435,56 @@ message_call s m random now =
     by_phase Replied e = heard_call (having_heard s m now) m.avps now (heard_by s m)
     by_phase Established e = heard_call (having_heard s m now) m.avps now (heard_by s m)
     by_phase Cleared e = sym (ap (λ (p : Phase). is_established p && (is_delivered (heard_by s m) && is_of_call (message_type m.avps))) e)
+
+-- Establishing ------------------------------------------------------------------------------------------------------------------------------
+
+module _ (s : TunnelState) (m : ControlMessage) where
+  accepted_authentic : fails_challenge s.secret s.challenge (message_type m.avps) m.avps ≡ false → (accepted s (message_type m.avps)).said.established ≡ true → IsAnswerOf s m
+  accepted_authentic f e =
+      first (is_type (message_type m.avps) SCCCN) refl (is_type (message_type m.avps) STOP_CCN) e
+    where
+      first : (a : Bool) → is_type (message_type m.avps) SCCCN ≡ a → (b : Bool) → (cond a (established (flushed ByZlb s)) (cond b (ended s) (flushed ByZlb s))).said.established ≡ true → IsAnswerOf s m
+      first true q b e = answers s m q f
+      first false q true e = absurd cc
+      first false q false e = absurd cc
+
+  judged_authentic : (now : ℕ) (r : Option Refusal) → refusal_of s m.avps ≡ r → (judged s (message_type m.avps) now r).said.established ≡ true → IsAnswerOf s m
+  judged_authentic now None q e = accepted_authentic (passed s m.avps q).authorized e
+  judged_authentic now (Some refusal) q e = absurd cc
+
+  heard_authentic : (now : ℕ) (answer : Heard) → (heard s m.avps now answer).said.established ≡ true → IsAnswerOf s m
+  heard_authentic now Deliver e =
+      by (is_established s.phase && is_of_call (message_type m.avps)) e
+    where
+      by : (b : Bool) → (cond b (call_refused s m.avps now) (judged s (message_type m.avps) now (refusal_of s m.avps))).said.established ≡ true → IsAnswerOf s m
+      by true e = absurd cc
+      by false e = judged_authentic now (refusal_of s m.avps) refl e
+  heard_authentic now Repeat e = absurd cc
+  heard_authentic now Ahead e = absurd cc
+  heard_authentic now Acked e = absurd cc
+
+opened_none : (s : TunnelState) (m : ControlMessage) (random : List ℕ) (now : ℕ) → (opening s m random now).said.established ≡ false
+opened_none s m random now =
+    by (begins m) (refusal_of s m.avps)
+  where
+    by : (b : Bool) (r : Option Refusal) → (cond b (opened_by s m random now r) (clears (nothing s))).said.established ≡ false
+    by true None = refl
+    by true (Some refusal) = refl
+    by false r = refl
+
+-- a tunnel comes to be established only by an answer to its Challenge
+pub message_authentic : (s : TunnelState) (m : ControlMessage) (random : List ℕ) (now : ℕ) → (message_step s m random now).said.established ≡ true → IsAnswerOf s m
+unfolding message_step
+message_authentic s m random now e =
+    by_phase s.phase e
+  where
+    heard_now : (hearing s m now).said.established ≡ true → IsAnswerOf s m
+    heard_now e = let x = heard_authentic (having_heard s m now) m now (heard_by s m) e in record { type = x.type; answer = x.answer }
+    by_phase : (p : Phase) → (in_phase p s m random now).said.established ≡ true → IsAnswerOf s m
+    by_phase Idle e = absurd (let no = opened_none s m random now in cc)
+    by_phase Replied e = heard_now e
+    by_phase Established e = heard_now e
+    by_phase Cleared e = absurd cc
 
 pub as_answered : (answer : Heard) (outs wanted : List (List ℕ)) → outs ≡ wanted → IsAnswered answer wanted → IsAnswered answer outs
 as_answered answer outs wanted e h = subst (λ (os : List (List ℕ)). IsAnswered answer os) (sym e) h

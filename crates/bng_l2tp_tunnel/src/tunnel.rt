@@ -4,7 +4,7 @@ ghost use Rattle.bng_l2tp_reliable.specs.Timers.{never, due_of, after_due, deadl
 ghost use Rattle.bng_l2tp_wire.specs.View.{control_of};
 ghost use Rattle.bng_l2tp_tunnel.specs.View.{octets_of, payloads, said};
 ghost use Rattle.bng_l2tp_tunnel.specs.TunnelState.{fresh};
-ghost use Rattle.bng_l2tp_tunnel.specs.Sound.{IsTunnel, IsSpelled, IsSound, IsAnswered, is_for_call};
+ghost use Rattle.bng_l2tp_tunnel.specs.Sound.{IsTunnel, IsSpelled, IsSound, IsAnswered, IsAnswerOf, is_for_call};
 ghost use Rattle.bng_l2tp_tunnel.specs.Spelling.{stop_ccn as stop_ccn_of, hello as hello_of, shut_down as code_of_shut_down};
 ghost use Rattle.bng_l2tp_tunnel.specs.Steps.{flushed, queued_text, answered, clears, stands, heard_by, message_step, reminded, due_step, send_step, stop_step, to_peer};
 
@@ -116,6 +116,7 @@ impl Tunnel {
         ensures said { said result ≡ (message_step self.old (control_of message.now) random.now now).said }
         ensures after { self.new ≡ (message_step self.old (control_of message.now) random.now now).after }
         ensures sound { IsTunnel self.old → IsSound self.old (record { said = said result; after = self.new }) }
+        ensures authentic { IsTrue result.established → IsAnswerOf self.old (control_of message.now) }
         ensures call { result.call ≡ is_for_call self.old (control_of message.now) }
         ensures acknowledged { stands self.old.phase ≡ true → IsAnswered (heard_by self.old (control_of message.now)) (payloads result.outs.items) }
     {
