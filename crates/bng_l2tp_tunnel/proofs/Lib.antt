@@ -5,3 +5,5 @@ mod Answering
 mod Spelled
 mod Refused
 mod Soundness
+mod Answered
+mod Authentic

@@ -1,5 +1,5 @@
 -- Each step of a tunnel is sound.
-use Rattle.std.proofs.Common.{◌≢◌, ◌≡◌, ℕ, ◌==◌, Bool, true, false, ◌&&◌, not, cond, nat_lt, Option, None, Some, List, [], ◌∷◌, ◌++◌, length, map, refl, sym, ap, subst, ◌∙◌, ◌≤◌, ◌<◌, option_map, slice_get, arith, length-append}
+use Rattle.std.proofs.Common.{◌≢◌, ◌≡◌, ℕ, ◌==◌, Bool, true, false, ◌&&◌, not, cond, nat_lt, Option, None, Some, List, [], ◌∷◌, ◌++◌, length, map, refl, sym, ap, subst, ◌∙◌, ◌≤◌, option_map, slice_get, arith}
 use Rattle.std.proofs.lemmas.List.{length-map}
 use Rattle.std.specs.Prelude.{IsSome, unwrap_or}
 use Rattle.std.specs.List.{AllByRecursion}
@@ -25,11 +25,11 @@ use Rattle.bng_l2tp_tunnel.specs.Outs.{datagram, let_out, after_out, flight_most
 use Rattle.bng_l2tp_tunnel.specs.declared.refusal.Refusal.{Refusal}
 use Rattle.bng_l2tp_tunnel.specs.Values.{value_of, message_type, assigned_tunnel, window_of}
 use Rattle.bng_l2tp_tunnel.specs.Messages.{is_type, is_of_call, is_taken}
-use Rattle.bng_l2tp_tunnel.specs.Refusals.{fails_challenge, refusal_of}
+use Rattle.bng_l2tp_tunnel.specs.Refusals.{refusal_of}
 use Rattle.bng_l2tp_tunnel.specs.Spelling.{sccrp, stop_ccn, cdn, hello, code_of, shut_down, no_resources}
 use Rattle.bng_l2tp_tunnel.specs.Steps.{Step, sends, nothing, stands, is_established, to_peer, flushed, queued_text, answered, clears, turned_away, made, replied, opened_by, begins, opening, session_of, call_refused, ended, established, accepted, judged, delivered, heard, is_zlb, heard_by, having_heard, hearing, in_phase, message_step, reminded, due_step, send_step, stop_step}
-use Rattle.bng_l2tp_tunnel.proofs.Refused.{passed, replied_if, has_tunnel, has_number, answers}
-use Rattle.bng_l2tp_tunnel.specs.Sound.{is_replied, is_cleared, IsSpelled, AreSpelled, IsTunnel, IsSentTo, IsAnswered, is_delivered, is_for_call, IsSound, IsAnswerOf}
+use Rattle.bng_l2tp_tunnel.proofs.Refused.{passed, replied_if, has_tunnel, has_number}
+use Rattle.bng_l2tp_tunnel.specs.Sound.{is_replied, is_cleared, IsSpelled, AreSpelled, IsTunnel, IsSentTo, IsSound}
 use Rattle.bng_l2tp_tunnel.proofs.Spelled.{AllByRecursion-append, AllByRecursion-drop, after_out-keeps, let_out_sent, flight_sent}
 use Rattle.bng_l2tp_tunnel.proofs.Flights.{after_out-window, drained}
 
@@ -66,7 +66,8 @@ flushed_good ack s h w =
     record {
       spelled = subst (λ (ms : List Message). AreSpelled ms) (sym keeps.0) h;
       window = omega (arith, w, after_out-window flight_most s.channel);
-      rules = (refl, refl); peer = refl;
+      rules = (refl, refl);
+      peer = refl;
       outs = with_zlb_sent ack (to_peer s) (after_out flight_most s.channel) (map (datagram (to_peer s)) (let_out flight_most s.channel))
           (subst (λ (nr : ℕ). AllByRecursion (IsSentTo (to_peer s) nr) (map (datagram (to_peer s)) (let_out flight_most s.channel))) (sym keeps.1) sent);
     }
@@ -197,62 +198,6 @@ module _ (s : TunnelState) (t : IsReady s) (e : stands s.phase ≡ true) where
   reminded_sound now Resend none = sound_if_good s _ t e (record { spelled = t.spelled; window = t.window; rules = (refl, refl); peer = refl; outs = flight_sent (to_peer s) s.channel t.spelled flight_most }) (λ _. none) (stays s.phase).0 (stays s.phase).1
   reminded_sound now Hello none = queued_sound Never (control_text hello) now (hello, refl)
   reminded_sound now GiveUp none = clears_sound (nothing s) (record { spelled = t.spelled; window = t.window; rules = (refl, refl); peer = refl; outs = tt }) refl
-
--- where a ZLB is due something goes out
-some_any : (tunnel : ℕ) (c : ChannelState) (outs : List (List ℕ)) → 0 < length (with_zlb ByAny tunnel c outs)
-some_any tunnel c [] = omega arith
-some_any tunnel c (o ∷ os) = omega arith
-
-some_zlb : (tunnel : ℕ) (c : ChannelState) (outs : List (List ℕ)) → 0 < length (with_zlb ByZlb tunnel c outs)
-some_zlb tunnel c outs = omega (arith, length-append outs (zlb tunnel c ∷ []))
-
-module _ (s : TunnelState) where
-  flushed_some : 0 < length (flushed ByZlb s).said.outs
-  flushed_some = some_zlb (to_peer s) (after_out flight_most s.channel) (map (datagram (to_peer s)) (let_out flight_most s.channel))
-
-  queued_some : (text : List ℕ) (now : ℕ) → 0 < length (queued_text ByAny s text now).said.outs
-  queued_some text now =
-      let c = queued s.channel (record { items = text }) now in
-      some_any (to_peer s) (after_out flight_most c) (map (datagram (to_peer s)) (let_out flight_most c))
-
-  accepted_some : (type : Option ℕ) → 0 < length (accepted s type).said.outs
-  accepted_some type =
-      first (is_type type SCCCN) (is_type type STOP_CCN)
-    where
-      second : (b : Bool) → 0 < length (cond b (ended s) (flushed ByZlb s)).said.outs
-      second true = omega arith
-      second false = flushed_some
-
-      first : (a b : Bool) → 0 < length (cond a (established (flushed ByZlb s)) (cond b (ended s) (flushed ByZlb s))).said.outs
-      first true b = flushed_some
-      first false b = second b
-
-  judged_some : (type : Option ℕ) (now : ℕ) (r : Option Refusal) → 0 < length (judged s type now r).said.outs
-  judged_some type now None = accepted_some type
-  judged_some type now (Some refusal) = queued_some (control_text (stop_ccn s.number (code_of refusal))) now
-
-  delivered_some : (avps : List L2tpAvp) (now : ℕ) → 0 < length (delivered s avps now).said.outs
-  delivered_some avps now =
-      elim (is_established s.phase && is_of_call (message_type avps)) as (λ b. 0 < length (cond b (call_refused s avps now) (judged s (message_type avps) now (refusal_of s avps))).said.outs)
-      [ true ↦ queued_some (control_text (cdn (session_of s avps) 0 no_resources)) now | false ↦ judged_some (message_type avps) now (refusal_of s avps) ]
-
-  pub heard_answered : (avps : List L2tpAvp) (now : ℕ) (answer : Heard) → IsAnswered answer (heard s avps now answer).said.outs
-  heard_answered avps now Deliver = delivered_some avps now
-  heard_answered avps now Repeat = flushed_some
-  heard_answered avps now Ahead = tt
-  heard_answered avps now Acked = tt
-
--- a message to a tunnel that stands is answered
-pub message_answered : (s : TunnelState) (m : ControlMessage) (random : List ℕ) (now : ℕ) → stands s.phase ≡ true → IsAnswered (heard_by s m) (message_step s m random now).said.outs
-unfolding message_step
-message_answered s m random now e =
-    by_phase s.phase e
-  where
-    by_phase : (p : Phase) → stands p ≡ true → IsAnswered (heard_by s m) (in_phase p s m random now).said.outs
-    by_phase Idle e = absurd cc
-    by_phase Replied e = heard_answered (having_heard s m now) m.avps now (heard_by s m)
-    by_phase Established e = heard_answered (having_heard s m now) m.avps now (heard_by s m)
-    by_phase Cleared e = absurd cc
 
 -- only the phase before a step counts
 pub sound_from : (r s : TunnelState) (step : Step) → r.phase ≡ s.phase → IsSound r step → IsSound s step
@@ -390,101 +335,3 @@ stop_step_sound s now t = if_stands s (clears (answered Never s (stop_ccn s.numb
 pub as_said : (s : TunnelState) (step : Step) (said : Said) (after : TunnelState) → said ≡ step.said → after ≡ step.after → IsSound s step → IsSound s (record { said = said; after = after })
 as_said s step said after e f x =
     subst (λ (w : Said). IsSound s (record { said = w; after = after })) (sym e) (subst (λ (a : TunnelState). IsSound s (record { said = step.said; after = a })) (sym f) (record { tunnel = x.tunnel; outs = x.outs; established = x.established; cleared = x.cleared }))
-
--- Calls --------------------------------------------------------------------------------------------------------------------------------------
-
-module _ (s : TunnelState) where
-  accepted_call : (type : Option ℕ) → (accepted s type).said.call ≡ false
-  accepted_call type =
-      first (is_type type SCCCN) (is_type type STOP_CCN)
-    where
-      first : (a b : Bool) → (cond a (established (flushed ByZlb s)) (cond b (ended s) (flushed ByZlb s))).said.call ≡ false
-      first true b = refl
-      first false true = refl
-      first false false = refl
-
-  judged_call : (type : Option ℕ) (now : ℕ) (r : Option Refusal) → (judged s type now r).said.call ≡ false
-  judged_call type now None = accepted_call type
-  judged_call type now (Some refusal) = refl
-
-  heard_call : (avps : List L2tpAvp) (now : ℕ) (answer : Heard) → (heard s avps now answer).said.call ≡ (is_established s.phase && (is_delivered answer && is_of_call (message_type avps)))
-  heard_call avps now Deliver =
-      elim (is_established s.phase && is_of_call (message_type avps)) as (λ b. (cond b (call_refused s avps now) (judged s (message_type avps) now (refusal_of s avps))).said.call ≡ b)
-      [ true ↦ refl | false ↦ judged_call (message_type avps) now (refusal_of s avps) ]
-  heard_call avps now Repeat = and_false (is_established s.phase)
-  heard_call avps now Ahead = and_false (is_established s.phase)
-  heard_call avps now Acked = and_false (is_established s.phase)
-
-opened_call : (s : TunnelState) (m : ControlMessage) (random : List ℕ) (now : ℕ) → (opening s m random now).said.call ≡ false
-opened_call s m random now =
-    by (begins m) (refusal_of s m.avps)
-  where
-    by : (b : Bool) (r : Option Refusal) → (cond b (opened_by s m random now r) (clears (nothing s))).said.call ≡ false
-    by true None = refl
-    by true (Some refusal) = refl
-    by false r = refl
-
--- a message is told to be a call's exactly where it is one
-pub message_call : (s : TunnelState) (m : ControlMessage) (random : List ℕ) (now : ℕ) → (message_step s m random now).said.call ≡ is_for_call s m
-unfolding message_step
-message_call s m random now =
-    by_phase s.phase refl
-  where
-    by_phase : (p : Phase) → s.phase ≡ p → (in_phase p s m random now).said.call ≡ is_for_call s m
-    by_phase Idle e = opened_call s m random now ∙ sym (ap (λ (p : Phase). is_established p && (is_delivered (heard_by s m) && is_of_call (message_type m.avps))) e)
-    by_phase Replied e = heard_call (having_heard s m now) m.avps now (heard_by s m)
-    by_phase Established e = heard_call (having_heard s m now) m.avps now (heard_by s m)
-    by_phase Cleared e = sym (ap (λ (p : Phase). is_established p && (is_delivered (heard_by s m) && is_of_call (message_type m.avps))) e)
-
--- Establishing ------------------------------------------------------------------------------------------------------------------------------
-
-module _ (s : TunnelState) (m : ControlMessage) where
-  accepted_authentic : fails_challenge s.secret s.challenge (message_type m.avps) m.avps ≡ false → (accepted s (message_type m.avps)).said.established ≡ true → IsAnswerOf s m
-  accepted_authentic f e =
-      first (is_type (message_type m.avps) SCCCN) refl (is_type (message_type m.avps) STOP_CCN) e
-    where
-      first : (a : Bool) → is_type (message_type m.avps) SCCCN ≡ a → (b : Bool) → (cond a (established (flushed ByZlb s)) (cond b (ended s) (flushed ByZlb s))).said.established ≡ true → IsAnswerOf s m
-      first true q b e = answers s m q f
-      first false q true e = absurd cc
-      first false q false e = absurd cc
-
-  judged_authentic : (now : ℕ) (r : Option Refusal) → refusal_of s m.avps ≡ r → (judged s (message_type m.avps) now r).said.established ≡ true → IsAnswerOf s m
-  judged_authentic now None q e = accepted_authentic (passed s m.avps q).authorized e
-  judged_authentic now (Some refusal) q e = absurd cc
-
-  heard_authentic : (now : ℕ) (answer : Heard) → (heard s m.avps now answer).said.established ≡ true → IsAnswerOf s m
-  heard_authentic now Deliver e =
-      by (is_established s.phase && is_of_call (message_type m.avps)) e
-    where
-      by : (b : Bool) → (cond b (call_refused s m.avps now) (judged s (message_type m.avps) now (refusal_of s m.avps))).said.established ≡ true → IsAnswerOf s m
-      by true e = absurd cc
-      by false e = judged_authentic now (refusal_of s m.avps) refl e
-  heard_authentic now Repeat e = absurd cc
-  heard_authentic now Ahead e = absurd cc
-  heard_authentic now Acked e = absurd cc
-
-opened_none : (s : TunnelState) (m : ControlMessage) (random : List ℕ) (now : ℕ) → (opening s m random now).said.established ≡ false
-opened_none s m random now =
-    by (begins m) (refusal_of s m.avps)
-  where
-    by : (b : Bool) (r : Option Refusal) → (cond b (opened_by s m random now r) (clears (nothing s))).said.established ≡ false
-    by true None = refl
-    by true (Some refusal) = refl
-    by false r = refl
-
--- a tunnel comes to be established only by an answer to its Challenge
-pub message_authentic : (s : TunnelState) (m : ControlMessage) (random : List ℕ) (now : ℕ) → (message_step s m random now).said.established ≡ true → IsAnswerOf s m
-unfolding message_step
-message_authentic s m random now e =
-    by_phase s.phase e
-  where
-    heard_now : (hearing s m now).said.established ≡ true → IsAnswerOf s m
-    heard_now e = let x = heard_authentic (having_heard s m now) m now (heard_by s m) e in record { type = x.type; answer = x.answer }
-    by_phase : (p : Phase) → (in_phase p s m random now).said.established ≡ true → IsAnswerOf s m
-    by_phase Idle e = absurd (let no = opened_none s m random now in cc)
-    by_phase Replied e = heard_now e
-    by_phase Established e = heard_now e
-    by_phase Cleared e = absurd cc
-
-pub as_answered : (answer : Heard) (outs wanted : List (List ℕ)) → outs ≡ wanted → IsAnswered answer wanted → IsAnswered answer outs
-as_answered answer outs wanted e h = subst (λ (os : List (List ℕ)). IsAnswered answer os) (sym e) h

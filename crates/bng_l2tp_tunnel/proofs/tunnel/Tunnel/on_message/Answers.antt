@@ -1,8 +1,10 @@
-use Rattle.std.proofs.Common.{rules, ◌≡◌, true, sym, ap, ◌∙◌}
+use Rattle.std.proofs.Common.{rules, ◌≡◌, sym, ap, ◌∙◌}
 use Rattle.bng_l2tp_tunnel.specs.View.{Said, payloads, said}
 use Rattle.bng_l2tp_wire.specs.View.{control_of}
 use Rattle.bng_l2tp_tunnel.specs.Steps.{message_step, heard_by}
-use Rattle.bng_l2tp_tunnel.proofs.Soundness.{as_said, as_answered, message_sound, message_answered, message_authentic}
+use Rattle.bng_l2tp_tunnel.proofs.Soundness.{as_said, message_sound}
+use Rattle.bng_l2tp_tunnel.proofs.Answered.{as_answered, message_answered}
+use Rattle.bng_l2tp_tunnel.proofs.Authentic.{message_authentic}
 use Rattle.bng_l2tp_tunnel.proofs.tunnel.Tunnel.on_message.Goals as goal
 
 pub returns-in-Idle-clause-sound : goal.returns-in-Idle-clause-sound
