@@ -16,7 +16,7 @@ is_type (Some type) wanted = type == wanted
 abbrev pub is_of_call : Option ℕ → Bool
 is_of_call type = list_any (is_type type) (ICRQ ∷ ICCN ∷ CDN ∷ WEN ∷ SLI ∷ [])
 
--- a message of a tunnel: in which phase of the tunnel it is taken, and which AVPs it must have
+-- a message of a tunnel: in which phases of the tunnel it is taken, and which AVPs it must have
 pub record Row : Type 0 where
   pub type : ℕ
   pub taken : List Phase

@@ -10,7 +10,7 @@ use Rattle.bng_l2tp_wire.specs.declared.kind.TheConstants.{MESSAGE_TYPE, ASSIGNE
 abbrev pub is_known : L2tpAvp → Bool
 is_known a = a.vendor == 0 && a.reserved == 0 && (nat_le a.kind 19 || nat_le 21 a.kind && nat_le a.kind 39)
 
--- an AVP of this Attribute Type
+-- an AVP of Vendor ID 0 and this Attribute Type, with no reserved bit set
 abbrev pub is_of : ℕ → L2tpAvp → Bool
 is_of kind a = a.vendor == 0 && a.reserved == 0 && a.kind == kind
 
@@ -32,7 +32,7 @@ placed_after vector (a ∷ rest) = record { avp = a; vector = vector } ∷ place
 abbrev pub placed : List L2tpAvp → List PlacedAvp
 placed avps = placed_after None avps
 
--- an AVP of a message at a place, with the last Random Vector before that place
+-- An AVP of a message at a place, with the last Random Vector before that place: such are all that `placed` lists.
 pub record IsPlaced (avps : List L2tpAvp) (p : PlacedAvp) : Type 0 where
   pub place : ℕ
   pub is : slice_get avps place ≡ Some p.avp
@@ -56,7 +56,7 @@ revealed_value (Some secret) (Some v) a = original_value (revealed_avp a.kind se
 abbrev pub value_most : ℕ
 value_most = 1017
 
--- what an AVP says
+-- What an AVP says. A longer value is no AVP's, and says nothing.
 abbrev pub value_in : Option (List ℕ) → PlacedAvp → Option (List ℕ)
 value_in secret p =
     if nat_le (length p.avp.value) value_most then (if p.avp.hidden then revealed_value secret p.vector p.avp else Some p.avp.value) else None
