@@ -1,5 +1,6 @@
 mod Sizes
 mod Placing
+mod Waiting
 mod Flights
 mod Answering
 mod Spelled

@@ -1,9 +1,10 @@
 -- The datagrams of a tunnel, by RFC 2661 sections 3.1 and 5.8.
-use Rattle.std.specs.Prelude.{ℕ, zero, suc, ◌+◌, nat_lt, if◌then◌else◌, List, [], ◌∷◌, ◌++◌, length, take, drop, map, option_to_list}
+use Rattle.std.specs.Prelude.{◌≡◌, ℕ, zero, suc, ◌+◌, nat_lt, if◌then◌else◌, List, [], ◌∷◌, ◌++◌, length, take, drop, map, option_to_list}
 use Rattle.byteorder.specs.Endian.{big_bytes}
 use Rattle.bng_l2tp_reliable.specs.declared.outgoing.Outgoing.{Outgoing}
-use Rattle.bng_l2tp_reliable.specs.ChannelState.{ChannelState}
-use Rattle.bng_l2tp_reliable.specs.Calls.{next_out, after_next, flight_at}
+use Rattle.bng_l2tp_reliable.specs.ChannelState.{ChannelState, Message, waiting}
+use Rattle.bng_l2tp_reliable.specs.Numbers.{steps_on}
+use Rattle.bng_l2tp_reliable.specs.Calls.{numbered, next_out, after_next, flight_at}
 use Rattle.bng_l2tp_wire.specs.Messages.{control_text}
 use Rattle.bng_l2tp_tunnel.specs.declared.acknowledging.Acknowledging.{Acknowledging}
 use Rattle.bng_l2tp_tunnel.specs.declared.acknowledging.Acknowledging.TheVariants.{Never, ByAny, ByZlb}
@@ -30,6 +31,15 @@ after_out (suc n) c = after_next (after_out n c) (next_out (after_out n c))
 unfoldable pub let_out : ℕ → ChannelState → List Outgoing
 let_out zero c = []
 let_out (suc n) c = let_out n c ++ option_to_list (next_out (after_out n c))
+
+-- messages with the numbers that follow on those that went out before
+abbrev pub numbered_on : ChannelState → ℕ → List Message → List Outgoing
+numbered_on c before [] = []
+numbered_on c before (m ∷ ms) = numbered c (steps_on c.ns before) m ∷ numbered_on c (before + 1) ms
+
+-- they are the first of the messages that wait, numbered on
+abbrev pub AreFirstWaiting : ChannelState → List Outgoing → Type 0
+AreFirstWaiting c outs = outs ≡ numbered_on c 0 (take (length outs) (waiting c))
 
 -- how many messages are in flight at most: after as many the window lets out none
 abbrev pub flight_most : ℕ

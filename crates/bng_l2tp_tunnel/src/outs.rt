@@ -1,8 +1,9 @@
 ghost use Rattle.std.specs.Prelude.{◌≡◌, ◌+◌, ◌<◌, ◌≤◌, ◌++◌, length, map, option_to_list, None};
+ghost use Rattle.bng_l2tp_reliable.specs.ChannelState.{IsChannel};
 ghost use Rattle.bng_l2tp_reliable.specs.Calls.{next_out};
 ghost use Rattle.arrayvec.specs.ArrayVec.{array_vec_len};
 ghost use Rattle.bng_l2tp_tunnel.specs.View.{payloads};
-ghost use Rattle.bng_l2tp_tunnel.specs.Outs.{datagram as datagram_to, after_out, let_out as lets_out, flight_before, with_zlb, outs_of as outs_to, flight_most, zlb as zlb_of};
+ghost use Rattle.bng_l2tp_tunnel.specs.Outs.{datagram as datagram_to, after_out, let_out as lets_out, AreFirstWaiting, flight_before, with_zlb, outs_of as outs_to, flight_most, zlb as zlb_of};
 
 use crate::acknowledging::Acknowledging;
 use crate::spelling::spelled;
@@ -50,6 +51,7 @@ fn push_some(outs: &mut Outs, tunnel: u16, out: Option<Outgoing>)
 // The messages that the window lets out.
 fn let_out(channel: &mut Channel, tunnel: u16) -> Outs
     ensures outs { payloads result.items ≡ map (datagram_to tunnel) (lets_out flight_most channel.old) }
+    ensures first { IsChannel channel.old → AreFirstWaiting channel.old (lets_out flight_most channel.old) }
     ensures few { array_vec_len result ≤ 8 }
     ensures channel { channel.new ≡ after_out flight_most channel.old }
     ensures until { next_out channel.new ≡ None }

@@ -4,6 +4,7 @@ use Rattle.bng_l2tp_reliable.specs.Calls.{next_out, after_next}
 use Rattle.bng_l2tp_tunnel.specs.View.{payloads}
 use Rattle.bng_l2tp_tunnel.specs.Outs.{after_out}
 use Rattle.bng_l2tp_tunnel.proofs.Flights.{after_out-none, after_out-next, let_out-none, more_out, goes_on, full_window}
+use Rattle.bng_l2tp_tunnel.proofs.Waiting.{first_waiting}
 use Rattle.bng_l2tp_tunnel.proofs.outs.let_out.Goals as goal
 
 pub loop-init : goal.loop-init
@@ -29,3 +30,6 @@ loop-preserved c =
 
 pub returns-clause-until : goal.returns-clause-until
 returns-clause-until c = full_window c.loop.counter c.loop.channel (c.loop.invariant.sound (omega arith)).window c.loop-test.false c.loop.invariant.until
+
+pub returns-clause-first : goal.returns-clause-first
+returns-clause-first c = λ sound. first_waiting 8 c.args.channel.now sound.ns
