@@ -1,0 +1,10 @@
+mod Sizes
+mod Placing
+mod Waiting
+mod Flights
+mod Answering
+mod Spelled
+mod Refused
+mod Soundness
+mod Answered
+mod Authentic

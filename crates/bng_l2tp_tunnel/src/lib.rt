@@ -1,0 +1,29 @@
+//! The tunnels of an L2TP network server, by RFC 2661 sections 4.1 to 4.4, 5 and 6, and the table of section 7.2.1. A [`Tunnel`]
+//! takes the control messages of one peer and answers the datagrams that are to be sent; moments, in milliseconds, and random
+//! octets come in as values. No call takes memory.
+//!
+//! `specs/Values.antt` says what the AVPs of a message say, hidden ones among them; `specs/Messages.antt` is the table of the
+//! messages that a tunnel takes, `specs/Refusals.antt` the list of the cases in which it is refused, and `specs/Spelling.antt`
+//! what the gateway sends. `specs/Steps.antt` puts these together: each call of [`Tunnel`] is a step of that file. The laws in
+//! `specs/Sound.antt` hold of every step: each datagram is a control message to the peer's tunnel and acknowledges all that was
+//! delivered, what is heard is acknowledged, and nothing that the window lets out is held back.
+#![tactic(auto)]
+
+mod acknowledging;
+mod hearing;
+mod judge;
+mod outs;
+mod phase;
+mod placed;
+mod refusal;
+mod rules;
+mod spelling;
+mod step;
+#[cfg(test)]
+mod tests;
+mod tunnel;
+mod values;
+
+pub use crate::rules::TunnelRules;
+pub use crate::tunnel::Tunnel;
+pub use crate::values::{assigned_tunnel, message_type};

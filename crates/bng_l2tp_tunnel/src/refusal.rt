@@ -1,0 +1,89 @@
+ghost use Rattle.std.specs.Prelude.{◌≡◌};
+ghost use Rattle.bng_l2tp_tunnel.specs.Spelling.{result_only as only_result, general_error as error_of, code_of as code_of_refusal, shut_down as code_of_shut_down, no_resources as code_of_want};
+
+/// Why a tunnel is refused (RFC 2661 sections 4.4.2 and 7.2.1). Each is told by a StopCCN.
+#[derive(Clone, Copy, PartialEq, Eq, Debug)]
+pub enum Refusal {
+    /// The peer's address is not a configured one.
+    NotConfigured,
+    /// The Protocol Version is not 1.0.
+    WrongVersion,
+    /// An AVP that must be known is not.
+    UnknownAvp,
+    /// An AVP that the message must have is missing or has a wrong length, or a hidden one cannot be read.
+    WrongAvp,
+    /// A Challenge cannot be answered, or was not answered rightly.
+    NotAuthorized,
+    /// The tunnel does not take the message in its phase.
+    Unexpected,
+    /// No tunnel number may be taken.
+    NoNumber,
+}
+
+/// What a Result Code AVP says (RFC 2661 section 4.4.2): a Result Code, and an Error Code where it has one.
+#[derive(Clone, Copy, PartialEq, Eq, Debug)]
+pub(crate) struct ResultCode {
+    pub(crate) code: u16,
+    pub(crate) error: Option<u16>,
+}
+
+// General error, which the Error Code tells.
+const GENERAL_ERROR: u16 = 2;
+// The requester is not authorized.
+const UNAUTHORIZED: u16 = 4;
+// The protocol version of the requester is not supported.
+const UNSUPPORTED_VERSION: u16 = 5;
+// The requester is shut down.
+const SHUT_DOWN: u16 = 6;
+// Finite state machine error.
+const STATE_ERROR: u16 = 7;
+
+// A field is out of range.
+const OUT_OF_RANGE: u16 = 3;
+// There are no resources for the operation.
+const NO_RESOURCES: u16 = 4;
+// An AVP that must be known is not.
+const UNKNOWN_AVP: u16 = 8;
+
+fn result_only(code: u16) -> ResultCode
+    ensures { result ≡ only_result code }
+{
+    ResultCode { code, error: None }
+}
+
+fn general_error(error: u16) -> ResultCode
+    ensures { result ≡ error_of error }
+{
+    ResultCode {
+        code: GENERAL_ERROR,
+        error: Some(error),
+    }
+}
+
+/// The code of a StopCCN that tells a refusal.
+pub(crate) fn code_of(refusal: Refusal) -> ResultCode
+    ensures { result ≡ code_of_refusal refusal }
+{
+    match refusal {
+        Refusal::NotConfigured | Refusal::NotAuthorized => result_only(UNAUTHORIZED),
+        Refusal::WrongVersion => result_only(UNSUPPORTED_VERSION),
+        Refusal::UnknownAvp => general_error(UNKNOWN_AVP),
+        Refusal::WrongAvp => general_error(OUT_OF_RANGE),
+        Refusal::Unexpected => result_only(STATE_ERROR),
+        Refusal::NoNumber => general_error(NO_RESOURCES),
+    }
+}
+
+/// The code of a StopCCN of a gateway that shuts down.
+pub(crate) fn shut_down() -> ResultCode
+    ensures { result ≡ code_of_shut_down }
+{
+    result_only(SHUT_DOWN)
+}
+
+/// The code of a refusal for want of resources.
+pub(crate) fn no_resources() -> ResultCode
+    ensures { result ≡ code_of_want }
+{
+    general_error(NO_RESOURCES)
+}
