@@ -313,6 +313,7 @@ fn each_circuit_gets_its_own_packets_on_its_own_port(rt: HostRuntime) -> Result<
         b"total in=20 out=40\nstatic 10.0.0.2 in=20 out=20\nstatic 10.0.0.3 in=0 out=20\ndrop Malformed 1\ndrop NoSession 0\ndrop NotOpen 0\ndrop Expired 0\ndrop Spoofed 0\ndrop TooBig 0\ndrop Exceeded 0\ndrop LinkFailed 0\ndrop WantOfMemory 0\n".as_slice()
     );
     let sent = ended.plant.sent();
+    assert_eq!(rt; sent.len(), 4);
     assert_eq!(rt; sent[0].role, Role::Core);
     assert_eq!(rt; sent[1].role, Role::Access(2));
     assert_eq!(rt; sent[1].peer, loopback(9021));
