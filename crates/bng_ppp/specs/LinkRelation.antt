@@ -1,5 +1,5 @@
 -- What a step of a link is, by RFC 1661 sections 4 to 6: a case for each input, and for a frame one for each packet.
-use Rattle.std.specs.Prelude.{◌≡◌, ◌⊎◌, ¬, ℕ, ◌+◌, ◌≤◌, ◌<◌, Bool, true, false, ◌&&◌, ◌||◌, ◌==◌, not, nat_le, List, [], ◌∷◌, ◌++◌, length, Option, Some, None, IsSomeAnd, IsTrue, IsFalse, if◌then◌else◌, min}
+use Rattle.std.specs.Prelude.{◌≡◌, ◌⊎◌, ℕ, ◌+◌, ◌≤◌, ◌<◌, Bool, true, false, ◌&&◌, ◌||◌, ◌==◌, not, nat_le, List, [], ◌∷◌, ◌++◌, length, Option, Some, None, IsSomeAnd, IsTrue, IsFalse, if◌then◌else◌, min}
 use Rattle.byteorder.specs.Endian.{big_bytes}
 use Rattle.bng_automaton.specs.declared.state.State.{State}
 use Rattle.bng_automaton.specs.declared.state.State.TheVariants.{Initial, Starting, Closed, Stopped, Closing, Stopping, ReqSent, AckRcvd, AckSent, Opened}
@@ -61,8 +61,8 @@ pub record Starts (auth : List AuthKind) (random : List ℕ) (echo now : ℕ) (o
   pub ask : Ask
   pub asks : Asks (is_down old.lcp.state) auth random old ask
   pub opened : Doing
-  pub open : Follows Open (plain old.kept 0) echo now (record { link = record old { ask = ask }; said = quiet }) opened
-  pub up : Follows Up (plain opened.link.kept 0) echo now opened (record { link = new; said = says })
+  pub on_open : Follows Open (plain old.kept 0) echo now (record { link = record old { ask = ask }; said = quiet }) opened
+  pub on_up : Follows Up (plain opened.link.kept 0) echo now opened (record { link = new; said = says })
 
 -- Frames ----------------------------------------------------------------------------------------------------------------
 

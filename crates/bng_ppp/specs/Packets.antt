@@ -1,5 +1,5 @@
 -- What a frame is to the link, by RFC 1661 sections 2, 5 and 6.
-use Rattle.std.specs.Prelude.{◌≡◌, ◌≢◌, ◌⊎◌, ¬, ℕ, ◌+◌, ◌≤◌, ◌<◌, ◌-◌, Bool, true, false, ◌&&◌, ◌||◌, ◌==◌, nat_lt, nat_le, min, List, ◌∷◌, ◌++◌, length, take, drop, slice_index, Option, Some, None, unwrap_or, fold, if◌then◌else◌, ⊤}
+use Rattle.std.specs.Prelude.{◌≡◌, ◌≢◌, ◌⊎◌, ℕ, ◌+◌, ◌≤◌, ◌<◌, ◌-◌, Bool, true, false, ◌&&◌, ◌||◌, ◌==◌, nat_lt, nat_le, min, List, ◌∷◌, ◌++◌, length, take, drop, slice_index, Option, Some, None, unwrap_or, fold, if◌then◌else◌, ⊤}
 use Rattle.byteorder.specs.Endian.{big_number, big_bytes}
 use Rattle.bng_automaton.specs.declared.event.Event.{Event}
 use Rattle.bng_automaton.specs.declared.event.Event.TheVariants.{Close, Rca, Rcn, RcrPlus, RcrMinus, Rtr, Rta, RxjPlus, RxjMinus, Rxr}

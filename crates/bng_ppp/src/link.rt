@@ -1,4 +1,4 @@
-ghost use Rattle.std.specs.Prelude.{◌≡◌, ◌<◌, ◌≤◌, ◌^◌, ◌↔◌, ◌⊎◌, ℕ, IfSome, IsTrue, IsNone, ¬, length, option_map, ◌+◌, ◌∷◌, []};
+ghost use Rattle.std.specs.Prelude.{◌≡◌, ◌<◌, ◌≤◌, ◌^◌, ◌↔◌, ◌⊎◌, ℕ, IfSome, IsTrue, IsNone, length, option_map, ◌+◌, ◌∷◌, []};
 ghost use Rattle.bng_automaton.specs.Timer.{TimerIsOut};
 ghost use Rattle.bng_ppp.specs.Said.{said};
 ghost use Rattle.bng_ppp.specs.LinkState.{IsFirstAsk};
