@@ -158,8 +158,10 @@ impl Link {
     {
         self.begin(auth, random);
         let mut steps = quiet();
-        self.follow(Event::Open, echo, now, &mut steps);
-        self.follow(Event::Up, echo, now, &mut steps);
+        let open = self.plain_cause(0);
+        self.follow(Event::Open, &open, echo, now, &mut steps);
+        let up = self.plain_cause(0);
+        self.follow(Event::Up, &up, echo, now, &mut steps);
         steps
     }
 
@@ -188,14 +190,20 @@ impl Link {
         }
     }
 
-    // An event whose actions answer no packet.
-    fn follow(&mut self, event: Event, echo: u16, now: u64, steps: &mut Steps)
+    // One event and its actions, after what the step did before.
+    fn follow(
+        &mut self,
+        event: Event,
+        cause: &Cause<'_>,
+        echo: u16,
+        now: u64,
+        steps: &mut Steps,
+    )
         requires { now < 2 ^ 60 }
-        ensures { Follows event (plain self.old.kept 0) echo now (record { link = self.old; said = said steps.old }) (record { link = self.new; said = said steps.new }) }
+        ensures { Follows event (why cause.now) echo now (record { link = self.old; said = said steps.old }) (record { link = self.new; said = said steps.new }) }
     {
-        let cause = self.plain_cause(0);
         let actions = self.lcp.step(event, now);
-        self.perform(actions.as_slice(), &cause, echo, now, steps);
+        self.perform(actions.as_slice(), cause, echo, now, steps);
     }
 
     // An event whose actions answer a packet at most by a Terminate-Ack.
@@ -213,8 +221,7 @@ impl Link {
         ensures { Moves event (why cause.now) echo now self.old (said result) self.new }
     {
         let mut steps = quiet();
-        let actions = self.lcp.step(event, now);
-        self.perform(actions.as_slice(), cause, echo, now, &mut steps);
+        self.follow(event, cause, echo, now, &mut steps);
         steps
     }
 }
