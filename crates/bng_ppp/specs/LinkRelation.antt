@@ -24,7 +24,7 @@ use Rattle.bng_ppp.specs.declared.kept.Kept.{Kept}
 use Rattle.bng_ppp.specs.declared.kind.Kind.{Kind}
 use Rattle.bng_ppp.specs.declared.kind.Kind.TheVariants.{Request, Reply, Plain, Echo, Mute, EchoReply, Unknown}
 use Rattle.bng_ppp.specs.declared.heard.Heard.{Heard}
-use Rattle.bng_ppp.specs.declared.heard.Heard.TheVariants.{NoFrame, NoPacket, Lcp, Other}
+use Rattle.bng_ppp.specs.declared.heard.Heard.TheVariants.{NoFrame, NoPacket, Long, Lcp, Other}
 use Rattle.bng_ppp.specs.declared.rules.Input.{Input}
 use Rattle.bng_ppp.specs.declared.rules.Input.TheVariants as input
 use Rattle.bng_ppp.specs.declared.rules.LinkRules.{LinkRules}
@@ -70,7 +70,7 @@ pub record Starts (auth : List AuthKind) (random : List ℕ) (echo now : ℕ) (o
 abbrev pub Judges : ControlPacket → ℕ → ℕ → List ℕ → LinkState → Said → LinkState → Type 0
 Judges p echo now random old says new =
     ((options : List PppOption) × (judged : Judged) × AreOptions options p.body × IsJudgement (rules_of old random) options judged
-      × Moves (event_of judged) (answer_of old.kept p options judged) echo now old says new)
+    × Moves (event_of judged) (answer_of old.kept p options judged) echo now old says new)
     ⊎ (((options : List PppOption) → AreOptions options p.body → 64 < length options) × Rests old says new)
 
 -- a reply that is not ignored was taken
@@ -135,6 +135,7 @@ hears_other true octets s = record {
 abbrev pub Hears : Heard → List ℕ → ℕ → ℕ → List ℕ → LinkState → Said → LinkState → Type 0
 Hears NoFrame octets echo now random old says new = Rests old says new
 Hears NoPacket octets echo now random old says new = Rests old says new
+Hears Long octets echo now random old says new = Rests old says new
 Hears (Lcp p) octets echo now random old says new = HearsKind (kind_of (packet_of p)) (packet_of p) echo now random old says new
 Hears (Other n) octets echo now random old says new =
     (says ≡ (hears_other (is_rejected old n) octets old).said) × (new ≡ (hears_other (is_rejected old n) octets old).link)

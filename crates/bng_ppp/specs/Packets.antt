@@ -2,13 +2,11 @@
 use Rattle.std.specs.Prelude.{◌≡◌, ◌≢◌, ◌⊎◌, ℕ, ◌+◌, ◌≤◌, ◌<◌, ◌-◌, Bool, true, false, ◌&&◌, ◌||◌, ◌==◌, nat_lt, nat_le, min, List, ◌∷◌, ◌++◌, length, take, drop, slice_index, Option, Some, None, unwrap_or, fold, if◌then◌else◌, ⊤}
 use Rattle.byteorder.specs.Endian.{big_number, big_bytes}
 use Rattle.bng_automaton.specs.declared.event.Event.{Event}
-use Rattle.bng_automaton.specs.declared.event.Event.TheVariants.{Close, Rca, Rcn, RcrPlus, RcrMinus, Rtr, Rta, RxjPlus, RxjMinus, Rxr}
+use Rattle.bng_automaton.specs.declared.event.Event.TheVariants.{RcrPlus, RcrMinus, Rtr, Rta, RxjPlus, RxjMinus, Rxr}
 use Rattle.bng_base.specs.PppGrammar.{PppFrame, PppOption, ControlPacket, OptionFits, IsPpp, IsControlPacket, packet_text, options_text}
 use Rattle.std.specs.List.{All}
 use Rattle.bng_base.specs.declared.frame.TheConstants.{LONGEST}
 use Rattle.bng_ppp_wire.specs.declared.view.Opt.{Opt}
-use Rattle.bng_lcp.specs.declared.taken.Taken.{Taken}
-use Rattle.bng_lcp.specs.declared.taken.Taken.TheVariants.{Accepted, Changed, Ignored, Unwilling}
 use Rattle.bng_ppp_wire.specs.View.{packet_of, option_of, options_of}
 use Rattle.bng_ppp_wire.specs.declared.code.TheConstants.{CONFIGURE_REQUEST, CONFIGURE_ACK, CONFIGURE_NAK, CONFIGURE_REJECT, TERMINATE_REQUEST, TERMINATE_ACK, CODE_REJECT, PROTOCOL_REJECT, ECHO_REQUEST, ECHO_REPLY, DISCARD_REQUEST}
 use Rattle.bng_ppp_wire.specs.declared.protocol.TheConstants as protocol
@@ -23,14 +21,15 @@ use Rattle.bng_ppp.specs.declared.kept.Kept.{Kept}
 use Rattle.bng_ppp.specs.declared.kind.Kind.{Kind}
 use Rattle.bng_ppp.specs.declared.kind.Kind.TheVariants.{Request, Reply, Plain, Echo, Mute, EchoReply, Unknown}
 use Rattle.bng_ppp.specs.declared.heard.Heard.{Heard}
-use Rattle.bng_ppp.specs.declared.heard.Heard.TheVariants.{NoFrame, NoPacket, Lcp, Other}
+use Rattle.bng_ppp.specs.declared.heard.Heard.TheVariants.{NoFrame, NoPacket, Long, Lcp, Other}
 use Rattle.bng_ppp.specs.LinkState.{LinkState, more_naks}
 use Rattle.bng_ppp.specs.Causes.{Why, plain}
 
--- What octets are to the link. A packet that no frame of 4,096 octets holds is none.
+-- what octets are to the link
 abbrev pub IsHeard : List ℕ → Heard → Type 0
 IsHeard octets NoFrame = (f : PppFrame) → ¬ (IsPpp f octets)
-IsHeard octets NoPacket = (f : PppFrame) × IsPpp f octets × (f.protocol ≡ protocol.LCP) × ((p : ControlPacket) → IsControlPacket p f.info → BODY_MOST < length p.body)
+IsHeard octets NoPacket = (f : PppFrame) × IsPpp f octets × (f.protocol ≡ protocol.LCP) × ((p : ControlPacket) → ¬ (IsControlPacket p f.info))
+IsHeard octets Long = (f : PppFrame) × (p : ControlPacket) × IsPpp f octets × (f.protocol ≡ protocol.LCP) × IsControlPacket p f.info × (BODY_MOST < length p.body)
 IsHeard octets (Lcp p) = (f : PppFrame) × IsPpp f octets × (f.protocol ≡ protocol.LCP) × IsControlPacket (packet_of p) f.info × (length p.body.now ≤ BODY_MOST)
 IsHeard octets (Other n) = (f : PppFrame) × IsPpp f octets × (f.protocol ≡ n) × (n ≢ protocol.LCP)
 
@@ -115,10 +114,3 @@ abbrev pub IsSpellable : Judged → Type 0
 IsSpellable judged.Ack = ⊤
 IsSpellable (judged.Nak made) = ⊤
 IsSpellable (judged.Reject rejected) = All (λ (o : Opt). OptionFits (option_of o)) rejected.items × (length (options_text (options_of rejected.items)) ≤ LONGEST)
-
--- the event of a reply that is not ignored
-abbrev pub event_of_reply : Taken → Event
-event_of_reply Accepted = Rca
-event_of_reply Changed = Rcn
-event_of_reply Unwilling = Close
-event_of_reply Ignored = Close

@@ -7,8 +7,8 @@ ghost use Rattle.bng_ppp_wire.specs.View.{packet_of};
 ghost use Rattle.bng_ppp.specs.Said.{said};
 ghost use Rattle.bng_ppp.specs.Causes.{answering, plain};
 ghost use Rattle.bng_ppp.specs.Moves.{Moves};
-ghost use Rattle.bng_ppp.specs.Packets.{echo_reply, code_reject, kind_of, event_of_reply};
-ghost use Rattle.bng_ppp.specs.LinkRelation.{HearsFrame, HearsKind, Replies, is_rejected, hears_other, protocol_of as number_of, passes_over};
+ghost use Rattle.bng_ppp.specs.Packets.{echo_reply, code_reject, kind_of};
+ghost use Rattle.bng_ppp.specs.LinkRelation.{HearsFrame, HearsKind, Replies, is_rejected, hears_other, protocol_of as number_of, passes_over, taken};
 
 use crate::cause::Cause;
 use crate::heard::{Heard, frame_at};
@@ -47,7 +47,7 @@ impl Link {
         ensures { HearsFrame octets.now echo now random.now self.old (said result) self.new }
     {
         match frame_at(octets) {
-            Heard::NoFrame | Heard::NoPacket => quiet(),
+            Heard::NoFrame | Heard::NoPacket | Heard::Long => quiet(),
             Heard::Lcp(packet) => self.take(&packet, echo, now, random),
             Heard::Other(number) => self.pass(number, octets),
         }
@@ -78,12 +78,21 @@ impl Link {
         requires { now < 2 ^ 60 }
         ensures { Replies (packet_of packet.now) echo now random.now self.old (said result) self.new }
     {
-        let taken = self.ask.on_reply(packet, random);
-        if taken == Taken::Ignored {
-            return quiet();
+        match self.ask.on_reply(packet, random) {
+            Taken::Accepted => self.took(Event::Rca, packet.id, echo, now),
+            Taken::Changed => self.took(Event::Rcn, packet.id, echo, now),
+            Taken::Unwilling => self.took(Event::Close, packet.id, echo, now),
+            Taken::Ignored => quiet(),
         }
+    }
+
+    // The event of a reply that is not ignored.
+    fn took(&mut self, event: Event, id: u8, echo: u16, now: u64) -> Steps
+        requires { now < 2 ^ 60 }
+        ensures { Moves event (plain self.old.kept id) echo now (taken self.old self.old.ask) (said result) self.new }
+    {
         self.kept.answered = true;
-        self.plainly(event_after(taken), packet.id, echo, now)
+        self.plainly(event, id, echo, now)
     }
 
     // Answers an Echo-Request.
@@ -101,7 +110,7 @@ impl Link {
             id: packet.id,
             body: cut(body.payload(), body_most(self.kept.mru)),
         };
-        self.reply_by(Event::Rxr, packet.id, answer, echo, now)
+        self.reply_by(Event::Rxr, packet.id, &answer, echo, now)
     }
 
     // Rejects a packet of an unknown code.
@@ -117,18 +126,18 @@ impl Link {
             id: self.kept.next_id,
             body: cut(body.payload(), body_most(self.kept.mru)),
         };
-        self.reply_by(Event::Ruc, packet.id, answer, echo, now)
+        self.reply_by(Event::Ruc, packet.id, &answer, echo, now)
     }
 
     // An event whose actions answer a packet by another one.
-    fn reply_by(&mut self, event: Event, id: u8, answer: Packet<'_>, echo: u16, now: u64) -> Steps
+    fn reply_by(&mut self, event: Event, id: u8, answer: &Packet<'_>, echo: u16, now: u64) -> Steps
         requires { now < 2 ^ 60 }
-        ensures { Moves event (answering self.old.kept id (packet_of answer)) echo now self.old (said result) self.new }
+        ensures { Moves event (answering self.old.kept id (packet_of answer.now)) echo now self.old (said result) self.new }
     {
         let cause = Cause {
             timed: false,
             id,
-            answer: Some(answer),
+            answer: Some(*answer),
             mru: self.kept.mru,
             naks: self.kept.naks,
         };
@@ -162,16 +171,5 @@ impl Link {
             State::Opened => !is_known(number, auth),
             _ => false,
         }
-    }
-}
-
-// The event of a reply that is not ignored.
-fn event_after(taken: Taken) -> Event
-    ensures { result ≡ event_of_reply taken }
-{
-    match taken {
-        Taken::Accepted => Event::Rca,
-        Taken::Changed => Event::Rcn,
-        Taken::Unwilling | Taken::Ignored => Event::Close,
     }
 }

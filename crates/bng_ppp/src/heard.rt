@@ -8,8 +8,10 @@ use bng_ppp_wire::{Packet, Ppp, protocol};
 pub(crate) enum Heard<'a> {
     /// They are no frame.
     NoFrame,
-    /// They are a frame of LCP that holds no packet, or one that no frame of 4,096 octets holds.
+    /// They are a frame of LCP that holds no packet.
     NoPacket,
+    /// A packet of LCP that no frame of 4,096 octets holds.
+    Long,
     /// A packet of LCP.
     Lcp(Packet<'a>),
     /// A frame of another protocol.
@@ -26,8 +28,11 @@ pub(crate) fn frame_at(octets: &[u8]) -> Heard<'_>
     if frame.protocol != protocol::LCP {
         return Heard::Other(frame.protocol);
     }
-    match Packet::read(frame.info) {
-        Ok(packet) if packet.body.len() <= BODY_MOST => Heard::Lcp(packet),
-        _ => Heard::NoPacket,
+    let Ok(packet) = Packet::read(frame.info) else {
+        return Heard::NoPacket;
+    };
+    if packet.body.len() > BODY_MOST {
+        return Heard::Long;
     }
+    Heard::Lcp(packet)
 }

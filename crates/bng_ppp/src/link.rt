@@ -114,7 +114,7 @@ impl Link {
     ) -> Steps
         requires moment { now < 2 ^ 60 }
         requires auth { 0 < length rules.now.auth.items }
-        ensures { LinkSteps rules.now input now random.now self.old (said result) self.new }
+        ensures { LinkSteps rules.now input.entry now random.now self.old (said result) self.new }
     {
         match input {
             Input::Start => self.start(rules.auth.as_slice(), rules.echo, now, random),
@@ -144,7 +144,7 @@ impl Link {
     pub fn deadline(&self) -> Option<u64>
         ensures answer { result ≡ first_of (option_map (λ t. t + 3000) self.now.lcp.started) self.now.kept.next_echo }
         ensures first { IfSome result (λ end. (moment : ℕ) → (end ≤ moment) ↔ (TimerIsOut self.now.lcp moment ⊎ EchoIsDue self.now moment)) }
-        ensures none { IsNone result ↔ ((moment : ℕ) → ¬ (TimerIsOut self.now.lcp moment ⊎ EchoIsDue self.now moment)) }
+        ensures none { IsNone result ↔ (IsNone self.now.lcp.started × IsNone self.now.kept.next_echo) }
     {
         earliest(self.lcp.deadline(), self.kept.next_echo)
     }
@@ -191,14 +191,7 @@ impl Link {
     }
 
     // One event and its actions, after what the step did before.
-    fn follow(
-        &mut self,
-        event: Event,
-        cause: &Cause<'_>,
-        echo: u16,
-        now: u64,
-        steps: &mut Steps,
-    )
+    fn follow(&mut self, event: Event, cause: &Cause<'_>, echo: u16, now: u64, steps: &mut Steps)
         requires { now < 2 ^ 60 }
         ensures { Follows event (why cause.now) echo now (record { link = self.old; said = said steps.old }) (record { link = self.new; said = said steps.new }) }
     {

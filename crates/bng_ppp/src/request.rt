@@ -12,6 +12,7 @@ ghost use Rattle.bng_ppp.specs.LinkRelation.{Judges};
 use crate::cause::Cause;
 use crate::kept::{NAKS_MOST, more_naks};
 use crate::link::Link;
+use crate::send::BODY_MOST;
 use crate::step::{Steps, quiet};
 use bng_automaton::Event;
 use bng_base::Frame;
@@ -111,7 +112,8 @@ impl Link {
         now: u64,
         random: &[u8; 16],
     ) -> Steps
-        requires { now < 2 ^ 60 }
+        requires moment { now < 2 ^ 60 }
+        requires body { length packet.now.body.now ≤ BODY_MOST }
         ensures { Judges (packet_of packet.now) echo now random.now self.old (said result) self.new }
     {
         let Ok(found) = options(packet) else {
