@@ -16,4 +16,4 @@ changed p echo now random old ask says new takes moves = record { answer = Chang
 
 pub ignored : (p : ControlPacket) (echo now : ℕ) (random : List ℕ) (old : LinkState) (ask : Ask) (says : Said) (new : LinkState) → Takes Ignored old.ask p random ask → says ≡ quiet → new ≡ record old { ask = ask } → Replies p echo now random old says new
 ignored p echo now random old ask says new takes silent kept =
-    record { answer = Ignored; ask = ask; takes = takes; after = (silent, kept ∙ ap (λ (a : Ask). record old { ask = a }) takes.1.1.1) }
+    record { answer = Ignored; ask = ask; takes = takes; after = (silent, kept ∙ ap (λ (a : Ask). record old { ask = a }) takes.3) }

@@ -4,4 +4,4 @@ use Rattle.bng_ppp.proofs.RejectLaws.{spellable}
 use Rattle.bng_ppp.proofs.link.Link.judge.Goals as goal
 
 pub answer-requires-clause-fits : goal.answer-requires-clause-fits
-answer-requires-clause-fits c = spellable c.rules.result (options_of c.in-Ok.found.items) c.args.packet.now.body.now c.judge-judged.result (search rules) (search rules) (search rules)
+answer-requires-clause-fits c = spellable c.rules-rules.result (options_of c.in-Ok.found.items) c.args.packet.now.body.now c.judge-judged.result (search rules) (search rules) (search rules)
