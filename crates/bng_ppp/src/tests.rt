@@ -19,7 +19,9 @@ const GOOD: [u8; 16] = [
     0xc0, 0x21, 1, 2, 0, 0x0e, 1, 4, 5, 0xd4, 5, 6, 0x11, 0x22, 0x33, 0x44,
 ];
 
-fn rules(echo: u16) -> LinkRules {
+fn rules(echo: u16) -> LinkRules
+    ensures { 0 < length result.auth.items }
+{
     LinkRules {
         name: ArrayVec::new(),
         address: Ip4(0x0a000001),
