@@ -1,8 +1,7 @@
 -- A Configure-Reject lists options of the request, so it is no longer than the request, and each of its options can be written.
-use Rattle.std.proofs.Common.{◌≡◌, ◌≤◌, ◌+◌, ◌<◌, ℕ, zero, suc, Bool, true, false, List, [], ◌∷◌, ◌++◌, length, cond, filter, sym, ap, subst, arith, length-append}
+use Rattle.std.proofs.Common.{◌≡◌, ◌≤◌, ℕ, zero, suc, Bool, true, false, List, [], ◌∷◌, length, cond, filter, sym, ap, subst, arith, length-append}
 use Rattle.std.specs.List.{All, AllByRecursion}
 use Rattle.bng_base.specs.PppGrammar.{PppOption, OptionFits, AreOptions, option_text, options_text}
-use Rattle.bng_base.specs.declared.frame.TheConstants.{LONGEST}
 use Rattle.bng_ppp_wire.specs.declared.view.Opt.{Opt}
 use Rattle.bng_ppp_wire.specs.View.{option_of, options_of}
 use Rattle.bng_lcp.specs.declared.judgement.LcpRules.{LcpRules}

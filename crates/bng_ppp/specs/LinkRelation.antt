@@ -1,9 +1,8 @@
 -- What a step of a link is, by RFC 1661 sections 4 to 6: a case for each input, and for a frame one for each packet.
-use Rattle.std.specs.Prelude.{◌≡◌, ◌⊎◌, ℕ, ◌+◌, ◌≤◌, ◌<◌, Bool, true, false, ◌&&◌, ◌||◌, ◌==◌, not, nat_le, List, [], ◌∷◌, ◌++◌, length, Option, Some, None, IsSomeAnd, IsTrue, IsFalse, if◌then◌else◌, min}
+use Rattle.std.specs.Prelude.{◌≡◌, ◌⊎◌, ℕ, ◌+◌, ◌≤◌, ◌<◌, Bool, true, false, ◌&&◌, ◌||◌, ◌==◌, not, List, [], length, Option, Some, None, IsSomeAnd, min}
 use Rattle.byteorder.specs.Endian.{big_bytes}
 use Rattle.bng_automaton.specs.declared.state.State.{State}
 use Rattle.bng_automaton.specs.declared.state.State.TheVariants.{Initial, Starting, Closed, Stopped, Closing, Stopping, ReqSent, AckRcvd, AckSent, Opened}
-use Rattle.bng_automaton.specs.declared.event.Event.{Event}
 use Rattle.bng_automaton.specs.declared.event.Event.TheVariants.{Up, Open, Close, ToPlus, ToMinus, Rca, Rcn, Ruc, Rxr}
 use Rattle.bng_automaton.specs.Timer.{TimerIsOut}
 use Rattle.bng_base.specs.PppGrammar.{ControlPacket, PppOption, AreOptions}
@@ -20,7 +19,6 @@ use Rattle.bng_lcp.specs.Reply.{Takes}
 use Rattle.bng_lcp.specs.Ask.{Ask}
 use Rattle.bng_ppp.specs.declared.protocol.TheConstants as other
 use Rattle.bng_ppp.specs.declared.kept.TheConstants.{ECHOES_UNANSWERED_MOST}
-use Rattle.bng_ppp.specs.declared.kept.Kept.{Kept}
 use Rattle.bng_ppp.specs.declared.kind.Kind.{Kind}
 use Rattle.bng_ppp.specs.declared.kind.Kind.TheVariants.{Request, Reply, Plain, Echo, Mute, EchoReply, Unknown}
 use Rattle.bng_ppp.specs.declared.heard.Heard.{Heard}

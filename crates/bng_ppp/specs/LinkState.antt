@@ -1,5 +1,5 @@
 -- What a contract sees of a link, and how its counters go on.
-use Rattle.std.specs.Prelude.{◌≡◌, ℕ, ◌+◌, ◌*◌, ◌%◌, Bool, true, false, nat_lt, ◌==◌, if◌then◌else◌, Option, Some, None, List, [], ◌∷◌, slice_get}
+use Rattle.std.specs.Prelude.{◌≡◌, ℕ, ◌+◌, ◌*◌, ◌%◌, true, false, nat_lt, ◌==◌, if◌then◌else◌, Option, Some, None, List, [], ◌∷◌, slice_get}
 use Rattle.bng_automaton.specs.declared.state.State.TheVariants.{Initial}
 use Rattle.bng_automaton.specs.Machine.{Machine}
 use Rattle.bng_base.specs.declared.settings.AuthKind.{AuthKind}

@@ -1,5 +1,5 @@
 -- What a frame is to the link, by RFC 1661 sections 2, 5 and 6.
-use Rattle.std.specs.Prelude.{◌≡◌, ◌≢◌, ◌⊎◌, ℕ, ◌+◌, ◌≤◌, ◌<◌, ◌-◌, Bool, true, false, ◌&&◌, ◌||◌, ◌==◌, nat_lt, nat_le, min, List, ◌∷◌, ◌++◌, length, take, drop, slice_index, Option, Some, None, unwrap_or, fold, if◌then◌else◌, ⊤}
+use Rattle.std.specs.Prelude.{◌≡◌, ◌≢◌, ℕ, ◌≤◌, ◌<◌, ◌-◌, Bool, false, ◌&&◌, ◌||◌, ◌==◌, nat_lt, nat_le, List, ◌++◌, length, take, drop, slice_index, Some, unwrap_or, fold, if◌then◌else◌, ⊤}
 use Rattle.byteorder.specs.Endian.{big_number, big_bytes}
 use Rattle.bng_automaton.specs.declared.event.Event.{Event}
 use Rattle.bng_automaton.specs.declared.event.Event.TheVariants.{RcrPlus, RcrMinus, Rtr, Rta, RxjPlus, RxjMinus, Rxr}
@@ -23,7 +23,7 @@ use Rattle.bng_ppp.specs.declared.kind.Kind.TheVariants.{Request, Reply, Plain, 
 use Rattle.bng_ppp.specs.declared.heard.Heard.{Heard}
 use Rattle.bng_ppp.specs.declared.heard.Heard.TheVariants.{NoFrame, NoPacket, Long, Lcp, Other}
 use Rattle.bng_ppp.specs.LinkState.{LinkState, more_naks}
-use Rattle.bng_ppp.specs.Causes.{Why, plain}
+use Rattle.bng_ppp.specs.Causes.{Why}
 
 -- what octets are to the link
 abbrev pub IsHeard : List ℕ → Heard → Type 0

@@ -1,4 +1,4 @@
-use Rattle.std.proofs.Common.{rules, refl, subst}
+use Rattle.std.proofs.Common.{refl, subst}
 use Rattle.bng_ppp_wire.specs.View.{packet_of}
 use Rattle.bng_ppp.specs.LinkState.{LinkState}
 use Rattle.bng_ppp.specs.Said.{said}
