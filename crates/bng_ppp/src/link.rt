@@ -104,7 +104,13 @@ impl Link {
         }
     }
 
-    /// Takes an input at a moment in milliseconds, below 2^60, and answers what is to be sent.
+    /// Takes an input at a moment in milliseconds, below 2^60, and answers what is to be sent (RFC 1661 sections 4 to 6).
+    /// The rules are equal at each step of a link. `random` are octets of which magic numbers are made.
+    ///
+    /// Octets that are no frame, packets that are malformed, an Echo-Request without a magic number, a Configure-Request
+    /// of more than 64 options and a reply to another request than the last are ignored. While LCP is Opened a frame of
+    /// another protocol is rejected, but for IPCP, IPv4 and the protocol by which the peer authenticates itself. Where
+    /// three Echo-Requests in a row are unanswered as the next is due, the link is lost.
     pub fn step(
         &mut self,
         rules: &LinkRules,
