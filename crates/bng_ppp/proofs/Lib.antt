@@ -1,0 +1,2 @@
+pub mod RejectLaws
+pub mod ReplyLaws

@@ -1,0 +1,20 @@
+use Rattle.std.proofs.Common.{refl, subst}
+use Rattle.bng_ppp_wire.specs.View.{packet_of}
+use Rattle.bng_ppp.specs.LinkState.{LinkState}
+use Rattle.bng_ppp.specs.Said.{said}
+use Rattle.bng_ppp.specs.LinkRelation.{Replies}
+use Rattle.bng_ppp.proofs.ReplyLaws.{changed, ignored}
+use Rattle.bng_ppp.proofs.link.Link.reply.Goals as goal
+
+pub returns-in-Changed : goal.returns-in-Changed
+returns-in-Changed c =
+    let old : LinkState = record { lcp = c.self.inside.lcp; ask = c.self.inside.ask; kept = c.self.inside.kept } in
+    let P : LinkState → Type 0 = λ m. Replies (packet_of c.args.packet.now) c.args.echo c.args.now c.args.random.now m (said c.took-in-Changed.result) c.took-in-Changed.new.self in
+    subst P c.self.view_is (changed (packet_of c.args.packet.now) c.args.echo c.args.now c.args.random.now old c.on_reply.new.self _ _ c.in-Changed.ensures c.took-in-Changed.ensures)
+
+pub returns-in-Ignored : goal.returns-in-Ignored
+returns-in-Ignored c =
+    let old : LinkState = record { lcp = c.self.inside.lcp; ask = c.self.inside.ask; kept = c.self.inside.kept } in
+    let new : LinkState = record old { ask = c.on_reply.new.self } in
+    let P : LinkState → Type 0 = λ m. Replies (packet_of c.args.packet.now) c.args.echo c.args.now c.args.random.now m (said c.quiet.result) new in
+    subst P c.self.view_is (ignored (packet_of c.args.packet.now) c.args.echo c.args.now c.args.random.now old c.on_reply.new.self _ new c.in-Ignored.ensures c.quiet.ensures refl)

@@ -1,0 +1,71 @@
+-- What a contract sees of a link, and how its counters go on.
+use Rattle.std.specs.Prelude.{◌≡◌, ℕ, ◌+◌, ◌*◌, ◌%◌, true, false, nat_lt, ◌==◌, if◌then◌else◌, Option, Some, None, List, [], ◌∷◌, slice_get}
+use Rattle.bng_automaton.specs.declared.state.State.TheVariants.{Initial}
+use Rattle.bng_automaton.specs.Machine.{Machine}
+use Rattle.bng_base.specs.declared.settings.AuthKind.{AuthKind}
+use Rattle.bng_lcp.specs.Ask.{Ask}
+use Rattle.bng_lcp.specs.Judgement.{magic_from}
+use Rattle.bng_ppp.specs.declared.kept.TheConstants.{NAKS_MOST}
+use Rattle.bng_ppp.specs.declared.kept.Kept.{Kept}
+use Rattle.bng_ppp.specs.declared.rules.LinkKind.{LinkKind}
+use Rattle.bng_ppp.specs.declared.rules.LinkKind.TheVariants.{Pppoe, L2tp}
+use Rattle.byteorder.specs.Endian.{big_number}
+
+pub record LinkState : Type 0 where
+  -- the automaton of LCP, by RFC 1661 section 4
+  pub lcp : Machine
+  -- the gateway's own side of LCP, by RFC 1661 section 5
+  pub ask : Ask
+  pub kept : Kept
+
+-- The largest Maximum-Receive-Unit that a link asks for and takes: RFC 2516 section 7 and RFC 1661 section 6.1.
+abbrev pub limit_of : LinkKind → ℕ
+limit_of Pppoe = 1492
+limit_of L2tp = 1500
+
+-- identifiers rise by one, modulo 256
+abbrev pub next_of : ℕ → ℕ
+next_of id = (id + 1) % 256
+
+-- the moment of the next Echo-Request, where they go out every so many seconds
+abbrev pub echo_after : ℕ → ℕ → Option ℕ
+echo_after echo now = if echo == 0 then None else Some (now + 1000 * echo)
+
+-- one Configure-Nak more without a Configure-Ack between
+abbrev pub more_naks : ℕ → ℕ
+more_naks naks = if nat_lt naks NAKS_MOST then naks + 1 else naks
+
+-- the automaton of a link that was told nothing: Max-Configure 10, Max-Terminate 2 and Max-Failure 5
+abbrev pub unused : Machine
+unused = record { state = Initial; counter = 0; started = None; max_configure = 10; max_terminate = 2; max_failure = NAKS_MOST }
+
+-- what such a link keeps
+abbrev pub kept_first : ℕ → Kept
+kept_first limit = record {
+  limit = limit;
+  next_id = 1;
+  request_id = 0;
+  terminate_id = 0;
+  answered = true;
+  mru = limit;
+  naks = 0;
+  was_opened = false;
+  unanswered = 0;
+  next_echo = None;
+}
+
+-- the ways to authenticate, of which one alone is kept twice
+abbrev pub ways : List AuthKind → List AuthKind
+ways [] = []
+ways (a ∷ []) = a ∷ a ∷ []
+ways (a ∷ b ∷ rest) = a ∷ b ∷ []
+
+-- The gateway's side of LCP that has asked for nothing yet. It asks for the limit, for the first of the ways to authenticate
+-- and for a magic number made of the first four random octets.
+pub record IsFirstAsk (limit : ℕ) (auth : List AuthKind) (random : List ℕ) (ask : Ask) : Type 0 where
+  pub limited : ask.limit ≡ limit
+  pub allowed : ask.allowed ≡ ways auth
+  pub mru : ask.wanted.mru ≡ Some limit
+  pub first : slice_get auth 0 ≡ Some ask.wanted.auth
+  pub magic : ask.wanted.magic ≡ Some (magic_from (big_number 4 random))
+  pub unsent : ask.sent ≡ None

@@ -1,0 +1,29 @@
+//! One PPP link as far as LCP goes, by RFC 1661: it has no clock, no socket and takes no memory.
+//!
+//! [`Link::step`] takes an input and a moment in milliseconds and answers the frames that are to be sent. It joins the
+//! automaton of RFC 1661 section 4 to the options of LCP (section 6), and keeps what no packet has: identifiers, the
+//! peer's Maximum-Receive-Unit, the Configure-Naks in a row and the unanswered Echo-Requests. Its contract is a relation
+//! between the link before, the input, what is sent and the link after. Authentication and IPCP are not here: while LCP
+//! is Opened their frames are passed over.
+#![tactic(auto)]
+
+mod act;
+mod cause;
+mod hear;
+mod heard;
+mod kept;
+mod kind;
+mod link;
+mod protocol;
+mod remind;
+mod request;
+mod rules;
+mod send;
+mod step;
+#[cfg(test)]
+mod tests;
+
+pub use crate::kept::{ECHOES_UNANSWERED_MOST, Kept, NAKS_MOST};
+pub use crate::link::Link;
+pub use crate::rules::{Input, LinkKind, LinkRules};
+pub use crate::step::Steps;

@@ -1,0 +1,226 @@
+ghost use Rattle.std.specs.Prelude.{◌≡◌, ◌<◌, ◌≤◌, ◌^◌, ◌↔◌, ◌⊎◌, ℕ, IfSome, IsTrue, IsNone, length, option_map, ◌+◌, ◌∷◌, []};
+ghost use Rattle.bng_automaton.specs.Timer.{TimerIsOut};
+ghost use Rattle.bng_ppp.specs.Said.{said};
+ghost use Rattle.bng_ppp.specs.LinkState.{IsFirstAsk};
+ghost use Rattle.bng_ppp.specs.Causes.{why, plain};
+ghost use Rattle.bng_ppp.specs.Moves.{Follows, Moves};
+ghost use Rattle.bng_ppp.specs.LinkRelation.{LinkSteps, Starts, Asks, is_down as down_in, EchoIsDue, earliest as first_of};
+
+use crate::cause::Cause;
+use crate::kept::{Kept, NAKS_MOST};
+use crate::rules::{Input, LinkKind, LinkRules, limit};
+use crate::step::{Steps, quiet};
+use arrayvec::ArrayVec;
+use bng_automaton::{Automaton, Event, State};
+use bng_base::AuthKind;
+use bng_lcp::LcpAsk;
+use std::marker::Model;
+
+/// How often a Configure-Request and a Terminate-Request go out without an answer (RFC 1661 section 4.6).
+const MAX_CONFIGURE: u8 = 10;
+
+const MAX_TERMINATE: u8 = 2;
+
+/// One PPP link, as far as LCP goes (RFC 1661).
+///
+/// A contract sees LCP's automaton, the gateway's own side of LCP, and what the link keeps beside them.
+#[derive(Debug, Drop)]
+pub struct Link {
+    pub(crate) lcp: Automaton,
+    pub(crate) ask: LcpAsk,
+    pub(crate) kept: Kept,
+}
+
+impl Model for Link {
+    ghost use Rattle.bng_ppp.specs.LinkState.{LinkState};
+
+    ghost Value = { LinkState };
+
+    ghost view = { λ l. record { lcp = l.lcp; ask = l.ask; kept = l.kept } };
+}
+
+// The gateway's own side of LCP, which has asked for nothing yet.
+fn first_ask(limit: u16, auth: &[AuthKind], random: &[u8; 16]) -> LcpAsk
+    requires some { 0 < length auth.now }
+    requires few { length auth.now ≤ 2 }
+    ensures { IsFirstAsk limit auth.now random.now result }
+{
+    let auth = match auth {
+        [first, second] => [*first, *second],
+        [first, ..] => [*first, *first],
+        [] => unreachable!(),
+    };
+    let magic = u32::from_be_bytes([random[0], random[1], random[2], random[3]]);
+    LcpAsk::new(limit, magic, ArrayVec::from(auth))
+}
+
+// Whether the lower layer is down.
+fn is_down(state: State) -> bool
+    ensures { result ≡ down_in state }
+{
+    match state {
+        State::Initial | State::Starting => true,
+        State::Closed | State::Stopped | State::Closing | State::Stopping => false,
+        State::ReqSent | State::AckRcvd | State::AckSent | State::Opened => false,
+    }
+}
+
+// The earlier of two moments.
+fn earliest(a: Option<u64>, b: Option<u64>) -> Option<u64>
+    ensures { result ≡ first_of a b }
+{
+    match (a, b) {
+        (Some(a), Some(b)) => Some(a.min(b)),
+        (Some(a), None) => Some(a),
+        (None, b) => b,
+    }
+}
+
+impl Link {
+    ghost use Rattle.bng_ppp.specs.LinkState.{unused, kept_first, limit_of};
+
+    /// A link that was told nothing. `random` are octets of which its magic number is made; Start makes it anew.
+    pub fn new(kind: LinkKind, random: &[u8; 16], _now: u64) -> Link
+        ensures lcp { result.lcp ≡ unused }
+        ensures ask { IsFirstAsk (limit_of kind) (AuthKind.Chap ∷ []) random.now result.ask }
+        ensures kept { result.kept ≡ kept_first (limit_of kind) }
+    {
+        let limit = limit(kind);
+        Link {
+            lcp: Automaton::new(MAX_CONFIGURE, MAX_TERMINATE, NAKS_MOST),
+            ask: first_ask(limit, &[AuthKind::Chap], random),
+            kept: Kept {
+                limit,
+                next_id: 1,
+                request_id: 0,
+                terminate_id: 0,
+                answered: true,
+                mru: limit,
+                naks: 0,
+                was_opened: false,
+                unanswered: 0,
+                next_echo: None,
+            },
+        }
+    }
+
+    /// Takes an input at a moment in milliseconds, below 2^60, and answers what is to be sent (RFC 1661 sections 4 to 6).
+    /// The rules are equal at each step of a link. `random` are octets of which magic numbers are made.
+    ///
+    /// Octets that are no frame, packets that are malformed, an Echo-Request without a magic number, a Configure-Request
+    /// of more than 64 options and a reply to another request than the last are ignored. While LCP is Opened a frame of
+    /// another protocol is rejected, but for IPCP, IPv4 and the protocol by which the peer authenticates itself. Where
+    /// three Echo-Requests in a row are unanswered as the next is due, the link is lost.
+    pub fn step(
+        &mut self,
+        rules: &LinkRules,
+        input: Input<'_>,
+        now: u64,
+        random: &[u8; 16],
+    ) -> Steps
+        requires moment { now < 2 ^ 60 }
+        requires auth { 0 < length rules.now.auth.items }
+        ensures { LinkSteps rules.now input.entry now random.now self.old (said result) self.new }
+    {
+        match input {
+            Input::Start => self.start(rules.auth.as_slice(), rules.echo, now, random),
+            Input::Frame(octets) => self.hear(octets, rules.echo, now, random),
+            Input::Timer => self.remind(rules.echo, now),
+            Input::Close => self.plainly(Event::Close, 0, rules.echo, now),
+            Input::Lost => self.lose(rules.echo, now),
+        }
+    }
+
+    /// Whether LCP was ever Opened.
+    pub fn was_opened(&self) -> bool
+        ensures { result ≡ self.now.kept.was_opened }
+    {
+        self.kept.was_opened
+    }
+
+    /// The peer's Maximum-Receive-Unit, in octets: that of its last Configure-Request that was acknowledged, and the
+    /// limit where that has none or where there was none.
+    pub fn mru(&self) -> u16
+        ensures { result ≡ self.now.kept.mru }
+    {
+        self.kept.mru
+    }
+
+    /// The first moment, in milliseconds, at which Timer does something; none exactly where no timer runs.
+    pub fn deadline(&self) -> Option<u64>
+        ensures answer { result ≡ first_of (option_map (λ t. t + 3000) self.now.lcp.started) self.now.kept.next_echo }
+        ensures first { IfSome result (λ end. (moment : ℕ) → (end ≤ moment) ↔ (TimerIsOut self.now.lcp moment ⊎ EchoIsDue self.now moment)) }
+        ensures none { IsNone result ↔ (IsNone self.now.lcp.started × IsNone self.now.kept.next_echo) }
+    {
+        earliest(self.lcp.deadline(), self.kept.next_echo)
+    }
+
+    // Open, and then Up.
+    fn start(&mut self, auth: &[AuthKind], echo: u16, now: u64, random: &[u8; 16]) -> Steps
+        requires moment { now < 2 ^ 60 }
+        requires some { 0 < length auth.now }
+        requires few { length auth.now ≤ 2 }
+        ensures { Starts auth.now random.now echo now self.old (said result) self.new }
+    {
+        self.begin(auth, random);
+        let mut steps = quiet();
+        let open = self.plain_cause(0);
+        self.follow(Event::Open, &open, echo, now, &mut steps);
+        let up = self.plain_cause(0);
+        self.follow(Event::Up, &up, echo, now, &mut steps);
+        steps
+    }
+
+    // The gateway's own side begins anew where the lower layer is down.
+    fn begin(&mut self, auth: &[AuthKind], random: &[u8; 16])
+        requires some { 0 < length auth.now }
+        requires few { length auth.now ≤ 2 }
+        ensures asks { Asks (down_in self.old.lcp.state) auth.now random.now self.old self.new.ask }
+        ensures rest { self.new ≡ record self.old { ask = self.new.ask } }
+    {
+        if is_down(self.lcp.state()) {
+            self.ask = first_ask(self.kept.limit, auth, random);
+        }
+    }
+
+    // What an event without an answer causes.
+    fn plain_cause(&self, id: u8) -> Cause<'static>
+        ensures { why result ≡ plain self.now.kept id }
+    {
+        Cause {
+            timed: false,
+            id,
+            answer: None,
+            mru: self.kept.mru,
+            naks: self.kept.naks,
+        }
+    }
+
+    // One event and its actions, after what the step did before.
+    fn follow(&mut self, event: Event, cause: &Cause<'_>, echo: u16, now: u64, steps: &mut Steps)
+        requires { now < 2 ^ 60 }
+        ensures { Follows event (why cause.now) echo now (record { link = self.old; said = said steps.old }) (record { link = self.new; said = said steps.new }) }
+    {
+        let actions = self.lcp.step(event, now);
+        self.perform(actions.as_slice(), cause, echo, now, steps);
+    }
+
+    // An event whose actions answer a packet at most by a Terminate-Ack.
+    pub(crate) fn plainly(&mut self, event: Event, id: u8, echo: u16, now: u64) -> Steps
+        requires { now < 2 ^ 60 }
+        ensures { Moves event (plain self.old.kept id) echo now self.old (said result) self.new }
+    {
+        let cause = self.plain_cause(id);
+        self.react(event, &cause, echo, now)
+    }
+
+    // An event alone.
+    pub(crate) fn react(&mut self, event: Event, cause: &Cause<'_>, echo: u16, now: u64) -> Steps
+        requires { now < 2 ^ 60 }
+        ensures { Moves event (why cause.now) echo now self.old (said result) self.new }
+    {
+        let mut steps = quiet();
+        self.follow(event, cause, echo, now, &mut steps);
+        steps
+    }
+}

@@ -1,0 +1,166 @@
+//! A Configure-Request of the peer.
+ghost use Rattle.std.specs.Prelude.{◌≡◌, ◌≤◌, ◌<◌, ◌^◌, length, All, Some, false};
+ghost use Rattle.bng_base.specs.PppGrammar.{OptionFits, options_text};
+ghost use Rattle.bng_ppp_wire.specs.View.{option_of, options_of, packet_of};
+ghost use Rattle.bng_lcp.specs.Made.{all_made_of};
+ghost use Rattle.bng_ppp.specs.Said.{said};
+ghost use Rattle.bng_ppp.specs.Moves.{Moves};
+ghost use Rattle.bng_ppp.specs.Packets.{rules_of, own_magic as own_magic_of, mru_with, mru_of as mru_listed, event_of, answer_of, IsSpellable};
+ghost use Rattle.bng_ppp.specs.Causes.{why};
+ghost use Rattle.bng_ppp.specs.LinkRelation.{Judges};
+
+use crate::cause::Cause;
+use crate::kept::{NAKS_MOST, more_naks};
+use crate::link::Link;
+use crate::send::BODY_MOST;
+use crate::step::{Steps, quiet};
+use bng_automaton::Event;
+use bng_base::Frame;
+use bng_lcp::option::MAXIMUM_RECEIVE_UNIT;
+use bng_lcp::{Judged, LcpRules, MadeOpt, judge};
+use bng_ppp_wire::code::{CONFIGURE_ACK, CONFIGURE_NAK, CONFIGURE_REJECT};
+use bng_ppp_wire::{Opt, Packet, options, write_options};
+
+// The Maximum-Receive-Unit after one option more.
+fn mru_after(mru: u16, option: &Opt<'_>) -> u16
+    ensures { result ≡ mru_with mru (option_of option.now) }
+{
+    match (option.kind, option.value) {
+        (MAXIMUM_RECEIVE_UNIT, [high, low]) => u16::from_be_bytes([*high, *low]),
+        _ => mru,
+    }
+}
+
+// The Maximum-Receive-Unit that a request lists, else the limit.
+fn mru_of(limit: u16, options: &[Opt<'_>]) -> u16
+    ensures { result ≡ mru_listed limit (options_of options.now) }
+{
+    let mut mru = limit;
+    for option in options {
+        mru = mru_after(mru, option);
+    }
+    mru
+}
+
+// Writes the options of a Configure-Nak after what the frame has.
+fn put_made(made: &[MadeOpt], into: &mut Frame)
+    requires many { length made.now ≤ 65 }
+    requires empty { length into.old.payload ≡ 0 }
+    requires headroom { into.old.headroom ≡ 64 }
+    ensures { into.new.payload ≡ options_text (all_made_of made.now) }
+{
+    for option in made {
+        let value = option.value.as_slice();
+        into.put_back(&[option.kind, (2 + value.len()) as u8]);
+        into.put_back(value);
+    }
+}
+
+// The options of a Configure-Reject, as the body of a packet has them.
+fn listed(options: &[Opt<'_>]) -> Frame
+    requires fit { All (λ o. OptionFits (option_of o)) options.now }
+    requires short { length (options_text (options_of options.now)) ≤ 4096 }
+    ensures { result.payload ≡ options_text (options_of options.now) }
+{
+    let mut body = Frame::new();
+    let _done = write_options(options, &mut body);
+    body
+}
+
+// A cause that answers a Configure-Request by a packet with this code and body.
+fn answering<'a>(packet: &Packet<'_>, code: u8, body: &'a [u8], mru: u16, naks: u8) -> Cause<'a>
+    ensures { why result ≡ record { timed = false; id = packet.now.id; answer = Some (record { code = code; id = packet.now.id; body = body.now }); mru = mru; naks = naks } }
+{
+    Cause {
+        timed: false,
+        id: packet.id,
+        answer: Some(Packet {
+            code,
+            id: packet.id,
+            body,
+        }),
+        mru,
+        naks,
+    }
+}
+
+impl Link {
+    // The gateway's magic number, 0 where the peer rejected it.
+    pub(crate) fn own_magic(&self) -> u32
+        ensures { result ≡ own_magic_of self.now }
+    {
+        self.ask.wanted().magic.unwrap_or(0)
+    }
+
+    // By what a Configure-Request is judged.
+    fn rules(&self, random: &[u8; 16]) -> LcpRules
+        ensures { result ≡ rules_of self.now random.now }
+    {
+        LcpRules {
+            limit: self.kept.limit,
+            own_magic: self.own_magic(),
+            fresh_magic: u32::from_be_bytes([random[0], random[1], random[2], random[3]]),
+            no_more_naks: NAKS_MOST <= self.kept.naks,
+        }
+    }
+
+    // Judges a Configure-Request, and answers it.
+    pub(crate) fn judge(
+        &mut self,
+        packet: &Packet<'_>,
+        echo: u16,
+        now: u64,
+        random: &[u8; 16],
+    ) -> Steps
+        requires moment { now < 2 ^ 60 }
+        requires body { length packet.now.body.now ≤ BODY_MOST }
+        ensures { Judges (packet_of packet.now) echo now random.now self.old (said result) self.new }
+    {
+        let Ok(found) = options(packet) else {
+            return quiet();
+        };
+        let rules = self.rules(random);
+        let judged = judge(found.as_slice(), &rules);
+        self.answer(packet, found.as_slice(), &judged, echo, now)
+    }
+
+    // Answers a Configure-Request that was judged.
+    fn answer(
+        &mut self,
+        packet: &Packet<'_>,
+        options: &[Opt<'_>],
+        judged: &Judged<'_>,
+        echo: u16,
+        now: u64,
+    ) -> Steps
+        requires moment { now < 2 ^ 60 }
+        requires fits { IsSpellable judged.now }
+        ensures { Moves (event_of judged.now) (answer_of self.old.kept (packet_of packet.now) (options_of options.now) judged.now) echo now self.old (said result) self.new }
+    {
+        let mru = self.kept.mru;
+        let naks = self.kept.naks;
+        match judged {
+            Judged::Ack => {
+                let cause = answering(
+                    packet,
+                    CONFIGURE_ACK,
+                    packet.body,
+                    mru_of(self.kept.limit, options),
+                    0,
+                );
+                self.react(Event::RcrPlus, &cause, echo, now)
+            }
+            Judged::Nak(made) => {
+                let mut body = Frame::new();
+                put_made(made.as_slice(), &mut body);
+                let cause = answering(packet, CONFIGURE_NAK, body.payload(), mru, more_naks(naks));
+                self.react(Event::RcrMinus, &cause, echo, now)
+            }
+            Judged::Reject(rejected) => {
+                let body = listed(rejected.as_slice());
+                let cause = answering(packet, CONFIGURE_REJECT, body.payload(), mru, naks);
+                self.react(Event::RcrMinus, &cause, echo, now)
+            }
+        }
+    }
+}
