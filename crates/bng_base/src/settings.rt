@@ -3,8 +3,9 @@ use crate::book::Range;
 use arrayvec::ArrayVec;
 
 /// A way to authenticate a peer: CHAP (RFC 1994) or PAP (RFC 1334).
-#[derive(Clone, Copy, PartialEq, Eq, Debug)]
+#[derive(Clone, Copy, PartialEq, Eq, Debug, Default)]
 pub enum AuthKind {
+    #[default]
     Chap,
     Pap,
 }

@@ -17,7 +17,6 @@ use Rattle.bng_lcp.specs.declared.taken.Taken.TheVariants.{Accepted, Changed, Ig
 use Rattle.bng_lcp.specs.Judgement.{IsJudgement}
 use Rattle.bng_lcp.specs.Reply.{Takes}
 use Rattle.bng_lcp.specs.Ask.{Ask}
-use Rattle.bng_ppp.specs.declared.protocol.TheConstants as other
 use Rattle.bng_ppp.specs.declared.kept.TheConstants.{ECHOES_UNANSWERED_MOST}
 use Rattle.bng_ppp.specs.declared.kind.Kind.{Kind}
 use Rattle.bng_ppp.specs.declared.kind.Kind.TheVariants.{Request, Reply, Plain, Echo, Mute, EchoReply, Unknown}
@@ -116,7 +115,7 @@ is_opened Opened = true
 
 -- IPCP, IPv4 and the protocol by which the peer authenticates itself
 abbrev pub passes_over : AuthKind → ℕ → Bool
-passes_over auth n = n == other.IPCP || n == protocol.IPV4 || n == protocol_of auth
+passes_over auth n = n == protocol.IPCP || n == protocol.IPV4 || n == protocol_of auth
 
 -- a protocol that is rejected: LCP is Opened, and it is none of these
 abbrev pub is_rejected : LinkState → ℕ → Bool

@@ -15,7 +15,6 @@ use crate::heard::{Heard, frame_at};
 use crate::kept::next_id;
 use crate::kind::{Kind, kind_at};
 use crate::link::Link;
-use crate::protocol::IPCP;
 use crate::send::{BODY_MOST, body_most, cut, send};
 use crate::step::{Steps, quiet};
 use bng_automaton::{Event, State};
@@ -37,7 +36,7 @@ fn protocol_of(auth: AuthKind) -> u16
 fn is_known(number: u16, auth: AuthKind) -> bool
     ensures { result ≡ passes_over auth number }
 {
-    number == IPCP || number == protocol::IPV4 || number == protocol_of(auth)
+    number == protocol::IPCP || number == protocol::IPV4 || number == protocol_of(auth)
 }
 
 impl Link {

@@ -14,7 +14,6 @@ mod heard;
 mod kept;
 mod kind;
 mod link;
-mod protocol;
 mod remind;
 mod request;
 mod rules;

@@ -3,7 +3,7 @@
 /// Internet Protocol version 4.
 pub const IPV4: u16 = 0x0021;
 /// Internet Protocol Control Protocol.
-pub const IPCP: u16 = 0x8057;
+pub const IPCP: u16 = 0x8021;
 /// Link Control Protocol.
 pub const LCP: u16 = 0xc021;
 /// Password Authentication Protocol.

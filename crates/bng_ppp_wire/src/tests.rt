@@ -38,7 +38,7 @@ fn reads_a_configure_request(rt: HostRuntime) {
 #[test]
 fn octets_past_the_length_are_padding(rt: HostRuntime) {
     // an IPCP request for 0.0.0.0 and a DNS server, in a frame padded by two octets
-    let padded = [0x80, 0x57, 1, 1, 0, 0x0a, 3, 6, 0, 0, 0, 0, 0x81, 6];
+    let padded = [0x80, 0x21, 1, 1, 0, 0x0a, 3, 6, 0, 0, 0, 0, 0x81, 6];
     let ppp = Ppp::read(&padded).expect(&rt, "a frame");
     assert_eq!(rt; ppp.protocol, IPCP);
     let wanted: [(u8, &[u8]); 1] = [(3, &[0, 0, 0, 0])];
