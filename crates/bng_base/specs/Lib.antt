@@ -8,5 +8,6 @@ pub mod Checksum
 pub mod Ipv4Grammar
 pub mod Lowering
 pub mod FateOf
+pub mod Roles
 pub mod PppGrammar
 pub mod PppoeGrammar

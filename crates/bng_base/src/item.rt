@@ -1,4 +1,5 @@
 use crate::address::{Ip4, Peer};
+use crate::circuit::{Circuit, TermId};
 use crate::fate::Fate;
 use crate::frame::Frame;
 use crate::outside::Role;
@@ -64,7 +65,20 @@ pub struct Loose {
     pub fate: Fate,
 }
 
-/// A datagram that was to be sent for an entry, and whether the send answered Sent.
+/// Whose packet a datagram carries: its term and the place of that term's profile, from 0, the term's circuit and its
+/// address, whether it is from the subscriber, and the packet's total length in octets.
+#[derive(Clone, Copy, PartialEq, Eq, Debug)]
+pub struct Charge {
+    pub term: TermId,
+    pub profile: u8,
+    pub circuit: Circuit,
+    pub address: Ip4,
+    pub input: bool,
+    pub octets: u16,
+}
+
+/// A datagram that was to be sent for an entry, and whether the send answered Sent. `charge` is there where it carries a
+/// packet of a term.
 #[derive(Clone, Drop)]
 pub struct OutRecord {
     pub shard: u16,
@@ -73,5 +87,6 @@ pub struct OutRecord {
     pub role: Role,
     pub to: Peer,
     pub frame: Frame,
+    pub charge: Option<Charge>,
     pub sent: bool,
 }

@@ -25,7 +25,7 @@ pub use crate::codec::{ReadError, Written};
 pub use crate::fate::{DropCause, Fate};
 pub use crate::frame::{Frame, HEADROOM, LONGEST, ROOM};
 pub use crate::ipv4::Ipv4;
-pub use crate::item::{Claim, Entry, Item, ItemKind, Loose, OutRecord};
+pub use crate::item::{Charge, Claim, Entry, Item, ItemKind, Loose, OutRecord};
 pub use crate::listed::Listed;
 pub use crate::octets::Octets;
 pub use crate::outside::{Bind, ClockAnswer, Datagram, Heard, Received, Role};

@@ -89,6 +89,7 @@ impl Again for OutRecord {
             role: self.role,
             to: self.to,
             frame: self.frame.again(),
+            charge: self.charge,
             sent: self.sent,
         }
     }

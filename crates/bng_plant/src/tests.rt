@@ -231,6 +231,7 @@ fn round(alloc: Global, number: u64) -> Result<RoundRecord, AllocError> {
         role: Role::Access(1),
         to: PORT,
         frame: Frame::new(),
+        charge: None,
         sent: true,
     };
     Ok(RoundRecord {
