@@ -2,6 +2,7 @@ use crate::address::{Ip4, Peer};
 use crate::circuit::{Circuit, TermId};
 use crate::fate::Fate;
 use crate::frame::Frame;
+use crate::octets::Octets;
 use crate::outside::Role;
 
 /// What an item is. `Access` names its port, from 1 on.
@@ -86,7 +87,7 @@ pub struct OutRecord {
     pub place: u16,
     pub role: Role,
     pub to: Peer,
-    pub frame: Frame,
+    pub frame: Octets,
     pub charge: Option<Charge>,
     pub sent: bool,
 }

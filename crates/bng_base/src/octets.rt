@@ -4,7 +4,7 @@ use crate::frame::{Frame, LONGEST, ROOM};
 use std::marker::Model;
 
 /// A frame of which contracts see the payload alone.
-#[derive(Drop)]
+#[derive(Clone, Drop)]
 pub struct Octets {
     frame: Frame,
 }

@@ -1,7 +1,7 @@
 //! Copies that take no memory.
 ghost use Rattle.std.specs.Prelude.{◌≡◌, ◌≤◌, []};
 
-use bng_base::{Entry, Frame, HEADROOM, Item, Loose, OutRecord, ROOM};
+use bng_base::{Entry, Frame, HEADROOM, Item, Loose, Octets, OutRecord, ROOM};
 
 /// What can be copied without memory.
 pub trait Again {
@@ -41,6 +41,14 @@ fn with_headroom(headroom: usize) -> Frame
     frame.put_back(&zeros[..more]);
     frame.cut_front(more);
     frame
+}
+
+impl Again for Octets {
+    fn again(&self) -> Octets {
+        let mut frame = with_headroom(0);
+        frame.put_back(self.as_slice());
+        Octets::of(frame)
+    }
 }
 
 impl Again for Item {

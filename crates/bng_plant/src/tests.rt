@@ -4,8 +4,8 @@ use crate::{
     Sending, Sink, Trace, Wrote,
 };
 use bng_base::{
-    Claim, ClockAnswer, Entry, Fate, Frame, Ip4, Item, ItemKind, Listed, Loose, OutRecord, Peer,
-    Received, Role, RoundRecord,
+    Claim, ClockAnswer, Entry, Fate, Frame, Ip4, Item, ItemKind, Listed, Loose, Octets, OutRecord,
+    Peer, Received, Role, RoundRecord,
 };
 use std::alloc::{AllocError, Global};
 use std::test::Fail;
@@ -230,7 +230,7 @@ fn round(alloc: Global, number: u64) -> Result<RoundRecord, AllocError> {
         place: 0,
         role: Role::Access(1),
         to: PORT,
-        frame: Frame::new(),
+        frame: Octets::of(Frame::new()),
         charge: None,
         sent: true,
     };
