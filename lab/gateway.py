@@ -14,6 +14,8 @@ PROGRAM = os.path.join(CRATE, "out", "bng_gate")
 LOOPBACK = "127.0.0.1"
 
 CONFIGURATION = """\
+[gateway]
+name = "bng1"
 [core]
 local = "127.0.0.1:{core}"
 peer = "127.0.0.1:{core_peer}"

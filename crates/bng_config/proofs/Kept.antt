@@ -8,10 +8,11 @@ use Rattle.bng_base.specs.declared.settings.AccessPort.{AccessPort}
 use Rattle.bng_config.specs.declared.config.Config.{Config}
 use Rattle.bng_config.specs.declared.fault.Key.{Key}
 use Rattle.bng_config.specs.declared.fault.Key.TheVariants.{Access, Statics}
-use Rattle.bng_config.specs.Keys.{path_of, first_keys, access_keys, static_keys}
-use Rattle.bng_config.specs.Configuration.{IsSound, AreSound, value_at, entries, item_count, port_keys, circuit_keys, Configures, IsRead}
-use Rattle.bng_config.specs.Rules.{IsPlaced, KeepsRules, ends_of}
+use Rattle.bng_config.specs.Keys.{path_of, gateway_keys, end_keys, access_keys, static_keys}
+use Rattle.bng_config.specs.Configuration.{IsSound, AreSound, value_at, entries, item_count, port_keys, circuit_keys, shards_of, most_shards, longest_echo, Configures, IsRead}
+use Rattle.bng_config.specs.Rules.{IsGatewayName, IsServiceName, IsSessionOf, IsPlaced, KeepsRules, ends_of}
 use Rattle.bng_config.proofs.New.{other_end, other_session, other_address}
+use Rattle.bng_config.proofs.Defaults.{known_shards, range_or, services_kept, kinds_kept}
 use Rattle.bng_config.proofs.Faults.{sound_front, sound_back, sound_entry}
 
 -- an element and later ones that differ from it, before a list whose elements differ
@@ -53,8 +54,14 @@ few_of document (inr h) =
     rw (entries_of document Statics h.value form.items h.found form.list) form.few
 
 module _ (document : Data) (c : Config) (h : Configures document c) where
+  sound_rest : AreSound document (end_keys ++ port_keys document ++ circuit_keys document)
+  sound_rest = sound_back document gateway_keys (end_keys ++ port_keys document ++ circuit_keys document) h.sound
+
+  sound_ends : AreSound document end_keys
+  sound_ends = sound_front document end_keys (port_keys document ++ circuit_keys document) sound_rest
+
   sound_lists : AreSound document (port_keys document ++ circuit_keys document)
-  sound_lists = sound_back document first_keys (port_keys document ++ circuit_keys document) h.sound
+  sound_lists = sound_back document end_keys (port_keys document ++ circuit_keys document) sound_rest
 
   sound_ports : AreSound document (port_keys document)
   sound_ports = sound_front document (port_keys document) (circuit_keys document) sound_lists
@@ -88,7 +95,7 @@ module _ (document : Data) (c : Config) (h : Configures document c) where
 
   ends_differ : c.control_local ≢ c.core_local
   ends_differ =
-      let fit = h.sound.1.0 in
+      let fit = sound_ends.1.0 in
       other_end c.core_local c.control_local fit.value fit.found h.core_local h.control_local fit.is.new
 
   ends : AllPairs (λ a b. a ≢ b) (ends_of c)
@@ -101,19 +108,44 @@ module _ (document : Data) (c : Config) (h : Configures document c) where
   sessions : AllPairs (λ a b. a.session ≢ b.session) c.statics
   sessions i j d less long =
       let fit = (sound_circuit j long).1.1.0 in
-      other_session (get_or c.statics j d).session (get_or c.statics i d).session fit.value fit.found (h.statics j d long).session (h.statics i d (omega arith)).session (fit.is.new i less)
+      other_session (shards_of document) (get_or c.statics j d).session (get_or c.statics i d).session fit.value fit.found (h.statics j d long).session (h.statics i d (omega arith)).session (fit.is.new i less)
 
   addresses : AllPairs (λ a b. a.address ≢ b.address) c.statics
   addresses i j d less long =
       let fit = (sound_circuit j long).1.1.1.0 in
       other_address (get_or c.statics j d).address (get_or c.statics i d).address fit.value fit.found (h.statics j d long).address (h.statics i d (omega arith)).address (fit.is.new i less)
 
+  shards : (1 ≤ c.shards) × (c.shards ≤ 64)
+  shards = range_or 1 most_shards 4 c.shards (omega arith) (omega arith) h.shards
+
+  sharded : All (λ s. IsSessionOf c.shards s.session.0) c.statics
+  sharded i d less =
+      let is = (h.statics i d less).session.is.is in
+      let shard = is.shard in
+      let shards = known_shards document c.shards h.shards in
+      record { shard = omega arith; low = is.low; high = is.high }
+
   placed : All (IsPlaced (length c.access)) c.statics
   placed i d less =
-      let is = h.statics i d less in
-      let high = is.port.is.high in
+      let port = (h.statics i d less).port.is in
+      let high = port.high in
       let same = h.all_ports in
-      record { low = is.port.is.low; high = omega arith; number = is.session.is.is }
+      let is = sharded i d less in
+      let shard = is.shard in
+      let few = shards.1 in
+      record { low = port.low; high = omega arith; number = record { shard = omega arith; low = is.low; high = is.high } }
+
+  name : IsGatewayName c.name.items
+  name = h.name.is.is
+
+  services : (length c.services.items ≤ 8) × All (λ s. IsServiceName s.items) c.services.items
+  services = services_kept c.services h.services
+
+  auth : (1 ≤ length c.auth.items) × (length c.auth.items ≤ 2) × AllPairs (λ a b. a ≢ b) c.auth.items
+  auth = kinds_kept c.auth h.auth
+
+  echo : (0 ≤ c.echo) × (c.echo ≤ 3600)
+  echo = range_or 0 longest_echo 30 c.echo (omega arith) (omega arith) h.echo
 
   pub kept : KeepsRules c
   kept =
@@ -123,7 +155,25 @@ module _ (document : Data) (c : Config) (h : Configures document c) where
       let some = form.some in
       let circuits = few_of document sound_circuits.0 in
       let same = h.all_circuits in
-      record { some_port = omega arith; few_ports = omega arith; few_statics = omega arith; placed = placed; ends = ends; sessions = sessions; addresses = addresses }
+      record {
+        name = name;
+        some_shard = shards.0;
+        few_shards = shards.1;
+        few_services = services.0;
+        services = services.1;
+        some_auth = auth.0;
+        few_auth = auth.1;
+        auth = auth.2;
+        echo = echo.1;
+        some_port = omega arith;
+        few_ports = omega arith;
+        few_statics = omega arith;
+        placed = placed;
+        sharded = sharded;
+        ends = ends;
+        sessions = sessions;
+        addresses = addresses;
+      }
 
 pub read_keeps : (text : List ℕ) (c : Config) → IsRead text c → KeepsRules c
 read_keeps text c h = kept (table h.members) c h.configures

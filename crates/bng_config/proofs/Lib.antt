@@ -3,9 +3,12 @@ pub mod Addresses
 pub mod Octets
 pub mod Faults
 pub mod Exclusive
+pub mod Spellings
+pub mod Listing
 pub mod OneReading
 pub mod Parts
 pub mod New
+pub mod Defaults
 pub mod Kept
 pub mod Answered
 pub mod Counts

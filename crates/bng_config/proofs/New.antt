@@ -13,7 +13,7 @@ use Rattle.bng_config.specs.declared.fault.Key.{Key}
 use Rattle.bng_config.specs.declared.fault.Key.TheVariants.{ControlLocal, CoreLocal, AccessLocal, StaticSession, StaticAddress}
 use Rattle.bng_config.specs.Address.{peer_text, address_text}
 use Rattle.bng_config.specs.Keys.{path_of}
-use Rattle.bng_config.specs.Configuration.{StandsAt, IsSound, Differs, IsPeer, IsSession, IsAddress, IsPort, IsCircuit, EachPlace, value_at}
+use Rattle.bng_config.specs.Configuration.{StandsAt, IsSound, Differs, IsPeer, IsSession, IsAddress, IsPort, IsCircuit, EachPlace, value_at, shards_of}
 use Rattle.bng_config.proofs.Faults.{fit_of}
 use Rattle.bng_config.proofs.OneReading.{peer_once, session_once, address_at_once}
 
@@ -36,9 +36,9 @@ pub other_end : {document : Data} {key other : Key} (x y : Peer) (v : Data) → 
     → StandsAt document key (λ d. IsPeer d x) → StandsAt document other (λ d. IsPeer d y) → Differs document other v → y ≢ x
 other_end = other_value IsPeer (λ p. string (peer_text p)) (λ d p h. h.text) peer_once
 
-pub other_session : {document : Data} {key other : Key} (x y : SessionNo) (v : Data) → value_at (path_of key) document ≡ Some v
-    → StandsAt document key (λ d. IsSession d x) → StandsAt document other (λ d. IsSession d y) → Differs document other v → y ≢ x
-other_session = other_value IsSession (λ s. integer (pos s.0)) (λ d s h. h.number) session_once
+pub other_session : {document : Data} {key other : Key} (shards : ℕ) (x y : SessionNo) (v : Data) → value_at (path_of key) document ≡ Some v
+    → StandsAt document key (λ d. IsSession shards d x) → StandsAt document other (λ d. IsSession shards d y) → Differs document other v → y ≢ x
+other_session shards = other_value (IsSession shards) (λ s. integer (pos s.0)) (λ d s h. h.number) (session_once shards)
 
 pub other_address : {document : Data} {key other : Key} (x y : Ip4) (v : Data) → value_at (path_of key) document ≡ Some v
     → StandsAt document key (λ d. IsAddress d x) → StandsAt document other (λ d. IsAddress d y) → Differs document other v → y ≢ x
@@ -48,9 +48,9 @@ end_differs : {document : Data} {key other : Key} (x y : Peer) → (p : StandsAt
     → Differs document other p.value
 end_differs = other_text IsPeer (λ p. string (peer_text p)) (λ d p h. h.text) peer_once
 
-session_differs : {document : Data} {key other : Key} (x y : SessionNo) → (p : StandsAt document key (λ d. IsSession d x)) → StandsAt document other (λ d. IsSession d y) → x ≢ y
-    → Differs document other p.value
-session_differs = other_text IsSession (λ s. integer (pos s.0)) (λ d s h. h.number) session_once
+session_differs : {document : Data} {key other : Key} (shards : ℕ) (x y : SessionNo) → (p : StandsAt document key (λ d. IsSession shards d x))
+    → StandsAt document other (λ d. IsSession shards d y) → x ≢ y → Differs document other p.value
+session_differs shards = other_text (IsSession shards) (λ s. integer (pos s.0)) (λ d s h. h.number) (session_once shards)
 
 address_differs : {document : Data} {key other : Key} (x y : Ip4) → (p : StandsAt document key (λ d. IsAddress d x)) → StandsAt document other (λ d. IsAddress d y) → x ≢ y
     → Differs document other p.value
@@ -77,11 +77,11 @@ ends_differ document key local (x ∷ xs) are here none i less =
     end_differs local (get_or (x ∷ xs) i x).local here (are i x less).local (λ e. none_at (λ port. port.local ≡ local) (x ∷ xs) none i x less (sym e))
 
 sessions_differ : (document : Data) (key : Key) (session : SessionNo) (earlier : List Static) → EachPlace (IsCircuit document) earlier
-    → (here : StandsAt document key (λ d. IsSession d session)) → (Any (λ circuit. circuit.session ≡ session) earlier → ⊥)
+    → (here : StandsAt document key (λ d. IsSession (shards_of document) d session)) → (Any (λ circuit. circuit.session ≡ session) earlier → ⊥)
     → (i : ℕ) → i < length earlier → Differs document (StaticSession i) here.value
 sessions_differ document key session [] are here none i less = absurd (omega arith)
 sessions_differ document key session (x ∷ xs) are here none i less =
-    session_differs session (get_or (x ∷ xs) i x).session here (are i x less).session (λ e. none_at (λ circuit. circuit.session ≡ session) (x ∷ xs) none i x less (sym e))
+    session_differs (shards_of document) session (get_or (x ∷ xs) i x).session here (are i x less).session (λ e. none_at (λ circuit. circuit.session ≡ session) (x ∷ xs) none i x less (sym e))
 
 addresses_differ : (document : Data) (key : Key) (address : Ip4) (earlier : List Static) → EachPlace (IsCircuit document) earlier
     → (here : StandsAt document key (λ d. IsAddress d address)) → (Any (λ circuit. circuit.address ≡ address) earlier → ⊥)
@@ -110,15 +110,15 @@ module _ (document : Data) (place : ℕ) (control core local : Peer) (earlier : 
 
 -- a session that no earlier circuit has, and one that some has
 module _ (document : Data) (place : ℕ) (session : SessionNo) (earlier : List Static)
-    (all : length earlier ≡ place) (are : EachPlace (IsCircuit document) earlier) (here : StandsAt document (StaticSession place) (λ d. IsSession d session)) where
+    (all : length earlier ≡ place) (are : EachPlace (IsCircuit document) earlier) (here : StandsAt document (StaticSession place) (λ d. IsSession (shards_of document) d session)) where
   pub session_sound : (Any (λ circuit. circuit.session ≡ session) earlier → ⊥) → IsSound document (StaticSession place)
-  session_sound free = fit_of IsSession session here (λ d h. (session, h))
+  session_sound free = fit_of (IsSession (shards_of document)) session here (λ d h. (session, h))
       (λ i less. sessions_differ document (StaticSession place) session earlier are here free i (omega arith))
 
   pub session_taken : Any (λ circuit. circuit.session ≡ session) earlier → ¬ IsSound document (StaticSession place)
   session_taken (i, circuit, less, at, has) sound =
       let same : (get_or earlier i circuit).session ≡ session = rw at has in
-      other_session session (get_or earlier i circuit).session sound.value sound.found here (are i circuit less).session (sound.is.new i (omega arith)) same
+      other_session (shards_of document) session (get_or earlier i circuit).session sound.value sound.found here (are i circuit less).session (sound.is.new i (omega arith)) same
 
 -- an address that no earlier circuit has, and one that some has
 module _ (document : Data) (place : ℕ) (address : Ip4) (earlier : List Static)

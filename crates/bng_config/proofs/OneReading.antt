@@ -1,5 +1,5 @@
 -- A text stands for one configuration: each form is the spelling of one value.
-use Rattle.std.proofs.Common.{◌≡◌, ℕ, suc, ◌<◌, ◌/◌, ◌%◌, ◌^◌, false, List, [], ◌∷◌, ◌++◌, length, refl, sym, ap, subst, ◌∙◌, arith}
+use Rattle.std.proofs.Common.{◌≡◌, ℕ, suc, ◌<◌, ◌/◌, ◌%◌, ◌^◌, false, List, [], ◌∷◌, ◌++◌, length, refl, sym, ap, subst, ◌∙◌, arith, inl, inr}
 use Rattle.std.specs.Fmt.{decimal, digit_glyph}
 use Rattle.std.proofs.lemmas.Bool.Decides.{nat_tests}
 use Rattle.std.proofs.lemmas.Fmt.{decimal_injective}
@@ -13,12 +13,14 @@ use Rattle.bng_config.specs.declared.config.Config.{Config}
 use Rattle.bng_config.specs.declared.fault.Key.{Key}
 use Rattle.bng_config.specs.declared.fault.Key.TheVariants.{Access}
 use Rattle.bng_base.specs.declared.settings.AccessPort.{AccessPort}
+use Rattle.bng_base.specs.declared.settings.AuthKind.TheVariants.{Chap, Pap}
 use Rattle.bng_base.specs.declared.settings.Static.{Static}
 use Rattle.bng_config.specs.Address.{address_text, peer_text, mac_text, octet_text, dot, colon}
-use Rattle.bng_config.specs.Configuration.{StandsAt, IsPeer, IsAddress, IsMac, IsSession, IsPortNumber, IsPort, IsCircuit, EachPlace, entries, Configures, IsRead}
+use Rattle.bng_config.specs.Configuration.{StandsAt, StandsOr, IsName, IsNumber, AreServices, AreKinds, IsPeer, IsAddress, IsMac, IsSession, IsPortNumber, IsPort, IsCircuit, EachPlace, entries, shards_of, most_shards, longest_echo, Configures, IsRead}
 use Rattle.bng_config.proofs.Numbers.{decimal_without}
 use Rattle.bng_config.proofs.Addresses.{cut_once, address_parts, address_without, peer_parts, second_text, third_text, fourth_text}
 use Rattle.bng_config.proofs.Octets.{six_of, mac_parts, second_text as second_octets, third_text as third_octets, fourth_text as fourth_octets, fifth_text as fifth_octets, sixth_text as sixth_octets}
+use Rattle.bng_config.proofs.Spellings.{same_items, name_once, number_once as range_once, services_once, kinds_once}
 use Rattle.bng_config.proofs.Exclusive.{one_document}
 
 pub number_once : (m n : ℕ) (x y : List ℕ) → m < 256 → n < 256 → decimal m ++ dot ∷ x ≡ decimal n ++ dot ∷ y → (m ≡ n) × (x ≡ y)
@@ -88,8 +90,8 @@ mac_once d m n p q =
     let make : List ℕ → Mac = λ xs. record { 0 = xs } in
     ap make lists
 
-pub session_once : (d : Data) (m n : SessionNo) → IsSession d m → IsSession d n → m ≡ n
-session_once d m n p q =
+pub session_once : (shards : ℕ) (d : Data) (m n : SessionNo) → IsSession shards d m → IsSession shards d n → m ≡ n
+session_once shards d m n p q =
     let numbers = sym p.number ∙ q.number in
     let same : m.0 ≡ n.0 = cc in
     let make : ℕ → SessionNo = λ n. record { 0 = n } in
@@ -102,6 +104,14 @@ same_value a b = same_Some _ _ (sym a.found ∙ b.found)
 one_at : {X : Type 0} {document : Data} {key : Key} (Form : Data → X → Type 0) → ((d : Data) (x y : X) → Form d x → Form d y → x ≡ y)
     → (x y : X) → StandsAt document key (λ d. Form d x) → StandsAt document key (λ d. Form d y) → x ≡ y
 one_at Form once x y a b = once b.value x y (subst (λ d. Form d x) (same_value a b) a.is) b.is
+
+-- what stands at a key, or its default, is one value
+one_or : {X : Type 0} {document : Data} {key : Key} (Form : Data → X → Type 0) (Default : X → Type 0) → ((d : Data) (x y : X) → Form d x → Form d y → x ≡ y)
+    → ((x y : X) → Default x → Default y → x ≡ y) → (x y : X) → StandsOr document key (λ d. Form d x) (Default x) → StandsOr document key (λ d. Form d y) (Default y) → x ≡ y
+one_or Form Default once default x y (inl a) (inl b) = default x y a.1 b.1
+one_or Form Default once default x y (inl a) (inr b) = let both = sym a.0 ∙ b.found in cc
+one_or Form Default once default x y (inr a) (inl b) = let both = sym b.0 ∙ a.found in cc
+one_or Form Default once default x y (inr a) (inr b) = one_at Form once x y a b
 
 port_number_once : (ports : ℕ) (d : Data) (m n : ℕ) → IsPortNumber ports d m → IsPortNumber ports d n → m ≡ n
 port_number_once ports d m n p q =
@@ -119,7 +129,7 @@ circuit_once : (document : Data) (place : ℕ) (a b : Static) → IsCircuit docu
 circuit_once document place a b p q =
     let ports : a.port ≡ b.port = one_at (IsPortNumber (entries document Access)) (port_number_once (entries document Access)) a.port b.port p.port q.port in
     let macs : a.mac ≡ b.mac = one_at IsMac mac_once a.mac b.mac p.mac q.mac in
-    let sessions : a.session ≡ b.session = one_at IsSession session_once a.session b.session p.session q.session in
+    let sessions : a.session ≡ b.session = one_at (IsSession (shards_of document)) (session_once (shards_of document)) a.session b.session p.session q.session in
     let addresses : a.address ≡ b.address = one_at IsAddress address_at_once a.address b.address p.address q.address in
     let names : a.user.items ≡ b.user.items = p.user ∙ sym q.user in
     let profiles : a.profile ≡ b.profile = p.profile ∙ sym q.profile in
@@ -138,12 +148,17 @@ one_list P once (x ∷ xs) (y ∷ ys) long p q =
 
 one_configuration : (document : Data) (a b : Config) → Configures document a → Configures document b → a ≡ b
 one_configuration document a b p q =
+    let names : a.name ≡ b.name = one_at IsName name_once a.name b.name p.name q.name in
+    let shards : a.shards ≡ b.shards = one_or (IsNumber 1 most_shards) (λ n. n ≡ 4) (range_once 1 most_shards) (λ x y e f. e ∙ sym f) a.shards b.shards p.shards q.shards in
+    let services : a.services ≡ b.services = one_or AreServices (λ s. s.items ≡ []) services_once (λ x y e f. same_items x y (e ∙ sym f)) a.services b.services p.services q.services in
+    let kinds : a.auth ≡ b.auth = one_or AreKinds (λ k. k.items ≡ Chap ∷ Pap ∷ []) kinds_once (λ x y e f. same_items x y (e ∙ sym f)) a.auth b.auth p.auth q.auth in
+    let echos : a.echo ≡ b.echo = one_or (IsNumber 0 longest_echo) (λ n. n ≡ 30) (range_once 0 longest_echo) (λ x y e f. e ∙ sym f) a.echo b.echo p.echo q.echo in
     let controls : a.control_local ≡ b.control_local = one_at IsPeer peer_once a.control_local b.control_local p.control_local q.control_local in
     let locals : a.core_local ≡ b.core_local = one_at IsPeer peer_once a.core_local b.core_local p.core_local q.core_local in
     let peers : a.core_peer ≡ b.core_peer = one_at IsPeer peer_once a.core_peer b.core_peer p.core_peer q.core_peer in
     let ports : a.access ≡ b.access = one_list (IsPort document) (port_once document) a.access b.access (p.all_ports ∙ sym q.all_ports) p.access q.access in
     let circuits : a.statics ≡ b.statics = one_list (IsCircuit document) (circuit_once document) a.statics b.statics (p.all_circuits ∙ sym q.all_circuits) p.statics q.statics in
-    λ i. record { control_local = controls i; core_local = locals i; core_peer = peers i; access = ports i; statics = circuits i }
+    λ i. record { name = names i; shards = shards i; services = services i; auth = kinds i; echo = echos i; control_local = controls i; core_local = locals i; core_peer = peers i; access = ports i; statics = circuits i }
 
 -- a text says one configuration
 pub one_reading : (text : List ℕ) (a b : Config) → IsRead text a → IsRead text b → a ≡ b

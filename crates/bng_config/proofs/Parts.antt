@@ -1,29 +1,42 @@
 -- The keys, part by part.
-use Rattle.std.proofs.Common.{◌++◌}
+use Rattle.std.proofs.Common.{List, ◌++◌}
 use Rattle.toml.specs.Data.{Data}
 use Rattle.bng_config.specs.declared.fault.Key.{Key}
 use Rattle.bng_config.specs.declared.fault.Fault.TheVariants.{TooLong, NotToml, OutsideForm}
 use Rattle.bng_config.specs.declared.fault.ConfigError.{ConfigError}
 use Rattle.bng_config.specs.declared.fault.ConfigError.TheVariants.{Refused, OutOfMemory}
-use Rattle.bng_config.specs.Keys.{first_keys}
+use Rattle.bng_config.specs.Keys.{gateway_keys, end_keys}
 use Rattle.bng_config.specs.Configuration.{AreSound, IsFirstOf, IsFirstFault, IsKeyOrMemory, keys, port_keys, circuit_keys}
 use Rattle.bng_config.proofs.Faults.{first_front, first_back, sound_append}
 
 module _ (document : Data) where
-  pub first_of_ends : (key : Key) → IsFirstOf document first_keys key → IsFirstFault document key
-  first_of_ends key h = first_front document first_keys (port_keys document ++ circuit_keys document) key h
+  abbrev lists : List Key
+  lists = port_keys document ++ circuit_keys document
 
-  pub first_of_ports : (key : Key) → AreSound document first_keys → IsFirstOf document (port_keys document) key → IsFirstFault document key
-  first_of_ports key ends h =
-      first_back document first_keys (port_keys document ++ circuit_keys document) key ends (first_front document (port_keys document) (circuit_keys document) key h)
+  pub first_of_gateway : (key : Key) → IsFirstOf document gateway_keys key → IsFirstFault document key
+  first_of_gateway key h = first_front document gateway_keys (end_keys ++ lists) key h
 
-  pub first_of_circuits : (key : Key) → AreSound document first_keys → AreSound document (port_keys document) → IsFirstOf document (circuit_keys document) key → IsFirstFault document key
-  first_of_circuits key ends ports h =
-      first_back document first_keys (port_keys document ++ circuit_keys document) key ends (first_back document (port_keys document) (circuit_keys document) key ports h)
+  behind_gateway : (key : Key) → AreSound document gateway_keys → IsFirstOf document (end_keys ++ lists) key → IsFirstFault document key
+  behind_gateway key gateway h = first_back document gateway_keys (end_keys ++ lists) key gateway h
 
-  pub sound_keys : AreSound document first_keys → AreSound document (port_keys document) → AreSound document (circuit_keys document) → AreSound document (keys document)
-  sound_keys ends ports circuits =
-      sound_append document first_keys (port_keys document ++ circuit_keys document) ends (sound_append document (port_keys document) (circuit_keys document) ports circuits)
+  pub first_of_ends : (key : Key) → AreSound document gateway_keys → IsFirstOf document end_keys key → IsFirstFault document key
+  first_of_ends key gateway h = behind_gateway key gateway (first_front document end_keys lists key h)
+
+  behind_ends : (key : Key) → AreSound document gateway_keys → AreSound document end_keys → IsFirstOf document lists key → IsFirstFault document key
+  behind_ends key gateway ends h = behind_gateway key gateway (first_back document end_keys lists key ends h)
+
+  pub first_of_ports : (key : Key) → AreSound document gateway_keys → AreSound document end_keys → IsFirstOf document (port_keys document) key → IsFirstFault document key
+  first_of_ports key gateway ends h = behind_ends key gateway ends (first_front document (port_keys document) (circuit_keys document) key h)
+
+  pub first_of_circuits : (key : Key) → AreSound document gateway_keys → AreSound document end_keys → AreSound document (port_keys document)
+      → IsFirstOf document (circuit_keys document) key → IsFirstFault document key
+  first_of_circuits key gateway ends ports h = behind_ends key gateway ends (first_back document (port_keys document) (circuit_keys document) key ports h)
+
+  pub sound_keys : AreSound document gateway_keys → AreSound document end_keys → AreSound document (port_keys document) → AreSound document (circuit_keys document)
+      → AreSound document (keys document)
+  sound_keys gateway ends ports circuits =
+      sound_append document gateway_keys (end_keys ++ lists) gateway
+      (sound_append document end_keys lists ends (sound_append document (port_keys document) (circuit_keys document) ports circuits))
 
 -- what is told of a key is told of what follows from it
 pub told_of : (P Q : Key → Type 0) (e : ConfigError) → ((key : Key) → P key → Q key) → IsKeyOrMemory P e → IsKeyOrMemory Q e

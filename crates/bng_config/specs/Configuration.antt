@@ -1,28 +1,39 @@
 -- What a configuration is: the keys that are read, and the form of what stands at each.
-use Rattle.std.specs.Prelude.{⊤, ◌≡◌, ◌≢◌, ℕ, suc, ◌<◌, ◌≤◌, ◌^◌, pos, List, [], ◌∷◌, ◌++◌, length, Option, None, Some, option_and_then, IsUtf8, ◌⊎◌}
-use Rattle.std.specs.List.{AllByRecursion, slice_index_or}
-use Rattle.toml.specs.Data.{Data, Items, no_items, item, Members, string, integer, array, table, get, at, as_array}
+use Rattle.std.specs.Prelude.{⊤, ◌≡◌, ◌≢◌, ℕ, ℤ, suc, ◌<◌, ◌≤◌, ◌^◌, pos, negsuc, List, [], ◌∷◌, ◌++◌, length, map, All, Option, None, Some, option_and_then, IsUtf8, codes, ◌⊎◌}
+use Rattle.std.specs.List.{AllByRecursion, AllPairs, slice_index_or}
+use Rattle.arrayvec.specs.ArrayVec.{ArrayVec}
+use Rattle.toml.specs.Data.{Data, Items, no_items, item, Members, string, integer, array, table, get, at, as_array, as_integer}
+use Rattle.toml.specs.View.{items_of}
 use Rattle.toml.specs.Parse.{parse_document}
 use Rattle.bng_base.specs.declared.address.Ip4.{Ip4}
 use Rattle.bng_base.specs.declared.address.Mac.{Mac}
 use Rattle.bng_base.specs.declared.address.Peer.{Peer}
 use Rattle.bng_base.specs.declared.address.SessionNo.{SessionNo}
 use Rattle.bng_base.specs.declared.settings.AccessPort.{AccessPort}
+use Rattle.bng_base.specs.declared.settings.AuthKind.{AuthKind}
+use Rattle.bng_base.specs.declared.settings.AuthKind.TheVariants.{Chap, Pap}
 use Rattle.bng_base.specs.declared.settings.Static.{Static}
 use Rattle.bng_config.specs.declared.config.Config.{Config}
 use Rattle.bng_config.specs.declared.fault.Key.{Key}
-use Rattle.bng_config.specs.declared.fault.Key.TheVariants.{ControlLocal, CoreLocal, CorePeer, Access, AccessLocal, AccessPeer, AccessMac, Statics, StaticPort, StaticMac, StaticSession, StaticAddress}
+use Rattle.bng_config.specs.declared.fault.Key.TheVariants.{GatewayName, GatewayShards, GatewayServices, GatewayAuth, GatewayEcho, ControlLocal, CoreLocal, CorePeer, Access, AccessLocal, AccessPeer, AccessMac, Statics, StaticPort, StaticMac, StaticSession, StaticAddress}
 use Rattle.bng_config.specs.declared.fault.Fault.{Fault}
 use Rattle.bng_config.specs.declared.fault.Fault.TheVariants.{TooLong, NotToml, OutsideForm}
 use Rattle.bng_config.specs.declared.fault.ConfigError.{ConfigError}
 use Rattle.bng_config.specs.declared.fault.ConfigError.TheVariants.{Refused, OutOfMemory}
 use Rattle.bng_config.specs.Address.{address_text, peer_text, mac_text}
-use Rattle.bng_config.specs.Keys.{Step, named, placed, path_of, first_keys, access_keys, static_keys, of_entries}
-use Rattle.bng_config.specs.Rules.{IsSessionNumber}
+use Rattle.bng_config.specs.Keys.{Step, named, placed, path_of, gateway_keys, end_keys, access_keys, static_keys, of_entries}
+use Rattle.bng_config.specs.Rules.{IsGatewayName, IsServiceName, IsSessionOf}
 
 -- the longest text that is read, in octets
 abbrev pub longest_text : ℕ
 longest_text = 1048576
+
+-- the most shards, and the most seconds between two Echo-Requests
+abbrev pub most_shards : ℕ
+most_shards = 64
+
+abbrev pub longest_echo : ℕ
+longest_echo = 3600
 
 -- the most access ports, and the most circuits
 abbrev pub most_ports : ℕ
@@ -50,6 +61,16 @@ count_of (Some items) = item_count items
 abbrev pub entries : Data → Key → ℕ
 entries document key = count_of (option_and_then as_array (value_at (path_of key) document))
 
+-- the number, or the other one where there is none
+abbrev pub natural_or : ℕ → Option ℤ → ℕ
+natural_or n None = n
+natural_or n (Some (pos m)) = m
+natural_or n (Some (negsuc m)) = n
+
+-- how many shards there are: 4 where the document does not say
+abbrev pub shards_of : Data → ℕ
+shards_of document = natural_or 4 (option_and_then as_integer (value_at (path_of GatewayShards) document))
+
 -- the keys of the access ports, and of the circuits, each after that of the list
 abbrev pub port_keys : Data → List Key
 port_keys document = Access ∷ of_entries access_keys (entries document Access)
@@ -59,7 +80,7 @@ circuit_keys document = Statics ∷ of_entries static_keys (entries document Sta
 
 -- the order in which the keys of the document are looked at
 abbrev pub keys : Data → List Key
-keys document = first_keys ++ port_keys document ++ circuit_keys document
+keys document = gateway_keys ++ end_keys ++ port_keys document ++ circuit_keys document
 
 -- a list of this many items at least and at most
 pub record IsList (low high : ℕ) (d : Data) : Type 0 where
@@ -67,6 +88,43 @@ pub record IsList (low high : ℕ) (d : Data) : Type 0 where
   pub list : d ≡ array items
   pub few : item_count items ≤ high
   pub some : low ≤ item_count items
+
+-- a text that names a gateway
+pub record IsName (d : Data) (name : ArrayVec ℕ) : Type 0 where
+  pub text : d ≡ string name.items
+  pub is : IsGatewayName name.items
+
+-- a number of this range
+pub record IsNumber (least most : ℕ) (d : Data) (n : ℕ) : Type 0 where
+  pub number : d ≡ integer (pos n)
+  pub low : least ≤ n
+  pub high : n ≤ most
+
+-- a list of these texts
+abbrev pub list_of : {X : Type 0} → (X → List ℕ) → List X → Data
+list_of text xs = array (items_of (map (λ x. string (text x)) xs))
+
+-- a text that names a service
+pub record IsService (d : Data) (service : ArrayVec ℕ) : Type 0 where
+  pub text : d ≡ string service.items
+  pub is : IsServiceName service.items
+
+-- a list of at most eight texts that name services
+pub record AreServices (d : Data) (services : ArrayVec (ArrayVec ℕ)) : Type 0 where
+  pub list : d ≡ list_of (λ s. s.items) services.items
+  pub few : length services.items ≤ 8
+  pub are : All (λ s. IsServiceName s.items) services.items
+
+abbrev pub kind_text : AuthKind → List ℕ
+kind_text Chap = codes "chap"
+kind_text Pap = codes "pap"
+
+-- a list of one or two ways to authenticate, none twice
+pub record AreKinds (d : Data) (kinds : ArrayVec AuthKind) : Type 0 where
+  pub list : d ≡ list_of kind_text kinds.items
+  pub some : 1 ≤ length kinds.items
+  pub few : length kinds.items ≤ 2
+  pub different : AllPairs (λ a b. a ≢ b) kinds.items
 
 -- a text of an address and a port, which is not 0
 pub record IsPeer (d : Data) (p : Peer) : Type 0 where
@@ -86,10 +144,10 @@ pub record IsMac (d : Data) (m : Mac) : Type 0 where
   pub six : length m.0 ≡ 6
   pub octets : AllByRecursion (λ o. o < 256) m.0
 
--- a number of a session of one of the shards 0 to 63
-pub record IsSession (d : Data) (s : SessionNo) : Type 0 where
+-- a number of a session of one of this many shards
+pub record IsSession (shards : ℕ) (d : Data) (s : SessionNo) : Type 0 where
   pub number : d ≡ integer (pos s.0)
-  pub is : IsSessionNumber s.0
+  pub is : IsSessionOf shards s.0
 
 -- the number of one of this many access ports, from 1 on
 pub record IsPortNumber (ports : ℕ) (d : Data) (n : ℕ) : Type 0 where
@@ -99,6 +157,11 @@ pub record IsPortNumber (ports : ℕ) (d : Data) (n : ℕ) : Type 0 where
 
 -- the form of what stands at a key
 abbrev pub HasForm : Data → Key → Data → Type 0
+HasForm document GatewayName d = (n : ArrayVec ℕ) × IsName d n
+HasForm document GatewayShards d = (n : ℕ) × IsNumber 1 most_shards d n
+HasForm document GatewayServices d = (s : ArrayVec (ArrayVec ℕ)) × AreServices d s
+HasForm document GatewayAuth d = (k : ArrayVec AuthKind) × AreKinds d k
+HasForm document GatewayEcho d = (n : ℕ) × IsNumber 0 longest_echo d n
 HasForm document ControlLocal d = (p : Peer) × IsPeer d p
 HasForm document CoreLocal d = (p : Peer) × IsPeer d p
 HasForm document CorePeer d = (p : Peer) × IsPeer d p
@@ -109,7 +172,7 @@ HasForm document (AccessMac place) d = (m : Mac) × IsMac d m
 HasForm document Statics d = IsList 0 most_circuits d
 HasForm document (StaticPort place) d = (n : ℕ) × IsPortNumber (entries document Access) d n
 HasForm document (StaticMac place) d = (m : Mac) × IsMac d m
-HasForm document (StaticSession place) d = (s : SessionNo) × IsSession d s
+HasForm document (StaticSession place) d = (s : SessionNo) × IsSession (shards_of document) d s
 HasForm document (StaticAddress place) d = (a : Ip4) × IsAddress d a
 
 -- another value stands at the key, or none
@@ -131,14 +194,26 @@ pub record StandsAt (document : Data) (key : Key) (P : Data → Type 0) : Type 0
   pub found : value_at (path_of key) document ≡ Some value
   pub is : P value
 
+-- what stands at the key is such a value, or nothing stands there and the default counts
+abbrev pub StandsOr : Data → Key → (Data → Type 0) → Type 0 → Type 0
+StandsOr document key P default = ((value_at (path_of key) document ≡ None) × default) ⊎ StandsAt document key P
+
 -- what stands there has the form of the key, and is no value of an earlier one that it must differ from
 pub record IsFit (document : Data) (key : Key) (d : Data) : Type 0 where
   pub form : HasForm document key d
   pub new : IsNew document key d
 
--- the key is there, and in its form; there may be no list of circuits
+-- nothing stands at the key, or what does is fit
+abbrev pub IsFitOrAbsent : Data → Key → Type 0
+IsFitOrAbsent document key = (value_at (path_of key) document ≡ None) ⊎ StandsAt document key (IsFit document key)
+
+-- the key is there, and in its form; four keys of the gateway and the list of circuits may be absent
 abbrev pub IsSound : Data → Key → Type 0
-IsSound document Statics = (value_at (path_of Statics) document ≡ None) ⊎ StandsAt document Statics (IsFit document Statics)
+IsSound document GatewayShards = IsFitOrAbsent document GatewayShards
+IsSound document GatewayServices = IsFitOrAbsent document GatewayServices
+IsSound document GatewayAuth = IsFitOrAbsent document GatewayAuth
+IsSound document GatewayEcho = IsFitOrAbsent document GatewayEcho
+IsSound document Statics = IsFitOrAbsent document Statics
 IsSound document key = StandsAt document key (IsFit document key)
 
 -- each of the keys is sound
@@ -166,7 +241,7 @@ pub record IsPort (document : Data) (place : ℕ) (port : AccessPort) : Type 0 w
 pub record IsCircuit (document : Data) (place : ℕ) (circuit : Static) : Type 0 where
   pub port : StandsAt document (StaticPort place) (λ d. IsPortNumber (entries document Access) d circuit.port)
   pub mac : StandsAt document (StaticMac place) (λ d. IsMac d circuit.mac)
-  pub session : StandsAt document (StaticSession place) (λ d. IsSession d circuit.session)
+  pub session : StandsAt document (StaticSession place) (λ d. IsSession (shards_of document) d circuit.session)
   pub address : StandsAt document (StaticAddress place) (λ d. IsAddress d circuit.address)
   pub user : circuit.user.items ≡ []
   pub profile : circuit.profile ≡ 0
@@ -178,6 +253,11 @@ EachPlace {X} P xs = (i : ℕ) (d : X) → i < length xs → P i (slice_index_or
 -- no key is missing or outside its form, and the configuration is what stands at the keys
 pub record Configures (document : Data) (c : Config) : Type 0 where
   pub sound : AreSound document (keys document)
+  pub name : StandsAt document GatewayName (λ d. IsName d c.name)
+  pub shards : StandsOr document GatewayShards (λ d. IsNumber 1 most_shards d c.shards) (c.shards ≡ 4)
+  pub services : StandsOr document GatewayServices (λ d. AreServices d c.services) (c.services.items ≡ [])
+  pub auth : StandsOr document GatewayAuth (λ d. AreKinds d c.auth) (c.auth.items ≡ Chap ∷ Pap ∷ [])
+  pub echo : StandsOr document GatewayEcho (λ d. IsNumber 0 longest_echo d c.echo) (c.echo ≡ 30)
   pub control_local : StandsAt document ControlLocal (λ d. IsPeer d c.control_local)
   pub core_local : StandsAt document CoreLocal (λ d. IsPeer d c.core_local)
   pub core_peer : StandsAt document CorePeer (λ d. IsPeer d c.core_peer)

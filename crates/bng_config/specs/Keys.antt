@@ -3,7 +3,7 @@ use Rattle.std.specs.Prelude.{ℕ, zero, suc, ◌+◌, List, [], ◌∷◌, ◌+
 use Rattle.std.specs.Fmt.{decimal}
 use Rattle.std.specs.List.{join_with_byte}
 use Rattle.bng_config.specs.declared.fault.Key.{Key}
-use Rattle.bng_config.specs.declared.fault.Key.TheVariants.{ControlLocal, CoreLocal, CorePeer, Access, AccessLocal, AccessPeer, AccessMac, Statics, StaticPort, StaticMac, StaticSession, StaticAddress}
+use Rattle.bng_config.specs.declared.fault.Key.TheVariants.{GatewayName, GatewayShards, GatewayServices, GatewayAuth, GatewayEcho, ControlLocal, CoreLocal, CorePeer, Access, AccessLocal, AccessPeer, AccessMac, Statics, StaticPort, StaticMac, StaticSession, StaticAddress}
 use Rattle.bng_config.specs.declared.fault.Fault.{Fault}
 use Rattle.bng_config.specs.declared.fault.Fault.TheVariants.{TooLong, NotToml, OutsideForm}
 
@@ -18,6 +18,11 @@ in_entry list place name = named list ∷ placed place ∷ named name ∷ []
 
 -- where a key stands
 abbrev pub path_of : Key → List Step
+path_of GatewayName = named (codes "gateway") ∷ named (codes "name") ∷ []
+path_of GatewayShards = named (codes "gateway") ∷ named (codes "shards") ∷ []
+path_of GatewayServices = named (codes "gateway") ∷ named (codes "services") ∷ []
+path_of GatewayAuth = named (codes "gateway") ∷ named (codes "auth") ∷ []
+path_of GatewayEcho = named (codes "gateway") ∷ named (codes "echo") ∷ []
 path_of ControlLocal = named (codes "control") ∷ named (codes "local") ∷ []
 path_of CoreLocal = named (codes "core") ∷ named (codes "local") ∷ []
 path_of CorePeer = named (codes "core") ∷ named (codes "peer") ∷ []
@@ -31,9 +36,13 @@ path_of (StaticMac place) = in_entry (codes "static") place (codes "mac")
 path_of (StaticSession place) = in_entry (codes "static") place (codes "session")
 path_of (StaticAddress place) = in_entry (codes "static") place (codes "address")
 
--- the keys that are looked at before the lists
-abbrev pub first_keys : List Key
-first_keys = ControlLocal ∷ CoreLocal ∷ CorePeer ∷ []
+-- the keys of the gateway itself, which are looked at first
+abbrev pub gateway_keys : List Key
+gateway_keys = GatewayName ∷ GatewayShards ∷ GatewayServices ∷ GatewayAuth ∷ GatewayEcho ∷ []
+
+-- the keys of the ends that there are once
+abbrev pub end_keys : List Key
+end_keys = ControlLocal ∷ CoreLocal ∷ CorePeer ∷ []
 
 -- the keys of an access port, and of a circuit
 abbrev pub access_keys : ℕ → List Key

@@ -3,5 +3,6 @@ pub mod Address
 pub mod Keys
 pub mod Parts
 pub mod Configuration
+pub mod Gateway
 pub mod Ends
 pub mod Find

@@ -5,11 +5,31 @@ use Rattle.bng_base.specs.declared.address.Peer.{Peer}
 use Rattle.bng_base.specs.declared.settings.Static.{Static}
 use Rattle.bng_config.specs.declared.config.Config.{Config}
 
--- a number of a session of one of the shards 0 to 63: the shard times 1,024, and an index of 1 to 1,022
-pub record IsSessionNumber (number : ℕ) : Type 0 where
-  pub shard : number / 1024 < 64
+-- a printable octet of ASCII that is no space
+pub record IsPrintable (octet : ℕ) : Type 0 where
+  pub low : 33 ≤ octet
+  pub high : octet ≤ 126
+
+-- the name of a gateway: 1 to 64 printable octets without space
+pub record IsGatewayName (name : List ℕ) : Type 0 where
+  pub some : 1 ≤ length name
+  pub short : length name ≤ 64
+  pub printable : All IsPrintable name
+
+-- the name of a service: 1 to 64 octets
+pub record IsServiceName (name : List ℕ) : Type 0 where
+  pub some : 1 ≤ length name
+  pub short : length name ≤ 64
+
+-- a number of a session of one of this many shards: the shard, from 0, times 1,024, and an index of 1 to 1,022
+pub record IsSessionOf (shards number : ℕ) : Type 0 where
+  pub shard : number / 1024 < shards
   pub low : 1 ≤ number % 1024
   pub high : number % 1024 ≤ 1022
+
+-- a number of a session of one of the shards that there can be
+abbrev pub IsSessionNumber : ℕ → Type 0
+IsSessionNumber number = IsSessionOf 64 number
 
 -- the gateway's ends of the sockets
 abbrev pub ends_of : Config → List Peer
@@ -21,13 +41,24 @@ pub record IsPlaced (ports : ℕ) (s : Static) : Type 0 where
   pub high : s.port ≤ ports
   pub number : IsSessionNumber s.session.0
 
--- 1 to 16 ports, at most 1,024 circuits, each on a port; no two sockets have one end, and no two circuits one session or
--- one address
+-- a name, 1 to 64 shards, at most 8 services, one or two ways to authenticate, none twice, and at most 3,600 s between
+-- Echo-Requests; 1 to 16 ports, at most 1,024 circuits, each on a port and with a session of one of the shards; no two
+-- sockets have one end, and no two circuits one session or one address
 pub record KeepsRules (c : Config) : Type 0 where
+  pub name : IsGatewayName c.name.items
+  pub some_shard : 1 ≤ c.shards
+  pub few_shards : c.shards ≤ 64
+  pub few_services : length c.services.items ≤ 8
+  pub services : All (λ s. IsServiceName s.items) c.services.items
+  pub some_auth : 1 ≤ length c.auth.items
+  pub few_auth : length c.auth.items ≤ 2
+  pub auth : AllPairs (λ a b. a ≢ b) c.auth.items
+  pub echo : c.echo ≤ 3600
   pub some_port : 1 ≤ length c.access
   pub few_ports : length c.access ≤ 16
   pub few_statics : length c.statics ≤ 1024
   pub placed : All (IsPlaced (length c.access)) c.statics
+  pub sharded : All (λ s. IsSessionOf c.shards s.session.0) c.statics
   pub ends : AllPairs (λ a b. a ≢ b) (ends_of c)
   pub sessions : AllPairs (λ a b. a.session ≢ b.session) c.statics
   pub addresses : AllPairs (λ a b. a.address ≢ b.address) c.statics

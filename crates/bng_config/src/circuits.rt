@@ -3,7 +3,7 @@ ghost use Rattle.std.specs.Prelude.{◌≡◌, ◌≤◌, ◌↔◌, ℕ, IsTrue
 ghost use Rattle.std.specs.List.{Any};
 ghost use Rattle.toml.specs.View.{view};
 ghost use Rattle.bng_config.specs.Keys.{static_keys};
-ghost use Rattle.bng_config.specs.Configuration.{StandsAt, IsSession, IsAddress, IsCircuit, IsSound, AreSound, IsFirstOf, EachPlace, circuit_keys, entries, IsKeyOrMemory};
+ghost use Rattle.bng_config.specs.Configuration.{StandsAt, IsSession, IsAddress, IsCircuit, IsSound, AreSound, IsFirstOf, EachPlace, circuit_keys, entries, shards_of, IsKeyOrMemory};
 
 use crate::fault::{ConfigError, Key};
 use crate::find::{count_at, value_of};
@@ -16,13 +16,16 @@ use toml::Value;
 /// The most circuits.
 const MOST: usize = 1024;
 
-/// The circuits of the document, or the first of their keys that is missing or outside its form. `ports` is the number
-/// of access ports.
+/// The circuits of the document, or the first of their keys that is missing or outside its form. `shards` is the number
+/// of shards, and `ports` that of access ports.
 pub(crate) fn circuits_of(
     alloc: Global,
     document: &Value,
+    shards: u16,
     ports: usize,
 ) -> Result<Vec<Static>, ConfigError>
+    requires shards { shards ≡ shards_of (view document.now) }
+    requires few_shards { shards ≤ 64 }
     requires all { ports ≡ entries (view document.now) Key.Access }
     requires few { ports ≤ 16 }
     ensures all { IfOk result (λ circuits. length circuits.items ≡ entries (view document.now) Key.Statics) }
@@ -33,7 +36,7 @@ pub(crate) fn circuits_of(
     let count = count_of(document)?;
     let mut circuits = Vec::new(alloc);
     for place in 0..count {
-        let circuit = circuit_at(document, place, ports, circuits.as_slice())?;
+        let circuit = circuit_at(document, place, shards, ports, circuits.as_slice())?;
         circuits.push(circuit)?;
     }
     Ok(circuits)
@@ -62,7 +65,15 @@ fn count_of(document: &Value) -> Result<u16, Key>
 }
 
 // The circuit at this place, after those at the earlier ones.
-fn circuit_at(document: &Value, place: u16, ports: usize, earlier: &[Static]) -> Result<Static, Key>
+fn circuit_at(
+    document: &Value,
+    place: u16,
+    shards: u16,
+    ports: usize,
+    earlier: &[Static],
+) -> Result<Static, Key>
+    requires shards { shards ≡ shards_of (view document.now) }
+    requires few_shards { shards ≤ 64 }
     requires ports { ports ≡ entries (view document.now) Key.Access }
     requires few { ports ≤ 16 }
     requires all { length earlier.now ≡ place }
@@ -73,7 +84,7 @@ fn circuit_at(document: &Value, place: u16, ports: usize, earlier: &[Static]) ->
 {
     let port = port_number_at(document, Key::StaticPort(place), ports)?;
     let mac = mac_at(document, Key::StaticMac(place))?;
-    let session = new_session_at(document, place, earlier)?;
+    let session = new_session_at(document, place, shards, earlier)?;
     let address = new_address_at(document, place, earlier)?;
     Ok(Static {
         port,
@@ -86,15 +97,22 @@ fn circuit_at(document: &Value, place: u16, ports: usize, earlier: &[Static]) ->
 }
 
 // The session of the circuit, which no earlier one has.
-fn new_session_at(document: &Value, place: u16, earlier: &[Static]) -> Result<SessionNo, Key>
+fn new_session_at(
+    document: &Value,
+    place: u16,
+    shards: u16,
+    earlier: &[Static],
+) -> Result<SessionNo, Key>
+    requires shards { shards ≡ shards_of (view document.now) }
+    requires few_shards { shards ≤ 64 }
     requires all { length earlier.now ≡ place }
     requires earlier { EachPlace (IsCircuit (view document.now)) earlier.now }
-    ensures found { IfOk result (λ s. StandsAt (view document.now) (Key.StaticSession place) (λ d. IsSession d s)) }
+    ensures found { IfOk result (λ s. StandsAt (view document.now) (Key.StaticSession place) (λ d. IsSession (shards_of (view document.now)) d s)) }
     ensures sound { OnOk result (IsSound (view document.now) (Key.StaticSession place)) }
     ensures refused { IfErr result (λ key. key ≡ Key.StaticSession place) }
     ensures faulty { OnErr result (¬ IsSound (view document.now) (Key.StaticSession place)) }
 {
-    match session_at(document, Key::StaticSession(place)) {
+    match session_at(document, Key::StaticSession(place), shards) {
         Ok(session) => {
             if has_session(earlier, session) {
                 Err(Key::StaticSession(place))

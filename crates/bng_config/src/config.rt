@@ -1,9 +1,18 @@
-use bng_base::{AccessPort, Listed, Peer, Static};
+use arrayvec::ArrayVec;
+use bng_base::{AccessPort, AuthKind, Listed, Peer, Static};
 
-/// What the gateway serves: its ends of the sockets, the core's other end, the access ports, whose numbers count from 1,
-/// and the provisioned circuits on them.
+/// What the gateway serves: its name, of 1 to 64 printable octets of ASCII without space; the number of its shards, 1 to
+/// 64; the services that it offers beside any, at most 8 of 1 to 64 octets each; the ways to authenticate that it asks
+/// for, the first one first; the seconds between two Echo-Requests of a link, 0 to 3,600, where 0 asks for none (RFC 1661
+/// section 5.8); its ends of the sockets, the core's other end, the access ports, whose numbers count from 1, and the
+/// provisioned circuits on them.
 #[derive(Drop)]
 pub struct Config {
+    pub name: ArrayVec<u8, 64>,
+    pub shards: u16,
+    pub services: ArrayVec<ArrayVec<u8, 64>, 12>,
+    pub auth: ArrayVec<AuthKind, 2>,
+    pub echo: u16,
     pub control_local: Peer,
     pub core_local: Peer,
     pub core_peer: Peer,

@@ -1,7 +1,7 @@
 //! The ends of the sockets that there are once.
 ghost use Rattle.std.specs.Prelude.{◌≡◌, IfOk, IfErr, OnOk, OnErr};
 ghost use Rattle.toml.specs.View.{view};
-ghost use Rattle.bng_config.specs.Keys.{first_keys};
+ghost use Rattle.bng_config.specs.Keys.{end_keys};
 ghost use Rattle.bng_config.specs.Configuration.{StandsAt, IsPeer, IsSound, AreSound, IsFirstOf};
 ghost use Rattle.bng_config.specs.Ends.{AreEnds};
 
@@ -21,8 +21,8 @@ pub(crate) struct Ends {
 /// The ends of the document, or the first of their keys that is missing or outside its form.
 pub(crate) fn ends_of(document: &Value) -> Result<Ends, Key>
     ensures found { IfOk result (λ e. AreEnds (view document.now) e) }
-    ensures sound { OnOk result (AreSound (view document.now) first_keys) }
-    ensures refused { IfErr result (λ key. IsFirstOf (view document.now) first_keys key) }
+    ensures sound { OnOk result (AreSound (view document.now) end_keys) }
+    ensures refused { IfErr result (λ key. IsFirstOf (view document.now) end_keys key) }
 {
     let control_local = peer_at(document, Key::ControlLocal)?;
     let core_local = core_end_at(document, control_local)?;

@@ -3,6 +3,16 @@ use std::alloc::AllocFailed;
 /// A key that is read, in the order in which the keys are looked at. The numbers are places of entries, from 0.
 #[derive(Clone, Copy, PartialEq, Eq, Debug)]
 pub enum Key {
+    /// `gateway.name`
+    GatewayName,
+    /// `gateway.shards`
+    GatewayShards,
+    /// `gateway.services`
+    GatewayServices,
+    /// `gateway.auth`
+    GatewayAuth,
+    /// `gateway.echo`
+    GatewayEcho,
     /// `control.local`
     ControlLocal,
     /// `core.local`

@@ -54,6 +54,11 @@ pub(crate) fn value_of(document: &Value, key: Key) -> Option<&Value>
     ensures { option_map (λ v. view v.now) result ≡ value_at (path_of key) (view document.now) }
 {
     match key {
+        Key::GatewayName => in_table(document, "gateway", "name"),
+        Key::GatewayShards => in_table(document, "gateway", "shards"),
+        Key::GatewayServices => in_table(document, "gateway", "services"),
+        Key::GatewayAuth => in_table(document, "gateway", "auth"),
+        Key::GatewayEcho => in_table(document, "gateway", "echo"),
         Key::ControlLocal => in_table(document, "control", "local"),
         Key::CoreLocal => in_table(document, "core", "local"),
         Key::CorePeer => in_table(document, "core", "peer"),

@@ -11,6 +11,7 @@ use crate::circuits::circuits_of;
 use crate::config::Config;
 use crate::ends::ends_of;
 use crate::fault::{ConfigError, Fault};
+use crate::gateway::gateway_of;
 use bng_base::Listed;
 use std::alloc::Global;
 use toml::Value;
@@ -53,10 +54,16 @@ fn configuration_of(alloc: Global, document: &Value) -> Result<Config, ConfigErr
     ensures found { IfOk result (λ c. Configures (view document.now) c) }
     ensures refused { IfErr result (IsKeyOrMemory (IsFirstFault (view document.now))) }
 {
+    let gateway = gateway_of(document)?;
     let ends = ends_of(document)?;
     let access = ports_of(alloc, document, ends.control_local, ends.core_local)?;
-    let statics = circuits_of(alloc, document, access.len())?;
+    let statics = circuits_of(alloc, document, gateway.shards, access.len())?;
     Ok(Config {
+        name: gateway.name,
+        shards: gateway.shards,
+        services: gateway.services,
+        auth: gateway.auth,
+        echo: gateway.echo,
         control_local: ends.control_local,
         core_local: ends.core_local,
         core_peer: ends.core_peer,

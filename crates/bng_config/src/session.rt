@@ -1,21 +1,22 @@
 //! The number of a session.
-ghost use Rattle.std.specs.Prelude.{◌≡◌, ◌≢◌, pos, IfSome, IfNone};
+ghost use Rattle.std.specs.Prelude.{◌≡◌, ◌≢◌, ◌≤◌, pos, IfSome, IfNone};
 ghost use Rattle.bng_base.specs.declared.address.SessionNo.{SessionNo as Number};
-ghost use Rattle.bng_config.specs.Rules.{IsSessionNumber};
+ghost use Rattle.bng_config.specs.Rules.{IsSessionOf};
 
 use bng_base::SessionNo;
 
-/// The session of this number: of one of the shards 0 to 63, with an index of 1 to 1,022.
-pub(crate) fn session_of(number: i64) -> Option<SessionNo>
-    ensures found { IfSome result (λ s. (number ≡ pos s.0) × IsSessionNumber s.0) }
-    ensures none { IfNone result ((s : Number) → IsSessionNumber s.0 → number ≢ pos s.0) }
+/// The session of this number: of one of this many shards, with an index of 1 to 1,022.
+pub(crate) fn session_of(number: i64, shards: u16) -> Option<SessionNo>
+    requires { shards ≤ 64 }
+    ensures found { IfSome result (λ s. (number ≡ pos s.0) × IsSessionOf shards s.0) }
+    ensures none { IfNone result ((s : Number) → IsSessionOf shards s.0 → number ≢ pos s.0) }
 {
     if number < 0 || number > 65_535 {
         return None;
     }
     let number = number as u16;
     let index = number % 1024;
-    if 1 <= index && index <= 1022 {
+    if number / 1024 < shards && 1 <= index && index <= 1022 {
         Some(SessionNo(number))
     } else {
         None

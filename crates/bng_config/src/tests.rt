@@ -1,8 +1,10 @@
 use super::{Config, ConfigError, Fault, Key, fault_text, read};
-use bng_base::{Ip4, Mac, Peer, SessionNo};
+use bng_base::{AuthKind, Ip4, Mac, Peer, SessionNo};
 use std::alloc::{AllocError, Global};
 use std::process::Abort;
 use std::test::Fail;
+
+mod gateway;
 
 const WHOLE: &str = r#"[gateway]
 name = "bng1"
@@ -38,7 +40,8 @@ address = "10.0.0.2"
 user = "fixed1"
 "#;
 
-const LISTS: &str = r#"control.local = "127.0.0.1:9002"
+const LISTS: &str = r#"gateway = { name = "bng1", shards = 64 }
+control.local = "127.0.0.1:9002"
 core = { local = "127.0.0.1:9000", peer = "127.0.0.1:9001" }
 [[access]]
 local = "127.0.0.1:9010"
@@ -65,7 +68,8 @@ session = 1
 address = "255.255.255.255"
 "#;
 
-const ENDS: &str = r#"control.local = "127.0.0.1:9002"
+const ENDS: &str = r#"gateway.name = "bng1"
+control.local = "127.0.0.1:9002"
 core = { local = "127.0.0.1:9000", peer = "127.0.0.1:9001" }
 "#;
 
@@ -83,6 +87,18 @@ fn config_of(rt: &impl Abort, alloc: Global, text: &str) -> Config {
 #[test]
 fn a_whole_configuration_is_read(rt: HostRuntime) {
     let config = config_of(&rt, rt.alloc(), WHOLE);
+    assert_eq!(rt; config.name.as_slice(), b"bng1".as_slice());
+    assert_eq!(rt; config.shards, 4);
+    assert_eq!(rt; config.services.len(), 1);
+    assert_eq!(rt;
+        config.services.as_slice()[0].as_slice(),
+        b"inet".as_slice()
+    );
+    assert_eq!(rt;
+        config.auth.as_slice(),
+        [AuthKind::Chap, AuthKind::Pap].as_slice()
+    );
+    assert_eq!(rt; config.echo, 30);
     assert_eq!(rt; config.control_local, loopback(9002));
     assert_eq!(rt; config.core_local, loopback(9000));
     assert_eq!(rt; config.core_peer, loopback(9001));
@@ -176,6 +192,8 @@ fn each_rule_is_told_at_its_key(rt: HostRuntime) -> Result<(), Fail> {
         ("session = 1025", "session = 1024", "C5 static.1.session"),
         ("session = 65534", "session = 65535", "C5 static.2.session"),
         ("session = 65534", "session = -1", "C5 static.2.session"),
+        ("shards = 64", "shards = 63", "C5 static.2.session"),
+        ("shards = 64", "shards = 1", "C5 static.1.session"),
         ("session = 65534", "session = 1025", "C5 static.2.session"),
         ("session = 1\n", "session = 1025\n", "C5 static.3.session"),
         ("255.255.255.255", "10.0.0.2", "C5 static.3.address"),
@@ -269,8 +287,8 @@ fn each_rule_of_the_text_is_told(rt: HostRuntime) -> Result<(), Fail> {
     let rows: [(&[u8], &str); 5] = [
         (b"shards = ", "C2 text"),
         (b"# \xff\n", "C2 text"),
-        (b"", "C5 control.local"),
-        (longest.as_slice(), "C5 control.local"),
+        (b"", "C5 gateway.name"),
+        (longest.as_slice(), "C5 gateway.name"),
         (longer.as_slice(), "C1 text"),
     ];
     for (text, wanted) in rows {
@@ -284,7 +302,7 @@ fn each_rule_of_the_text_is_told(rt: HostRuntime) -> Result<(), Fail> {
 #[test]
 fn keys_that_are_not_named_are_not_looked_at(rt: HostRuntime) -> Result<(), Fail> {
     let alloc = rt.alloc();
-    let text = changed(alloc, WHOLE, "shards = 4", "shards = 0")?;
+    let text = changed(alloc, WHOLE, "workers = 2", "workers = 0")?;
     assert!(rt; read(alloc, text.as_bytes()).is_ok());
     Ok(())
 }

@@ -33,6 +33,11 @@ fn push_key(text: &mut ArrayString<32>, key: Key)
     ensures short { array_string_len text.new ≤ 32 }
 {
     match key {
+        Key::GatewayName => text.push_str("gateway.name"),
+        Key::GatewayShards => text.push_str("gateway.shards"),
+        Key::GatewayServices => text.push_str("gateway.services"),
+        Key::GatewayAuth => text.push_str("gateway.auth"),
+        Key::GatewayEcho => text.push_str("gateway.echo"),
         Key::ControlLocal => text.push_str("control.local"),
         Key::CoreLocal => text.push_str("core.local"),
         Key::CorePeer => text.push_str("core.peer"),

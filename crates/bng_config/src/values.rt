@@ -1,19 +1,93 @@
 //! The values of keys.
-ghost use Rattle.std.specs.Prelude.{◌≡◌, ◌≢◌, ◌≤◌, ℕ, pos, IfOk, IfErr, IsErr, IfSome, IfNone};
+ghost use Rattle.std.specs.Prelude.{◌≡◌, ◌≢◌, ◌≤◌, ℕ, pos, [], ◌∷◌, IfOk, IfErr, IsErr, IfSome, IfNone};
+ghost use Rattle.arrayvec.specs.ArrayVec.{ArrayVec as Few};
 ghost use Rattle.toml.specs.View.{view};
 ghost use Rattle.bng_base.specs.declared.address.Ip4.{Ip4 as Address};
 ghost use Rattle.bng_base.specs.declared.address.Mac.{Mac as Hardware};
 ghost use Rattle.bng_base.specs.declared.address.Peer.{Peer as End};
 ghost use Rattle.bng_base.specs.declared.address.SessionNo.{SessionNo as Number};
-ghost use Rattle.bng_config.specs.Configuration.{StandsAt, IsPeer, IsAddress, IsMac, IsSession, IsPortNumber};
+ghost use Rattle.bng_base.specs.declared.settings.AuthKind.{AuthKind as Kind};
+ghost use Rattle.bng_config.specs.Configuration.{StandsAt, StandsOr, IsName, IsNumber, AreServices, AreKinds, IsPeer, IsAddress, IsMac, IsSession, IsPortNumber};
 
 use crate::fault::Key;
-use crate::find::{integer_at, text_at};
+use crate::find::{integer_at, text_at, value_of};
+use crate::kinds::{kinds_of, two_kinds};
 use crate::mac::mac_of;
+use crate::names::{name_of, services_of};
 use crate::peer::{address_of, peer_of};
 use crate::session::session_of;
-use bng_base::{Ip4, Mac, Peer, SessionNo};
+use arrayvec::ArrayVec;
+use bng_base::{AuthKind, Ip4, Mac, Peer, SessionNo};
 use toml::Value;
+
+/// The name of the gateway at the key, or the key where there is none.
+pub(crate) fn name_at(document: &Value, key: Key) -> Result<ArrayVec<u8, 64>, Key>
+    ensures found { IfOk result (λ n. StandsAt (view document.now) key (λ d. IsName d n)) }
+    ensures refused { IfErr result (λ k. k ≡ key) }
+    ensures none { IsErr result → (n : Few ℕ) → ¬ StandsAt (view document.now) key (λ d. IsName d n) }
+{
+    match text_at(document, key) {
+        Some(text) => match name_of(text.as_bytes()) {
+            Some(name) => Ok(name),
+            None => Err(key),
+        },
+        None => Err(key),
+    }
+}
+
+/// The number of this range at the key, the default where nothing stands there, or the key where another value does.
+pub(crate) fn number_or(
+    document: &Value,
+    key: Key,
+    low: u16,
+    high: u16,
+    default: u16,
+) -> Result<u16, Key>
+    ensures found { IfOk result (λ n. StandsOr (view document.now) key (λ d. IsNumber low high d n) (n ≡ default)) }
+    ensures refused { IfErr result (λ k. k ≡ key) }
+    ensures none { IsErr result → (n : ℕ) → ¬ StandsOr (view document.now) key (λ d. IsNumber low high d n) (n ≡ default) }
+{
+    match value_of(document, key) {
+        Some(value) => match number_of(value, low, high) {
+            Some(number) => Ok(number),
+            None => Err(key),
+        },
+        None => Ok(default),
+    }
+}
+
+/// The services at the key, none where nothing stands there, or the key where another value does.
+pub(crate) fn services_or_none(
+    document: &Value,
+    key: Key,
+) -> Result<ArrayVec<ArrayVec<u8, 64>, 12>, Key>
+    ensures found { IfOk result (λ s. StandsOr (view document.now) key (λ d. AreServices d s) (s.items ≡ [])) }
+    ensures refused { IfErr result (λ k. k ≡ key) }
+    ensures none { IsErr result → (s : Few (Few ℕ)) → ¬ StandsOr (view document.now) key (λ d. AreServices d s) (s.items ≡ []) }
+{
+    match value_of(document, key) {
+        Some(value) => match services_of(value) {
+            Some(services) => Ok(services),
+            None => Err(key),
+        },
+        None => Ok(ArrayVec::new()),
+    }
+}
+
+/// The ways to authenticate at the key, CHAP and then PAP where nothing stands there, or the key where another value does.
+pub(crate) fn kinds_or_both(document: &Value, key: Key) -> Result<ArrayVec<AuthKind, 2>, Key>
+    ensures found { IfOk result (λ k. StandsOr (view document.now) key (λ d. AreKinds d k) (k.items ≡ Kind.Chap ∷ Kind.Pap ∷ [])) }
+    ensures refused { IfErr result (λ k. k ≡ key) }
+    ensures none { IsErr result → (k : Few Kind) → ¬ StandsOr (view document.now) key (λ d. AreKinds d k) (k.items ≡ Kind.Chap ∷ Kind.Pap ∷ []) }
+{
+    match value_of(document, key) {
+        Some(value) => match kinds_of(value) {
+            Some(kinds) => Ok(kinds),
+            None => Err(key),
+        },
+        None => Ok(two_kinds(AuthKind::Chap, AuthKind::Pap)),
+    }
+}
 
 /// The peer at the key, or the key where there is none.
 pub(crate) fn peer_at(document: &Value, key: Key) -> Result<Peer, Key>
@@ -45,14 +119,15 @@ pub(crate) fn mac_at(document: &Value, key: Key) -> Result<Mac, Key>
     }
 }
 
-/// The session at the key, or the key where there is none.
-pub(crate) fn session_at(document: &Value, key: Key) -> Result<SessionNo, Key>
-    ensures found { IfOk result (λ s. StandsAt (view document.now) key (λ d. IsSession d s)) }
+/// The session at the key, of one of this many shards, or the key where there is none.
+pub(crate) fn session_at(document: &Value, key: Key, shards: u16) -> Result<SessionNo, Key>
+    requires { shards ≤ 64 }
+    ensures found { IfOk result (λ s. StandsAt (view document.now) key (λ d. IsSession shards d s)) }
     ensures refused { IfErr result (λ k. k ≡ key) }
-    ensures none { IsErr result → (s : Number) → ¬ StandsAt (view document.now) key (λ d. IsSession d s) }
+    ensures none { IsErr result → (s : Number) → ¬ StandsAt (view document.now) key (λ d. IsSession shards d s) }
 {
     match integer_at(document, key) {
-        Some(number) => match session_of(number) {
+        Some(number) => match session_of(number, shards) {
             Some(session) => Ok(session),
             None => Err(key),
         },
@@ -101,4 +176,25 @@ fn port_of(number: i64, ports: usize) -> Option<u8>
         return None;
     }
     Some(number as u8)
+}
+
+// The number, where the value is one of this range.
+fn number_of(value: &Value, low: u16, high: u16) -> Option<u16>
+    ensures found { IfSome result (λ n. IsNumber low high (view value.now) n) }
+    ensures none { IfNone result ((n : ℕ) → ¬ IsNumber low high (view value.now) n) }
+{
+    match value.as_integer() {
+        Some(number) => within(number, low, high),
+        None => None,
+    }
+}
+
+fn within(number: i64, low: u16, high: u16) -> Option<u16>
+    ensures found { IfSome result (λ n. (number ≡ pos n) × (low ≤ n) × (n ≤ high)) }
+    ensures none { IfNone result ((n : ℕ) → low ≤ n → n ≤ high → number ≢ pos n) }
+{
+    if number < i64::from(low) || number > i64::from(high) {
+        return None;
+    }
+    Some(number as u16)
 }

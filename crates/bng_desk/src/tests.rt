@@ -2,7 +2,9 @@ use crate::{Desk, DeskState};
 use std::test::Fail;
 
 /// One access port with two circuits.
-const CONFIGURATION: &[u8] = br#"[core]
+const CONFIGURATION: &[u8] = br#"[gateway]
+name = "bng1"
+[core]
 local = "127.0.0.1:9000"
 peer = "127.0.0.1:9001"
 [control]

@@ -10,7 +10,9 @@ use std::sync::Wait;
 use std::test::Fail;
 use std::thread::Threads;
 
-const CONFIGURATION: &str = r#"[core]
+const CONFIGURATION: &str = r#"[gateway]
+name = "bng1"
+[core]
 local = "127.0.0.1:9000"
 peer = "127.0.0.1:9001"
 [control]
@@ -26,7 +28,9 @@ session = 1025
 address = "10.0.0.2"
 "#;
 
-const NO_SESSION: &str = r#"[core]
+const NO_SESSION: &str = r#"[gateway]
+name = "bng1"
+[core]
 local = "127.0.0.1:9000"
 peer = "127.0.0.1:9001"
 [control]
@@ -43,7 +47,9 @@ address = "10.0.0.2"
 "#;
 
 /// Two access ports with a circuit each.
-const TWO_PORTS: &str = r#"[core]
+const TWO_PORTS: &str = r#"[gateway]
+name = "bng1"
+[core]
 local = "127.0.0.1:9000"
 peer = "127.0.0.1:9001"
 [control]

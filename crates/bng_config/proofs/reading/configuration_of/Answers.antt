@@ -1,36 +1,54 @@
-use Rattle.std.proofs.Common.{◌≡◌}
+use Rattle.std.proofs.Common.{◌≡◌, arith}
 use Rattle.std.proofs.lemmas.Result.{err_from_is_err_and}
 use Rattle.toml.specs.View.{view}
-use Rattle.bng_config.specs.Configuration.{IsFirstOf, IsFirstFault, port_keys, circuit_keys}
-use Rattle.bng_config.proofs.Parts.{first_of_ends, first_of_ports, first_of_circuits, sound_keys, told_of}
+use Rattle.bng_config.specs.Configuration.{IsFirstOf, IsFirstFault, port_keys, circuit_keys, most_shards}
+use Rattle.bng_config.proofs.Defaults.{known_shards, range_or}
+use Rattle.bng_config.proofs.Parts.{first_of_gateway, first_of_ends, first_of_ports, first_of_circuits, sound_keys, told_of}
 use Rattle.bng_config.proofs.reading.configuration_of.Goals as goal
+
+pub returns-in_err-gateway-clause-refused : goal.returns-in_err-gateway-clause-refused
+returns-in_err-gateway-clause-refused c =
+    let p = err_from_is_err_and c.from_residual.result c.from_residual.ensures.1 in
+    rw (p.1, p.2) (first_of_gateway (view c.args.document.now) c.in_err-gateway.field-0.0 c.in_err-gateway.ensures.refused)
 
 pub returns-in_err-ends-clause-refused : goal.returns-in_err-ends-clause-refused
 returns-in_err-ends-clause-refused c =
-    let p = err_from_is_err_and c.from_residual.result c.from_residual.ensures.1 in
-    rw (p.1, p.2) (first_of_ends (view c.args.document.now) c.in_err-ends.field-0.0 c.in_err-ends.ensures.refused)
+    let p = err_from_is_err_and c.from_residual-in_err-ends.result c.from_residual-in_err-ends.ensures.1 in
+    rw (p.1, p.2) (first_of_ends (view c.args.document.now) c.in_err-ends.field-0.0 c.in_ok-gateway.ensures.sound c.in_err-ends.ensures.refused)
 
 pub returns-in_err-access-clause-refused : goal.returns-in_err-access-clause-refused
 returns-in_err-access-clause-refused c =
     let document = view c.args.document.now in
     let p = err_from_is_err_and c.from_residual-in_err-access.result c.from_residual-in_err-access.ensures.1 in
-    rw (p.1, p.2) (told_of (IsFirstOf document (port_keys document)) (IsFirstFault document) _ (λ key. first_of_ports document key c.in_ok-ends.ensures.sound) c.in_err-access.ensures.refused)
+    rw (p.1, p.2) (told_of (IsFirstOf document (port_keys document)) (IsFirstFault document) _ (λ key. first_of_ports document key c.in_ok-gateway.ensures.sound c.in_ok-ends.ensures.sound) c.in_err-access.ensures.refused)
 
 pub returns-in_err-statics-clause-refused : goal.returns-in_err-statics-clause-refused
 returns-in_err-statics-clause-refused c =
     let document = view c.args.document.now in
     let p = err_from_is_err_and c.from_residual-in_err-statics.result c.from_residual-in_err-statics.ensures.1 in
     rw (p.1, p.2) (told_of (IsFirstOf document (circuit_keys document)) (IsFirstFault document) _
-    (λ key. first_of_circuits document key c.in_ok-ends.ensures.sound c.in_ok-access.ensures.sound) c.in_err-statics.ensures.refused)
+    (λ key. first_of_circuits document key c.in_ok-gateway.ensures.sound c.in_ok-ends.ensures.sound c.in_ok-access.ensures.sound) c.in_err-statics.ensures.refused)
+
+pub circuits_of-requires-clause-shards : goal.circuits_of-requires-clause-shards
+circuits_of-requires-clause-shards c = known_shards (view c.args.document.now) c.in_ok-gateway.gateway.shards c.in_ok-gateway.ensures.found.shards
+
+pub circuits_of-requires-clause-few_shards : goal.circuits_of-requires-clause-few_shards
+circuits_of-requires-clause-few_shards c = (range_or 1 most_shards 4 c.in_ok-gateway.gateway.shards (omega arith) (omega arith) c.in_ok-gateway.ensures.found.shards).1
 
 pub returns-clause-found : goal.returns-clause-found
 returns-clause-found c =
     let document = view c.args.document.now in
+    let gateway = c.in_ok-gateway.ensures.found in
     let ends = c.in_ok-ends.ensures.found in
     let ports : c.of.result ≡ c.in_ok-access.access.items = c.of.ensures in
     let circuits : c.of-2.result ≡ c.in_ok-statics.statics.items = c.of-2.ensures in
     rw (ports, circuits) record {
-      sound = sound_keys document c.in_ok-ends.ensures.sound c.in_ok-access.ensures.sound c.in_ok-statics.ensures.sound;
+      sound = sound_keys document c.in_ok-gateway.ensures.sound c.in_ok-ends.ensures.sound c.in_ok-access.ensures.sound c.in_ok-statics.ensures.sound;
+      name = gateway.name;
+      shards = gateway.shards;
+      services = gateway.services;
+      auth = gateway.auth;
+      echo = gateway.echo;
       control_local = ends.control_local;
       core_local = ends.core_local;
       core_peer = ends.core_peer;

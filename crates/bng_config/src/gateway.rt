@@ -1,0 +1,47 @@
+//! The table of the gateway itself.
+ghost use Rattle.std.specs.Prelude.{IfOk, IfErr, OnOk};
+ghost use Rattle.toml.specs.View.{view};
+ghost use Rattle.bng_config.specs.Keys.{gateway_keys};
+ghost use Rattle.bng_config.specs.Configuration.{AreSound, IsFirstOf};
+ghost use Rattle.bng_config.specs.Gateway.{IsGateway};
+
+use crate::fault::Key;
+use crate::values::{kinds_or_both, name_at, number_or, services_or_none};
+use arrayvec::ArrayVec;
+use bng_base::AuthKind;
+use toml::Value;
+
+/// The most shards.
+const MOST_SHARDS: u16 = 64;
+/// The most seconds between two Echo-Requests.
+const LONGEST_ECHO: u16 = 3600;
+
+/// What stands at the keys of the gateway, and the defaults of those at which nothing stands.
+#[derive(Drop)]
+pub(crate) struct Gateway {
+    pub name: ArrayVec<u8, 64>,
+    pub shards: u16,
+    pub services: ArrayVec<ArrayVec<u8, 64>, 12>,
+    pub auth: ArrayVec<AuthKind, 2>,
+    pub echo: u16,
+}
+
+/// The gateway of the document, or the first of its keys that is missing or outside its form.
+pub(crate) fn gateway_of(document: &Value) -> Result<Gateway, Key>
+    ensures found { IfOk result (λ g. IsGateway (view document.now) g) }
+    ensures sound { OnOk result (AreSound (view document.now) gateway_keys) }
+    ensures refused { IfErr result (λ key. IsFirstOf (view document.now) gateway_keys key) }
+{
+    let name = name_at(document, Key::GatewayName)?;
+    let shards = number_or(document, Key::GatewayShards, 1, MOST_SHARDS, 4)?;
+    let services = services_or_none(document, Key::GatewayServices)?;
+    let auth = kinds_or_both(document, Key::GatewayAuth)?;
+    let echo = number_or(document, Key::GatewayEcho, 0, LONGEST_ECHO, 30)?;
+    Ok(Gateway {
+        name,
+        shards,
+        services,
+        auth,
+        echo,
+    })
+}

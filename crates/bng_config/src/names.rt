@@ -1,0 +1,84 @@
+//! The names of the gateway and of its services.
+ghost use Rattle.std.specs.Prelude.{◌≡◌, ◌≤◌, ◌↔◌, ℕ, All, IsTrue, IfSome, IfNone, length};
+ghost use Rattle.arrayvec.specs.ArrayVec.{ArrayVec as Few};
+ghost use Rattle.toml.specs.Data.{array};
+ghost use Rattle.toml.specs.View.{view, items_view};
+ghost use Rattle.bng_config.specs.Rules.{IsPrintable, IsGatewayName};
+ghost use Rattle.bng_config.specs.Configuration.{AreServices, IsService};
+
+use arrayvec::ArrayVec;
+use toml::Value;
+
+/// The most services.
+const MOST: usize = 8;
+
+/// The text as a name of the gateway: 1 to 64 printable octets of ASCII without space.
+pub(crate) fn name_of(text: &[u8]) -> Option<ArrayVec<u8, 64>>
+    ensures found { IfSome result (λ n. (n.items ≡ text.now) × IsGatewayName text.now) }
+    ensures none { IfNone result (¬ IsGatewayName text.now) }
+{
+    if is_printable(text) {
+        octets_of(text)
+    } else {
+        None
+    }
+}
+
+// All octets are printable, and none is a space.
+fn is_printable(text: &[u8]) -> bool
+    ensures { IsTrue result ↔ All IsPrintable text.now }
+{
+    text.iter().all(|octet| b'!' <= *octet && *octet <= b'~')
+}
+
+/// The services of a list of at most 8 texts of 1 to 64 octets.
+pub(crate) fn services_of(value: &Value) -> Option<ArrayVec<ArrayVec<u8, 64>, 12>>
+    ensures found { IfSome result (λ s. AreServices (view value.now) s) }
+    ensures none { IfNone result ((s : Few (Few ℕ)) → ¬ AreServices (view value.now) s) }
+{
+    match value.as_array() {
+        Some(list) => services_in(list.as_slice()),
+        None => None,
+    }
+}
+
+fn services_in(list: &[Value]) -> Option<ArrayVec<ArrayVec<u8, 64>, 12>>
+    ensures found { IfSome result (λ s. AreServices (array (items_view list.now)) s) }
+    ensures none { IfNone result ((s : Few (Few ℕ)) → ¬ AreServices (array (items_view list.now)) s) }
+{
+    if list.len() > MOST {
+        return None;
+    }
+    let mut services = ArrayVec::new();
+    for value in list {
+        let service = service_of(value)?;
+        services.push(service);
+    }
+    Some(services)
+}
+
+// A text of 1 to 64 octets.
+fn service_of(value: &Value) -> Option<ArrayVec<u8, 64>>
+    ensures found { IfSome result (λ s. IsService (view value.now) s) }
+    ensures none { IfNone result ((s : Few ℕ) → ¬ IsService (view value.now) s) }
+{
+    match value.as_str() {
+        Some(text) => octets_of(text.as_bytes()),
+        None => None,
+    }
+}
+
+// The octets of a text of 1 to 64.
+fn octets_of(text: &[u8]) -> Option<ArrayVec<u8, 64>>
+    ensures found { IfSome result (λ o. (o.items ≡ text.now) × (1 ≤ length text.now) × (length text.now ≤ 64)) }
+    ensures none { IfNone result (1 ≤ length text.now → ¬ (length text.now ≤ 64)) }
+{
+    if text.is_empty() {
+        return None;
+    }
+    let mut octets = ArrayVec::new();
+    match octets.try_extend_from_slice(text) {
+        Ok(()) => Some(octets),
+        Err(_) => None,
+    }
+}
