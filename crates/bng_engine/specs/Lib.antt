@@ -1,0 +1,14 @@
+pub mod Terms
+pub mod Sums
+pub mod Spelled
+pub mod Wire
+pub mod Protocol
+pub mod Round
+pub mod Run
+pub mod Sight
+pub mod World
+pub mod Turn
+pub mod Progress
+pub mod Accounted
+pub mod Laws
+pub mod Widest

@@ -1,0 +1,58 @@
+-- What the octets of an out say of its charge: whose packet they are, on which circuit, and how long it is.
+use Rattle.std.specs.Prelude.{◌≡◌, ℕ, ◌==◌, Bool, true, false, ◌&&◌, List, length, take, drop, MatchOption}
+use Rattle.byteorder.specs.Endian.{big_from}
+use Rattle.bng_base.specs.declared.address.Mac.{Mac}
+use Rattle.bng_base.specs.declared.address.SessionNo.{SessionNo}
+use Rattle.bng_base.specs.declared.circuit.Circuit.TheVariants.{Pppoe}
+use Rattle.bng_base.specs.declared.ipv4.Ipv4.{Ipv4}
+use Rattle.bng_base.specs.declared.item.Charge.{Charge}
+use Rattle.bng_base.specs.declared.item.OutRecord.{OutRecord}
+use Rattle.bng_base.specs.declared.outside.Role.{Role}
+use Rattle.bng_base.specs.declared.outside.Role.TheVariants.{Access, Core}
+use Rattle.bng_base.specs.Ipv4Grammar.{IsIpv4}
+use Rattle.bng_base.specs.Roles.{is_core, is_access}
+
+-- a PPPoE session frame (RFC 2516, ETHER_TYPE 8864) whose PPP protocol is IPv4's, 0021 (RFC 1332)
+abbrev pub is_session_data : List ℕ → Bool
+is_session_data octets = (big_from 12 2 octets == 34916) && (big_from 20 2 octets == 33)
+
+-- from the subscriber: it goes to the core, and is a whole IPv4 packet whose source is the term's address
+pub record IsInputOf (c : Charge) (role : Role) (octets : List ℕ) : Type 0 where
+  pub role_is : role ≡ Core
+  pub header : Ipv4
+  pub packet : IsIpv4 header octets
+  pub source : header.src ≡ c.address
+  pub total : header.total ≡ length octets
+  pub counted : c.octets ≡ length octets
+
+-- towards the subscriber: it goes out on the circuit's port, to its MAC and in its session, and after 22 octets it is a
+-- whole IPv4 packet whose destination is the term's address
+pub record IsOutputOf (c : Charge) (role : Role) (octets : List ℕ) : Type 0 where
+  pub port : ℕ
+  pub mac : Mac
+  pub session : SessionNo
+  pub circuit : c.circuit ≡ Pppoe port mac session
+  pub role_is : role ≡ Access port
+  pub mac_is : take 6 octets ≡ mac.0
+  pub ether_type : big_from 12 2 octets ≡ 34916
+  pub session_id : big_from 16 2 octets ≡ session.0
+  pub protocol : big_from 20 2 octets ≡ 33
+  pub header : Ipv4
+  pub packet : IsIpv4 header (drop 22 octets)
+  pub destination : header.dst ≡ c.address
+  pub total : header.total ≡ length (drop 22 octets)
+  pub counted : c.octets ≡ length (drop 22 octets)
+
+-- in the direction that the charge says
+abbrev pub IsInDirection : Bool → Charge → Role → List ℕ → Type 0
+IsInDirection true c role octets = IsInputOf c role octets
+IsInDirection false c role octets = IsOutputOf c role octets
+
+-- no packet of a subscriber
+pub record IsNoPacket (role : Role) (octets : List ℕ) : Type 0 where
+  pub not_core : is_core role ≡ false
+  pub not_data : is_access role ≡ true → is_session_data octets ≡ false
+
+-- the octets are what the charge says, and no packet of a subscriber where there is no charge
+abbrev pub IsSpelled : OutRecord → Type 0
+IsSpelled o = MatchOption o.charge (IsNoPacket o.role o.frame) (λ c. IsInDirection c.input c o.role o.frame)
