@@ -66,12 +66,9 @@ fn port_at(ports: &[AccessPort], number: u8) -> Option<&AccessPort>
     ports.get(usize::from(number) - 1)
 }
 
-// The frame that came to the port with this number.
-pub(crate) fn frame_at<'a>(
-    ports: &[AccessPort],
-    number: u8,
-    arrived: &Arrived<'a>,
-) -> Option<Pppoe<'a>>
+/// The frame that a datagram of the access port with this number, from 1 on, is (RFC 2516 section 4): it came whole from
+/// the port's other end, and is for the port, or a PADI to all. None exactly where there is no such frame.
+pub fn frame_at<'a>(ports: &[AccessPort], number: u8, arrived: &Arrived<'a>) -> Option<Pppoe<'a>>
     ensures found { IfSome result (λ p. IsFrame ports.now number (as_arrival arrived.now) (frame_of p)) }
     ensures none { IfNone result ((p : PppoeFrame) → ¬ (IsFrame ports.now number (as_arrival arrived.now) p)) }
 {
@@ -81,7 +78,8 @@ pub(crate) fn frame_at<'a>(
     }
 }
 
-pub(crate) fn names_session(frame: &Pppoe<'_>) -> bool
+/// Whether a frame is of the session stage or a PADT, and so names a session by its SESSION_ID (RFC 2516 section 4).
+pub fn names_session(frame: &Pppoe<'_>) -> bool
     ensures yes { result ≡ true → NamesSession (frame_of frame.now) }
     ensures no { result ≡ false → ¬ (NamesSession (frame_of frame.now)) }
 {
@@ -107,8 +105,9 @@ pub(crate) fn carried<'a>(frame: &Pppoe<'a>) -> Option<&'a [u8]>
     }
 }
 
-// The packet that came from the core.
-pub(crate) fn packet_from(core: Peer, arrived: &Arrived<'_>) -> Option<Ipv4>
+/// What the IPv4 packet of a datagram of the core says, whose end is `core`. None exactly where it was cut, is of another
+/// sender or is no packet (RFC 791 section 3.1).
+pub fn packet_from(core: Peer, arrived: &Arrived<'_>) -> Option<Ipv4>
     ensures found { IfSome result (λ v. IsCorePacket core (as_arrival arrived.now) v) }
     ensures none { IfNone result ((v : Header) → ¬ (IsCorePacket core (as_arrival arrived.now) v)) }
 {

@@ -15,7 +15,7 @@ mod packet;
 mod passage;
 mod view;
 
-pub use crate::arrived::Arrived;
+pub use crate::arrived::{Arrived, frame_at, names_session, packet_from};
 pub use crate::fates::{access_fate, core_fate};
 pub use crate::forward::{down, up};
 pub use crate::framed::put_in_frame;

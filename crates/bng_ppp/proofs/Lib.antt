@@ -1,2 +1,3 @@
 pub mod RejectLaws
 pub mod ReplyLaws
+pub mod LcpOuts

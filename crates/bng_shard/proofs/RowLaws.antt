@@ -1,0 +1,56 @@
+-- The rows that are kept for the terms of a shard, as a caller sees them.
+use Rattle.std.proofs.Common.{◌≡◌, ℕ, ◌+◌, ◌<◌, ◌==◌, Bool, true, false, cond, List, [], ◌∷◌, ◌++◌, map, length, drop, Option, Some, None, refl, ap, sym, ◌∙◌, append_assoc}
+use Rattle.std.specs.Prelude.{find, option_map}
+use Rattle.std.proofs.Math.ListN.{get_or}
+use Rattle.std.proofs.lemmas.List.{map-append, at_drop_more}
+use Rattle.bng_base.specs.declared.settings.Static.{Static}
+use Rattle.bng_engine.specs.Sight.{Row, new_row, resumed}
+use Rattle.bng_engine.specs.Terms.{Key, keys}
+use Rattle.bng_shard.specs.declared.running.Running.{Running}
+use Rattle.bng_shard.specs.declared.sums.Traffic.{Traffic}
+use Rattle.bng_shard.specs.Protocol.{term_of, terms_after, row_at}
+use Rattle.bng_shard.specs.Running.{row_from, rows_in, begun}
+use Rattle.bng_shard.specs.Sums.{traffic_in}
+
+-- the rows of the circuits that are left follow
+pub row_more : (all : List Row) (cs : List Static) (i : ℕ) (c : Static) (rs : List Running) → i < length cs → c ≡ get_or cs i c
+    → rows_in rs ++ map new_row (keys (terms_after i (drop i cs))) ≡ all
+    → rows_in (rs ++ begun c (i + 1) ∷ []) ++ map new_row (keys (terms_after (i + 1) (drop (i + 1) cs))) ≡ all
+row_more all cs i c rs lt at e =
+    let rest : List Row = map new_row (keys (terms_after (i + 1) (drop (i + 1) cs))) in
+    let first : Row = row_from (begun c (i + 1)) in
+    let split : map new_row (keys (terms_after i (drop i cs))) ≡ first ∷ rest =
+    at_drop_more (λ (ds : List Static). map new_row (keys (terms_after i ds))) cs i c lt ∙ ap (λ (d : Static). new_row (term_of d (i + 1)).key ∷ rest) (sym at) in
+    ap (λ (rows : List Row). rows ++ rest) (map-append row_from rs (begun c (i + 1) ∷ []))
+    ∙ append_assoc (rows_in rs) (first ∷ []) rest
+    ∙ ap (λ (rows : List Row). rows_in rs ++ rows) (sym split)
+    ∙ e
+
+-- rows of the same keys stay
+pub resumed_same : (rows : List Row) (ks : List Key) → map (λ (r : Row). r.key) rows ≡ ks → resumed ks rows ≡ rows
+resumed_same [] [] e = refl
+resumed_same [] (k ∷ ks) e = cc
+resumed_same (r ∷ rows) [] e = cc
+resumed_same (r ∷ rows) (k ∷ ks) e =
+    let rest : map (λ (r : Row). r.key) rows ≡ ks = cc in
+    ap (λ (more : List Row). r ∷ more) (resumed_same rows ks rest)
+
+-- the keys of new rows
+pub new_keys : (ks : List Key) → map (λ (r : Row). r.key) (map new_row ks) ≡ ks
+new_keys [] = refl
+new_keys (k ∷ ks) = ap (λ (more : List Key). k ∷ more) (new_keys ks)
+
+found : (b : Bool) (r : Running) (m : Option Running) (n : Option Row) → option_map row_from m ≡ n → option_map row_from (cond b (Some r) m) ≡ cond b (Some (row_from r)) n
+found true r m n e = refl
+found false r m n e = e
+
+-- the row with a session number
+pub row_at_same : (rs : List Running) (session : ℕ) → option_map row_from (find (λ (r : Running). r.term.session.0 == session) rs) ≡ row_at (rows_in rs) session
+row_at_same [] session = refl
+row_at_same (r ∷ rs) session = found (r.term.session.0 == session) r (find (λ (x : Running). x.term.session.0 == session) rs) (row_at (rows_in rs) session) (row_at_same rs session)
+
+-- what it carried
+pub traffic_at : (rs : List Running) (session : ℕ) → option_map (λ (r : Running). traffic_in (row_from r)) (find (λ (r : Running). r.term.session.0 == session) rs) ≡ option_map traffic_in (row_at (rows_in rs) session)
+traffic_at rs session =
+    let both : (m : Option Running) → option_map (λ (r : Running). traffic_in (row_from r)) m ≡ option_map traffic_in (option_map row_from m) = λ m. elim m as (λ o. option_map (λ (r : Running). traffic_in (row_from r)) o ≡ option_map traffic_in (option_map row_from o)) [ None ↦ refl | Some r ↦ refl ] in
+    both (find (λ (r : Running). r.term.session.0 == session) rs) ∙ ap (option_map traffic_in) (row_at_same rs session)

@@ -1,0 +1,111 @@
+-- What stands in the frames that go out: no packet of a subscriber, but for the frame of a circuit.
+use Rattle.std.proofs.Common.{◌≡◌, ℕ, Bool, true, false, ◌&&◌, List, [], ◌∷◌, Option, Some, None, length, nat_le, if◌then◌else◌, refl, sym, ap, subst, ◌∙◌, arith, eqb}
+use Rattle.std.specs.List.{AllByRecursion}
+use Rattle.std.proofs.lemmas.Bool.Decides.{nat_tests}
+use Rattle.bng_base.specs.declared.address.Mac.{Mac}
+use Rattle.bng_base.specs.declared.frame.TheConstants.{LONGEST}
+use Rattle.bng_base.specs.declared.item.OutRecord.{OutRecord}
+use Rattle.bng_base.specs.declared.outside.Role.TheVariants.{Access}
+use Rattle.bng_base.specs.declared.settings.AccessPort.{AccessPort}
+use Rattle.bng_base.specs.PppGrammar.{ppp_text}
+use Rattle.bng_base.specs.PppoeGrammar.{PppoeFrame, pppoe_text}
+use Rattle.bng_discovery.specs.declared.port.PortRules.{PortRules}
+use Rattle.bng_discovery.specs.Reply.{padt_of}
+use Rattle.bng_engine.specs.Spelled.{is_session_data, IsNoPacket}
+use Rattle.bng_engine.proofs.Everywhere.{all_append}
+use Rattle.bng_forward.specs.Framed.{session_frame}
+use Rattle.bng_ppp_wire.specs.declared.protocol.TheConstants as protocol
+use Rattle.bng_ppp.specs.Said.{Said}
+use Rattle.bng_pppoe_wire.proofs.Spelled.{six}
+use Rattle.bng_shard.specs.declared.rules.Rules.{Rules}
+use Rattle.bng_shard.specs.declared.sending.At.{At}
+use Rattle.bng_shard.specs.State.{Session, port_at, offers_at}
+use Rattle.bng_shard.specs.Deed.{out, frame_outs}
+use Rattle.bng_shard.specs.Link.{ppp_outs, padt_outs, ends_outs, said_outs}
+use Rattle.bng_ppp.proofs.LcpOuts.{IsLcp, AreLcp}
+
+-- an out that no one is charged for, and no packet of a subscriber
+pub record IsControl (o : OutRecord) : Type 0 where
+  pub charge : o.charge ≡ None
+  pub unsent : o.sent ≡ false
+  pub no_packet : IsNoPacket o.role o.frame
+
+abbrev pub AreControl : List OutRecord → Type 0
+AreControl outs = AllByRecursion IsControl outs
+
+-- Octets of frames ------------------------------------------------------------------------------------------------------
+
+abbrev made : List ℕ → List ℕ → Bool → ℕ → ℕ → List ℕ → PppoeFrame
+made d s discovery code session payload = record { dst = record { 0 = d }; src = record { 0 = s }; discovery = discovery; code = code; session = session; payload = payload }
+
+-- ETHER_TYPE 8863
+discovery_shown : (d s : List ℕ) (code session : ℕ) (payload : List ℕ) → length d ≡ 6 → length s ≡ 6 → is_session_data (pppoe_text (made d s true code session payload)) ≡ false
+discovery_shown d s code session payload ld ls =
+    six (λ (x : List ℕ). is_session_data (pppoe_text (made x s true code session payload)) ≡ false)
+    (λ a b c e f g. six (λ (y : List ℕ). is_session_data (pppoe_text (made (a ∷ b ∷ c ∷ e ∷ f ∷ g ∷ []) y true code session payload)) ≡ false) (λ h i j k l m. refl) s ls) d ld
+
+-- a session frame of PPP protocol c021
+lcp_shown : (d s : List ℕ) (code session : ℕ) (info : List ℕ) → length d ≡ 6 → length s ≡ 6 → is_session_data (pppoe_text (made d s false code session (ppp_text (record { protocol = protocol.LCP; info = info })))) ≡ false
+lcp_shown d s code session info ld ls =
+    six (λ (x : List ℕ). is_session_data (pppoe_text (made x s false code session (ppp_text (record { protocol = protocol.LCP; info = info })))) ≡ false)
+    (λ a b c e f g. six (λ (y : List ℕ). is_session_data (pppoe_text (made (a ∷ b ∷ c ∷ e ∷ f ∷ g ∷ []) y false code session (ppp_text (record { protocol = protocol.LCP; info = info })))) ≡ false) (λ h i j k l m. refl) s ls) d ld
+
+-- Outs ------------------------------------------------------------------------------------------------------------------
+
+-- what goes out on an access port and is no session data is no packet
+no_data : (a : At) (number : ℕ) (port : AccessPort) (octets : List ℕ) → is_session_data octets ≡ false → IsControl (out a (Access number) port.peer octets None)
+no_data a number port octets h = record { charge = refl; unsent = refl; no_packet = record { not_core = refl; not_data = λ e. h } }
+
+where_fits : (b c d : Bool) (o : OutRecord) → (b ≡ true → c ≡ true → IsControl o) → AreControl (if (b && c) && d then o ∷ [] else [])
+where_fits false c d o h = tt
+where_fits true false d o h = tt
+where_fits true true false o h = tt
+where_fits true true true o h = (h refl refl, tt)
+
+same_length : (n : ℕ) → eqb n 6 ≡ true → n ≡ 6
+same_length n e = grind (arith, nat_tests)
+
+-- a frame with right addresses that is no session data
+frame_control : (a : At) (number : ℕ) (port : AccessPort) (p : PppoeFrame) → (length p.dst.0 ≡ 6 → length p.src.0 ≡ 6 → is_session_data (pppoe_text p) ≡ false) → AreControl (frame_outs a number port p)
+frame_control a number port p h =
+    where_fits (eqb (length p.dst.0) 6) (eqb (length p.src.0) 6) (nat_le (length (pppoe_text p)) LONGEST) (out a (Access number) port.peer (pppoe_text p) None)
+    (λ d s. no_data a number port (pppoe_text p) (h (same_length (length p.dst.0) d) (same_length (length p.src.0) s)))
+
+-- a frame of the discovery stage
+pub discovery_control : (a : At) (number : ℕ) (port : AccessPort) (p : PppoeFrame) → p.discovery ≡ true → AreControl (frame_outs a number port p)
+discovery_control a number port p e =
+    frame_control a number port p
+    (λ d s. ap (λ (b : Bool). is_session_data (pppoe_text (made p.dst.0 p.src.0 b p.code p.session p.payload))) e ∙ discovery_shown p.dst.0 p.src.0 p.code p.session p.payload d s)
+
+-- a session frame of LCP
+lcp_control : (a : At) (number : ℕ) (port : AccessPort) (dst src : Mac) (session : ℕ) (f : List ℕ) → IsLcp f → AreControl (frame_outs a number port (session_frame dst src session f))
+lcp_control a number port dst src session f is =
+    subst (λ (g : List ℕ). AreControl (frame_outs a number port (session_frame dst src session g))) (sym is.spelled)
+    (frame_control a number port (session_frame dst src session (ppp_text (record { protocol = protocol.LCP; info = is.info }))) (lcp_shown dst.0 src.0 0 session is.info))
+
+lcp_controls : (a : At) (x : Session) (port : AccessPort) (fs : List (List ℕ)) → AreLcp fs → AreControl (ppp_outs a x (Some port) fs)
+lcp_controls a x port [] h = tt
+lcp_controls a x port (f ∷ fs) h =
+    all_append IsControl (frame_outs a x.port port (session_frame x.mac port.mac x.number f)) (ppp_outs a x (Some port) fs) (lcp_control a x.port port x.mac port.mac x.number f h.0) (lcp_controls a x port fs h.1)
+
+ppp_control : (a : At) (x : Session) (port : Option AccessPort) (fs : List (List ℕ)) → AreLcp fs → AreControl (ppp_outs a x port fs)
+ppp_control a x None fs h = tt
+ppp_control a x (Some port) fs h = lcp_controls a x port fs h
+
+padt_control : (a : At) (x : Session) (port : Option AccessPort) (offers : Option PortRules) → AreControl (padt_outs a x port offers)
+padt_control a x None offers = tt
+padt_control a x (Some port) None = tt
+padt_control a x (Some port) (Some offers) = discovery_control a x.port port (padt_of offers x.mac x.number) refl
+
+-- the PADT of a session
+pub ends_control : (r : Rules) (a : At) (x : Session) → AreControl (ends_outs r a x)
+ends_control r a x = padt_control a x (port_at r.access x.port) (offers_at r.offers x.port)
+
+ends_if : (b : Bool) (r : Rules) (a : At) (x : Session) → AreControl (if b then ends_outs r a x else [])
+ends_if true r a x = ends_control r a x
+ends_if false r a x = tt
+
+-- what a link says
+pub said_control : (r : Rules) (a : At) (x : Session) (says : Said) → AreLcp says.outs → AreControl (said_outs r a x says)
+said_control r a x says h =
+    all_append IsControl (ppp_outs a x (port_at r.access x.port) says.outs) (if says.finished then ends_outs r a x else []) (ppp_control a x (port_at r.access x.port) says.outs h) (ends_if says.finished r a x)

@@ -1,0 +1,15 @@
+use Rattle.bng_shard.proofs.Statics.{step_statics}
+use Rattle.bng_shard.proofs.StepLaws.{pppoe_laws, light, data_fates}
+use Rattle.bng_shard.proofs.laws.steps_meet_laws.Goals as goal
+
+pub returns-clause-laws : goal.returns-clause-laws
+returns-clause-laws c = pppoe_laws
+
+pub returns-clause-circuits : goal.returns-clause-circuits
+returns-clause-circuits c = step_statics
+
+pub returns-clause-light : goal.returns-clause-light
+returns-clause-light c = light
+
+pub returns-clause-fates : goal.returns-clause-fates
+returns-clause-fates c = data_fates

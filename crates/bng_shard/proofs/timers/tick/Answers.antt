@@ -1,0 +1,30 @@
+use Rattle.std.proofs.Common.{◌≡◌, ◌+◌, ◌≤◌, ℕ, length, subst, arith, rules}
+use Rattle.bng_shard.specs.Timed.{Ticked}
+use Rattle.bng_shard.specs.Timers.{at_once}
+use Rattle.bng_shard.proofs.Timing.{ticks_begin, ticks_more, ticks_done, ticks_stop}
+use Rattle.bng_shard.proofs.timers.tick.Goals as goal
+
+pub loop-init : goal.loop-init
+loop-init c = record {
+  on = ticks_begin c.args.rules.now c.args.at c.args.now c.args.random.now c.args.slots.now c.args.outs.now.items;
+  capacity = search rules;
+  few = omega arith;
+}
+
+pub loop-preserved : goal.loop-preserved
+loop-preserved c = record {
+  on = ticks_more c.args.rules.now c.args.at c.args.now c.args.random.now c.args.slots.now c.loop.slots c.args.outs.now.items c.loop.outs.items c.loop.counter c.tick_once.new.slots c.tick_once.new.outs.items c.loop.invariant.on c.if-not-tick_once.ensures.ticked;
+  capacity = search rules;
+  few = omega arith;
+}
+
+pub returns-then-not-tick_once-clause-ticked : goal.returns-then-not-tick_once-clause-ticked
+returns-then-not-tick_once-clause-ticked c =
+    let few : length c.tick_once.new.outs.items ≤ length c.args.outs.now.items + 320 = omega arith in
+    ticks_stop c.args.rules.now c.args.at c.args.now c.args.random.now c.args.slots.now c.loop.slots c.args.outs.now.items c.loop.outs.items c.loop.counter at_once c.tick_once.new.slots c.tick_once.new.outs.items c.loop-test.true c.loop.invariant.on c.if-not-tick_once.ensures.ticked few
+
+pub returns-clause-ticked : goal.returns-clause-ticked
+returns-clause-ticked c =
+    let all : c.loop.counter ≡ 64 = omega arith in
+    let few : length c.loop.outs.items ≤ length c.args.outs.now.items + 320 = omega arith in
+    subst (λ (n : ℕ). Ticked n c.args.rules.now c.args.at c.args.now c.args.random.now c.args.slots.now c.loop.slots c.args.outs.now.items c.loop.outs.items) all (ticks_done c.args.rules.now c.args.at c.args.now c.args.random.now c.args.slots.now c.loop.slots c.args.outs.now.items c.loop.outs.items c.loop.counter c.loop.invariant.on few)

@@ -1,0 +1,8 @@
+use Rattle.std.proofs.Common.{◌≡◌, ◌<◌, ℕ, sym, ◌∙◌, arith}
+use Rattle.bng_shard.proofs.Holding.{held_inside}
+use Rattle.bng_shard.proofs.whose.whose_packet.Goals as goal
+
+pub returns-in-Some-look-clause-inside : goal.returns-in-Some-look-clause-inside
+returns-in-Some-look-clause-inside c n e =
+    let at = held_inside c.args.pool.now c.in-Some.header.dst c.args.rules.now.shards c.in-Some-look.shard c.requires.held (sym c.look.ensures ∙ c.in-Some-look.is) in
+    grind (arith, at, e)

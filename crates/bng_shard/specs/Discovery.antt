@@ -1,0 +1,90 @@
+-- Frames of the discovery stage, by RFC 2516 section 5.
+use Rattle.std.specs.Prelude.{◌≡◌, ◌⊎◌, ℕ, ◌≤◌, ◌==◌, Bool, true, false, not, ◌&&◌, List, [], ◌∷◌, ◌++◌, Option, Some, None, length, is_some, slice_get, position, option_map}
+use Rattle.std.specs.Str.{bytes_eq}
+use Rattle.bng_base.specs.declared.address.Mac.{Mac}
+use Rattle.bng_base.specs.declared.fate.DropCause.TheVariants.{NoSession as NoSuchSession}
+use Rattle.bng_base.specs.declared.item.Entry.{Entry}
+use Rattle.bng_base.specs.declared.item.OutRecord.{OutRecord}
+use Rattle.bng_base.specs.declared.settings.AccessPort.{AccessPort}
+use Rattle.bng_base.specs.PppoeGrammar.{PppoeTag, PppoeFrame, AreTags}
+use Rattle.bng_pppoe_wire.specs.declared.kind.TheConstants.{HOST_UNIQ}
+use Rattle.bng_discovery.specs.declared.answers.Answer.{Answer}
+use Rattle.bng_discovery.specs.declared.answers.Answer.TheVariants.{Offer, Make, Again, Refuse, Ended, NoSession, Ignore}
+use Rattle.bng_discovery.specs.declared.port.PortRules.{PortRules}
+use Rattle.bng_discovery.specs.Reply.{pado_of, pads_of, refusal_of}
+use Rattle.bng_discovery.specs.Request.{first_tag}
+use Rattle.bng_discovery.specs.Table.{table, first_row}
+use Rattle.bng_ppp.specs.declared.rules.Input.TheVariants.{Start}
+use Rattle.bng_ppp.specs.LinkState.{LinkState, IsFirstAsk, unused, kept_first}
+use Rattle.bng_base.specs.declared.settings.AuthKind.TheVariants.{Chap}
+use Rattle.bng_shard.specs.declared.rules.Rules.{Rules}
+use Rattle.bng_shard.specs.State.{State, Session, vacant, port_at, offers_at}
+use Rattle.bng_shard.specs.Deed.{Deed, at_of, frame_outs, ignored, handled}
+use Rattle.bng_shard.specs.Link.{Drives, told}
+
+abbrev pub same_option : Option (List ℕ) → Option (List ℕ) → Bool
+same_option None None = true
+same_option None (Some b) = false
+same_option (Some a) None = false
+same_option (Some a) (Some b) = bytes_eq a b
+
+-- the Host-Uniq of a request
+abbrev pub host_uniq_of : List PppoeTag → Option (List ℕ)
+host_uniq_of tags = option_map (λ t. t.value) (first_tag HOST_UNIQ tags)
+
+-- The session was made by a PADR of the same host with the same Host-Uniq on the same port, so with the same AC-Cookie; it has
+-- not ended, and its LCP was never Opened.
+abbrev pub is_repeated : ℕ → Mac → Option (List ℕ) → Session → Bool
+is_repeated port mac host_uniq x =
+    (x.port == port) && (bytes_eq x.mac.0 mac.0 && (same_option x.host_uniq host_uniq && (not x.ended && not x.link.kept.was_opened)))
+
+abbrev pub repeated_at : State → ℕ → Mac → Option (List ℕ) → Option ℕ
+repeated_at s port mac host_uniq = position (is_repeated port mac host_uniq) s.sessions
+
+-- a link that was told nothing
+pub record IsNewLink (random : List ℕ) (l : LinkState) : Type 0 where
+  pub lcp : l.lcp ≡ unused
+  pub ask : IsFirstAsk 1492 (Chap ∷ []) random l.ask
+  pub kept : l.kept ≡ kept_first 1492
+
+-- a session is made, and its LCP is told Open and Up
+pub record Makes (r : Rules) (s : State) (e : Entry) (number : ℕ) (port : AccessPort) (offers : PortRules) (p : PppoeFrame) (tags : List PppoeTag) (d : Deed) : Type 0 where
+  pub session : ℕ
+  pub is_vacant : vacant s ≡ Some session
+  pub link : LinkState
+  pub new : IsNewLink e.item.random link
+  pub outs : List OutRecord
+  pub x : Session
+  pub starts : Drives r (at_of s e) (record { number = session; port = number; mac = p.src; host_uniq = host_uniq_of tags; link = link; ended = false }) (told r e Start) outs x
+  pub done : d ≡ handled s e (frame_outs (at_of s e) number port (pads_of offers p.src session tags) ++ outs) (record s { sessions = s.sessions ++ x ∷ [] })
+
+-- the PADS of the session that was made for the same request before
+pub record Repeats (s : State) (e : Entry) (number : ℕ) (port : AccessPort) (offers : PortRules) (p : PppoeFrame) (tags : List PppoeTag) (d : Deed) : Type 0 where
+  pub place : ℕ
+  pub found : repeated_at s number p.src (host_uniq_of tags) ≡ Some place
+  pub x : Session
+  pub at : slice_get s.sessions place ≡ Some x
+  pub done : d ≡ handled s e (frame_outs (at_of s e) number port (pads_of offers p.src x.number tags)) s
+
+-- what an answer does
+abbrev pub Answers : Answer → Rules → State → Entry → ℕ → AccessPort → PortRules → PppoeFrame → List PppoeTag → Deed → Type 0
+Answers Offer r s e number port offers p tags d = d ≡ handled s e (frame_outs (at_of s e) number port (pado_of offers p.src tags)) s
+Answers Make r s e number port offers p tags d = Makes r s e number port offers p tags d
+Answers Again r s e number port offers p tags d = Repeats s e number port offers p tags d
+Answers (Refuse error) r s e number port offers p tags d = d ≡ handled s e (frame_outs (at_of s e) number port (refusal_of offers p.src error tags)) s
+Answers Ended r s e number port offers p tags d = d ≡ ignored s e
+Answers NoSession r s e number port offers p tags d = d ≡ ignored s e
+Answers Ignore r s e number port offers p tags d = d ≡ ignored s e
+
+-- A frame of the discovery stage that is no PADT came to the port with this number. A request is known where a session was made
+-- for it before.
+pub record Discovers (r : Rules) (s : State) (e : Entry) (number : ℕ) (p : PppoeFrame) (d : Deed) : Type 0 where
+  pub port : AccessPort
+  pub its_port : port_at r.access number ≡ Some port
+  pub tags : List PppoeTag
+  pub listed : AreTags tags p.payload
+  pub few : length tags ≤ 64
+  pub does : ((offers : PortRules) × (offers_at r.offers number ≡ Some offers) × (answer : Answer)
+      × (Some answer ≡ first_row (table offers p tags (is_some (repeated_at s number p.src (host_uniq_of tags))) (is_some (vacant s))))
+      × Answers answer r s e number port offers p tags d)
+      ⊎ ((offers_at r.offers number ≡ None) × (d ≡ ignored s e))

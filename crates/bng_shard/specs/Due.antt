@@ -1,0 +1,10 @@
+-- The deadlines of a shard.
+use Rattle.std.specs.Prelude.{◌≡◌, ℕ, ◌≤◌, List, Some, None, fold, Option}
+use Rattle.std.specs.List.{All}
+use Rattle.bng_ppp.specs.LinkRelation.{earliest}
+use Rattle.bng_shard.specs.State.{State, Session}
+use Rattle.bng_shard.specs.Timers.{deadline_of}
+
+-- the earliest deadline of its sessions, if one has a deadline
+abbrev pub due_of : State → Option ℕ
+due_of s = fold (λ a (x : Session). earliest a (deadline_of x)) None s.sessions

@@ -1,0 +1,15 @@
+-- A session that was just made.
+use Rattle.std.specs.Prelude.{◌≡◌, ℕ, false, List, Option}
+use Rattle.bng_base.specs.declared.address.Mac.{Mac}
+use Rattle.bng_ppp.specs.LinkState.{LinkState}
+use Rattle.bng_shard.specs.State.{Session}
+use Rattle.bng_shard.specs.Discovery.{IsNewLink}
+
+abbrev pub new_session : ℕ → ℕ → Mac → Option (List ℕ) → LinkState → Session
+new_session number port mac host_uniq link =
+    record { number = number; port = port; mac = mac; host_uniq = host_uniq; link = link; ended = false }
+
+-- its link was told nothing
+abbrev pub IsNewSession : ℕ → ℕ → Mac → Option (List ℕ) → List ℕ → Session → Type 0
+IsNewSession number port mac host_uniq random x =
+    (link : LinkState) × IsNewLink random link × (x ≡ new_session number port mac host_uniq link)

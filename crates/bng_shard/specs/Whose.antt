@@ -1,0 +1,66 @@
+-- Which shard an item is for.
+use Rattle.std.specs.Prelude.{◌≡◌, ◌⊎◌, ◌≢◌, ℕ, ◌/◌, ◌%◌, ◌<◌, ◌≤◌, ◌==◌, true, List, Option, Some, None, sum, find}
+use Rattle.bng_base.specs.declared.address.Ip4.{Ip4}
+use Rattle.bng_base.specs.declared.address.Mac.{Mac}
+use Rattle.bng_base.specs.declared.fate.DropCause.TheVariants.{Malformed, NoSession}
+use Rattle.bng_base.specs.declared.fate.Fate.TheVariants.{Consumed, Dropped}
+use Rattle.bng_base.specs.declared.ipv4.Ipv4.{Ipv4}
+use Rattle.bng_base.specs.declared.item.Item.{Item}
+use Rattle.bng_base.specs.declared.item.ItemKind.{ItemKind}
+use Rattle.bng_base.specs.declared.item.ItemKind.TheVariants.{Access, Core, Tunnel, Verdict, Change, Tick, End}
+use Rattle.bng_base.specs.FateOf.{Arrival, arrival_of}
+use Rattle.bng_base.specs.PppoeGrammar.{PppoeFrame}
+use Rattle.bng_forward.specs.Fates.{IsFrame, NamesSession, IsCorePacket}
+use Rattle.bng_shard.specs.declared.rules.Rules.{Rules}
+use Rattle.bng_shard.specs.declared.pool.Holder.{Holder}
+use Rattle.bng_shard.specs.declared.whose.Whose.{Whose}
+use Rattle.bng_shard.specs.declared.whose.Whose.TheVariants.{Loose, Stands}
+
+-- the sum of a MAC's octets
+abbrev pub fold_of : Mac → ℕ
+fold_of mac = sum mac.0
+
+-- a session number names a shard that is there, and an index of 1 to 1,022
+pub record NamesShard (r : Rules) (number : ℕ) : Type 0 where
+  pub shard : number / 1024 < r.shards
+  pub low : 1 ≤ number % 1024
+  pub high : number % 1024 ≤ 1022
+
+abbrev pub shard_in : Option Holder → Option ℕ
+shard_in None = None
+shard_in (Some h) = Some h.shard
+
+-- the shard that holds an address
+abbrev pub holder_of : List Holder → Ip4 → Option ℕ
+holder_of holders address = shard_in (find (λ h. h.address.0 == address.0) holders)
+
+-- A frame that names a session is for the shard of that number; another one for the shard of its SOURCE_ADDR.
+abbrev pub IsForFrame : Rules → PppoeFrame → Whose → Type 0
+IsForFrame r p whose =
+    (NamesSession p × NamesShard r p.session × (whose ≡ Stands (p.session / 1024)))
+    ⊎ ((NamesSession p × (¬ (NamesShard r p.session)) × (whose ≡ Loose (Dropped NoSession)))
+    ⊎ ((¬ (NamesSession p)) × (whose ≡ Stands (fold_of p.src % r.shards))))
+
+abbrev pub IsForHolder : Option ℕ → Whose → Type 0
+IsForHolder None whose = whose ≡ Loose (Dropped NoSession)
+IsForHolder (Some shard) whose = whose ≡ Stands shard
+
+abbrev pub IsForTarget : Rules → ℕ → Whose → Type 0
+IsForTarget r target whose = ((target < r.shards) × (whose ≡ Stands target)) ⊎ ((r.shards ≤ target) × (whose ≡ Loose Consumed))
+
+-- By the kind of the item. What is outside its grammar is loose, and so is what leads to no shard.
+abbrev pub IsForKind : ItemKind → Rules → List Holder → Item → Whose → Type 0
+IsForKind (Access number) r holders item whose =
+    (((p : PppoeFrame) → ¬ (IsFrame r.access number (arrival_of item) p)) × (whose ≡ Loose (Dropped Malformed)))
+    ⊎ ((p : PppoeFrame) × IsFrame r.access number (arrival_of item) p × IsForFrame r p whose)
+IsForKind Core r holders item whose =
+    (((v : Ipv4) → ¬ (IsCorePacket r.core_peer (arrival_of item) v)) × (whose ≡ Loose (Dropped Malformed)))
+    ⊎ ((v : Ipv4) × IsCorePacket r.core_peer (arrival_of item) v × IsForHolder (holder_of holders v.dst) whose)
+IsForKind Tunnel r holders item whose = whose ≡ Loose (Dropped NoSession)
+IsForKind Verdict r holders item whose = whose ≡ Loose Consumed
+IsForKind Change r holders item whose = whose ≡ Loose Consumed
+IsForKind Tick r holders item whose = IsForTarget r item.target whose
+IsForKind End r holders item whose = IsForTarget r item.target whose
+
+abbrev pub IsWhose : Rules → List Holder → Item → Whose → Type 0
+IsWhose r holders item whose = IsForKind item.kind r holders item whose

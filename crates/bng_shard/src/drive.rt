@@ -1,0 +1,179 @@
+//! What a step of a session's link sends.
+ghost use Rattle.std.specs.Prelude.{◌≡◌, true, ◌+◌, ◌<◌, ◌≤◌, ◌^◌, ◌++◌, IfSome, IfNone, None as Nothing, length, vec_capacity};
+ghost use Rattle.bng_base.specs.PppoeGrammar.{PppoeFrame, pppoe_text};
+ghost use Rattle.bng_pppoe_wire.specs.View.{frame_of};
+ghost use Rattle.bng_ppp.specs.Said.{payloads};
+ghost use Rattle.bng_shard.specs.State.{port_at, offers_at};
+ghost use Rattle.bng_shard.specs.Deed.{has_macs, frame_outs};
+ghost use Rattle.bng_shard.specs.Link.{ppp_outs, ends_outs};
+ghost use Rattle.bng_discovery.specs.Reply.{padt_of};
+ghost use Rattle.bng_shard.specs.Driven.{Driven};
+
+use crate::rules::Rules;
+use crate::sending::{At, push_out};
+use crate::session::Session;
+use arrayvec::ArrayVec;
+use bng_base::{AccessPort, Frame, HEADROOM, LONGEST, Mac, OutRecord, Role, Written};
+use bng_discovery::{PortRules, terminate};
+use bng_ppp::Input;
+use bng_pppoe_wire::{Pppoe, code};
+
+/// The access port with this number, from 1 on.
+pub(crate) fn port_of(rules: &Rules, number: u8) -> Option<AccessPort>
+    ensures { result ≡ port_at rules.now.access number }
+{
+    if number == 0 {
+        return None;
+    }
+    rules
+        .access
+        .as_slice()
+        .get(usize::from(number) - 1)
+        .copied()
+}
+
+/// What the access port with this number, from 1 on, offers.
+pub(crate) fn offers_of(rules: &Rules, number: u8) -> Option<&PortRules>
+    ensures found { IfSome result (λ p. offers_at rules.now.offers number ≡ Some p.now) }
+    ensures none { IfNone result (offers_at rules.now.offers number ≡ Nothing) }
+{
+    if number == 0 {
+        return None;
+    }
+    rules.offers.as_slice().get(usize::from(number) - 1)
+}
+
+/// Frames between two MACs, each of which has six octets.
+pub(crate) fn between(_dst: Mac, _src: Mac)
+    ensures { (p : PppoeFrame) → p.dst ≡ _dst → p.src ≡ _src → has_macs p ≡ true }
+{}
+
+/// Appends a frame that was written, to a host of the port with this number.
+pub(crate) fn push_written(
+    outs: &mut Vec<OutRecord>,
+    at: At,
+    number: u8,
+    port: &AccessPort,
+    frame: Frame,
+)
+    requires room { length outs.old.items < vec_capacity outs.old }
+    requires whole { frame.headroom ≡ HEADROOM }
+    ensures items { (p : PppoeFrame) → frame.payload ≡ pppoe_text p → has_macs p ≡ true → outs.new.items ≡ outs.old.items ++ frame_outs at number port.now p }
+    ensures capacity { vec_capacity outs.new ≡ vec_capacity outs.old }
+    ensures few { length outs.new.items ≤ length outs.old.items + 1 }
+{
+    let octets = frame.payload().len();
+    prove!(octets <= LONGEST);
+    push_out(outs, at, Role::Access(number), port.peer, frame, None);
+}
+
+/// Appends a frame to a host of the port with this number, where a datagram holds it.
+pub(crate) fn push_frame(
+    outs: &mut Vec<OutRecord>,
+    at: At,
+    number: u8,
+    port: &AccessPort,
+    frame: &Pppoe<'_>,
+)
+    requires room { length outs.old.items < vec_capacity outs.old }
+    ensures items { outs.new.items ≡ outs.old.items ++ frame_outs at number port.now (frame_of frame.now) }
+    ensures capacity { vec_capacity outs.new ≡ vec_capacity outs.old }
+    ensures few { length outs.new.items ≤ length outs.old.items + 1 }
+{
+    between(frame.dst, frame.src);
+    let mut fresh = Frame::new();
+    match frame.write(&mut fresh) {
+        Written::Done => push_written(outs, at, number, port, fresh),
+        Written::Full => {}
+    }
+}
+
+// Appends the frames of a session's link, each in a frame of its circuit (RFC 2516 section 6).
+fn send_frames(
+    rules: &Rules,
+    at: At,
+    session: &Session,
+    frames: &ArrayVec<Frame, 4>,
+    outs: &mut Vec<OutRecord>,
+)
+    requires room { length outs.old.items + 4 ≤ vec_capacity outs.old }
+    ensures items { outs.new.items ≡ outs.old.items ++ ppp_outs at session.now (port_at rules.now.access session.now.port) (payloads frames.now.items) }
+    ensures capacity { vec_capacity outs.new ≡ vec_capacity outs.old }
+    ensures few { length outs.new.items ≤ length outs.old.items + 4 }
+{
+    let Some(port) = port_of(rules, session.port) else {
+        return;
+    };
+    for frame in frames.as_slice() {
+        let wrapped = Pppoe {
+            dst: session.mac,
+            src: port.mac,
+            discovery: false,
+            code: code::SESSION_DATA,
+            session: session.number.0,
+            payload: frame.payload(),
+        };
+        push_frame(outs, at, session.port, &port, &wrapped);
+    }
+}
+
+// Appends the PADT of a session to a host of the port (RFC 2516 section 5.5).
+fn push_padt(
+    outs: &mut Vec<OutRecord>,
+    at: At,
+    session: &Session,
+    port: &AccessPort,
+    offers: &PortRules,
+)
+    requires room { length outs.old.items < vec_capacity outs.old }
+    ensures items { outs.new.items ≡ outs.old.items ++ frame_outs at session.now.port port.now (padt_of offers.now session.now.mac session.now.number) }
+    ensures capacity { vec_capacity outs.new ≡ vec_capacity outs.old }
+    ensures few { length outs.new.items ≤ length outs.old.items + 1 }
+{
+    between(session.mac, offers.mac);
+    let mut padt = Frame::new();
+    terminate(session.mac, offers, session.number, &mut padt);
+    push_written(outs, at, session.port, port, padt);
+}
+
+/// Appends the PADT of a session (RFC 2516 section 5.5).
+pub(crate) fn send_padt(rules: &Rules, at: At, session: &Session, outs: &mut Vec<OutRecord>)
+    requires room { length outs.old.items < vec_capacity outs.old }
+    ensures items { outs.new.items ≡ outs.old.items ++ ends_outs rules.now at session.now }
+    ensures capacity { vec_capacity outs.new ≡ vec_capacity outs.old }
+    ensures few { length outs.new.items ≤ length outs.old.items + 1 }
+{
+    let Some(port) = port_of(rules, session.port) else {
+        return;
+    };
+    let Some(offers) = offers_of(rules, session.port) else {
+        return;
+    };
+    push_padt(outs, at, session, &port, offers);
+}
+
+/// Tells a session's link an input and appends what goes out for it. Where LCP finished the session has ended, and its PADT
+/// stands last.
+pub(crate) fn drive(
+    session: &mut Session,
+    rules: &Rules,
+    at: At,
+    input: Input<'_>,
+    now: u64,
+    random: &[u8; 16],
+    outs: &mut Vec<OutRecord>,
+)
+    requires moment { now < 2 ^ 60 }
+    requires auth { 0 < length rules.now.link.auth.items }
+    requires room { length outs.old.items + 5 ≤ vec_capacity outs.old }
+    ensures driven { Driven rules.now at input.entry now random.now session.old session.new outs.old.items outs.new.items }
+    ensures capacity { vec_capacity outs.new ≡ vec_capacity outs.old }
+    ensures few { length outs.new.items ≤ length outs.old.items + 5 }
+{
+    let steps = session.link.step(&rules.link, input, now, random);
+    session.ended = steps.finished;
+    send_frames(rules, at, session, &steps.outs, outs);
+    if steps.finished {
+        send_padt(rules, at, session, outs);
+    }
+}

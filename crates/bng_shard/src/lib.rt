@@ -1,0 +1,37 @@
+//! One shard of the gateway: the sessions that discovery made and the provisioned circuits of its numbers, stepped one item at a
+//! time. `Shard::step` is a step of the protocol of `specs/Step.antt` (PPPoE discovery by RFC 2516, LCP by RFC 1661, forwarding by
+//! RFC 791), and appends one entry to the journal of the round. `whose_is` says which shard an item is for. `open` and `prepare`
+//! alone take memory.
+#![tactic(auto)]
+
+mod answering;
+mod choice;
+mod circuits;
+mod discover;
+mod drive;
+mod frames;
+mod hear;
+mod laws;
+mod pool;
+mod repeats;
+mod replies;
+mod rules;
+mod running;
+mod sending;
+mod session;
+mod shard;
+mod slots;
+mod sums;
+mod timers;
+mod vacancy;
+mod whose;
+
+pub use crate::laws::steps_meet_laws;
+pub use crate::pool::{Holder, PlainPool};
+pub use crate::rules::Rules;
+pub use crate::shard::{Shard, ShardError};
+pub use crate::sums::{Charged, Traffic};
+pub use crate::whose::{Whose, whose_is};
+
+#[cfg(test)]
+mod tests;

@@ -1,0 +1,18 @@
+use bng_base::{AccessPort, Listed, Peer};
+use bng_discovery::PortRules;
+use bng_ppp::LinkRules;
+
+/// By what all shards of a gateway work. They are the same at each call.
+#[derive(Drop)]
+pub struct Rules {
+    /// How many shards there are, 1 to 64.
+    pub shards: u16,
+    /// The core's end.
+    pub core_peer: Peer,
+    /// The access ports, whose numbers count from 1.
+    pub access: Listed<AccessPort>,
+    /// What each access port offers, by the same numbers.
+    pub offers: Listed<PortRules>,
+    /// What each session's link is run by.
+    pub link: LinkRules,
+}

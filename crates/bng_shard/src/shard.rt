@@ -1,0 +1,212 @@
+//! One shard.
+ghost use Rattle.std.specs.Prelude.{◌≡◌, ◌≤◌, ◌<◌, ◌+◌, ◌*◌, ◌^◌, ◌++◌, ◌∷◌, [], ℕ, true, IfOk, OnOk, length, map, option_map, vec_capacity};
+ghost use Rattle.std.specs.List.{All};
+ghost use Rattle.bng_engine.specs.Progress.{Kept, IsReady};
+ghost use Rattle.bng_engine.specs.Sight.{new_row, plus};
+ghost use Rattle.bng_engine.specs.Terms.{keys};
+ghost use Rattle.bng_shard.specs.Due.{due_of};
+ghost use Rattle.bng_shard.specs.Protocol.{Handles, entry_of, opened, row_at, terms_after, terms_of};
+ghost use Rattle.bng_shard.specs.Room.{Admits};
+ghost use Rattle.bng_shard.specs.Running.{rows_in};
+ghost use Rattle.bng_shard.specs.Sums.{charged_as, traffic_in, IsLow};
+ghost use Rattle.bng_shard.specs.State.{sessions_most, settled};
+
+use crate::hear::hear;
+use crate::rules::Rules;
+use crate::running::{Running, carried_by, carry_out, charged_as, rows_of};
+use crate::sending::At;
+use crate::session::Session;
+use crate::slots::Slots;
+use crate::sums::{Charged, Traffic};
+use crate::timers::due;
+use bng_base::{Claim, Entry, Fate, Item, LONGEST, OutRecord, SessionNo, Static};
+use std::alloc::{AllocError, Global};
+use std::marker::Model;
+use std::mem;
+
+/// What a shard was not opened or made ready for.
+#[derive(Clone, Copy, PartialEq, Eq, Debug)]
+pub enum ShardError {
+    OutOfMemory,
+}
+
+/// The sessions of one shard, with the provisioned circuits whose numbers are the shard's. Contracts see it as the engine does:
+/// its state, a row of octets for each term, and of a round that is going on the journal, what is to be sent, and for how many
+/// items more there is room.
+#[derive(Drop)]
+pub struct Shard {
+    slots: Slots,
+    rows: Vec<Running>,
+    journal: Vec<Entry>,
+    outs: Vec<OutRecord>,
+    room: usize,
+}
+
+impl Model for Shard {
+    ghost use Rattle.std.specs.Prelude.{[]};
+    ghost use Rattle.bng_base.specs.declared.item.Entry.{Entry};
+    ghost use Rattle.bng_engine.specs.Sight.{Sight};
+    ghost use Rattle.bng_shard.specs.State.{State};
+
+    ghost Value = { Sight State Entry };
+
+    ghost use Rattle.bng_shard.specs.Running.{rows_in};
+    ghost use Rattle.bng_shard.specs.Fits.{Fits};
+
+    ghost view = { λ a. record { number = a.slots.number; state = a.slots; rows = rows_in a.rows.items; journal = a.journal.items; outs = a.outs.items; records = []; stops = []; room = a.room } };
+
+    ghost invariant = { Fits };
+}
+
+/// How many sessions a shard has at most.
+const SESSIONS: usize = 1022;
+/// How many outs an item has at most, a Tick and an End aside.
+const OUTS: usize = 10;
+/// How many a Tick and an End have in all.
+const TIMED_OUTS: usize = 640;
+
+// What a shard has at its opening.
+fn memory_for(
+    alloc: Global,
+    circuits: &[Static],
+) -> Result<(Vec<Session>, Vec<Running>), AllocError>
+    requires few { length circuits.now ≤ 1024 }
+    ensures sessions { IfOk result (λ m. (m.0.items ≡ []) × (sessions_most ≤ vec_capacity m.0)) }
+    ensures rows { IfOk result (λ m. rows_in m.1.items ≡ map new_row (keys (terms_after 0 circuits.now))) }
+{
+    let sessions = Vec::with_capacity(alloc, SESSIONS)?;
+    let rows = rows_of(alloc, circuits)?;
+    Ok((sessions, rows))
+}
+
+// Makes room for a round of so many items in lists that are empty, and says whether there is.
+fn reserve(journal: &mut Vec<Entry>, outs: &mut Vec<OutRecord>, items: usize) -> bool
+    requires few { items < 2 ^ 16 }
+    requires none { (journal.old.items ≡ []) × (outs.old.items ≡ []) }
+    ensures none_still { (journal.new.items ≡ []) × (outs.new.items ≡ []) }
+    ensures journal { result ≡ true → items ≤ vec_capacity journal.new }
+    ensures outs { result ≡ true → 10 * items + 640 ≤ vec_capacity outs.new }
+{
+    if journal.reserve(items).is_err() {
+        return false;
+    }
+    outs.reserve(OUTS * items + TIMED_OUTS).is_ok()
+}
+
+impl Shard {
+    /// A shard with this number, at most 63, and these circuits, whose session numbers are the shard's. It has no session.
+    pub fn open(alloc: Global, number: u16, statics: Vec<Static>) -> Result<Shard, ShardError>
+        requires number { number < 64 }
+        requires few { length statics.items ≤ 1024 }
+        ensures { IfOk result (λ s. s ≡ opened number statics.items) }
+    {
+        let Ok((sessions, rows)) = memory_for(alloc, &statics) else {
+            return Err(ShardError::OutOfMemory);
+        };
+        Ok(Shard {
+            slots: Slots {
+                number,
+                statics,
+                sessions,
+            },
+            rows,
+            journal: Vec::new(alloc),
+            outs: Vec::new(alloc),
+            room: 0,
+        })
+    }
+
+    /// Makes room for a round of so many items: for an entry and ten outs of each, and for the outs of a Tick and of an End. No
+    /// round may be going on. After an error all is as before, room aside.
+    pub fn prepare(&mut self, _alloc: Global, items: u16) -> Result<(), ShardError>
+        requires journal { self.old.journal ≡ [] }
+        requires outs { self.old.outs ≡ [] }
+        ensures kept { Kept self.old self.new }
+        ensures ready { OnOk result (IsReady items self.new) }
+        ensures empty { (self.new.journal ≡ []) × (self.new.outs ≡ []) }
+        ensures fit { map (λ r. r.key) self.new.rows ≡ keys (terms_of self.new.state) }
+    {
+        let items = usize::from(items);
+        self.room = 0;
+        if !reserve(&mut self.journal, &mut self.outs, items) {
+            return Err(ShardError::OutOfMemory);
+        }
+        self.room = items;
+        Ok(())
+    }
+
+    /// Handles an item that stood at this place of this seat's list, at the round's moment in milliseconds, below 2^60, and answers
+    /// its fate before its sends. It appends one entry to the journal, and takes no memory. A round has at most one Tick and one
+    /// End for a shard.
+    pub fn step(&mut self, rules: &Rules, seat: u16, place: u16, now: u64, item: Item) -> Fate
+        requires room { 0 < self.old.room }
+        requires once { Admits self.old item.kind }
+        requires moment { now < 2 ^ 60 }
+        requires auth { 0 < length rules.now.link.auth.items }
+        requires whole { item.frame.headroom ≡ 64 }
+        ensures { Handles rules.now self.old self.new (entry_of seat place now item) result }
+    {
+        prove!(item.frame.payload().len() <= LONGEST);
+        let at = At {
+            shard: self.slots.number(),
+            seat,
+            place,
+        };
+        let fate = hear(&mut self.slots, rules, at, now, &item, &mut self.outs);
+        self.journal.push_reserved(Entry {
+            seat,
+            place,
+            moment: now,
+            item,
+            claim: Claim::NoClaim,
+        });
+        self.room -= 1;
+        fate
+    }
+
+    /// Ends a round: hands out its journal and its outs, and lets the sessions that ended leave.
+    pub fn drain(&mut self) -> (Vec<Entry>, Vec<OutRecord>)
+        ensures journal { result.0.items ≡ self.old.journal }
+        ensures outs { result.1.items ≡ self.old.outs }
+        ensures after { self.new ≡ record self.old { state = settled self.old.state; journal = []; outs = []; room = 0 } }
+    {
+        let alloc = *self.journal.allocator();
+        self.room = 0;
+        self.slots.settle();
+        let journal = mem::replace(&mut self.journal, Vec::new(alloc));
+        let outs = mem::replace(&mut self.outs, Vec::new(alloc));
+        (journal, outs)
+    }
+
+    /// Takes the answer to the send of an out that `drain` handed out: where it was sent, the octets of its packet are added to its
+    /// term's row. It is called once for each.
+    pub fn charge(&mut self, out: &OutRecord) -> Charged
+        requires low { All (IsLow (2 ^ 63)) self.old.rows }
+        ensures after { self.new ≡ record self.old { rows = map (plus (out.now ∷ [])) self.old.rows } }
+        ensures answer { result ≡ charged_as out.now.charge }
+    {
+        carry_out(&mut self.rows, out);
+        charged_as(out.charge)
+    }
+
+    /// The earliest deadline of its sessions, in milliseconds; none exactly where no session has one.
+    pub fn due(&self) -> Option<u64>
+        ensures { result ≡ due_of self.now.state }
+    {
+        due(&self.slots)
+    }
+
+    /// How many sessions discovery made that are still there.
+    pub fn sessions(&self) -> u32
+        ensures { result ≡ length self.now.state.sessions }
+    {
+        self.slots.count()
+    }
+
+    /// What the term of this session carried; none exactly where no term has it.
+    pub fn carried(&self, session: SessionNo) -> Option<Traffic>
+        ensures { result ≡ option_map traffic_in (row_at self.now.rows session.0) }
+    {
+        carried_by(&self.rows, session)
+    }
+}

@@ -1,0 +1,322 @@
+ghost use Rattle.std.specs.Prelude.{◌≡◌, ◌<◌, ◌≤◌, ◌^◌, IfOk, length};
+
+use crate::{Charged, Rules, Shard, Traffic};
+use arrayvec::ArrayVec;
+use bng_base::{
+    AccessPort, AuthKind, Charge, Circuit, Frame, Ip4, Item, ItemKind, Listed, Mac, Octets,
+    OutRecord, Peer, Role, SessionNo, Static, TermId,
+};
+use bng_discovery::PortRules;
+use bng_ppp::LinkRules;
+use std::alloc::{AllocError, Global};
+use std::process::Abort;
+use std::test::Fail;
+
+const PORT: Mac = Mac([2, 0, 0, 0, 0, 0xfe]);
+
+const KEY: [u8; 16] = [0, 1, 2, 3, 4, 5, 6, 7, 8, 9, 10, 11, 12, 13, 14, 15];
+
+// for any service, with a Host-Uniq
+const PADI: [u8; 32] = [
+    0xff, 0xff, 0xff, 0xff, 0xff, 0xff, 2, 0, 0, 0, 0, 1, 0x88, 0x63, 0x11, 9, 0, 0, 0, 12, 1, 1,
+    0, 0, 1, 3, 0, 4, 0xa1, 0xb2, 0xc3, 0xd4,
+];
+// its PADO, whose cookie is HMAC-MD5 of 01 020000000001 under the key, as Python's hmac computes it
+const PADO: [u8; 68] = [
+    2, 0, 0, 0, 0, 1, 2, 0, 0, 0, 0, 0xfe, 0x88, 0x63, 0x11, 7, 0, 0, 0, 0x30, 1, 2, 0, 4, 0x62,
+    0x6e, 0x67, 0x31, 1, 1, 0, 0, 1, 1, 0, 4, 0x69, 0x6e, 0x65, 0x74, 1, 3, 0, 4, 0xa1, 0xb2, 0xc3,
+    0xd4, 1, 4, 0, 16, 0x15, 0x38, 0xfd, 0x1a, 0x2b, 9, 0x5a, 0x46, 0x52, 0x80, 0xfe, 0xa6, 0x52,
+    0x44, 0xa0, 0x75,
+];
+// a PADR of the same host, up to its cookie
+const PADR: [u8; 52] = [
+    2, 0, 0, 0, 0, 0xfe, 2, 0, 0, 0, 0, 1, 0x88, 0x63, 0x11, 0x19, 0, 0, 0, 32, 1, 1, 0, 0, 1, 3,
+    0, 4, 0xa1, 0xb2, 0xc3, 0xd4, 1, 4, 0, 16, 0, 0, 0, 0, 0, 0, 0, 0, 0, 0, 0, 0, 0, 0, 0, 0,
+];
+// the PADS of a host's session, and that of a host for which there is none
+const PADS: [u8; 32] = [
+    2, 0, 0, 0, 0, 1, 2, 0, 0, 0, 0, 0xfe, 0x88, 0x63, 0x11, 0x65, 0, 1, 0, 12, 1, 1, 0, 0, 1, 3,
+    0, 4, 0xa1, 0xb2, 0xc3, 0xd4,
+];
+
+const FULL: [u8; 36] = [
+    2, 0, 0, 0, 4, 0, 2, 0, 0, 0, 0, 0xfe, 0x88, 0x63, 0x11, 0x65, 0, 0, 0, 16, 1, 1, 0, 0, 2, 2,
+    0, 0, 1, 3, 0, 4, 0xa1, 0xb2, 0xc3, 0xd4,
+];
+
+fn peer(port: u16) -> Peer {
+    Peer {
+        ip: Ip4(0x7f000001),
+        port,
+    }
+}
+
+fn text(octets: &[u8]) -> ArrayVec<u8, 64> {
+    let mut text = ArrayVec::new();
+    for octet in octets {
+        if !text.is_full() {
+            text.push(*octet);
+        }
+    }
+    text
+}
+
+fn offers() -> PortRules {
+    let mut services = ArrayVec::new();
+    services.push(text(b"inet"));
+    PortRules {
+        port: 1,
+        mac: PORT,
+        key: KEY,
+        name: text(b"bng1"),
+        services,
+    }
+}
+
+fn links() -> LinkRules
+    ensures { 0 < length result.auth.items }
+{
+    LinkRules {
+        name: text(b"bng1"),
+        address: Ip4(0x0a000001),
+        dns: [None, None],
+        auth: ArrayVec::from([AuthKind::Chap, AuthKind::Pap]),
+        echo: 0,
+    }
+}
+
+// One shard, and the port 1.
+fn rules(alloc: Global) -> Result<Rules, AllocError>
+    ensures { IfOk result (λ r. 0 < length r.link.auth.items) }
+{
+    let port = AccessPort {
+        local: peer(9010),
+        peer: peer(9011),
+        mac: PORT,
+    };
+    let access = Vec::from_array(alloc, [port])?;
+    let offers = Vec::from_array(alloc, [offers()])?;
+    Ok(Rules {
+        shards: 1,
+        core_peer: peer(9001),
+        access: Listed::of(access),
+        offers: Listed::of(offers),
+        link: links(),
+    })
+}
+
+fn item(kind: ItemKind, octets: &[u8]) -> Item
+    requires { length octets.now ≤ 4096 }
+    ensures { result.frame.headroom ≡ 64 }
+{
+    let mut frame = Frame::new();
+    frame.set(octets);
+    Item {
+        kind,
+        from: peer(9011),
+        frame,
+        cut: false,
+        random: KEY,
+        target: 0,
+        ask: 0,
+    }
+}
+
+// The outs of a round of one item at this moment.
+fn round(
+    rt: &impl Abort,
+    alloc: Global,
+    shard: &mut Shard,
+    rules: &Rules,
+    now: u64,
+    item: Item,
+) -> Vec<OutRecord>
+    requires moment { now < 2 ^ 60 }
+    requires auth { 0 < length rules.now.link.auth.items }
+    requires whole { item.frame.headroom ≡ 64 }
+{
+    // No round is going on now, which `prepare` asks.
+    let _none = shard.drain();
+    assert!(rt; shard.prepare(alloc, 1).is_ok());
+    let _fate = shard.step(rules, 0, 0, now, item);
+    let (journal, outs) = shard.drain();
+    assert_eq!(rt; journal.len(), 1);
+    outs
+}
+
+// The octets of the out at this place.
+fn octets(outs: &[OutRecord], place: usize) -> &[u8] {
+    match outs.get(place) {
+        Some(out) => out.frame.as_slice(),
+        None => &[],
+    }
+}
+
+// The PADI of a host.
+fn padi(host: u16) -> [u8; 32] {
+    let [high, low] = host.to_be_bytes();
+    let mut octets = PADI;
+    octets[10] = high;
+    octets[11] = low;
+    octets
+}
+
+// The PADR of a host that was offered a session so.
+fn padr(host: u16, offer: &[u8]) -> [u8; 52] {
+    let [high, low] = host.to_be_bytes();
+    let mut octets = PADR;
+    octets[10] = high;
+    octets[11] = low;
+    if let Some(cookie) = offer.last_chunk::<16>() {
+        octets[36..].copy_from_slice(cookie);
+    }
+    octets
+}
+
+// The outs of a round with the PADR of a host, after one with its PADI, at moment 0.
+fn request(
+    rt: &impl Abort,
+    alloc: Global,
+    shard: &mut Shard,
+    rules: &Rules,
+    host: u16,
+) -> Vec<OutRecord>
+    requires { 0 < length rules.now.link.auth.items }
+{
+    let access = ItemKind::Access(1);
+    let offered = round(rt, alloc, shard, rules, 0, item(access, &padi(host)));
+    let asked = padr(host, octets(&offered, 0));
+    round(rt, alloc, shard, rules, 0, item(access, &asked))
+}
+
+// So many Ticks at this moment.
+fn ticks(rt: &impl Abort, alloc: Global, shard: &mut Shard, rules: &Rules, now: u64, count: u32)
+    requires moment { now < 2 ^ 60 }
+    requires auth { 0 < length rules.now.link.auth.items }
+{
+    for _ in 0..count {
+        let _outs = round(rt, alloc, shard, rules, now, item(ItemKind::Tick, &[]));
+    }
+}
+
+#[test]
+fn a_host_is_offered_a_session_and_its_request_sent_twice_makes_one(
+    rt: HostRuntime,
+) -> Result<(), Fail> {
+    let alloc = rt.alloc();
+    let rules = rules(alloc)?;
+    let mut shard = Shard::open(alloc, 0, Vec::new(alloc))?;
+    let access = ItemKind::Access(1);
+    let outs = round(&rt, alloc, &mut shard, &rules, 0, item(access, &PADI));
+    assert_eq!(rt; octets(&outs, 0), PADO.as_slice());
+    assert_eq!(rt; shard.sessions(), 0);
+    let first = request(&rt, alloc, &mut shard, &rules, 1);
+    assert_eq!(rt; first.len(), 2);
+    assert_eq!(rt; octets(&first, 0), PADS.as_slice());
+    let again = request(&rt, alloc, &mut shard, &rules, 1);
+    assert_eq!(rt; again.len(), 1);
+    assert_eq!(rt; octets(&again, 0), PADS.as_slice());
+    assert_eq!(rt; shard.sessions(), 1);
+    assert_eq!(rt; shard.due(), Some(3000));
+    Ok(())
+}
+
+#[test]
+fn ten_thousand_calls_make_no_session(rt: HostRuntime) -> Result<(), Fail> {
+    let alloc = rt.alloc();
+    let rules = rules(alloc)?;
+    let mut shard = Shard::open(alloc, 0, Vec::new(alloc))?;
+    for host in 0..10_000 {
+        let call = item(ItemKind::Access(1), &padi(host));
+        let outs = round(&rt, alloc, &mut shard, &rules, 0, call);
+        assert_eq!(rt; outs.len(), 1);
+    }
+    assert_eq!(rt; shard.sessions(), 0);
+    assert_eq!(rt; shard.due(), None);
+    Ok(())
+}
+
+#[test]
+fn a_full_shard_refuses_and_is_free_again_where_no_host_goes_on(
+    rt: HostRuntime,
+) -> Result<(), Fail> {
+    let alloc = rt.alloc();
+    let rules = rules(alloc)?;
+    let mut shard = Shard::open(alloc, 0, Vec::new(alloc))?;
+    for host in 1..1023 {
+        let outs = request(&rt, alloc, &mut shard, &rules, host);
+        assert_eq!(rt;
+            octets(&outs, 0).get(16..18),
+            Some(host.to_be_bytes().as_slice())
+        );
+    }
+    assert_eq!(rt; shard.sessions(), 1022);
+    let outs = request(&rt, alloc, &mut shard, &rules, 1024);
+    assert_eq!(rt; octets(&outs, 0), FULL.as_slice());
+    for count in 1..11 {
+        assert_eq!(rt; shard.sessions(), 1022);
+        ticks(&rt, alloc, &mut shard, &rules, 3000 * count, 16);
+    }
+    assert_eq!(rt; shard.sessions(), 0);
+    Ok(())
+}
+
+fn circuit() -> Static {
+    let mut user = ArrayVec::new();
+    user.push(b'f');
+    Static {
+        port: 1,
+        mac: Mac([2, 0, 0, 0, 0, 1]),
+        session: SessionNo(1025),
+        address: Ip4(0x0a000002),
+        user,
+        profile: 0,
+    }
+}
+
+// A packet of its term of so many octets, from the subscriber, that was sent.
+fn sent(octets: u16) -> OutRecord {
+    let circuit = circuit();
+    OutRecord {
+        shard: 1,
+        seat: 0,
+        place: 0,
+        role: Role::Core,
+        to: peer(9001),
+        frame: Octets::of(Frame::new()),
+        charge: Some(Charge {
+            term: TermId {
+                session: circuit.session,
+                serial: 1,
+            },
+            profile: 0,
+            circuit: Circuit::Pppoe {
+                port: circuit.port,
+                mac: circuit.mac,
+                session: circuit.session,
+            },
+            address: circuit.address,
+            input: true,
+            octets,
+        }),
+        sent: true,
+    }
+}
+
+#[test]
+fn a_packet_counts_for_its_term(rt: HostRuntime) -> Result<(), Fail> {
+    let alloc = rt.alloc();
+    let mut shard = Shard::open(alloc, 1, Vec::from_array(alloc, [circuit()])?)?;
+    let packet = Charged::Packet {
+        input: true,
+        octets: 84,
+    };
+    assert_eq!(rt; shard.charge(&sent(84)), packet);
+    let carried = Some(Traffic {
+        input: 84,
+        output: 0,
+    });
+    assert_eq!(rt; shard.carried(SessionNo(1025)), carried);
+    assert_eq!(rt; shard.carried(SessionNo(1026)), None);
+    Ok(())
+}

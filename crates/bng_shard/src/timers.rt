@@ -1,0 +1,114 @@
+//! Ticks and Ends.
+ghost use Rattle.std.specs.Prelude.{◌≡◌, ◌+◌, ◌<◌, ◌≤◌, ◌^◌, ◌++◌, length, vec_capacity};
+ghost use Rattle.bng_ppp.specs.LinkRelation.{earliest};
+ghost use Rattle.bng_shard.specs.Due.{due_of};
+ghost use Rattle.bng_shard.specs.Timed.{TickedOnce, EndedOnce, Ticked, Ended};
+ghost use Rattle.bng_shard.specs.Timers.{at_once};
+
+use crate::choice::{deadline, first_due, lowest};
+use crate::drive::{drive, send_padt};
+use crate::rules::Rules;
+use crate::sending::At;
+use crate::slots::Slots;
+use bng_base::OutRecord;
+use bng_ppp::Input;
+
+/// How many due deadlines a Tick handles, and how many sessions an End ends.
+const AT_ONCE: u8 = 64;
+
+// The earlier of two moments.
+fn earlier(a: Option<u64>, b: Option<u64>) -> Option<u64>
+    ensures { result ≡ earliest a b }
+{
+    match (a, b) {
+        (Some(a), Some(b)) => Some(a.min(b)),
+        (Some(a), None) => Some(a),
+        (None, b) => b,
+    }
+}
+
+/// The earliest deadline of the sessions, in milliseconds; none exactly where no session has one.
+pub(crate) fn due(slots: &Slots) -> Option<u64>
+    ensures { result ≡ due_of slots.now }
+{
+    slots
+        .sessions
+        .iter()
+        .fold(None, |first, session| earlier(first, deadline(session)))
+}
+
+// Handles the due deadline that comes first, and says whether one is due.
+fn tick_once(
+    slots: &mut Slots,
+    rules: &Rules,
+    at: At,
+    now: u64,
+    random: &[u8; 16],
+    outs: &mut Vec<OutRecord>,
+) -> bool
+    requires moment { now < 2 ^ 60 }
+    requires auth { 0 < length rules.now.link.auth.items }
+    requires room { length outs.old.items + 5 ≤ vec_capacity outs.old }
+    ensures ticked { TickedOnce result rules.now at now random.now slots.old slots.new outs.old.items outs.new.items }
+    ensures capacity { vec_capacity outs.new ≡ vec_capacity outs.old }
+    ensures few { length outs.new.items ≤ length outs.old.items + 5 }
+{
+    let Some(place) = first_due(slots.sessions.as_slice(), now) else {
+        return false;
+    };
+    let session = &mut slots.sessions[place];
+    drive(session, rules, at, Input::Timer, now, random, outs);
+    true
+}
+
+// Ends the session with the lowest number, and says whether one has not ended.
+fn end_once(slots: &mut Slots, rules: &Rules, at: At, outs: &mut Vec<OutRecord>) -> bool
+    requires room { length outs.old.items < vec_capacity outs.old }
+    ensures ended { EndedOnce result rules.now at slots.old slots.new outs.old.items outs.new.items }
+    ensures capacity { vec_capacity outs.new ≡ vec_capacity outs.old }
+    ensures few { length outs.new.items ≤ length outs.old.items + 1 }
+{
+    let Some(place) = lowest(slots.sessions.as_slice()) else {
+        return false;
+    };
+    let session = &mut slots.sessions[place];
+    send_padt(rules, at, session, outs);
+    session.ended = true;
+    true
+}
+
+/// Handles the deadlines that are due at this moment in milliseconds, the earliest first, and of equal ones that of the lower
+/// session number first: at most 64. Each time the session's link takes Timer.
+pub(crate) fn tick(
+    slots: &mut Slots,
+    rules: &Rules,
+    at: At,
+    now: u64,
+    random: &[u8; 16],
+    outs: &mut Vec<OutRecord>,
+)
+    requires moment { now < 2 ^ 60 }
+    requires auth { 0 < length rules.now.link.auth.items }
+    requires room { length outs.old.items + 320 ≤ vec_capacity outs.old }
+    ensures ticked { Ticked at_once rules.now at now random.now slots.old slots.new outs.old.items outs.new.items }
+    ensures capacity { vec_capacity outs.new ≡ vec_capacity outs.old }
+{
+    for _ in 0..AT_ONCE {
+        if !tick_once(slots, rules, at, now, random, outs) {
+            return;
+        }
+    }
+}
+
+/// Ends the sessions with the lowest numbers, by rising number, each with a PADT: at most 64.
+pub(crate) fn end(slots: &mut Slots, rules: &Rules, at: At, outs: &mut Vec<OutRecord>)
+    requires room { length outs.old.items + 320 ≤ vec_capacity outs.old }
+    ensures ended { Ended at_once rules.now at slots.old slots.new outs.old.items outs.new.items }
+    ensures capacity { vec_capacity outs.new ≡ vec_capacity outs.old }
+{
+    for _ in 0..AT_ONCE {
+        if !end_once(slots, rules, at, outs) {
+            return;
+        }
+    }
+}

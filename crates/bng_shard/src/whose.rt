@@ -1,0 +1,112 @@
+//! Which shard an item is for.
+ghost use Rattle.std.specs.Prelude.{◌≡◌, ◌<◌, ◌≤◌, ◌+◌, ◌*◌, ℕ, [], length};
+ghost use Rattle.std.specs.List.{All};
+ghost use Rattle.bng_pppoe_wire.specs.View.{frame_of};
+ghost use Rattle.bng_shard.specs.Whose.{IsWhose, IsForKind, IsForTarget, IsForFrame, fold_of, NamesShard};
+
+use crate::pool::PlainPool;
+use crate::rules::Rules;
+use bng_base::{DropCause, Fate, Item, ItemKind, Mac};
+use bng_forward::{Arrived, frame_at, names_session, packet_from};
+use bng_pppoe_wire::Pppoe;
+
+/// Where an item is handled.
+#[derive(Clone, Copy, PartialEq, Eq, Debug)]
+pub enum Whose {
+    /// In no shard; it only has this fate.
+    Loose(Fate),
+    /// In the shard with this number.
+    Stands(u16),
+}
+
+/// Where an item is handled: a frame that names a session in the shard of that number, another frame in the shard of its
+/// SOURCE_ADDR, a packet of the core in the shard that holds its destination, a Tick and an End in the shard that it is for.
+/// What is outside its grammar or leads to no shard is loose.
+pub fn whose_is(rules: &Rules, pool: &PlainPool, item: &Item) -> Whose
+    requires some { 1 ≤ rules.now.shards }
+    requires held { All (λ h. h.shard < rules.now.shards) pool.now }
+    ensures is { IsWhose rules.now pool.now item.now result }
+    ensures inside { (n : ℕ) → result ≡ Whose.Stands n → n < rules.now.shards }
+{
+    match item.kind {
+        ItemKind::Access(number) => whose_frame(rules, number, item),
+        ItemKind::Core => whose_packet(rules, pool, item),
+        ItemKind::Tunnel => Whose::Loose(Fate::Dropped(DropCause::NoSession)),
+        ItemKind::Verdict | ItemKind::Change => Whose::Loose(Fate::Consumed),
+        ItemKind::Tick | ItemKind::End => whose_target(rules, item.target),
+    }
+}
+
+fn whose_target(rules: &Rules, target: u16) -> Whose
+    ensures is { IsForTarget rules.now target result }
+    ensures inside { (n : ℕ) → result ≡ Whose.Stands n → n < rules.now.shards }
+{
+    if target < rules.shards {
+        Whose::Stands(target)
+    } else {
+        Whose::Loose(Fate::Consumed)
+    }
+}
+
+// A datagram of the core.
+fn whose_packet(rules: &Rules, pool: &PlainPool, item: &Item) -> Whose
+    requires held { All (λ h. h.shard < rules.now.shards) pool.now }
+    ensures is { IsForKind ItemKind.Core rules.now pool.now item.now result }
+    ensures inside { (n : ℕ) → result ≡ Whose.Stands n → n < rules.now.shards }
+{
+    let arrived = Arrived {
+        from: item.from,
+        cut: item.cut,
+        octets: item.frame.payload(),
+    };
+    match packet_from(rules.core_peer, &arrived) {
+        Some(header) => match pool.look(header.dst) {
+            Some(shard) => Whose::Stands(shard),
+            None => Whose::Loose(Fate::Dropped(DropCause::NoSession)),
+        },
+        None => Whose::Loose(Fate::Dropped(DropCause::Malformed)),
+    }
+}
+
+// A datagram of the access port with this number.
+fn whose_frame(rules: &Rules, number: u8, item: &Item) -> Whose
+    requires some { 1 ≤ rules.now.shards }
+    ensures is { IsForKind (ItemKind.Access number) rules.now [] item.now result }
+    ensures inside { (n : ℕ) → result ≡ Whose.Stands n → n < rules.now.shards }
+{
+    let arrived = Arrived {
+        from: item.from,
+        cut: item.cut,
+        octets: item.frame.payload(),
+    };
+    match frame_at(rules.access.as_slice(), number, &arrived) {
+        Some(frame) => whose_read(rules, &frame),
+        None => Whose::Loose(Fate::Dropped(DropCause::Malformed)),
+    }
+}
+
+// A frame that came to a port.
+fn whose_read(rules: &Rules, frame: &Pppoe<'_>) -> Whose
+    requires some { 1 ≤ rules.now.shards }
+    ensures is { IsForFrame rules.now (frame_of frame.now) result }
+    ensures inside { (n : ℕ) → result ≡ Whose.Stands n → n < rules.now.shards }
+{
+    if !names_session(frame) {
+        return Whose::Stands(fold(&frame.src) % rules.shards);
+    }
+    let shard = frame.session / 1024;
+    let index = frame.session % 1024;
+    if shard < rules.shards && 1 <= index && index <= 1022 {
+        Whose::Stands(shard)
+    } else {
+        Whose::Loose(Fate::Dropped(DropCause::NoSession))
+    }
+}
+
+// The sum of a MAC's octets.
+fn fold(mac: &Mac) -> u16
+    ensures { result ≡ fold_of mac.now }
+{
+    let [a, b, c, d, e, f] = mac.0;
+    u16::from(a) + u16::from(b) + u16::from(c) + u16::from(d) + u16::from(e) + u16::from(f)
+}
