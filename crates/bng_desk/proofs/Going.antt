@@ -1,6 +1,6 @@
 -- One datagram more, of a role that is read.
-use Rattle.std.proofs.Common.{◌≡◌, ℕ, ◌+◌, Bool, true, false, ◌||◌, ◌&&◌, not, List, [], ◌∷◌, ◌++◌, map, cond, refl, sym, ap, subst, ◌∙◌, arith}
-use Rattle.std.specs.List.{filter, list_any, sum_by}
+use Rattle.std.proofs.Common.{◌≡◌, Bool, true, false, ◌||◌, ◌&&◌, not, List, [], ◌∷◌, ◌++◌, map, cond, refl, sym, ap, subst, ◌∙◌}
+use Rattle.std.specs.List.{filter, list_any}
 use Rattle.std.proofs.lemmas.List.{map-append}
 use Rattle.std.proofs.lemmas.List.Elements.{filter-append}
 use Rattle.std.proofs.lemmas.List.Folds.{list_any-append}
@@ -14,10 +14,8 @@ use Rattle.bng_base.specs.FateOf.{Arrival}
 use Rattle.bng_base.specs.Told.{PlantTold}
 use Rattle.bng_base.specs.Stretch.{PlantStretch, plant_joined, ExtendsPlant}
 use Rattle.bng_base.proofs.StretchLaws.{plant_more, plant_stays}
-use Rattle.bng_desk.specs.Reading.{is_empty, receives, taken_in, receiving, sending}
+use Rattle.bng_desk.specs.Reading.{is_empty, receiving, sending}
 use Rattle.bng_desk.specs.Control.{Heeded, is_near, is_answered, is_unanswered, reply_text, reply, heeding, answering}
-use Rattle.bng_desk.specs.Handled.{Handled, went, failed_to_go}
-use Rattle.bng_desk.specs.Data.{handling, forwarding}
 
 abbrev made : List Heard → List Datagram → List Datagram → Bool → PlantStretch
 made h t s f = record { heard = h; taken = t; sent = s; failed = f }
@@ -69,22 +67,6 @@ one_heeded p₀ p₁ p₂ p₃ hs h so_far taken answered =
     subst (λ (s : PlantStretch). ExtendsPlant p₀ p₃ s) (heeding_more hs h)
     (plant_more p₀ p₁ p₃ (heeding hs) (plant_joined (receiving Control (Got h.arrival.from h.arrival.cut) h.arrival.octets) (answering h)) so_far
     (plant_more p₁ p₂ p₃ (receiving Control (Got h.arrival.from h.arrival.cut) h.arrival.octets) (answering h) taken answered))
-
-handling_more : (role : Role) (hs : List Handled) (h : Handled)
-    → plant_joined (handling role hs) (plant_joined (receiving role (Got h.arrival.from h.arrival.cut) h.arrival.octets) (forwarding h)) ≡ handling role (hs ++ h ∷ [])
-handling_more role hs h = same _ _
-    (mapped_more (λ (a : Arrival). Receive role (Got a.from a.cut)) (λ (k : Handled). k.arrival) hs h)
-    (mapped_more (λ (a : Arrival). as_datagram role a) (λ (k : Handled). k.arrival) hs h)
-    (kept_more (λ (k : Handled). k.out) went hs h)
-    (any_more failed_to_go hs h)
-
--- a datagram of a role was taken and handled
-pub one_handled : (role : Role) (p₀ p₁ p₂ p₃ : PlantTold) (hs : List Handled) (h : Handled) → ExtendsPlant p₀ p₁ (handling role hs)
-    → ExtendsPlant p₁ p₂ (receiving role (Got h.arrival.from h.arrival.cut) h.arrival.octets) → ExtendsPlant p₂ p₃ (forwarding h) → ExtendsPlant p₀ p₃ (handling role (hs ++ h ∷ []))
-one_handled role p₀ p₁ p₂ p₃ hs h so_far taken forwarded =
-    subst (λ (s : PlantStretch). ExtendsPlant p₀ p₃ s) (handling_more role hs h)
-    (plant_more p₀ p₁ p₃ (handling role hs) (plant_joined (receiving role (Got h.arrival.from h.arrival.cut) h.arrival.octets) (forwarding h)) so_far
-    (plant_more p₁ p₂ p₃ (receiving role (Got h.arrival.from h.arrival.cut) h.arrival.octets) (forwarding h) taken forwarded))
 
 -- a datagram of Control from elsewhere is not answered
 pub unanswered : (p : PlantTold) (a : Arrival) → is_near a ≡ false → ExtendsPlant p p (answering (record { arrival = a; answered = false }))

@@ -1,10 +1,12 @@
 pub mod Counting
 pub mod Reading
 pub mod Control
-pub mod Handled
-pub mod Charging
-pub mod Data
+pub mod Random
 pub mod Model
+pub mod Items
+pub mod Round
 pub mod Report
 pub mod Turn
-pub mod Handling
+pub mod Opening
+pub mod Taking
+pub mod Kept

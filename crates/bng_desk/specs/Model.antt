@@ -1,39 +1,88 @@
 -- The desk as contracts see it.
-use Rattle.std.specs.Prelude.{◌≡◌, ℕ, ◌*◌, ◌^◌, ◌≤◌, Bool, ◌==◌, ◌||◌, List, length, sum_by}
-use Rattle.bng_config.specs.declared.config.Config.{Config}
+use Rattle.std.specs.Prelude.{ℕ, ◌/◌, ◌^◌, Bool, ◌==◌, ◌||◌, ◌&&◌, not, List, Option, Some, None, length, map, sum_by, slice_get, nat_le, if◌then◌else◌}
+use Rattle.bng_base.specs.declared.item.Entry.{Entry}
+use Rattle.bng_base.specs.declared.item.Item.{Item}
+use Rattle.bng_engine.specs.Sight.{Sight, Row}
+use Rattle.bng_shard.specs.declared.pool.Holder.{Holder}
+use Rattle.bng_shard.specs.declared.rules.Rules.{Rules}
+use Rattle.bng_shard.specs.declared.sums.Traffic.{Traffic}
+use Rattle.bng_shard.specs.State.{State}
+use Rattle.bng_shard.specs.Protocol.{row_at}
+use Rattle.bng_shard.specs.Sums.{traffic_in}
+use Rattle.bng_desk.specs.declared.desk.DeskState.{DeskState}
+use Rattle.bng_desk.specs.declared.desk.DeskState.TheVariants.{Serving, Ending, Ended, Starved}
 use Rattle.bng_desk.specs.declared.drops.Drops.{Drops}
-use Rattle.bng_desk.specs.declared.traffic.Traffic.{Traffic}
-use Rattle.bng_desk.specs.Counting.{Within}
-use Rattle.bng_config.specs.Rules.{KeepsRules}
+use Rattle.bng_desk.specs.declared.line.Line.{Line}
 
--- What it serves, after how many turns it ends by itself, how many it made, whether it was told to stop, the octets
--- that each circuit carried, the drops, and the last moment that it was given.
+-- By what it serves, the provisioned circuits in the order of the configuration, after how many turns it ends serving by
+-- itself, how many it made, whether it was told to stop, the shards in the order of their numbers, who holds an address, the
+-- seed and how many times sixteen octets were drawn from it, the drops, the last moment that it was given, and how many rounds
+-- it told. Of the ending: how many of its turns were made, how many in a row opened no round, whether one opened a round, and
+-- the items of the last round that was not opened.
 pub record Desk : Type 0 where
-  pub config : Config
+  pub rules : Rules
+  pub lines : List Line
   pub rounds : ℕ
   pub turns : ℕ
   pub stopped : Bool
-  pub traffic : List Traffic
+  pub shards : List (Sight State Entry)
+  pub holders : List Holder
+  pub seed : List ℕ
+  pub drawn : ℕ
   pub drops : Drops
   pub moment : ℕ
+  pub told : ℕ
+  pub endings : ℕ
+  pub unopened : ℕ
+  pub closed : Bool
+  pub kept : List Item
 
 -- serving is over: it was told to stop, or all turns were made
 abbrev pub is_over : Desk → Bool
 is_over d = d.stopped || (d.turns == d.rounds)
+
+-- how many sessions there are in all shards
+abbrev pub sessions_in : List (Sight State Entry) → ℕ
+sessions_in shards = sum_by (λ v. length v.state.sessions) shards
+
+-- so many turns in a row in which no round of Ends is opened, or so many turns of ending, are the end
+abbrev pub unopened_most : ℕ
+unopened_most = 1000000
+
+abbrev pub endings_most : ℕ
+endings_most = 2 ^ 40
+
+abbrev pub has_starved : Desk → Bool
+has_starved d = nat_le unopened_most d.unopened || nat_le endings_most d.endings
+
+-- a round of Ends was made, and no session is left
+abbrev pub has_ended : Desk → Bool
+has_ended d = d.closed && (sessions_in d.shards == 0)
+
+-- where it stands
+abbrev pub state_of : Desk → DeskState
+state_of d = if not (is_over d) then Serving else (if has_ended d then Ended else (if has_starved d then Starved else Ending))
+
+abbrev pub no_traffic : Traffic
+no_traffic = record { input = 0; output = 0 }
+
+abbrev pub traffic_or : Option Row → Traffic
+traffic_or None = no_traffic
+traffic_or (Some row) = traffic_in row
+
+abbrev pub traffic_at : Option (Sight State Entry) → ℕ → Traffic
+traffic_at None session = no_traffic
+traffic_at (Some v) session = traffic_or (row_at v.rows session)
+
+-- what a provisioned circuit carried, as the shard of its number keeps it
+abbrev pub carried_on : List (Sight State Entry) → Line → Traffic
+carried_on shards l = traffic_at (slice_get shards (l.session.0 / 1024)) l.session.0
+
+abbrev pub all_carried : Desk → List Traffic
+all_carried d = map (carried_on d.shards) d.lines
 
 abbrev pub input_of : List Traffic → ℕ
 input_of traffic = sum_by (λ t. t.input) traffic
 
 abbrev pub output_of : List Traffic → ℕ
 output_of traffic = sum_by (λ t. t.output) traffic
-
--- What keeps the sums below their types' ends: a turn takes at most 224 datagrams of the access ports and as many of the
--- core, with at most 4,160 octets each.
-pub record IsKept (config : Config) (rounds turns : ℕ) (traffic : List Traffic) (drops : Drops) : Type 0 where
-  pub rules : KeepsRules config
-  pub most : rounds ≤ 2 ^ 40
-  pub made : turns ≤ rounds
-  pub circuits : length traffic ≡ length config.statics
-  pub input : input_of traffic ≤ 1863680 * turns
-  pub output : output_of traffic ≤ 1863680 * turns
-  pub counts : Within (448 * turns) drops

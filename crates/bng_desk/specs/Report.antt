@@ -5,9 +5,9 @@ use Rattle.bng_base.specs.declared.address.Ip4.{Ip4}
 use Rattle.bng_config.specs.Address.{address_text}
 use Rattle.bng_base.specs.declared.fate.DropCause.{DropCause}
 use Rattle.bng_base.specs.declared.fate.DropCause.TheVariants.{Malformed, NoSession, NotOpen, Expired, Spoofed, TooBig, Exceeded, LinkFailed, WantOfMemory}
-use Rattle.bng_base.specs.declared.settings.Static.{Static}
 use Rattle.bng_desk.specs.declared.drops.Drops.{Drops}
-use Rattle.bng_desk.specs.declared.traffic.Traffic.{Traffic}
+use Rattle.bng_desk.specs.declared.line.Line.{Line}
+use Rattle.bng_shard.specs.declared.sums.Traffic.{Traffic}
 use Rattle.bng_desk.specs.Model.{input_of, output_of}
 
 -- the drops, by the number of the cause
@@ -40,7 +40,7 @@ abbrev pub static_line : Ip4 → Traffic → List ℕ
 static_line address t = codes "static " ++ address_text address ++ quantities t.input t.output
 
 -- a line for each circuit
-abbrev pub static_lines : List Static → List Traffic → List ℕ
+abbrev pub static_lines : List Line → List Traffic → List ℕ
 static_lines [] traffic = []
 static_lines (s ∷ ss) [] = []
 static_lines (s ∷ ss) (t ∷ ts) = static_line s.address t ++ static_lines ss ts
@@ -55,7 +55,7 @@ drop_lines [] (items ∷ others) = []
 drop_lines (cause ∷ more) (items ∷ others) = drop_line cause items ++ drop_lines more others
 
 -- the total of the circuits, each circuit, and what was dropped by each cause
-abbrev pub report_text : List Static → List Traffic → List ℕ → List ℕ
+abbrev pub report_text : List Line → List Traffic → List ℕ → List ℕ
 report_text circuits traffic drops =
     codes "total" ++ quantities (input_of traffic) (output_of traffic)
     ++ static_lines circuits traffic

@@ -1,84 +1,238 @@
 -- One turn of the desk: what the outside answered in it, what it sent, and the desk that it leaves.
-use Rattle.std.specs.Prelude.{◌≡◌, ℕ, ◌+◌, ◌≤◌, Bool, true, false, ◌&&◌, ◌||◌, List, [], ◌∷◌, Option, Some, None, All, length, map}
+use Rattle.std.specs.Prelude.{◌≡◌, ℕ, ◌+◌, ◌-◌, ◌/◌, ◌≤◌, Bool, true, false, not, ◌&&◌, ◌||◌, List, [], ◌∷◌, ◌++◌, Option, Some, None, All, length, map, min, fold, if◌then◌else◌}
+use Rattle.std.specs.List.{flat_map, range_with_len}
+use Rattle.bng_base.specs.declared.item.Entry.{Entry}
+use Rattle.bng_base.specs.declared.item.Item.{Item}
 use Rattle.bng_base.specs.declared.outside.Heard.{Heard}
 use Rattle.bng_base.specs.declared.outside.Heard.TheVariants.{Wait}
 use Rattle.bng_base.specs.declared.outside.ClockAnswer.TheVariants.{Now, Wall}
-use Rattle.bng_base.specs.Stretch.{Outside, PlantStretch, plant_joined, Stretch, Extends, no_stretch}
+use Rattle.bng_base.specs.declared.outside.Role.{Role}
+use Rattle.bng_base.specs.declared.outside.Role.TheVariants.{Access, Core, Tunnel, Auth, Acct, Coa, Control}
+use Rattle.bng_base.specs.declared.round.RoundRecord.{RoundRecord}
+use Rattle.bng_base.specs.FateOf.{Arrival}
+use Rattle.bng_base.specs.Stretch.{Outside, PlantStretch, plant_none, plant_joined, Stretch, Extends, no_stretch}
+use Rattle.bng_engine.specs.Progress.{all_records}
+use Rattle.bng_engine.specs.Sight.{Sight}
+use Rattle.bng_ppp.specs.LinkRelation.{earliest}
+use Rattle.bng_shard.specs.declared.rules.Rules.{Rules}
+use Rattle.bng_shard.specs.Due.{due_of}
+use Rattle.bng_shard.specs.State.{State}
 use Rattle.bng_desk.specs.declared.desk.Turned.{Turned}
-use Rattle.bng_desk.specs.declared.desk.Turned.TheVariants.{Ok, WantOfMemory}
+use Rattle.bng_desk.specs.declared.desk.Turned.TheVariants.{Ok, TraceFault, WantOfMemory}
 use Rattle.bng_desk.specs.declared.reading.Ended.{Ended}
-use Rattle.bng_desk.specs.Counting.{drops_of, plus}
-use Rattle.bng_desk.specs.Reading.{EndsRight, is_empty}
 use Rattle.bng_desk.specs.Control.{Heeded, has_stop, control_stretch}
-use Rattle.bng_desk.specs.Charging.{charged_all}
-use Rattle.bng_desk.specs.Data.{DataReading, IsReading, data_roles, data_stretch, all_handled, fates_of, is_quiet}
-use Rattle.bng_desk.specs.Model.{Desk, is_over}
+use Rattle.bng_desk.specs.Counting.{plus}
+use Rattle.bng_desk.specs.Items.{DataReading, taken_items, ticks_of, ends_of, drawn_from}
+use Rattle.bng_desk.specs.Model.{Desk}
+use Rattle.bng_desk.specs.Reading.{receives, taken_in, ending_stretch, EndsRight, is_empty}
+use Rattle.bng_desk.specs.Round.{Round, IsRound, left_by, drops_in, sends_stretch, record_of, refused_of, refused_record, with_refused}
 
--- the moments, what was taken from Control and how its reading ended, and the readings of the other roles
+-- the access ports so far, and then the core
+abbrev pub ports_up_to : ℕ → List Role
+ports_up_to n = map Access (range_with_len 1 n)
+
+abbrev pub data_roles : Rules → List Role
+data_roles r = ports_up_to (length r.access) ++ Core ∷ []
+
+-- how many datagrams of the role a turn takes: the access ports share 224
+abbrev pub most_of : Rules → Role → ℕ
+most_of r (Access number) = 224 / length r.access
+most_of r Core = 224
+most_of r Tunnel = 0
+most_of r Auth = 0
+most_of r Acct = 0
+most_of r Coa = 0
+most_of r Control = 0
+
+-- the moments, what was taken from Control and how its reading ended, the readings of the other roles, the round, which is None
+-- where it could not be opened for want of memory, and whether the trace took it
 pub record Turn : Type 0 where
   pub moment : ℕ
   pub wall : ℕ
   pub control : List Heeded
   pub control_end : Ended
   pub readings : List DataReading
+  pub round : Option Round
+  pub noted : Bool
 
 -- Control is read at most 8 times, then the access ports in their order, which share 224 receives, and then the core, at most
--- 224 times; each datagram of a port and of the core has its fate.
-pub record IsTurn (d : Desk) (t : Turn) : Type 0 where
+-- 224 times.
+pub record IsReading (d : Desk) (t : Turn) : Type 0 where
   pub moment : d.moment ≤ t.moment
   pub control : EndsRight 8 (length t.control) t.control_end
-  pub roles : map (λ r. r.role) t.readings ≡ data_roles d.config
-  pub read : All (IsReading d.config) t.readings
+  pub roles : map (λ r. r.role) t.readings ≡ data_roles d.rules
+  pub read : All (λ r. EndsRight (most_of d.rules r.role) (length r.arrivals) r.ended) t.readings
 
--- the desk that a turn leaves
+-- the items of a turn while serving: those of the datagrams, and then the Ticks that are due; each draws its random octets
+abbrev pub items_of : Desk → Turn → List Item
+items_of d t = drawn_from d.seed d.drawn (taken_items t.readings ++ ticks_of t.moment d.shards)
+
+-- the items of a turn of the ending: those of the round that could not be opened, else an End for each shard
+abbrev pub ending_items : Desk → List Item
+ending_items d = if is_empty d.kept then drawn_from d.seed d.drawn (ends_of (length d.shards)) else d.kept
+
+-- how many draw anew
+abbrev pub ending_draws : Desk → ℕ
+ending_draws d = if is_empty d.kept then length d.shards else 0
+
+-- the round, where it was opened
+abbrev pub RoundOf : Desk → ℕ → List Item → Option Round → Type 0
+RoundOf d moment items None = Unit {0}
+RoundOf d moment items (Some round) = IsRound d.rules d.shards d.holders moment items round
+
+-- the desk after a round, or after one that was not opened, whose items of the outside are dropped
+abbrev pub after_round : Desk → List Item → Option Round → Desk
+after_round d items None = record d { drops = plus d.drops (with_refused (length (refused_of items))); told = d.told + 1 }
+after_round d items (Some round) = record d { shards = map left_by round.shards; drops = plus d.drops (drops_in items round); told = d.told + 1 }
+
+-- the desk that a turn leaves while serving
 abbrev pub after : Desk → Turn → Desk
-after d t = record d {
+after d t = record (after_round d (items_of d t) t.round) {
   turns = d.turns + 1;
   stopped = d.stopped || has_stop t.control;
-  traffic = charged_all d.traffic (all_handled t.readings);
-  drops = plus d.drops (drops_of (fates_of (all_handled t.readings)));
+  drawn = d.drawn + length (items_of d t);
   moment = t.moment;
 }
 
 -- A turn that wanted memory is None: it counts as a turn, and all else is as before.
 abbrev pub Step : Desk → Option Turn → Desk → Type 0
 Step d None d' = d' ≡ record d { turns = d.turns + 1 }
-Step d (Some t) d' = IsTurn d t × (d' ≡ after d t)
+Step d (Some t) d' = IsReading d t × RoundOf d t.moment (items_of d t) t.round × (d' ≡ after d t)
 
--- a turn that took no datagram ends with one wait
-abbrev pub waits : Bool → List Heard
-waits true = Wait 100 ∷ []
-waits false = []
+-- the milliseconds from a moment to a deadline: 0 where that is past, 100 at most and where there is none
+abbrev pub wait_for : Option ℕ → ℕ → ℕ
+wait_for None moment = 100
+wait_for (Some deadline) moment = min (deadline - moment) 100
 
-abbrev pub waiting_stretch : Bool → PlantStretch
-waiting_stretch idle = record { heard = waits idle; taken = []; sent = []; failed = false }
+-- the earliest deadline of all shards
+abbrev pub deadline_in : List (Sight State Entry) → Option ℕ
+deadline_in shards = fold (λ a (v : Sight State Entry). earliest a (due_of v.state)) None shards
+
+abbrev pub arrivals_in : List DataReading → List Arrival
+arrivals_in readings = flat_map (λ r. r.arrivals) readings
+
+-- no datagram was taken
+abbrev pub is_idle : Turn → Bool
+is_idle t = is_empty t.control && is_empty (arrivals_in t.readings)
+
+-- a turn that took no datagram ends with one wait, unless the trace failed
+abbrev pub waits : Bool → ℕ → List Heard
+waits true ms = Wait ms ∷ []
+waits false ms = []
+
+abbrev pub waiting_stretch : Bool → ℕ → PlantStretch
+waiting_stretch idle ms = record { heard = waits idle ms; taken = []; sent = []; failed = false }
+
+-- what the reading of a role adds
+abbrev pub reading_stretch : DataReading → PlantStretch
+reading_stretch r = plant_joined (record { heard = receives r.role r.arrivals; taken = taken_in r.role r.arrivals; sent = []; failed = false }) (ending_stretch r.role r.ended)
+
+-- what these readings add, one after the other
+abbrev pub data_stretch : List DataReading → PlantStretch
+data_stretch [] = plant_none
+data_stretch (r ∷ rs) = plant_joined (reading_stretch r) (data_stretch rs)
+
+-- what the sends of the round add
+abbrev pub round_stretch : Option Round → PlantStretch
+round_stretch None = plant_none
+round_stretch (Some round) = sends_stretch (all_records round.shards)
+
+-- what the trace is told
+abbrev pub round_told : Desk → ℕ → ℕ → List Item → Option Round → RoundRecord
+round_told d moment wall items None = refused_record (d.told + 1) moment wall (length d.shards) items
+round_told d moment wall items (Some round) = record_of (d.told + 1) moment wall items round
+
+abbrev pub told_if : Bool → RoundRecord → List RoundRecord
+told_if true r = r ∷ []
+told_if false r = []
 
 -- what the phases of a turn add to what the plant tells, in their order
-abbrev pub plant_stretch : Turn → PlantStretch
-plant_stretch t =
+abbrev pub plant_stretch : Desk → Turn → PlantStretch
+plant_stretch d t =
     plant_joined (control_stretch t.control t.control_end)
     (plant_joined (data_stretch t.readings)
-    (waiting_stretch (is_empty t.control && is_quiet t.readings)))
+    (plant_joined (round_stretch t.round)
+    (waiting_stretch (is_idle t && t.noted) (wait_for (deadline_in (after d t).shards) t.moment))))
 
 -- what a turn adds to what the outside tells
-abbrev pub stretch_of : Option Turn → Stretch
-stretch_of None = no_stretch
-stretch_of (Some t) = record { plant = plant_stretch t; answers = Now t.moment ∷ Wall t.wall ∷ []; rounds = []; unnoted = false }
+abbrev pub stretch_of : Desk → Option Turn → Stretch
+stretch_of d None = no_stretch
+stretch_of d (Some t) = record {
+  plant = plant_stretch d t;
+  answers = Now t.moment ∷ Wall t.wall ∷ [];
+  rounds = told_if t.noted (round_told d t.moment t.wall (items_of d t) t.round);
+  unnoted = not t.noted;
+}
+
+abbrev pub answer_if : Bool → Turned
+answer_if true = Ok
+answer_if false = TraceFault
 
 -- what the call answers
 abbrev pub turned_of : Option Turn → Turned
 turned_of None = WantOfMemory
-turned_of (Some t) = Ok
+turned_of (Some t) = answer_if t.noted
 
 -- while the desk serves, a call of `turn` is one turn
 pub record MakesTurn (d d' : Desk) (o o' : Outside) (result : Turned) : Type 0 where
   pub turn : Option Turn
   pub answer : result ≡ turned_of turn
   pub step : Step d turn d'
-  pub told : Extends o o' (stretch_of turn)
+  pub told : Extends o o' (stretch_of d turn)
   pub moment : d'.moment ≤ o'.clock.last
 
--- when serving is over, it does nothing
+-- Ending ----------------------------------------------------------------------------------------------------------------
+
+-- a turn of the ending: its moments, its round of Ends, and whether the trace took it
+pub record EndTurn : Type 0 where
+  pub moment : ℕ
+  pub wall : ℕ
+  pub round : Option Round
+  pub noted : Bool
+
+-- whether a round was opened
+abbrev pub is_opened : Option Round → Bool
+is_opened None = false
+is_opened (Some round) = true
+
+abbrev pub after_end : Desk → EndTurn → Desk
+after_end d t = record (after_round d (ending_items d) t.round) {
+  drawn = d.drawn + ending_draws d;
+  moment = t.moment;
+  endings = d.endings + 1;
+  unopened = (if is_opened t.round then 0 else d.unopened + 1);
+  closed = d.closed || is_opened t.round;
+  kept = (if is_opened t.round then [] else ending_items d);
+}
+
+-- A turn that wanted memory is None: it counts as one that opened no round.
+abbrev pub EndStep : Desk → Option EndTurn → Desk → Type 0
+EndStep d None d' = d' ≡ record d { endings = d.endings + 1; unopened = d.unopened + 1 }
+EndStep d (Some t) d' = (d.moment ≤ t.moment) × RoundOf d t.moment (ending_items d) t.round × (d' ≡ after_end d t)
+
+-- it reads its moments, sends what the round has to send and tells the trace, and takes nothing and does not wait
+abbrev pub end_stretch : Desk → Option EndTurn → Stretch
+end_stretch d None = no_stretch
+end_stretch d (Some t) = record {
+  plant = round_stretch t.round;
+  answers = Now t.moment ∷ Wall t.wall ∷ [];
+  rounds = told_if t.noted (round_told d t.moment t.wall (ending_items d) t.round);
+  unnoted = not t.noted;
+}
+
+abbrev pub end_turned : Option EndTurn → Turned
+end_turned None = WantOfMemory
+end_turned (Some t) = answer_if t.noted
+
+-- while the desk ends, a call of `turn` is one turn of the ending
+pub record MakesEnd (d d' : Desk) (o o' : Outside) (result : Turned) : Type 0 where
+  pub turn : Option EndTurn
+  pub answer : result ≡ end_turned turn
+  pub step : EndStep d turn d'
+  pub told : Extends o o' (end_stretch d turn)
+  pub moment : d'.moment ≤ o'.clock.last
+
+-- when all is over, it does nothing
 pub record DoesNothing (d d' : Desk) (o o' : Outside) (result : Turned) : Type 0 where
   pub answer : result ≡ Ok
   pub desk : d' ≡ d

@@ -1,28 +1,39 @@
-ghost use Rattle.std.specs.Prelude.{◌≡◌, ◌≤◌, ◌^◌, ◌++◌, true, false, IfOk, OnOk, OnErr, if◌then◌else◌, length, replicate};
+ghost use Rattle.std.specs.Prelude.{◌≡◌, ◌+◌, ◌≤◌, ◌<◌, ◌^◌, ◌++◌, ◌⊎◌, true, not, if◌then◌else◌, IfOk, OnOk, OnErr};
 ghost use Rattle.bng_base.specs.Stretch.{ExtendsPlant};
-ghost use Rattle.bng_desk.specs.Charging.{no_traffic};
-ghost use Rattle.bng_desk.specs.Counting.{no_drops};
-ghost use Rattle.bng_desk.specs.Model.{is_over};
 ghost use Rattle.bng_config.specs.Rules.{KeepsRules};
+ghost use Rattle.bng_desk.specs.Model.{state_of, all_carried};
+ghost use Rattle.bng_desk.specs.Opening.{IsOpened};
 ghost use Rattle.bng_desk.specs.Report.{by_number, report_text};
-ghost use Rattle.bng_desk.specs.Turn.{MakesTurn, DoesNothing, waiting_stretch};
+ghost use Rattle.bng_desk.specs.Turn.{MakesTurn, MakesEnd, DoesNothing, answer_if, waiting_stretch};
 
 use crate::control::heed;
-use crate::data::read_data;
-use crate::drops::NO_DROPS;
+use crate::drops::{Drops, NO_DROPS};
+use crate::due::{deadline_of, to_end, wait_until};
 use crate::flags::{both, either};
+use crate::gathering::gather;
+use crate::holding::{Named, hold, hold_ends, note};
+use crate::line::Line;
+use crate::lists::Lists;
+use crate::opening;
+use crate::random::Draws;
 use crate::report::report;
-use crate::traffic::{NO_TRAFFIC, Sums, Traffic};
-use bng_base::Frame;
+use crate::sums::{all_carried, sessions_in};
+use bng_base::{Frame, Ip4, Item, Listed};
 use bng_config::Config;
 use bng_plant::{Clock, Gate, Plant, Trace};
+use bng_ppp::LinkRules;
+use bng_shard::{PlainPool, Rules, Shard};
 use std::alloc::Global;
 use std::marker::Model;
+use std::mem;
 use std::sync::Wait;
 use std::thread::Threads;
 
-/// The milliseconds of a wait before which nothing is due.
-const WAIT_MOST: u32 = 100;
+/// So many turns of the ending in a row that open no round are the end.
+const UNOPENED_MOST: u64 = 1_000_000;
+
+/// So many turns of the ending are the end.
+const ENDINGS_MOST: u64 = 1 << 40;
 
 /// What a desk was not opened or did not report for.
 #[derive(Clone, Copy, PartialEq, Eq, Debug)]
@@ -30,7 +41,8 @@ pub enum DeskError {
     OutOfMemory,
 }
 
-/// Where a desk stands. `Ending`, `Grace` and `Starved` come with sessions and records, and do not come yet.
+/// Where a desk stands. While it serves, a turn reads what came. In `Ending` a turn is one round in which sessions end, until none
+/// is left. `Starved` is the end where no such round could be opened. `Grace` comes with records, and does not come yet.
 #[derive(Clone, Copy, PartialEq, Eq, Debug)]
 pub enum DeskState {
     Serving,
@@ -40,7 +52,8 @@ pub enum DeskState {
     Starved,
 }
 
-/// What a turn answers. `TraceFault` does not come before rounds are noted.
+/// What a turn answers. `TraceFault` comes where the trace did not take the round, which is settled all the same. `WantOfMemory` comes
+/// before any call on the outside.
 #[derive(Clone, Copy, PartialEq, Eq, Debug)]
 pub enum Turned {
     Ok,
@@ -48,89 +61,162 @@ pub enum Turned {
     WantOfMemory,
 }
 
-/// The desk. Contracts see what it serves, how many turns it made of how many, whether it was told to stop, the
-/// octets that each circuit carried, the drops, and the last moment that it was given.
+/// The desk. Contracts see what it serves, its shards, and what it counts.
 #[derive(Drop)]
 pub struct Desk {
-    config: Config,
+    rules: Rules,
+    lines: Vec<Line>,
     rounds: u64,
     turns: u64,
     stopped: bool,
-    sums: Sums,
+    shards: Vec<Shard>,
+    pool: PlainPool,
+    draws: Draws,
+    drops: Drops,
     moment: u64,
+    told: u64,
+    endings: u64,
+    unopened: u64,
+    closed: bool,
+    kept: Vec<Item>,
 }
 
 impl Model for Desk {
-    ghost use Rattle.bng_desk.specs.Model.{Desk as Seen, IsKept};
+    ghost use Rattle.bng_desk.specs.Model.{Desk as Seen};
+    ghost use Rattle.std.specs.Prelude.{map};
+    ghost use Rattle.bng_desk.specs.Kept.{IsKept, rested};
 
     ghost Value = { Seen };
 
-    ghost view = { λ d. record { config = d.config; rounds = d.rounds; turns = d.turns; stopped = d.stopped; traffic = d.sums.traffic.items; drops = d.sums.drops; moment = d.moment } };
+    ghost view = { λ d. record { rules = d.rules; lines = d.lines.items; rounds = d.rounds; turns = d.turns; stopped = d.stopped; shards = map rested d.shards.items; holders = d.pool; seed = d.draws.seed; drawn = d.draws.drawn; drops = d.drops; moment = d.moment; told = d.told; endings = d.endings; unopened = d.unopened; closed = d.closed; kept = d.kept.items } };
 
-    ghost invariant = { λ d. IsKept d.config d.rounds d.turns d.sums.traffic.items d.sums.drops };
+    ghost invariant = { λ d. IsKept (record { rules = d.rules; lines = d.lines.items; rounds = d.rounds; turns = d.turns; stopped = d.stopped; shards = d.shards.items; holders = d.pool; seed = d.draws.seed; drawn = d.draws.drawn; drops = d.drops; moment = d.moment; told = d.told; endings = d.endings; unopened = d.unopened; closed = d.closed; kept = d.kept.items }) };
 }
 
-// Waits where nothing was taken.
-fn wait_if<P: Plant>(plant: &mut P, idle: bool)
-    ensures { ExtendsPlant (P.told plant.old) (P.told plant.new) (waiting_stretch idle) }
+// What a turn answers whose round the trace took, or did not take.
+fn answer(noted: bool) -> Turned
+    ensures { result ≡ answer_if noted }
+{
+    if noted {
+        Turned::Ok
+    } else {
+        Turned::TraceFault
+    }
+}
+
+// Where a desk stands.
+fn stands(over: bool, ended: bool, starved: bool) -> DeskState
+    ensures { result ≡ (if not over then DeskState.Serving else (if ended then DeskState.Ended else (if starved then DeskState.Starved else DeskState.Ending))) }
+{
+    if !over {
+        DeskState::Serving
+    } else if ended {
+        DeskState::Ended
+    } else if starved {
+        DeskState::Starved
+    } else {
+        DeskState::Ending
+    }
+}
+
+// Waits at most so long, if the turn took nothing.
+fn wait_if<P: Plant>(plant: &mut P, idle: bool, ms: u32)
+    ensures { ExtendsPlant (P.told plant.old) (P.told plant.new) (waiting_stretch idle ms) }
 {
     if idle {
-        plant.wait(WAIT_MOST);
+        plant.wait(ms);
     }
 }
 
-// One traffic for each circuit, with nothing carried yet.
-fn fresh_traffic(alloc: Global, circuits: usize) -> Result<Vec<Traffic>, DeskError>
-    ensures { IfOk result (λ traffic. traffic.items ≡ replicate circuits no_traffic) }
+// How many turns in a row opened no round, after one more.
+fn unopened_after(is_opened: bool, unopened: u64) -> u64
+    requires { unopened < 2 ^ 63 }
+    ensures { result ≡ (if is_opened then 0 else unopened + 1) }
 {
-    match vec![in alloc; NO_TRAFFIC; circuits] {
-        Ok(traffic) => Ok(traffic),
-        Err(_) => Err(DeskError::OutOfMemory),
-    }
+    if is_opened { 0 } else { unopened + 1 }
 }
 
 impl Desk {
-    /// A desk that serves this configuration for so many turns at most, 1 to 2^40. `now` is the moment of the opening
-    /// in milliseconds and `wall` its second on the wall; `seed` is for random octets.
+    /// A desk that serves this configuration for so many turns at most, 1 to 2^40. `now` is the moment of the opening in
+    /// milliseconds, below 2^60, and `wall` its second on the wall. Of `seed` all random octets are drawn, the key of the cookies first.
     pub fn open(
         alloc: Global,
         config: Config,
         rounds: u64,
-        _seed: [u8; 32],
+        seed: [u8; 32],
         now: u64,
         _wall: u64,
     ) -> Result<Desk, DeskError>
         requires some { 1 ≤ rounds }
         requires most { rounds ≤ 2 ^ 40 }
         requires rules { KeepsRules config }
-        ensures { IfOk result (λ d. d ≡ record { config = config; rounds = rounds; turns = 0; stopped = false; traffic = replicate (length config.statics) no_traffic; drops = no_drops; moment = now }) }
+        ensures { IfOk result (λ d. IsOpened config rounds seed now d) }
     {
-        let circuits = config.statics.as_slice().len();
-        match fresh_traffic(alloc, circuits) {
-            Ok(traffic) => Ok(Desk {
-                config,
-                rounds,
-                turns: 0,
-                stopped: false,
-                sums: Sums {
-                    drops: NO_DROPS,
-                    traffic,
+        let Config {
+            name,
+            shards,
+            services,
+            auth,
+            echo,
+            control_local: _,
+            core_local: _,
+            core_peer,
+            access,
+            statics,
+        } = config;
+        let mut draws = Draws::of(seed);
+        let key = draws.sixteen();
+        let Ok(offers) = opening::offers(alloc, access.as_slice(), key, &name, &services) else {
+            return Err(DeskError::OutOfMemory);
+        };
+        let Ok(lines) = opening::lines(alloc, statics.as_slice()) else {
+            return Err(DeskError::OutOfMemory);
+        };
+        let Ok(holders) = opening::holders(alloc, statics.as_slice()) else {
+            return Err(DeskError::OutOfMemory);
+        };
+        let Ok(opens) = opening::shards(alloc, shards, statics.into_vec()) else {
+            return Err(DeskError::OutOfMemory);
+        };
+        Ok(Desk {
+            rules: Rules {
+                shards,
+                core_peer,
+                access,
+                offers: Listed::of(offers),
+                link: LinkRules {
+                    name,
+                    address: Ip4(0),
+                    dns: [None, None],
+                    auth,
+                    echo,
                 },
-                moment: now,
-            }),
-            Err(error) => Err(error),
-        }
+            },
+            lines,
+            rounds,
+            turns: 0,
+            stopped: false,
+            shards: opens,
+            pool: PlainPool::of(holders),
+            draws,
+            drops: NO_DROPS,
+            moment: now,
+            told: 0,
+            endings: 0,
+            unopened: 0,
+            closed: false,
+            kept: Vec::new(alloc),
+        })
     }
 
     /// Whether the desk serves, or where it stands in ending.
     pub fn state(&self) -> DeskState
-        ensures { result ≡ (if is_over self.now then DeskState.Ended else DeskState.Serving) }
+        ensures { result ≡ state_of self.now }
     {
-        if self.stopped || self.turns == self.rounds {
-            DeskState::Ended
-        } else {
-            DeskState::Serving
-        }
+        let over = either(self.stopped, self.turns == self.rounds);
+        let ended = both(self.closed, sessions_in(self.shards.as_slice()) == 0);
+        let starved = either(UNOPENED_MOST <= self.unopened, ENDINGS_MOST <= self.endings);
+        stands(over, ended, starved)
     }
 
     /// Ends serving, as a `stop` from Control does.
@@ -140,14 +226,17 @@ impl Desk {
         self.stopped = true;
     }
 
-    /// Appends the report: the octets in and out of all circuits and of each, and the drops by cause.
+    /// Appends the report: the octets in and out of all provisioned circuits and of each, and the drops by cause.
     pub fn report(&self, alloc: Global, out: &mut Vec<u8>) -> Result<(), DeskError>
-        ensures appended { OnOk result (out.new.items ≡ out.old.items ++ report_text self.now.config.statics self.now.traffic (by_number self.now.drops)) }
+        ensures appended { OnOk result (out.new.items ≡ out.old.items ++ report_text self.now.lines (all_carried self.now) (by_number self.now.drops)) }
         ensures kept { OnErr result (out.new.items ≡ out.old.items) }
     {
-        let drops = self.sums.drops.by_number();
-        let circuits = self.config.statics.as_slice();
-        let Ok(text) = report(alloc, circuits, self.sums.traffic.as_slice(), &drops) else {
+        let lines = self.lines.as_slice();
+        let Ok(traffic) = all_carried(alloc, self.shards.as_slice(), lines) else {
+            return Err(DeskError::OutOfMemory);
+        };
+        let drops = self.drops.by_number();
+        let Ok(text) = report(alloc, lines, traffic.as_slice(), &drops) else {
             return Err(DeskError::OutOfMemory);
         };
         match out.extend_from_slice(text.as_bytes()) {
@@ -156,42 +245,142 @@ impl Desk {
         }
     }
 
-    /// One turn: it reads Control, then the access ports and then the core, answers each word from 127.0.0.0/8, gives each
-    /// datagram of a port and of the core its fate, and hands each packet that may pass to the core or to its circuit;
-    /// where nothing was taken it waits. When serving is over it does nothing.
+    // A turn while the desk serves.
+    fn serve<P: Plant, C: Clock, T: Trace>(
+        &mut self,
+        alloc: Global,
+        plant: &mut P,
+        clock: &mut C,
+        trace: &mut T,
+    ) -> Turned
+        requires state { state_of self.old ≡ DeskState.Serving }
+        requires later { self.old.moment ≤ (C.told clock.old).last }
+        ensures { MakesTurn self.old self.new
+            (record { plant = P.told plant.old; clock = C.told clock.old; trace = T.told trace.old })
+            (record { plant = P.told plant.new; clock = C.told clock.new; trace = T.told trace.new }) result }
+    {
+        let Ok(mut lists) = Lists::of(alloc, self.shards.len()) else {
+            self.turns += 1;
+            return Turned::WantOfMemory;
+        };
+        let now = clock.now();
+        let wall = clock.wall();
+        let mut frame = Frame::new();
+        let heeding = heed(plant, &mut frame);
+        let gathered = gather(
+            &self.rules,
+            self.shards.as_slice(),
+            plant,
+            now,
+            &mut self.draws,
+            &mut lists.items,
+        );
+        let named = Named {
+            number: self.told + 1,
+            moment: now,
+            wall,
+        };
+        let round = hold(
+            alloc,
+            &self.rules,
+            self.shards.as_mut_slice(),
+            &self.pool,
+            plant,
+            named,
+            lists,
+            gathered.taken,
+            &mut self.drops,
+        );
+        let noted = note(trace, &round);
+        let wait = wait_until(deadline_of(self.shards.as_slice()), now);
+        wait_if(plant, both(both(heeding.idle, gathered.quiet), noted), wait);
+        self.told += 1;
+        self.turns += 1;
+        self.stopped = either(self.stopped, heeding.stop);
+        self.moment = now;
+        answer(noted)
+    }
+
+    // A turn while the desk ends.
+    fn end<P: Plant, C: Clock, T: Trace>(
+        &mut self,
+        alloc: Global,
+        plant: &mut P,
+        clock: &mut C,
+        trace: &mut T,
+    ) -> Turned
+        requires state { state_of self.old ≡ DeskState.Ending }
+        requires later { self.old.moment ≤ (C.told clock.old).last }
+        ensures { MakesEnd self.old self.new
+            (record { plant = P.told plant.old; clock = C.told clock.old; trace = T.told trace.old })
+            (record { plant = P.told plant.new; clock = C.told clock.new; trace = T.told trace.new }) result }
+    {
+        let Ok(mut lists) = Lists::of(alloc, self.shards.len()) else {
+            self.endings += 1;
+            self.unopened += 1;
+            return Turned::WantOfMemory;
+        };
+        let now = clock.now();
+        let wall = clock.wall();
+        let kept = mem::replace(&mut self.kept, Vec::new(alloc));
+        lists.items = to_end(kept, self.shards.len(), &mut self.draws, lists.items);
+        let named = Named {
+            number: self.told + 1,
+            moment: now,
+            wall,
+        };
+        let ending = hold_ends(
+            alloc,
+            &self.rules,
+            self.shards.as_mut_slice(),
+            &self.pool,
+            plant,
+            named,
+            lists,
+            &mut self.kept,
+            &mut self.drops,
+        );
+        let noted = note(trace, &ending.record);
+        self.told += 1;
+        self.moment = now;
+        self.endings += 1;
+        self.unopened = unopened_after(ending.is_opened, self.unopened);
+        self.closed = either(self.closed, ending.is_opened);
+        answer(noted)
+    }
+
+    /// One turn. While the desk serves: it reads Control, then the access ports and then the core, and answers each word from
+    /// 127.0.0.0/8; each datagram of a port and of the core is an item of a round, and so is a Tick of each shard that has a due
+    /// deadline; it hands each item to its shard, sends what they have to send, charges each packet that was sent to its circuit,
+    /// and tells the trace the round; where nothing was taken it waits. While it ends: a round of one End for each shard. When all is
+    /// over it does nothing.
     pub fn turn<R, P: Plant, C: Clock, T: Trace, G>(
         &mut self,
         _rt: &R,
-        _alloc: Global,
+        alloc: Global,
         plant: &mut P,
         clock: &mut C,
-        _trace: &mut T,
+        trace: &mut T,
         _gate: &G,
     ) -> Turned
     where
         R: Threads + Wait + Sync,
         G: Gate + Sync,
         requires later { self.old.moment ≤ (C.told clock.old).last }
-        ensures over { is_over self.old ≡ true → DoesNothing self.old self.new
-            (record { plant = P.told plant.old; clock = C.told clock.old; trace = T.told _trace.old })
-            (record { plant = P.told plant.new; clock = C.told clock.new; trace = T.told _trace.new }) result }
-        ensures serving { is_over self.old ≡ false → MakesTurn self.old self.new
-            (record { plant = P.told plant.old; clock = C.told clock.old; trace = T.told _trace.old })
-            (record { plant = P.told plant.new; clock = C.told clock.new; trace = T.told _trace.new }) result }
+        ensures serving { state_of self.old ≡ DeskState.Serving → MakesTurn self.old self.new
+            (record { plant = P.told plant.old; clock = C.told clock.old; trace = T.told trace.old })
+            (record { plant = P.told plant.new; clock = C.told clock.new; trace = T.told trace.new }) result }
+        ensures ending { state_of self.old ≡ DeskState.Ending → MakesEnd self.old self.new
+            (record { plant = P.told plant.old; clock = C.told clock.old; trace = T.told trace.old })
+            (record { plant = P.told plant.new; clock = C.told clock.new; trace = T.told trace.new }) result }
+        ensures over { (state_of self.old ≡ DeskState.Ended) ⊎ (state_of self.old ≡ DeskState.Starved) → DoesNothing self.old self.new
+            (record { plant = P.told plant.old; clock = C.told clock.old; trace = T.told trace.old })
+            (record { plant = P.told plant.new; clock = C.told clock.new; trace = T.told trace.new }) result }
     {
-        if self.stopped || self.turns == self.rounds {
-            return Turned::Ok;
+        match self.state() {
+            DeskState::Serving => self.serve(alloc, plant, clock, trace),
+            DeskState::Ending => self.end(alloc, plant, clock, trace),
+            DeskState::Grace | DeskState::Ended | DeskState::Starved => Turned::Ok,
         }
-        let mut frame = Frame::new();
-        let now = clock.now();
-        let _wall = clock.wall();
-        let heeding = heed(plant, &mut frame);
-        let quiet = read_data(&self.config, plant, &mut frame, &mut self.sums);
-        let idle = both(heeding.idle, quiet);
-        wait_if(plant, idle);
-        self.turns += 1;
-        self.stopped = either(self.stopped, heeding.stop);
-        self.moment = now;
-        Turned::Ok
     }
 }

@@ -1,6 +1,7 @@
-ghost use Rattle.std.specs.Prelude.{◌≡◌, ◌^◌};
+ghost use Rattle.std.specs.Prelude.{◌≡◌, ◌≤◌, ◌^◌};
 ghost use Rattle.bng_desk.specs.Report.{by_number};
-ghost use Rattle.bng_desk.specs.Counting.{with_fate, Within};
+ghost use Rattle.bng_desk.specs.Counting.{with_fate, plus, Within};
+ghost use Rattle.bng_desk.specs.Round.{with_refused};
 
 use bng_base::{DropCause, Fate};
 
@@ -50,6 +51,15 @@ pub(crate) fn count(drops: &mut Drops, fate: Fate)
         DropCause::LinkFailed => drops.link_failed += 1,
         DropCause::WantOfMemory => drops.want_of_memory += 1,
     }
+}
+
+/// Counts so many items of a round that was not opened.
+pub(crate) fn count_refused(drops: &mut Drops, items: usize)
+    requires within { Within (2 ^ 62) drops.old }
+    requires few { items ≤ 2 ^ 62 }
+    ensures { drops.new ≡ plus drops.old (with_refused items) }
+{
+    drops.want_of_memory += items as u64;
 }
 
 impl Drops {

@@ -1,24 +1,28 @@
-//! The desk: the one thread that takes what came to the gateway, lets it be handled, sends what that calls for, and
-//! keeps the sums. A turn reads Control, then the access ports in their order, then the core; each datagram has its fate
-//! (`AccessFate` and `CoreFate` of `bng_forward`), each packet that may pass goes to the core or to the circuit whose
-//! address is its destination, and the octets of those that were sent are charged to their circuit. The contract of
-//! `Desk::turn` says the whole of it over what the outside tells.
+//! The desk: the one thread that takes what came to the gateway, lets it be handled in the shards, sends what that calls for, and
+//! keeps the sums. A turn reads Control, then the access ports in their order, then the core. What it took are the items of a round;
+//! the shards handle them; the settlement sends what the shards have to send, charges what was sent and tells the trace. The
+//! contract of `Desk::turn` says the whole of it over what the outside tells.
 #![tactic(auto)]
 
 mod calls;
 mod control;
-mod data;
 mod desk;
 mod drops;
+mod due;
 mod flags;
+mod gathering;
+mod holding;
+mod intake;
+mod line;
+mod lists;
+mod opening;
+mod random;
 mod reading;
 mod report;
-mod traffic;
+mod round;
+mod sums;
 
 pub use crate::desk::{Desk, DeskError, DeskState, Turned};
 pub use crate::drops::Drops;
+pub use crate::line::Line;
 pub use crate::reading::Ended;
-pub use crate::traffic::Traffic;
-
-#[cfg(test)]
-mod tests;

@@ -3,8 +3,9 @@ ghost use Rattle.bng_desk.specs.Model.{input_of, output_of};
 ghost use Rattle.bng_config.specs.Address.{address_text};
 ghost use Rattle.bng_desk.specs.Report.{report_text, static_line, static_lines, drop_line, drop_lines, causes, quantities, cause_name};
 
-use crate::traffic::Traffic;
-use bng_base::{DropCause, Ip4, Static};
+use crate::line::Line;
+use bng_base::{DropCause, Ip4};
+use bng_shard::Traffic;
 use std::alloc::{AllocError, Global};
 
 /// The causes, by number.
@@ -24,17 +25,15 @@ const CAUSES: [DropCause; 9] = [
 /// number of the cause. There is one traffic for each circuit.
 pub(crate) fn report(
     alloc: Global,
-    circuits: &[Static],
+    circuits: &[Line],
     traffic: &[Traffic],
     drops: &[u64; 9],
 ) -> Result<String, AllocError>
     requires circuits { length traffic.now ≡ length circuits.now }
-    requires input { input_of traffic.now < 2 ^ 64 }
-    requires output { output_of traffic.now < 2 ^ 64 }
     ensures { IfOk result (λ text. string_bytes text ≡ report_text circuits.now traffic.now drops.now) }
 {
-    let input = traffic.iter().map(|t| t.input).sum();
-    let output = traffic.iter().map(|t| t.output).sum();
+    let input = traffic.iter().map(|t| u128::from(t.input)).sum();
+    let output = traffic.iter().map(|t| u128::from(t.output)).sum();
     let mut text = String::from_str(alloc, "total")?;
     push_quantities(&mut text, input, output)?;
     push_static_lines(&mut text, circuits, traffic)?;
@@ -44,7 +43,7 @@ pub(crate) fn report(
 
 fn push_static_lines(
     text: &mut String,
-    circuits: &[Static],
+    circuits: &[Line],
     traffic: &[Traffic],
 ) -> Result<(), AllocError>
     requires { length traffic.now ≡ length circuits.now }
@@ -61,7 +60,7 @@ fn push_static_line(text: &mut String, address: Ip4, carried: Traffic) -> Result
 {
     text.push_str("static ")?;
     push_address(text, address)?;
-    push_quantities(text, carried.input, carried.output)
+    push_quantities(text, u128::from(carried.input), u128::from(carried.output))
 }
 
 fn push_drop_lines(text: &mut String, drops: &[u64; 9]) -> Result<(), AllocError>
@@ -73,7 +72,7 @@ fn push_drop_lines(text: &mut String, drops: &[u64; 9]) -> Result<(), AllocError
     Ok(())
 }
 
-fn push_quantities(text: &mut String, input: u64, output: u64) -> Result<(), AllocError>
+fn push_quantities(text: &mut String, input: u128, output: u128) -> Result<(), AllocError>
     ensures { OnOk result (string_bytes text.new ≡ string_bytes text.old ++ quantities input output) }
 {
     write!(text, " in={input} out={output}\n")

@@ -1,5 +1,5 @@
 -- The binds of the access ports, one after the other.
-use Rattle.std.proofs.Common.{◌≡◌, ℕ, zero, suc, ◌+◌, ◌-◌, ◌<◌, ◌≤◌, List, [], ◌∷◌, ◌++◌, length, take, get_or, refl, sym, ap, subst, ◌∙◌, arith}
+use Rattle.std.proofs.Common.{◌≡◌, ℕ, zero, suc, ◌+◌, ◌-◌, ◌<◌, ◌≤◌, List, [], ◌∷◌, ◌++◌, length, take, get_or, sym, ap, subst, ◌∙◌, arith}
 use Rattle.bng_base.specs.declared.outside.Bind.{Bind}
 use Rattle.bng_base.specs.declared.outside.Role.TheVariants.{Access}
 use Rattle.bng_base.specs.declared.settings.AccessPort.{AccessPort}
@@ -7,7 +7,7 @@ use Rattle.bng_base.specs.Causes.{Rose}
 use Rattle.bng_base.specs.Told.{PlantTold, Grows}
 use Rattle.bng_base.proofs.ToldLaws.{grows_more}
 use Rattle.bng_config.specs.declared.config.Config.{Config}
-use Rattle.bng_gate.specs.Run.{port_binds, binds_of, binds_most, BindsPorts, FailsAtPort, Binds, FailsToBind, FailsToBindPort}
+use Rattle.bng_gate.specs.Run.{port_binds, binds_of, BindsPorts, FailsAtPort, Binds, FailsToBindPort}
 
 same_number : (m n : ℕ) (port : AccessPort) (bs : List Bind) → m ≡ n → record { role = Access m; local = port.local } ∷ bs ≡ record { role = Access n; local = port.local } ∷ bs
 same_number m n port bs e = let make : ℕ → List Bind = λ k. record { role = Access k; local = port.local } ∷ bs in ap make e

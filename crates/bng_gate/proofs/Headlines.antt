@@ -1,119 +1,155 @@
 -- The headline of a run, from its turns.
-use Rattle.std.proofs.Common.{◌≡◌, ℕ, ◌-◌, Bool, true, false, ◌||◌, cond, List, [], ◌∷◌, Option, Some, length, map, replicate, refl, sym, ap, subst, ◌∙◌, arith}
-use Rattle.std.specs.List.{All, filter}
+use Rattle.std.proofs.Common.{◌≡◌, ℕ, List, [], map, Option, refl, sym, ap, subst, ◌∙◌}
+use Rattle.std.specs.List.{AllByRecursion, AllZip, range_with_len}
 use Rattle.std.proofs.lemmas.Bool.{false_from_ne_true}
-use Rattle.std.proofs.lemmas.List.Elements.{All-nil, All-cons, All-head, All-tail}
-use Rattle.std.proofs.lemmas.Option.{same_Some}
 use Rattle.bng_base.specs.declared.outside.Datagram.{Datagram}
 use Rattle.bng_base.specs.declared.outside.Heard.{Heard}
-use Rattle.bng_base.specs.declared.outside.Role.{Role}
-use Rattle.bng_base.specs.declared.outside.Role.TheVariants.{Access, Core, Tunnel, Auth, Acct, Coa, Control}
-use Rattle.bng_base.specs.declared.settings.Static.{Static}
-use Rattle.bng_base.specs.declared.ipv4.Ipv4.{Ipv4}
+use Rattle.bng_base.specs.Chain.{Chain}
 use Rattle.bng_base.specs.Told.{Grows, GrowsIfTold}
 use Rattle.bng_base.proofs.ToldLaws.{rose_late}
 use Rattle.bng_config.specs.declared.config.Config.{Config}
 use Rattle.bng_config.specs.Configuration.{IsRead}
+use Rattle.bng_config.specs.Rules.{KeepsRules}
 use Rattle.bng_config.proofs.Kept.{read_keeps}
-use Rattle.bng_forward.specs.Packets.{IsPassedOn}
+use Rattle.bng_engine.specs.Accounted.{Accounted, opening as nothing_yet}
+use Rattle.bng_engine.specs.Laws.{Opens, RunFrom, RowsAccountOnWire, sends_of, stops_of}
+use Rattle.bng_engine.specs.Protocol.{StepLaws}
+use Rattle.bng_engine.specs.Run.{Part, Past}
+use Rattle.bng_engine.specs.Terms.{keys}
+use Rattle.bng_engine.specs.Turn.{DeskSight}
+use Rattle.bng_engine.specs.World.{World as Gateway, Run as Rounds}
+use Rattle.bng_engine.specs.Wire.{went}
+use Rattle.bng_engine.proofs.Openings.{refused_keeps}
+use Rattle.bng_engine.proofs.Runs.{opens_accounted, rounds_are_right, run_conserves, turns_go_on, rows_account_on_wire}
+use Rattle.bng_shard.specs.declared.rules.Rules.{Rules}
+use Rattle.bng_shard.specs.declared.sums.Traffic.{Traffic}
+use Rattle.bng_shard.specs.Deed.{Deed}
+use Rattle.bng_shard.specs.Protocol.{terms_of, pppoe}
+use Rattle.bng_shard.specs.State.{State}
+use Rattle.bng_shard.proofs.StepLaws.{pppoe_laws}
 use Rattle.bng_desk.specs.declared.drops.Drops.{Drops}
-use Rattle.bng_desk.specs.declared.traffic.Traffic.{Traffic}
-use Rattle.bng_desk.specs.Charging.{no_traffic, charged_all}
-use Rattle.bng_desk.specs.Counting.{drops_of}
-use Rattle.bng_desk.specs.Data.{all_handled, fates_of}
-use Rattle.bng_desk.specs.Handled.{Handled, IsHandled, went, failed_to_go, was_handed_over, to_core, on_circuit}
+use Rattle.bng_desk.specs.declared.line.Line.{Line}
+use Rattle.bng_desk.specs.Model.{Desk, carried_on, all_carried}
+use Rattle.bng_desk.specs.Opening.{line_of, holder_of, opened_shards}
 use Rattle.bng_desk.specs.Report.{report_text, by_number}
-use Rattle.bng_gate.specs.Serving.{run_stretch}
-use Rattle.bng_gate.specs.Headline.{Headline, on_data, IsWhole, IsAddressed, all_traffic}
-use Rattle.bng_gate.specs.Run.{World, outside, opened, Runs}
-use Rattle.bng_gate.proofs.Laws.{all_readings, all_right, all_sent, all_taken, all_heard, all_traffic_of, all_drops, from_none, none_failed}
-use Rattle.bng_gate.proofs.Accounts.{IsSixed, each_handled, charged_is_sent, input_is_all, output_is_all}
+use Rattle.bng_desk.specs.Round.{sight_of}
+use Rattle.bng_gate.specs.Headline.{Headline, all_traffic}
+use Rattle.bng_gate.specs.Rounds.{rounds_in, rounds_of, plant_of, on_data, drops_of_run}
+use Rattle.bng_gate.specs.Run.{World, outside, Runs}
+use Rattle.bng_gate.proofs.Addressing.{all_addressed}
+use Rattle.bng_gate.proofs.Drops.{all_dropped}
+use Rattle.bng_gate.proofs.Follows.{Follows, run_follows, lines_stay}
+use Rattle.bng_gate.proofs.Going.{Leads, stands_itself, rounds_lead, by_turns}
+use Rattle.bng_gate.proofs.Keys.{HasKeys, HasRows, IsKeyOf, IsOurs, all_keys, opened_keys, all_keys_known, run_keys, run_ours, run_stops, rows_have, world_keys}
+use Rattle.bng_gate.proofs.Openings.{opens}
+use Rattle.bng_gate.proofs.Telling.{sent_are, taken_are, unfailing_went}
+use Rattle.bng_gate.proofs.Traffic.{traffic_same, input_all, output_all}
 
-handed : (h : Handled) → went h ≡ true → was_handed_over h ≡ true
-handed h e = ap (λ (b : Bool). b || failed_to_go h) e
+module _ (config : Config) (rules : KeepsRules config) (seed : List ℕ) (old new : World) (run : Runs config seed (outside old) (outside new) old.out new.out) where
+  abbrev r : Rules
+  r = run.opening.rules
 
-whole : (Holds : Ipv4 → Type 0) (v : Ipv4) (before after : List ℕ) → IsPassedOn v before after → Holds (record v { ttl = v.ttl - 1 }) → IsWhole Holds after
-whole Holds v before after passed holds = record { header = record v { ttl = v.ttl - 1 }; reads = passed.is; total = sym passed.whole; holds = holds }
+  laws : StepLaws (pppoe r)
+  laws = pppoe_laws r
 
--- a packet that went is addressed by its circuit
-addressed_one : (config : Config) (role : Role) (h : Handled) → IsHandled config role h → went h ≡ true → IsAddressed config h.out
-addressed_one config (Access n) h is e =
-    let goes = is.goes (handed h e) in
-    let p = goes.passes in
-    subst (IsAddressed config) (sym goes.out) (record {
-      place = h.place;
-      circuit = p.circuit;
-      at = p.at;
-      peer = refl;
-      packet = whole (λ (v : Ipv4). v.src ≡ p.circuit.address) p.header p.info h.packet p.passed p.source;
-    })
-addressed_one config Core h is e =
-    let goes = is.goes (handed h e) in
-    let p = goes.passes in
-    let same : p.circuit ≡ goes.circuit = same_Some p.circuit goes.circuit (sym p.at ∙ goes.at) in
-    subst (IsAddressed config) (sym goes.out) (record {
-      place = h.place;
-      circuit = goes.circuit;
-      at = goes.at;
-      of_port = refl;
-      port = goes.port;
-      its_port = goes.its_port;
-      peer = refl;
-      packet = h.packet;
-      framed = refl;
-      whole = whole (λ (v : Ipv4). v.dst ≡ goes.circuit.address) p.header h.arrival.octets h.packet p.passed (p.destination ∙ ap (λ (s : Static). s.address) same);
-    })
-addressed_one config Tunnel h is e = absurd is
-addressed_one config Auth h is e = absurd is
-addressed_one config Acct h is e = absurd is
-addressed_one config Coa h is e = absurd is
-addressed_one config Control h is e = absurd is
+  -- the engine's sights of the desk at the opening and at the end
+  abbrev start : DeskSight State Deed
+  start = sight_of run.opening.shards run.opening.holders
 
-addressed_at : (config : Config) (b : Bool) (h : Handled) (hs : List Handled) → went h ≡ b → (went h ≡ true → IsAddressed config h.out) → All (IsAddressed config) (map (λ k. k.out) (filter went hs))
-    → All (IsAddressed config) (map (λ k. k.out) (cond b (h ∷ filter went hs) (filter went hs)))
-addressed_at config true h hs is here rest = All-cons (IsAddressed config) h.out (map (λ k. k.out) (filter went hs)) (here is) rest
-addressed_at config false h hs is here rest = rest
+  abbrev end : DeskSight State Deed
+  end = sight_of run.last.shards run.last.holders
 
-all_addressed : (config : Config) (hs : List Handled) → All (λ h. went h ≡ true → IsAddressed config h.out) hs → All (IsAddressed config) (map (λ h. h.out) (filter went hs))
-all_addressed config [] all = All-nil (IsAddressed config)
-all_addressed config (h ∷ hs) all =
-    let P : Handled → Type 0 = λ k. went k ≡ true → IsAddressed config k.out in
-    addressed_at config (went h) h hs refl (All-head P h hs all) (all_addressed config hs (All-tail P h hs all))
+  abbrev rounds : List (List (Part Deed))
+  rounds = rounds_of run.turns run.endings
 
--- MACs that were read have six octets
-sixed_of : (text : List ℕ) (c : Config) → IsRead text c → IsSixed c
-sixed_of text c read = record {
-  ports = λ k d lt. (read.configures.access k d lt).mac.is.six;
-  circuits = λ k d lt. (read.configures.statics k d lt).mac.is.six;
-}
+  start_is : start ≡ sight_of (opened_shards config) (map holder_of config.statics)
+  start_is = ap (λ (d : Desk). sight_of d.shards d.holders) run.begins.is_opened.desk
 
-pub headline : (text : List ℕ) (config : Config) (old new : World) → IsRead text config → Runs config (outside old) (outside new) old.out new.out → Headline config old new
-headline text config old new read r =
-    let rules = read_keeps text config read in
-    let sixed = sixed_of text config read in
-    let stretch = (run_stretch r.turns).plant in
-    let rs = all_readings r.turns in
-    let right = all_right (opened config r.now) r.last r.turns r.run in
-    let sent = all_sent config r.turns right in
-    let traffic : r.last.traffic ≡ all_traffic config stretch.sent = all_traffic_of (opened config r.now) r.last r.turns r.run ∙ charged_is_sent config rules sixed stretch.sent rs right sent in
-    let drops : r.last.drops ≡ drops_of (fates_of (all_handled rs)) = all_drops (opened config r.now) r.last r.turns r.run ∙ from_none (drops_of (fates_of (all_handled rs))) in
-    record {
-      heard = stretch.heard;
-      heard_grew = subst (λ (t : Option (List Heard)). GrowsIfTold t new.plant.heard stretch.heard) r.binds.heard r.told.plant.heard;
-      taken = stretch.taken;
-      taken_grew = subst (λ (t : Option (List Datagram)). Grows t new.plant.taken stretch.taken) r.binds.taken r.told.plant.taken;
-      sent = stretch.sent;
-      sent_grew = subst (λ (t : Option (List Datagram)). Grows t new.plant.sent stretch.sent) r.binds.sent r.told.plant.sent;
-      readings = rs;
-      are_heard = all_heard config r.turns right;
-      are_taken = all_taken config r.turns right;
-      fates = right;
-      are_sent = sent;
-      addressed = subst (All (IsAddressed config)) (sym sent) (all_addressed config (all_handled rs) (each_handled config rules sixed (λ h. went h ≡ true → IsAddressed config h.out) (addressed_one config) rs right));
-      printed = subst (λ (ts : List Traffic). Grows old.out.bytes new.out.bytes (report_text config.statics ts (by_number (drops_of (fates_of (all_handled rs)))))) traffic
-          (subst (λ (d : Drops). Grows old.out.bytes new.out.bytes (report_text config.statics r.last.traffic (by_number d))) drops r.printed);
-      all_input = input_is_all config rules sixed stretch.sent rs right sent;
-      all_output = output_is_all config rules sixed stretch.sent rs right sent;
-      unfailing = λ unfailed.
-          none_failed r.turns (false_from_ne_true stretch.failed (λ f. unfailed (rose_late old.plant.faults r.opening.plant.faults new.plant.faults r.binds.later (r.told.plant.cause.cause f))));
-    }
+  start_opens : Opens (pppoe r) start
+  start_opens = subst (Opens (pppoe r)) (sym start_is) (opens r config rules)
+
+  start_keys : AllZip HasKeys start.shards (all_keys config)
+  start_keys = subst (λ (v : DeskSight State Deed). AllZip HasKeys v.shards (all_keys config)) (sym start_is) (opened_keys config (range_with_len 0 config.shards))
+
+  follows : Chain Follows run.opening (rounds_in run.turns run.endings) run.last
+  follows = run_follows run.opening run.over run.last run.turns run.endings run.run run.ending
+
+  leads : Leads r start rounds run.last
+  leads = rounds_lead r run.opening run.last (rounds_in run.turns run.endings) follows refl start (stands_itself run.opening)
+
+  goes : (w : Gateway State) × Rounds (pppoe r) (nothing_yet start) rounds w × Accounted (pppoe r) leads.sight w
+  goes = turns_go_on (pppoe r) laws start leads.sight (nothing_yet start) rounds (by_turns r start leads.sight rounds leads.turns) (opens_accounted (pppoe r) laws start start_opens)
+
+  run_from : RunFrom (pppoe r) start rounds goes.0
+  run_from = record { opens = start_opens; rounds = goes.1 }
+
+  accounted : Accounted (pppoe r) end goes.0
+  accounted = refused_keeps (pppoe r) leads.sight end goes.0 leads.stands.shards leads.stands.held goes.2
+
+  on_wire : RowsAccountOnWire rounds end
+  on_wire = rows_account_on_wire (pppoe r) laws start end goes.0 rounds goes.1 accounted
+
+  end_keys : AllZip HasKeys leads.sight.shards (all_keys config)
+  end_keys = run_keys r laws start leads.sight rounds (all_keys config) leads.turns start_keys
+
+  rows : AllZip HasRows run.last.shards (all_keys config)
+  rows = rows_have r leads.sight.shards run.last.shards goes.0.shards (all_keys config) leads.stands.shards end_keys accounted.tells.shards
+
+  terms : map (λ (x : Past State). keys (terms_of x.state)) goes.0.shards ≡ all_keys config
+  terms = world_keys r leads.sight.shards goes.0.shards (all_keys config) goes.2.tells.shards end_keys
+
+  ours : AllByRecursion (IsOurs (IsKeyOf config)) (sends_of rounds)
+  ours = run_ours r laws (IsKeyOf config) start leads.sight rounds (all_keys config) leads.turns start_keys (all_keys_known config)
+
+  stops : stops_of rounds ≡ []
+  stops = run_stops r laws start leads.sight rounds leads.turns
+
+  lines : run.last.lines ≡ map line_of config.statics
+  lines = lines_stay run.opening run.last (rounds_in run.turns run.endings) follows ∙ ap (λ (d : Desk). d.lines) run.begins.is_opened.desk
+
+  -- what was sent, as the plant tells it
+  abbrev sent : List Datagram
+  sent = (plant_of run.turns run.endings).sent
+
+  sends : on_data sent ≡ on_data (went (sends_of rounds))
+  sends = sent_are run.turns run.endings
+
+  drops : run.last.drops ≡ drops_of_run run.turns run.endings
+  drops = all_dropped run.opening run.over run.last run.turns run.endings (ap (λ (d : Desk). d.drops) run.begins.is_opened.desk) run.run run.ending
+
+  report : report_text run.last.lines (all_carried run.last) (by_number run.last.drops) ≡ report_text (map line_of config.statics) (all_traffic config sent) (by_number (drops_of_run run.turns run.endings))
+  report =
+      ap (λ (ls : List Line). report_text ls (map (carried_on run.last.shards) ls) (by_number run.last.drops)) lines
+      ∙ ap (λ (ts : List Traffic). report_text (map line_of config.statics) ts (by_number run.last.drops)) (traffic_same config rules run.last.shards rows run.last.holders sent rounds sends stops on_wire)
+      ∙ ap (λ (d : Drops). report_text (map line_of config.statics) (all_traffic config sent) (by_number d)) drops
+
+  pub headline_of : Headline config old new
+  headline_of = record {
+    seed = seed;
+    run = run;
+    heard = (plant_of run.turns run.endings).heard;
+    heard_grew = subst (λ (x : Option (List Heard)). GrowsIfTold x new.plant.heard (plant_of run.turns run.endings).heard) run.begins.binds.heard run.told.plant.heard;
+    are_heard = refl;
+    taken = (plant_of run.turns run.endings).taken;
+    taken_grew = subst (λ (x : Option (List Datagram)). Grows x new.plant.taken (plant_of run.turns run.endings).taken) run.begins.binds.taken run.told.plant.taken;
+    are_taken = refl;
+    sent = sent;
+    sent_grew = subst (λ (x : Option (List Datagram)). Grows x new.plant.sent sent) run.begins.binds.sent run.told.plant.sent;
+    are_sent = refl;
+    items = taken_are run.opening run.over run.turns run.endings run.run;
+    sends = sends;
+    world = goes.0;
+    rounds = rounds_are_right (pppoe r) laws start rounds goes.0 run_from;
+    terms = terms;
+    no_stops = stops;
+    conserved = run_conserves (pppoe r) laws start rounds goes.0 run_from;
+    addressed = all_addressed config sent (sends_of rounds) sends ours;
+    printed = subst (λ (text : List ℕ). Grows old.out.bytes new.out.bytes text) report run.printed;
+    all_input = input_all config rules run.last.shards rows run.last.holders sent rounds sends stops on_wire;
+    all_output = output_all config rules run.last.shards rows run.last.holders sent rounds sends stops on_wire;
+    unfailing = λ unfailed.
+        unfailing_went run.turns run.endings (false_from_ne_true (plant_of run.turns run.endings).failed (λ f. unfailed (rose_late old.plant.faults run.opening_outside.plant.faults new.plant.faults run.begins.binds.later (run.told.plant.cause.cause f))));
+  }
+
+pub headline : (text : List ℕ) (config : Config) (seed : List ℕ) (old new : World) → IsRead text config → Runs config seed (outside old) (outside new) old.out new.out → Headline config old new
+headline text config seed old new read run = headline_of config (read_keeps text config read) seed old new run

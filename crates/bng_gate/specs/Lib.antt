@@ -4,4 +4,5 @@ pub mod Saying
 pub mod Taken
 pub mod Serving
 pub mod Run
+pub mod Rounds
 pub mod Headline

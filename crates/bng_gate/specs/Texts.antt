@@ -5,9 +5,9 @@ use Rattle.bng_config.specs.declared.fault.Fault.{Fault}
 use Rattle.bng_config.specs.Keys.{fault_text}
 use Rattle.bng_gate.specs.declared.texts.Line.{Line}
 use Rattle.bng_gate.specs.declared.texts.Opening.{Opening}
-use Rattle.bng_gate.specs.declared.texts.Opening.TheVariants.{Configuration, Control, Core, Access}
+use Rattle.bng_gate.specs.declared.texts.Opening.TheVariants.{Configuration, Seed, Control, Core, Access}
 use Rattle.bng_gate.specs.declared.texts.Refusal.{Refusal}
-use Rattle.bng_gate.specs.declared.texts.Refusal.TheVariants.{Usage, Refused, CannotOpen, OutOfMemory, OutputFailed}
+use Rattle.bng_gate.specs.declared.texts.Refusal.TheVariants.{Usage, Refused, CannotOpen, OutOfMemory, TraceFailed, OutputFailed}
 
 abbrev pub usage_text : List ℕ
 usage_text =
@@ -19,6 +19,7 @@ refused_text fault = codes "bng: config: " ++ fault_text fault ++ codes "\n"
 -- an access port is named by its number
 abbrev pub opening_name : Opening → List ℕ
 opening_name Configuration = codes "configuration"
+opening_name Seed = codes "seed"
 opening_name Control = codes "control"
 opening_name Core = codes "core"
 opening_name (Access number) = codes "access " ++ decimal number
@@ -31,6 +32,7 @@ refusal_text Usage = usage_text
 refusal_text (Refused fault) = refused_text fault
 refusal_text (CannotOpen what) = cannot_open_text what
 refusal_text OutOfMemory = codes "bng: out of memory\n"
+refusal_text TraceFailed = codes "bng: trace failed\n"
 refusal_text OutputFailed = codes "bng: output failed\n"
 
 abbrev pub status_of : Refusal → ℕ
@@ -38,6 +40,7 @@ status_of Usage = 1
 status_of (Refused fault) = 2
 status_of (CannotOpen what) = 3
 status_of OutOfMemory = 4
+status_of TraceFailed = 5
 status_of OutputFailed = 5
 
 -- the three parts of a line, one after the other

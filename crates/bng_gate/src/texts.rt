@@ -14,6 +14,7 @@ mod tests;
 #[derive(Clone, Copy, PartialEq, Eq, Debug)]
 pub enum Opening {
     Configuration,
+    Seed,
     Control,
     Core,
     /// The access port with this number, from 1 on.
@@ -30,6 +31,8 @@ pub enum Refusal {
     /// A file or a role could not be opened.
     CannotOpen(Opening),
     OutOfMemory,
+    /// The trace did not take a round.
+    TraceFailed,
     /// The report could not be written.
     OutputFailed,
 }
@@ -51,6 +54,7 @@ pub fn status(refusal: Refusal) -> u8
         Refusal::Refused(_) => 2,
         Refusal::CannotOpen(_) => 3,
         Refusal::OutOfMemory => 4,
+        Refusal::TraceFailed => 5,
         Refusal::OutputFailed => 5,
     }
 }
@@ -70,6 +74,7 @@ pub fn line_of(refusal: Refusal) -> Line
         },
         Refusal::CannotOpen(what) => cannot_open(what),
         Refusal::OutOfMemory => whole("bng: out of memory\n"),
+        Refusal::TraceFailed => whole("bng: trace failed\n"),
         Refusal::OutputFailed => whole("bng: output failed\n"),
     }
 }
@@ -99,6 +104,7 @@ fn cannot_open(what: Opening) -> Line
 {
     match what {
         Opening::Configuration => whole("bng: cannot open configuration\n"),
+        Opening::Seed => whole("bng: cannot open seed\n"),
         Opening::Control => whole("bng: cannot open control\n"),
         Opening::Core => whole("bng: cannot open core\n"),
         Opening::Access(number) => Line {

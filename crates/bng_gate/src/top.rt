@@ -1,5 +1,5 @@
 //! The top call.
-ghost use Rattle.std.specs.Prelude.{◌≡◌, ◌≤◌, ◌⊎◌, ℕ, List, [], ◌∷◌, IsSome, OnOk, IfOk, IfErr, length};
+ghost use Rattle.std.specs.Prelude.{◌≡◌, ◌≤◌, ◌⊎◌, ℕ, List, [], ◌∷◌, false, IsSome, OnOk, OnErr, IfNone, IfOk, IfErr, IfSome, length};
 ghost use Rattle.bng_base.specs.Told.{Grows};
 ghost use Rattle.bng_config.specs.declared.config.Config.{Config as Settings};
 ghost use Rattle.bng_config.specs.declared.fault.Fault.{Fault as Rule};
@@ -8,16 +8,18 @@ ghost use Rattle.bng_config.specs.Rules.{KeepsRules};
 ghost use Rattle.bng_gate.specs.Headline.{Headline};
 ghost use Rattle.bng_gate.specs.Words.{Serves};
 ghost use Rattle.bng_gate.specs.Words.{texts as words_of};
-ghost use Rattle.bng_gate.specs.Run.{Prepares, IsUnprepared, Binds, binds_most, BindsPorts, FailsAtPort, FailsAt, Runs, IsUnserved, Told, RunEnds, IsFaultless};
+ghost use Rattle.bng_gate.specs.Run.{Prepares, IsUnprepared, Binds, binds_most, BindsPorts, FailsAtPort, FailsAt, Seeds, FailsToSeed, Runs, IsUnserved, Told, RunEnds, IsFaultless};
+ghost use Rattle.bng_gate.specs.Run.{Begins, IsUnbegun, Reports, IsUnreported};
+ghost use Rattle.bng_gate.specs.Serving.{MakesTurns, FailsTurning};
 
 use crate::saying::say;
-use crate::serving::serve;
+use crate::serving::{TraceFault, finish, has_starved, serve};
 use crate::texts::{self, Opening, Refusal};
 use crate::words;
 use bng_base::{AccessPort, Role};
 use bng_config::{Config, ConfigError};
-use bng_desk::Desk;
-use bng_plant::{Bound, Clock, Entropy, FileError, Files, Gate, Plant, Sink, Trace, Wrote};
+use bng_desk::{Desk, DeskError};
+use bng_plant::{Bound, Clock, Entropy, FileError, Files, Gate, Plant, Seeded, Sink, Trace, Wrote};
 use std::alloc::Global;
 use std::sync::Wait;
 use std::thread::Threads;
@@ -98,11 +100,91 @@ fn bind_all<P: Plant>(config: &Config, plant: &mut P) -> Result<(), Opening>
     }
 }
 
+// Asks for a seed.
+fn draw_seed<E: Entropy>(entropy: &mut E) -> Option<[u8; 32]>
+    ensures given { IfSome result (λ seed. Seeds (E.told entropy.old) (E.told entropy.new) seed) }
+    ensures failed { IfNone result (FailsToSeed (E.told entropy.old) (E.told entropy.new)) }
+{
+    match entropy.seed() {
+        Seeded::Seed(seed) => Some(seed),
+        Seeded::Failed => None,
+    }
+}
+
+// Binds the roles, reads the clock, and opens the desk.
+fn open_desk<P: Plant, C: Clock>(
+    alloc: Global,
+    config: Config,
+    seed: [u8; 32],
+    plant: &mut P,
+    clock: &mut C,
+) -> Result<Desk, Refusal>
+    requires rules { KeepsRules config }
+    ensures opened { IfOk result (λ desk. Begins config seed (P.told plant.old) (P.told plant.new) (C.told clock.old) (C.told clock.new) desk) }
+    ensures refused { IfErr result (λ refusal. IsUnbegun config (P.told plant.old) (P.told plant.new) refusal) }
+{
+    if let Err(what) = bind_all(&config, plant) {
+        return Err(Refusal::CannotOpen(what));
+    }
+    let now = clock.now();
+    let wall = clock.wall();
+    match Desk::open(alloc, config, TURNS_MOST, seed, now, wall) {
+        Ok(desk) => Ok(desk),
+        Err(DeskError::OutOfMemory) => Err(Refusal::OutOfMemory),
+    }
+}
+
+// Makes the turns of a new desk, those of serving and those of the ending.
+fn make_turns<R, P: Plant, C: Clock, T: Trace, G>(
+    rt: &R,
+    alloc: Global,
+    desk: &mut Desk,
+    plant: &mut P,
+    clock: &mut C,
+    trace: &mut T,
+    gate: &G,
+) -> Result<(), TraceFault>
+where
+    R: Threads + Wait + Sync,
+    G: Gate + Sync,
+    requires turns { desk.old.turns ≡ 0 }
+    requires serving { desk.old.stopped ≡ false }
+    requires later { desk.old.moment ≤ (C.told clock.old).last }
+    ensures made { OnOk result (MakesTurns desk.old desk.new
+        (record { plant = P.told plant.old; clock = C.told clock.old; trace = T.told trace.old })
+        (record { plant = P.told plant.new; clock = C.told clock.new; trace = T.told trace.new })) }
+    ensures failed { OnErr result (FailsTurning desk.old desk.new
+        (record { plant = P.told plant.old; clock = C.told clock.old; trace = T.told trace.old })
+        (record { plant = P.told plant.new; clock = C.told clock.new; trace = T.told trace.new })) }
+{
+    serve(rt, alloc, desk, plant, clock, trace, gate)?;
+    finish(rt, alloc, desk, plant, clock, trace, gate)
+}
+
+// Writes the report of a desk, unless it starved.
+fn report<O: Sink>(alloc: Global, desk: &Desk, out: &mut O) -> Result<(), Refusal>
+    ensures written { OnOk result (Reports desk.now (O.told out.old) (O.told out.new)) }
+    ensures refused { IfErr result (λ refusal. IsUnreported (O.told out.old) (O.told out.new) refusal) }
+{
+    if has_starved(desk) {
+        return Err(Refusal::OutOfMemory);
+    }
+    let mut text = Vec::new(alloc);
+    if desk.report(alloc, &mut text).is_err() {
+        return Err(Refusal::OutOfMemory);
+    }
+    match out.write(text.as_slice()) {
+        Wrote::Ok => Ok(()),
+        Wrote::Failed => Err(Refusal::OutputFailed),
+    }
+}
+
 // Serves a configuration, from the binds to the report.
 fn serve_all<R, P: Plant, C: Clock, T: Trace, O: Sink, G>(
     rt: &R,
     alloc: Global,
     config: Config,
+    seed: [u8; 32],
     plant: &mut P,
     clock: &mut C,
     trace: &mut T,
@@ -113,31 +195,22 @@ where
     R: Threads + Wait + Sync,
     G: Gate + Sync,
     requires rules { KeepsRules config }
-    ensures served { OnOk result (Runs config
+    ensures served { OnOk result (Runs config seed
         (record { plant = P.told plant.old; clock = C.told clock.old; trace = T.told trace.old })
         (record { plant = P.told plant.new; clock = C.told clock.new; trace = T.told trace.new })
         (O.told out.old) (O.told out.new)) }
-    ensures refused { IfErr result (λ refusal. IsUnserved config
+    ensures refused { IfErr result (λ refusal. IsUnserved config seed
         (record { plant = P.told plant.old; clock = C.told clock.old; trace = T.told trace.old })
         (record { plant = P.told plant.new; clock = C.told clock.new; trace = T.told trace.new })
         (O.told out.old) (O.told out.new) refusal) }
 {
-    if let Err(what) = bind_all(&config, plant) {
-        return Err(Refusal::CannotOpen(what));
-    }
-    let now = clock.now();
-    let wall = clock.wall();
-    let Ok(mut desk) = Desk::open(alloc, config, TURNS_MOST, [0; 32], now, wall) else {
-        return Err(Refusal::OutOfMemory);
+    let mut desk = match open_desk(alloc, config, seed, plant, clock) {
+        Ok(desk) => desk,
+        Err(refusal) => return Err(refusal),
     };
-    serve(rt, alloc, &mut desk, plant, clock, trace, gate);
-    let mut report = Vec::new(alloc);
-    if desk.report(alloc, &mut report).is_err() {
-        return Err(Refusal::OutOfMemory);
-    }
-    match out.write(report.as_slice()) {
-        Wrote::Ok => Ok(()),
-        Wrote::Failed => Err(Refusal::OutputFailed),
+    match make_turns(rt, alloc, &mut desk, plant, clock, trace, gate) {
+        Ok(()) => report(alloc, &desk, out),
+        Err(TraceFault) => Err(Refusal::TraceFailed),
     }
 }
 
@@ -159,7 +232,7 @@ fn run_to_end<R, P: Plant, C: Clock, E: Entropy, F: Files, T: Trace, O: Sink, X:
     files: &mut F,
     plant: &mut P,
     clock: &mut C,
-    _entropy: &mut E,
+    entropy: &mut E,
     trace: &mut T,
     out: &mut O,
     err: &mut X,
@@ -169,15 +242,18 @@ where
     R: Threads + Wait + Sync,
     G: Gate + Sync,
     ensures { RunEnds (words_of words.now.items)
-        (record { files = F.told files.old; plant = P.told plant.old; clock = C.told clock.old; entropy = E.told _entropy.old; trace = T.told trace.old; out = O.told out.old; err = X.told err.old })
-        (record { files = F.told files.new; plant = P.told plant.new; clock = C.told clock.new; entropy = E.told _entropy.new; trace = T.told trace.new; out = O.told out.new; err = X.told err.new })
+        (record { files = F.told files.old; plant = P.told plant.old; clock = C.told clock.old; entropy = E.told entropy.old; trace = T.told trace.old; out = O.told out.old; err = X.told err.old })
+        (record { files = F.told files.new; plant = P.told plant.new; clock = C.told clock.new; entropy = E.told entropy.new; trace = T.told trace.new; out = O.told out.new; err = X.told err.new })
         result }
 {
     let config = match prepare(alloc, words, files) {
         Ok(config) => config,
         Err(refusal) => return refuse(err, refusal),
     };
-    match serve_all(rt, alloc, config, plant, clock, trace, out, gate) {
+    let Some(seed) = draw_seed(entropy) else {
+        return refuse(err, Refusal::CannotOpen(Opening::Seed));
+    };
+    match serve_all(rt, alloc, config, seed, plant, clock, trace, out, gate) {
         Ok(()) => DONE,
         Err(refusal) => refuse(err, refusal),
     }
@@ -208,7 +284,8 @@ where
         (record { files = F.told files.new; plant = P.told plant.new; clock = C.told clock.new; entropy = E.told entropy.new; trace = T.told trace.new; out = O.told out.new; err = X.told err.new })
         result }
 
-    // With status 0: the packets sent to the core, their sources, the fates, and the octets and drops printed.
+    // With status 0: no two live sessions ever held one address; the packets sent, their circuits and addresses; and the octets and
+    // drops printed.
     ensures headline { result ≡ 0 → (config : Settings) × Prepares (words_of words.now.items) (F.told files.old) (F.told files.new) config × Headline config
         (record { files = F.told files.old; plant = P.told plant.old; clock = C.told clock.old; entropy = E.told entropy.old; trace = T.told trace.old; out = O.told out.old; err = X.told err.old })
         (record { files = F.told files.new; plant = P.told plant.new; clock = C.told clock.new; entropy = E.told entropy.new; trace = T.told trace.new; out = O.told out.new; err = X.told err.new }) }

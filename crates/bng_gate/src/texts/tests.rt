@@ -46,7 +46,15 @@ fn a_run_that_fails_says_so_in_one_line(rt: HostRuntime) {
             "16",
             "\n",
         ),
+        (
+            Refusal::CannotOpen(Opening::Seed),
+            3,
+            "bng: cannot open seed\n",
+            "",
+            "",
+        ),
         (Refusal::OutOfMemory, 4, "bng: out of memory\n", "", ""),
+        (Refusal::TraceFailed, 5, "bng: trace failed\n", "", ""),
         (Refusal::OutputFailed, 5, "bng: output failed\n", "", ""),
     ];
     for (refusal, wanted, front, middle, back) in rows {

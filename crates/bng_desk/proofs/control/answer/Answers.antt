@@ -1,8 +1,8 @@
-use Rattle.std.proofs.Common.{◌≡◌, Bool, true, false, List, ℕ, cond, codes, sym, ap, subst, ◌∙◌}
+use Rattle.std.proofs.Common.{◌≡◌, Bool, false, List, ℕ, cond, codes, sym, ap, subst, ◌∙◌}
 use Rattle.bng_base.specs.declared.outside.Role.TheVariants.{Control}
 use Rattle.bng_base.specs.FateOf.{Arrival}
 use Rattle.bng_base.specs.Stretch.{ExtendsPlant}
-use Rattle.bng_desk.specs.Control.{is_near, reply_text}
+use Rattle.bng_desk.specs.Control.{reply_text}
 use Rattle.bng_desk.specs.Reading.{sending}
 use Rattle.bng_desk.proofs.Going.{unanswered, answered_as}
 use Rattle.bng_desk.proofs.control.answer.Goals as goal

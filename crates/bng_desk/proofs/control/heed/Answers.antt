@@ -1,4 +1,4 @@
-use Rattle.std.proofs.Common.{ℕ, ◌≡◌, ◌||◌, Bool, List, rules, arith, sym, ap, subst, ◌∙◌, [], ◌∷◌, ◌++◌, length-append}
+use Rattle.std.proofs.Common.{ℕ, ◌||◌, Bool, List, rules, arith, sym, ap, subst, ◌∙◌, [], ◌∷◌, ◌++◌, length-append}
 use Rattle.bng_base.specs.Stretch.{ExtendsPlant}
 use Rattle.bng_desk.specs.Control.{Heeded, answering, is_stop, stops, has_stop}
 use Rattle.bng_desk.proofs.Going.{one_heeded, any_pushed, never_empty}

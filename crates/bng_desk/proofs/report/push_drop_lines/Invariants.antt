@@ -1,4 +1,4 @@
-use Rattle.std.proofs.Common.{◌≡◌, ◌++◌, ◌≤◌, take, length, string_bytes}
+use Rattle.std.proofs.Common.{◌≡◌, ◌++◌, take, string_bytes}
 use Rattle.bng_desk.specs.Report.{causes, drop_lines}
 use Rattle.bng_desk.proofs.report.push_drop_lines.Given as goal
 

@@ -1,13 +1,12 @@
-use Rattle.std.proofs.Common.{◌≡◌, ◌++◌, ◌+◌, ◌<◌, ℕ, zero, suc, List, [], ◌∷◌, length, take, get_or, refl, sym, ap, ◌∙◌, append_assoc, append-nil, arith, rules, string_bytes}
-use Rattle.std.proofs.lemmas.Grind.{common_steps}
-use Rattle.bng_base.specs.declared.settings.Static.{Static}
-use Rattle.bng_desk.specs.declared.traffic.Traffic.{Traffic}
-use Rattle.bng_desk.specs.Charging.{no_traffic}
+use Rattle.std.proofs.Common.{◌≡◌, ◌++◌, ◌+◌, ◌<◌, ℕ, zero, suc, List, [], ◌∷◌, length, take, get_or, sym, ap, ◌∙◌, append_assoc, append-nil, arith, string_bytes}
+use Rattle.bng_desk.specs.declared.line.Line.{Line}
+use Rattle.bng_shard.specs.declared.sums.Traffic.{Traffic}
+use Rattle.bng_desk.specs.Model.{no_traffic}
 use Rattle.bng_desk.specs.Report.{static_line, static_lines}
 use Rattle.bng_desk.proofs.report.push_static_lines.Goals as goal
 
 -- the line of one more circuit
-lines_more : (ss : List Static) (ts : List Traffic) (i : ℕ) (s : Static) → i < length ss → i < length ts
+lines_more : (ss : List Line) (ts : List Traffic) (i : ℕ) (s : Line) → i < length ss → i < length ts
     → static_lines (take (suc i) ss) ts ≡ static_lines (take i ss) ts ++ static_line (get_or ss i s).address (get_or ts i no_traffic)
 lines_more [] ts i s in_circuits in_traffic = absurd (omega arith)
 lines_more (x ∷ ss) [] i s in_circuits in_traffic = absurd (omega arith)
@@ -18,17 +17,16 @@ lines_more (x ∷ ss) (t ∷ ts) (suc i) s in_circuits in_traffic =
 pub loop-place-preserved : goal.loop-place-preserved
 loop-place-preserved c =
     let n : ℕ = c.loop-place.place in
-    let ss : List Static = c.args.circuits.now in
+    let ss : List Line = c.args.circuits.now in
     let ts : List Traffic = c.args.traffic.now in
-    let circuit = c.index-circuits-place.result in
-    let before = static_lines (take n ss) ts in
-    let line = static_line circuit.address (get_or ts n no_traffic) in
+    let none : Line = record { session = record { 0 = 0 }; address = record { 0 = 0 } } in
     let old = string_bytes c.args.text.now in
-    let written : string_bytes c.push_static_line.new.text ≡ string_bytes c.loop-place.text ++ line = c.in_ok-push_static_line.ensures in
-    let so_far : string_bytes c.loop-place.text ≡ old ++ before = c.loop-place.invariant in
+    let before = static_lines (take n ss) ts in
+    let line = static_line (get_or ss n none).address (get_or ts n no_traffic) in
+    let in_circuits : n < length ss = omega arith in
+    let in_traffic : n < length ts = omega arith in
     let next : suc n ≡ n + 1 = omega arith in
-    let more : before ++ line ≡ static_lines (take (n + 1) ss) ts =
-    ap (λ (s : Static). before ++ static_line s.address (get_or ts n no_traffic)) c.index-circuits-place.is
-    ∙ sym (lines_more ss ts n circuit (omega arith) (omega arith))
-    ∙ ap (λ (k : ℕ). static_lines (take k ss) ts) next in
-    written ∙ ap (λ (octets : List ℕ). octets ++ line) so_far ∙ append_assoc old before line ∙ ap (λ (octets : List ℕ). old ++ octets) more
+    c.in_ok-push_static_line.ensures
+    ∙ ap (λ (octets : List ℕ). octets ++ line) c.loop-place.invariant
+    ∙ append_assoc old before line
+    ∙ ap (λ (octets : List ℕ). old ++ octets) (sym (lines_more ss ts n none in_circuits in_traffic) ∙ ap (λ (k : ℕ). static_lines (take k ss) ts) next)

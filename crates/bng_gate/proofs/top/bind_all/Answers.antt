@@ -1,4 +1,4 @@
-use Rattle.std.proofs.Common.{◌≡◌, ◌+◌, List, length, refl, ap, subst, arith}
+use Rattle.std.proofs.Common.{List, length, refl, subst}
 use Rattle.bng_base.specs.declared.settings.AccessPort.{AccessPort}
 use Rattle.bng_gate.specs.Run.{BindsPorts, FailsAtPort, binds_most}
 use Rattle.bng_gate.proofs.Binding.{ports_after, fails_after}

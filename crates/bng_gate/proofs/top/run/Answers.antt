@@ -1,5 +1,3 @@
-use Rattle.bng_gate.specs.Words.{texts}
-use Rattle.bng_gate.specs.Run.{World}
 use Rattle.bng_gate.proofs.Causes.{no_command, faulty, complete}
 use Rattle.bng_gate.proofs.Headlines.{headline}
 use Rattle.bng_gate.proofs.top.run.Goals as goal
@@ -7,7 +5,8 @@ use Rattle.bng_gate.proofs.top.run.Goals as goal
 pub returns-clause-headline : goal.returns-clause-headline
 returns-clause-headline g c = λ done.
     let served = c.run_to_end.ensures.served done in
-    (served.config, served.prepares, headline served.prepares.text served.config _ _ served.prepares.read served.runs)
+    let prepares = served.ready.prepares in
+    (served.config, prepares, headline prepares.text served.config served.seed _ _ prepares.read served.runs)
 
 pub returns-clause-no_command : goal.returns-clause-no_command
 returns-clause-no_command g c = no_command _ _ _ _ c.run_to_end.ensures

@@ -1,0 +1,135 @@
+use Rattle.std.proofs.Common.{◌≡◌, ℕ, ◌+◌, ◌*◌, ◌≤◌, cond, List, map, length, refl, sym, ap, subst, arith, ◌∙◌}
+use Rattle.std.specs.List.{All}
+use Rattle.std.specs.Vec.{with_items}
+use Rattle.std.proofs.lemmas.List.{with_items_is, length-map}
+use Rattle.bng_base.specs.declared.item.Item.{Item}
+use Rattle.bng_base.specs.Stretch.{Outside}
+use Rattle.bng_desk.specs.declared.holding.Named.{Named}
+use Rattle.bng_desk.specs.Items.{drawn_from, ends_of}
+use Rattle.bng_desk.specs.Kept.{IsKept, rested, octets_most, drops_most}
+use Rattle.bng_desk.specs.Model.{Desk, state_of}
+use Rattle.bng_desk.specs.Random.{Drawn}
+use Rattle.bng_desk.specs.Reading.{is_empty}
+use Rattle.bng_desk.specs.Taking.{HoldsEnds, outs_of_items}
+use Rattle.bng_desk.specs.Turn.{MakesEnd, ending_items, ending_draws}
+use Rattle.bng_desk.proofs.Ending.{ended, kept_as, after_ending}
+use Rattle.bng_desk.proofs.Joining.{HasLow}
+use Rattle.bng_desk.proofs.Keeping.{IsLeft, AreEnds, kept_ended, endings_left, are_ends_of, no_ends, few_draws, few_unopened}
+use Rattle.bng_desk.proofs.Readying.{Shards}
+use Rattle.bng_desk.proofs.desk.Desk.end.Given.{Over}
+use Rattle.bng_desk.proofs.desk.Desk.end.Goals as goal
+use Rattle.bng_desk.proofs.desk.Desk.end.Goals.{After-to_end, After-drop-ending-5}
+
+module _ (g : Over) (c : After-to_end g) where
+  abbrev before : Shards → Desk
+  before shards = record {
+    rules = c.self.inside.rules;
+    lines = c.self.inside.lines.items;
+    rounds = c.self.inside.rounds;
+    turns = c.self.inside.turns;
+    stopped = c.self.inside.stopped;
+    shards = shards;
+    holders = c.self.inside.pool;
+    seed = c.self.inside.draws.seed;
+    drawn = c.self.inside.draws.drawn;
+    drops = c.self.inside.drops;
+    moment = c.self.inside.moment;
+    told = c.self.inside.told;
+    endings = c.self.inside.endings;
+    unopened = c.self.inside.unopened;
+    closed = c.self.inside.closed;
+    kept = c.self.inside.kept.items;
+  }
+
+  shards_count : c.len-2.result ≡ length c.self.inside.shards.items
+  shards_count = c.len-2.ensures ∙ c.self.inside.shards.ok.0
+
+  kept_is : c.replace-kept.result.items ≡ c.self.inside.kept.items
+  kept_is = ap (λ v. v.items) c.replace-kept.ensures.value
+
+  items_are : c.to_end.result.items ≡ ending_items (before c.self.inside.shards.items)
+  items_are =
+      c.to_end.ensures.items
+      ∙ ap (λ (is : List Item). cond (is_empty is) (drawn_from c.self.inside.draws.seed c.self.inside.draws.drawn (ends_of c.len-2.result)) is) kept_is
+      ∙ ap (λ (n : ℕ). cond (is_empty c.self.inside.kept.items) (drawn_from c.self.inside.draws.seed c.self.inside.draws.drawn (ends_of n)) c.self.inside.kept.items) shards_count
+
+  draws_are : c.to_end.new.draws ≡ (let x : Drawn = record { seed = c.self.inside.draws.seed; drawn = c.self.inside.draws.drawn + ending_draws (before c.self.inside.shards.items) } in x)
+  draws_are =
+      c.to_end.ensures.drawn
+      ∙ ap (λ (is : List Item). let x : Drawn = record { seed = c.self.inside.draws.seed; drawn = c.self.inside.draws.drawn + cond (is_empty is) c.len-2.result 0 } in x) kept_is
+      ∙ ap (λ (n : ℕ). let x : Drawn = record { seed = c.self.inside.draws.seed; drawn = c.self.inside.draws.drawn + cond (is_empty c.self.inside.kept.items) n 0 } in x) shards_count
+
+  are_ends : AreEnds (before c.self.inside.shards.items) c.to_end.result.items
+  are_ends = subst (λ (is : List Item). AreEnds (before c.self.inside.shards.items) is) (sym items_are) (are_ends_of (before c.self.inside.shards.items) c.self.invariant)
+
+pub hold_ends-ending-requires-clause-items : goal.hold_ends-ending-requires-clause-items
+hold_ends-ending-requires-clause-items g c = (are_ends g (goal.at.hold_ends-ending-requires-clause-items g c).After-to_end).items
+
+pub hold_ends-ending-requires-clause-few_outs : goal.hold_ends-ending-requires-clause-few_outs
+hold_ends-ending-requires-clause-few_outs g c =
+    subst (λ (xs : Shards). outs_of_items c.to_end.result.items ≤ 4480 + 320 * length xs) (sym c.as_mut_slice.ensures.value) (are_ends g (goal.at.hold_ends-ending-requires-clause-few_outs g c).After-to_end).outs
+
+pub hold_ends-ending-requires-clause-outside : goal.hold_ends-ending-requires-clause-outside
+hold_ends-ending-requires-clause-outside g c = (are_ends g (goal.at.hold_ends-ending-requires-clause-outside g c).After-to_end).none
+
+module _ (g : Over) (c : After-drop-ending-5 g) (b : After-to_end g) where
+  same_length : length c.hold_ends-ending.new.shards ≡ c.self.inside.shards.len
+  same_length = omega (arith, c.hold_ends-ending.auto.shards, c.as_mut_slice.ensures.len, c.self.inside.shards.ok.0)
+
+  shards_are : (with_items c.self.inside.shards c.hold_ends-ending.new.shards).items ≡ c.hold_ends-ending.new.shards
+  shards_are = with_items_is c.self.inside.shards c.hold_ends-ending.new.shards same_length
+
+pub invariant_of-self-2 : goal.invariant_of-self-2
+invariant_of-self-2 g c =
+    let b = (goal.at.invariant_of-self-2 g c).After-to_end in
+    let vs = c.self.inside.shards.items in
+    let ws = c.hold_ends-ending.new.shards in
+    let d = before g b vs in
+    let named : Named = record { number = c.self.inside.told + 1; moment = c.now-now.result; wall = c.wall-wall.result } in
+    let kept = kept_as (λ (is : List Item). AreEnds d is) d.rules d.holders named c.to_end.result.items (g.P.Plant.told c.args.plant.now) (g.P.Plant.told c.hold_ends-ending.new.plant) c.as_mut_slice.result.now ws d.drops c.hold_ends-ending.new.drops
+    c.hold_ends-ending.result.record c.hold_ends-ending.result.is_opened c.hold_ends-ending.new.kept.items c.hold_ends-ending.ensures.round (no_ends d) (are_ends g b) in
+    let left : IsLeft d ws c.hold_ends-ending.new.drops c.to_end.new.draws.drawn = record {
+      shards = same_length g c b ∙ c.self.inside.shards.ok.0;
+      order = c.hold_ends-ending.ensures.numbers;
+      empty = c.hold_ends-ending.ensures.empty;
+      low = c.hold_ends-ending.ensures.low (octets_most * c.self.inside.told) (subst (λ (xs : Shards). All (HasLow (octets_most * c.self.inside.told)) xs) (sym c.as_mut_slice.ensures.value) c.self.invariant.low);
+      counts = c.hold_ends-ending.ensures.within (drops_most * c.self.inside.told) c.self.invariant.counts;
+      drawn_is = omega (arith, ap (λ (x : Drawn). x.drawn) (draws_are g b), few_draws d c.self.invariant);
+    } in
+    let few : c.unopened_after-self-inside.result ≤ c.self.inside.unopened + 1 = subst (λ (n : ℕ). n ≤ c.self.inside.unopened + 1) (sym c.unopened_after-self-inside.ensures) (few_unopened c.hold_ends-ending.result.is_opened c.self.inside.unopened) in
+    subst (λ (xs : Shards). IsKept (after_ending d xs c.hold_ends-ending.new.drops c.to_end.new.draws c.unopened_after-self-inside.result c.either-self-inside.result c.hold_ends-ending.new.kept.items c.now-now.result)) (sym (shards_are g c b))
+    (kept_ended d ws c.hold_ends-ending.new.drops c.to_end.new.draws c.unopened_after-self-inside.result c.either-self-inside.result c.hold_ends-ending.new.kept.items c.now-now.result c.self.invariant
+    (endings_left (before g b (map rested vs)) (ap (λ (x : Desk). state_of x) c.self.view_is ∙ c.requires.state)) left few kept.items kept.outs kept.none)
+
+pub returns : goal.returns
+returns g c =
+    let b = (goal.at.returns g c).After-to_end in
+    let told = g.P.Plant.told in
+    let vs = c.self.inside.shards.items in
+    let ws = c.hold_ends-ending.new.shards in
+    let d = before g b (map rested vs) in
+    let named : Named = record { number = c.self.inside.told + 1; moment = c.now-now.result; wall = c.wall-wall.result } in
+    let p₀ = told c.args.plant.now in
+    let p₁ = told c.hold_ends-ending.new.plant in
+    let c₀ = g.C.Clock.told c.args.clock.now in
+    let c₁ = g.C.Clock.told c.now-now.new.self in
+    let c₂ = g.C.Clock.told c.wall-wall.new.self in
+    let t₀ = g.T.Trace.told c.args.trace.now in
+    let t₁ = g.T.Trace.told c.note-noted.new.trace in
+    let before_is : Outside = record { plant = p₀; clock = c₀; trace = t₀ } in
+    let behind_is : Outside = record { plant = p₁; clock = c₂; trace = t₁ } in
+    let draws = c.to_end.new.draws in
+    let drops = c.hold_ends-ending.new.drops in
+    let unopened = c.unopened_after-self-inside.result in
+    let closed = c.either-self-inside.result in
+    let kept = c.hold_ends-ending.new.kept.items in
+    let count : length vs ≡ length (map rested vs) = sym (length-map vs rested) in
+    let same : c.to_end.result.items ≡ ending_items d = items_are g b ∙ ap (λ (n : ℕ). cond (is_empty c.self.inside.kept.items) (drawn_from c.self.inside.draws.seed c.self.inside.draws.drawn (ends_of n)) c.self.inside.kept.items) count in
+    let drew : draws ≡ (let x : Drawn = record { seed = d.seed; drawn = d.drawn + ending_draws d } in x) =
+    draws_are g b ∙ ap (λ (n : ℕ). let x : Drawn = record { seed = c.self.inside.draws.seed; drawn = c.self.inside.draws.drawn + cond (is_empty c.self.inside.kept.items) n 0 } in x) count in
+    let made = ended d vs ws named c.note-noted.result draws c.to_end.result.items drops c.hold_ends-ending.result.record c.hold_ends-ending.result.is_opened kept p₀ p₁ refl refl same drew
+    (subst (λ (xs : Shards). HoldsEnds d.rules d.holders named c.to_end.result.items p₀ p₁ xs ws d.drops drops c.hold_ends-ending.result.record c.hold_ends-ending.result.is_opened kept) c.as_mut_slice.ensures.value c.hold_ends-ending.ensures.round)
+    (omega (arith, ap (λ (x : Desk). x.moment) c.self.view_is, c.requires.later, c.now-now.ensures.later)) c₀ c₁ c₂ c.now-now.ensures.answers c.wall-wall.ensures.answers (c.wall-wall.ensures.last ∙ c.now-now.ensures.last)
+    t₀ t₁ c.note-noted.ensures.rounds c.note-noted.ensures.cause c.answer.result c.answer.ensures unopened c.unopened_after-self-inside.ensures closed c.either-self-inside.ensures in
+    subst (λ (x : Desk). MakesEnd x (after_ending d (map rested (with_items c.self.inside.shards ws).items) drops draws unopened closed kept named.moment) before_is behind_is c.answer.result) c.self.view_is
+    (subst (λ (xs : Shards). MakesEnd d (after_ending d (map rested xs) drops draws unopened closed kept named.moment) before_is behind_is c.answer.result) (sym (shards_are g c b)) made)

@@ -1,0 +1,22 @@
+use Rattle.std.proofs.Common.{◌≡◌, ℕ, List, ◌++◌, map, ap, subst, ◌∙◌}
+use Rattle.bng_shard.specs.declared.sums.Traffic.{Traffic}
+use Rattle.bng_desk.specs.declared.line.Line.{Line}
+use Rattle.bng_desk.specs.Kept.{rested}
+use Rattle.bng_desk.specs.Model.{Desk, carried_on, all_carried}
+use Rattle.bng_desk.specs.Report.{by_number, report_text}
+use Rattle.bng_desk.proofs.Readying.{Shards}
+use Rattle.bng_desk.proofs.Resting.{all_carried_rested}
+use Rattle.bng_desk.proofs.desk.Desk.report.Goals as goal
+
+pub returns-in-Ok-extend_from_slice-clause-appended : goal.returns-in-Ok-extend_from_slice-clause-appended
+returns-in-Ok-extend_from_slice-clause-appended c =
+    let vs = c.self.inside.shards.items in
+    let lines = c.self.inside.lines.items in
+    let text = λ (ls : List Line) (ts : List Traffic) (ds : List ℕ). c.args.out.now.items ++ report_text ls ts ds in
+    let traffic : c.as_slice-2.result.now ≡ map (carried_on (map rested vs)) lines =
+    c.as_slice-2.ensures.value ∙ c.in-Ok.ensures ∙ ap (λ (xs : Shards). map (carried_on xs) c.as_slice-lines.result.now) c.as_slice.ensures.value ∙ ap (λ (ls : List Line). map (carried_on vs) ls) c.as_slice-lines.ensures.value ∙ all_carried_rested vs lines in
+    subst (λ (d : Desk). c.extend_from_slice.new.self.items ≡ c.args.out.now.items ++ report_text d.lines (all_carried d) (by_number d.drops)) c.self.view_is
+    (c.in-Ok-extend_from_slice.ensures.items ∙ ap (λ (bs : List ℕ). c.args.out.now.items ++ bs) (c.as_bytes.ensures.value ∙ c.in-Ok-report.ensures)
+    ∙ ap (λ (ls : List Line). text ls c.as_slice-2.result.now c.by_number-drops.result) c.as_slice-lines.ensures.value
+    ∙ ap (λ (ts : List Traffic). text lines ts c.by_number-drops.result) traffic
+    ∙ ap (λ (ds : List ℕ). text lines (map (carried_on (map rested vs)) lines) ds) c.by_number-drops.ensures)

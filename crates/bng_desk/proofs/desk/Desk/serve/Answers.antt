@@ -1,0 +1,93 @@
+use Rattle.std.proofs.Common.{◌≡◌, ℕ, ◌+◌, ◌*◌, Bool, ◌&&◌, Option, map, length, refl, sym, ap, subst, arith, ◌∙◌}
+use Rattle.std.specs.List.{All}
+use Rattle.std.specs.Vec.{with_items}
+use Rattle.std.proofs.lemmas.List.{with_items_is}
+use Rattle.bng_base.specs.Stretch.{Outside}
+use Rattle.bng_desk.specs.declared.holding.Named.{Named}
+use Rattle.bng_desk.specs.Kept.{IsKept, rested, octets_most, drops_most}
+use Rattle.bng_desk.specs.Model.{Desk, state_of}
+use Rattle.bng_desk.specs.Random.{Drawn}
+use Rattle.bng_desk.specs.Taking.{Gathers, HoldsOne}
+use Rattle.bng_desk.specs.Turn.{MakesTurn, wait_for, deadline_in}
+use Rattle.bng_desk.proofs.Joining.{HasLow}
+use Rattle.bng_desk.proofs.Keeping.{IsLeft, kept_served, turns_left}
+use Rattle.bng_desk.proofs.Readying.{Shards}
+use Rattle.bng_desk.proofs.Turning.{served, after_turn}
+use Rattle.bng_desk.proofs.desk.Desk.serve.Given.{Over}
+use Rattle.bng_desk.proofs.desk.Desk.serve.Goals as goal
+use Rattle.bng_desk.proofs.desk.Desk.serve.Goals.{After-drop-round-5}
+
+module _ (g : Over) (c : After-drop-round-5 g) where
+  abbrev before : Shards → Desk
+  before shards = record {
+    rules = c.self.inside.rules;
+    lines = c.self.inside.lines.items;
+    rounds = c.self.inside.rounds;
+    turns = c.self.inside.turns;
+    stopped = c.self.inside.stopped;
+    shards = shards;
+    holders = c.self.inside.pool;
+    seed = c.self.inside.draws.seed;
+    drawn = c.self.inside.draws.drawn;
+    drops = c.self.inside.drops;
+    moment = c.self.inside.moment;
+    told = c.self.inside.told;
+    endings = c.self.inside.endings;
+    unopened = c.self.inside.unopened;
+    closed = c.self.inside.closed;
+    kept = c.self.inside.kept.items;
+  }
+
+  same_length : length c.hold-round.new.shards ≡ c.self.inside.shards.len
+  same_length = omega (arith, c.hold-round.auto.shards, c.as_mut_slice.ensures.len, c.self.inside.shards.ok.0)
+
+  shards_are : (with_items c.self.inside.shards c.hold-round.new.shards).items ≡ c.hold-round.new.shards
+  shards_are = with_items_is c.self.inside.shards c.hold-round.new.shards same_length
+
+  is_left : IsLeft (before c.self.inside.shards.items) c.hold-round.new.shards c.hold-round.new.drops c.gather-gathered.new.draws.drawn
+  is_left = record {
+    shards = same_length ∙ c.self.inside.shards.ok.0;
+    order = c.hold-round.ensures.numbers;
+    empty = c.hold-round.ensures.empty;
+    low = c.hold-round.ensures.low (octets_most * c.self.inside.told) (subst (λ (xs : Shards). All (HasLow (octets_most * c.self.inside.told)) xs) (sym c.as_mut_slice.ensures.value) c.self.invariant.low);
+    counts = c.hold-round.ensures.within (drops_most * c.self.inside.told) c.self.invariant.counts;
+    drawn_is = omega (arith, ap (λ (x : Drawn). x.drawn) c.gather-gathered.ensures.gathers.draws_are, c.gather-gathered.ensures.items.few);
+  }
+
+pub invariant_of-self-2 : goal.invariant_of-self-2
+invariant_of-self-2 g c =
+    subst (λ (xs : Shards). IsKept (after_turn (before g c c.self.inside.shards.items) xs c.hold-round.new.drops c.gather-gathered.new.draws c.either-self-inside.result c.now-now.result)) (sym (shards_are g c))
+    (kept_served (before g c c.self.inside.shards.items) c.hold-round.new.shards c.hold-round.new.drops c.gather-gathered.new.draws c.either-self-inside.result c.now-now.result c.self.invariant
+    (turns_left (before g c (map rested c.self.inside.shards.items)) (ap (λ (x : Desk). state_of x) c.self.view_is ∙ c.requires.state) c.self.invariant.made) (is_left g c))
+
+pub returns : goal.returns
+returns g c =
+    let told = g.P.Plant.told in
+    let vs = c.self.inside.shards.items in
+    let ws = c.hold-round.new.shards in
+    let d = before g c (map rested vs) in
+    let named : Named = record { number = c.self.inside.told + 1; moment = c.now-now.result; wall = c.wall-wall.result } in
+    let p₀ = told c.args.plant.now in
+    let p₁ = told c.heed-heeding.new.plant in
+    let p₂ = told c.gather-gathered.new.plant in
+    let p₃ = told c.hold-round.new.plant in
+    let p₄ = told c.wait_if.new.plant in
+    let c₀ = g.C.Clock.told c.args.clock.now in
+    let c₁ = g.C.Clock.told c.now-now.new.self in
+    let c₂ = g.C.Clock.told c.wall-wall.new.self in
+    let t₀ = g.T.Trace.told c.args.trace.now in
+    let t₁ = g.T.Trace.told c.note-noted.new.trace in
+    let before_is : Outside = record { plant = p₀; clock = c₀; trace = t₀ } in
+    let behind_is : Outside = record { plant = p₄; clock = c₂; trace = t₁ } in
+    let draws = c.gather-gathered.new.draws in
+    let items = c.gather-gathered.new.items.items in
+    let made = served d vs ws named c.heed-heeding.result c.gather-gathered.result.quiet c.note-noted.result c.gather-gathered.result.taken draws items c.hold-round.new.drops c.hold-round.result p₀ p₁ p₂ p₃ p₄
+    refl refl c.heed-heeding.ensures
+    (subst (λ (xs : Shards). Gathers d.rules xs named.moment p₁ p₂ c.self.inside.draws draws items c.gather-gathered.result.quiet c.gather-gathered.result.taken) c.as_slice.ensures.value c.gather-gathered.ensures.gathers)
+    (subst (λ (xs : Shards). HoldsOne d.rules d.holders named items p₂ p₃ xs ws d.drops c.hold-round.new.drops c.hold-round.result) c.as_mut_slice.ensures.value c.hold-round.ensures.round)
+    c.both-2.result c.wait_until-wait.result c.wait_if.ensures (c.both-2.ensures ∙ ap (λ (b : Bool). b && c.note-noted.result) c.both.ensures)
+    (c.wait_until-wait.ensures ∙ ap (λ (x : Option ℕ). wait_for x named.moment) (c.deadline_of.ensures ∙ ap (λ (xs : Shards). deadline_in xs) (c.as_slice-2.ensures.value ∙ shards_are g c)))
+    (omega (arith, ap (λ (x : Desk). x.moment) c.self.view_is, c.requires.later, c.now-now.ensures.later)) c₀ c₁ c₂ c.now-now.ensures.answers c.wall-wall.ensures.answers (c.wall-wall.ensures.last ∙ c.now-now.ensures.last)
+    t₀ t₁ c.note-noted.ensures.rounds c.note-noted.ensures.cause c.answer.result c.answer.ensures c.either-self-inside.result c.either-self-inside.ensures in
+    subst (λ (x : Desk). MakesTurn x (after_turn d (map rested (with_items c.self.inside.shards ws).items) c.hold-round.new.drops draws c.either-self-inside.result named.moment) before_is behind_is c.answer.result) c.self.view_is
+    (subst (λ (xs : Shards). MakesTurn d (after_turn d (map rested xs) c.hold-round.new.drops draws c.either-self-inside.result named.moment) before_is behind_is c.answer.result) (sym (shards_are g c)) made)

@@ -1,0 +1,59 @@
+use Rattle.std.proofs.Common.{rules, get_or, ap, ◌∙◌, arith}
+use Rattle.bng_base.specs.declared.item.Entry.{Entry}
+use Rattle.bng_engine.specs.Progress.{Kept, IsReady}
+use Rattle.bng_engine.specs.Sight.{Sight}
+use Rattle.bng_engine.proofs.Walks.{same_at, walk_more, zip_weaker}
+use Rattle.bng_shard.specs.State.{State}
+use Rattle.bng_desk.specs.Taking.{IsEmpty, HasRows}
+use Rattle.bng_desk.proofs.Readying.{IsMadeReady, IsLeft, all_ready, some_ready, all_right, all_onward}
+use Rattle.bng_desk.proofs.round.prepare_all.Goals as goal
+
+pub prepare-requires-clause-journal : goal.prepare-requires-clause-journal
+prepare-requires-clause-journal c =
+    let i = c.loop-shard.shard-index in let d = c.shard-item.result in
+    ap (λ (v : Sight State Entry). v.journal) (same_at c.args.shards.now c.loop-shard.shards i d c.loop-shard.invariant.rest) ∙ (c.requires.empty i d c.loop-shard-test.true).0
+
+pub prepare-requires-clause-outs : goal.prepare-requires-clause-outs
+prepare-requires-clause-outs c =
+    let i = c.loop-shard.shard-index in let d = c.shard-item.result in
+    ap (λ (v : Sight State Entry). v.outs) (same_at c.args.shards.now c.loop-shard.shards i d c.loop-shard.invariant.rest) ∙ (c.requires.empty i d c.loop-shard-test.true).1
+
+pub returns-then-is_err-clause-kept : goal.returns-then-is_err-clause-kept
+returns-then-is_err-clause-kept c =
+    let here : IsLeft (get_or c.loop-shard.shards c.loop-shard.shard-index c.shard-item.result) c.prepare.new.self = record { kept = c.prepare.ensures.kept; empty = λ _. c.prepare.ensures.empty } in
+    zip_weaker IsLeft Kept (λ x y h. h.kept) c.args.shards.now _
+    (some_ready c.args.items c.args.shards.now c.loop-shard.shards c.loop-shard.shard-index c.shard-item.result c.prepare.new.self c.loop-shard-test.true c.loop-shard.invariant here)
+
+pub returns-then-is_err-clause-empty : goal.returns-then-is_err-clause-empty
+returns-then-is_err-clause-empty c =
+    let here : IsLeft (get_or c.loop-shard.shards c.loop-shard.shard-index c.shard-item.result) c.prepare.new.self = record { kept = c.prepare.ensures.kept; empty = λ _. c.prepare.ensures.empty } in
+    all_onward IsLeft IsEmpty (λ x y h e. h.empty e) c.args.shards.now _
+    (some_ready c.args.items c.args.shards.now c.loop-shard.shards c.loop-shard.shard-index c.shard-item.result c.prepare.new.self c.loop-shard-test.true c.loop-shard.invariant here)
+    c.requires.empty
+
+pub loop-shard-preserved : goal.loop-shard-preserved
+loop-shard-preserved c =
+    let i = c.loop-shard.shard-index in
+    let ready : IsReady c.args.items c.prepare.new.self = search rules in
+    let here : IsMadeReady c.args.items (get_or c.loop-shard.shards i c.shard-item.result) c.prepare.new.self = record { kept = c.prepare.ensures.kept; ready = ready; rows = c.prepare.ensures.fit } in
+    walk_more (IsMadeReady c.args.items) c.args.shards.now c.loop-shard.shards i c.shard-item.result c.prepare.new.self c.loop-shard-test.true c.loop-shard.invariant here
+
+pub returns-clause-kept : goal.returns-clause-kept
+returns-clause-kept c =
+    zip_weaker (IsMadeReady c.args.items) Kept (λ x y h. h.kept) c.args.shards.now c.loop-shard.shards
+    (all_ready c.args.items c.args.shards.now c.loop-shard.shards c.loop-shard.shard-index (omega arith) (omega arith) c.loop-shard.invariant)
+
+pub returns-clause-empty : goal.returns-clause-empty
+returns-clause-empty c =
+    all_right (IsMadeReady c.args.items) IsEmpty (λ x y h. (h.ready.journal, h.ready.outs)) c.args.shards.now c.loop-shard.shards
+    (all_ready c.args.items c.args.shards.now c.loop-shard.shards c.loop-shard.shard-index (omega arith) (omega arith) c.loop-shard.invariant)
+
+pub returns-clause-ready : goal.returns-clause-ready
+returns-clause-ready c _ =
+    all_right (IsMadeReady c.args.items) (IsReady c.args.items) (λ x y h. h.ready) c.args.shards.now c.loop-shard.shards
+    (all_ready c.args.items c.args.shards.now c.loop-shard.shards c.loop-shard.shard-index (omega arith) (omega arith) c.loop-shard.invariant)
+
+pub returns-clause-rows : goal.returns-clause-rows
+returns-clause-rows c _ =
+    all_right (IsMadeReady c.args.items) HasRows (λ x y h. h.rows) c.args.shards.now c.loop-shard.shards
+    (all_ready c.args.items c.args.shards.now c.loop-shard.shards c.loop-shard.shard-index (omega arith) (omega arith) c.loop-shard.invariant)

@@ -1,0 +1,12 @@
+use Rattle.std.proofs.Common.{◌≡◌, vec_capacity}
+use Rattle.bng_desk.proofs.Settling.{SettlesSome}
+use Rattle.bng_desk.proofs.round.settle_all.Given as goal
+
+abbrev pub invariant-loop-shard : goal.invariant-loop-shard
+invariant-loop-shard g l =
+    let told = g.P.Plant.told in
+    record {
+      settles : SettlesSome l.initial.shards l.shards l.shard-index (told l.fn.plant) (told l.plant) l.outs.items l.journals.items l.fn.drops l.drops;
+      outs_room : vec_capacity l.outs ≡ vec_capacity l.fn.outs;
+      journals_room : vec_capacity l.journals ≡ vec_capacity l.fn.journals;
+    }

@@ -1,0 +1,48 @@
+-- What a desk keeps from turn to turn.
+use Rattle.std.specs.Prelude.{◌≡◌, ℕ, ◌+◌, ◌*◌, ◌^◌, ◌≤◌, ◌<◌, [], length}
+use Rattle.std.specs.List.{All}
+use Rattle.bng_base.specs.declared.item.Entry.{Entry}
+use Rattle.bng_engine.specs.Sight.{Sight}
+use Rattle.bng_shard.specs.declared.pool.Holder.{Holder}
+use Rattle.bng_shard.specs.State.{State}
+use Rattle.bng_shard.specs.Sums.{IsLow}
+use Rattle.bng_desk.specs.Counting.{Within}
+use Rattle.bng_desk.specs.Model.{Desk}
+use Rattle.bng_desk.specs.Taking.{IsEmpty, AreInOrder, AreItems, outs_of_items}
+use Rattle.bng_desk.specs.Round.{refused_of}
+
+-- a shard between two rounds, as the desk's contracts see it: nothing of a round, and no room for one
+abbrev pub rested : Sight State Entry → Sight State Entry
+rested v = record v { journal = []; outs = []; records = []; stops = []; room = 0 }
+
+-- what a round adds at most to a row: 512 packets of at most 4,160 octets
+abbrev pub octets_most : ℕ
+octets_most = 2129920
+
+-- what a round adds at most to a count: 512 items, and as many packets as it may have outs, whose sends failed
+abbrev pub drops_most : ℕ
+drops_most = 32768
+
+-- One port to sixteen, one shard to 64 in their order with nothing of a round in them, a way to authenticate. No sum is above what
+-- the rounds so far could add, and none wraps before the last.
+pub record IsKept (d : Desk) : Type 0 where
+  pub some_port : 1 ≤ length d.rules.access
+  pub few_ports : length d.rules.access ≤ 16
+  pub shards : length d.shards ≡ d.rules.shards
+  pub some_shard : 1 ≤ d.rules.shards
+  pub few_shards : d.rules.shards ≤ 64
+  pub order : AreInOrder d.shards
+  pub empty : All IsEmpty d.shards
+  pub auth : 0 < length d.rules.link.auth.items
+  pub holders : All (λ (h : Holder). h.shard < d.rules.shards) d.holders
+  pub most : d.rounds ≤ 2 ^ 40
+  pub made : d.turns ≤ d.rounds
+  pub endings : d.endings ≤ 2 ^ 40
+  pub unopened : d.unopened ≤ d.endings
+  pub told : d.told ≤ d.turns + d.endings
+  pub drawn : d.drawn ≤ 1 + 512 * d.told
+  pub low : All (λ v. All (IsLow (octets_most * d.told)) v.rows) d.shards
+  pub counts : Within (drops_most * d.told) d.drops
+  pub kept : AreItems d.kept
+  pub kept_outs : outs_of_items d.kept ≤ 4480 + 320 * length d.shards
+  pub none_refused : refused_of d.kept ≡ []

@@ -1,0 +1,85 @@
+-- A desk that was opened over a configuration.
+use Rattle.std.specs.Prelude.{◌≡◌, ℕ, ◌+◌, ◌/◌, ◌==◌, false, List, [], ◌∷◌, map, filter}
+use Rattle.std.specs.List.{range_with_len}
+use Rattle.arrayvec.specs.ArrayVec.{ArrayVec}
+use Rattle.bng_base.specs.declared.item.Entry.{Entry}
+use Rattle.bng_base.specs.declared.settings.AccessPort.{AccessPort}
+use Rattle.bng_base.specs.declared.settings.Static.{Static}
+use Rattle.bng_config.specs.declared.config.Config.{Config}
+use Rattle.bng_discovery.specs.declared.port.PortRules.{PortRules}
+use Rattle.bng_engine.specs.Sight.{Sight}
+use Rattle.bng_shard.specs.declared.pool.Holder.{Holder}
+use Rattle.bng_shard.specs.declared.rules.Rules.{Rules}
+use Rattle.bng_shard.specs.Protocol.{opened}
+use Rattle.bng_shard.specs.State.{State}
+use Rattle.bng_desk.specs.declared.line.Line.{Line}
+use Rattle.bng_desk.specs.Counting.{no_drops}
+use Rattle.bng_desk.specs.Model.{Desk}
+use Rattle.bng_desk.specs.Random.{draw}
+
+-- what the access port with this number offers: its MAC, this key of its cookies, this name and these services
+pub record IsOfferOf (name : List ℕ) (services : List (ArrayVec ℕ)) (key : List ℕ) (number : ℕ) (port : AccessPort) (offer : PortRules) : Type 0 where
+  pub number_is : offer.port ≡ number
+  pub mac : offer.mac ≡ port.mac
+  pub key_is : offer.key ≡ key
+  pub name_is : offer.name.items ≡ name
+  pub services_are : map (λ (s : ArrayVec ℕ). s.items) offer.services.items ≡ map (λ (s : ArrayVec ℕ). s.items) services
+
+-- of the ports from this number on
+abbrev pub AreOffersOf : List ℕ → List (ArrayVec ℕ) → List ℕ → ℕ → List AccessPort → List PortRules → Type 0
+AreOffersOf name services key number [] offers = offers ≡ []
+AreOffersOf name services key number (port ∷ ports) [] = ⊥
+AreOffersOf name services key number (port ∷ ports) (offer ∷ offers) = IsOfferOf name services key number port offer × AreOffersOf name services key (number + 1) ports offers
+
+-- the gateway's name and services, and the first sixteen random octets of the seed as the key
+abbrev pub AreOffers : Config → List ℕ → List AccessPort → List PortRules → Type 0
+AreOffers config seed ports offers = AreOffersOf config.name.items config.services.items (draw seed 0) 1 ports offers
+
+-- by what the shards work
+pub record AreRules (config : Config) (seed : List ℕ) (r : Rules) : Type 0 where
+  pub shards : r.shards ≡ config.shards
+  pub core_peer : r.core_peer ≡ config.core_peer
+  pub access : r.access ≡ config.access
+  pub offers : AreOffers config seed config.access r.offers
+  pub auth : r.link.auth.items ≡ config.auth.items
+  pub echo : r.link.echo ≡ config.echo
+
+abbrev pub line_of : Static → Line
+line_of c = record { session = c.session; address = c.address }
+
+-- the shard of a session number
+abbrev pub shard_of : Static → ℕ
+shard_of c = c.session.0 / 1024
+
+abbrev pub holder_of : Static → Holder
+holder_of c = record { address = c.address; shard = shard_of c }
+
+-- the circuits of a shard, in the order of the configuration
+abbrev pub statics_of : Config → ℕ → List Static
+statics_of config shard = filter (λ c. shard_of c == shard) config.statics
+
+abbrev pub opened_shards : Config → List (Sight State Entry)
+opened_shards config = map (λ n. opened n (statics_of config n)) (range_with_len 0 config.shards)
+
+-- Each provisioned circuit has its term in the shard of its number and holds its address; there is no session.
+pub record IsOpened (config : Config) (rounds : ℕ) (seed : List ℕ) (now : ℕ) (d : Desk) : Type 0 where
+  pub rules : Rules
+  pub are_rules : AreRules config seed rules
+  pub desk : d ≡ record {
+    rules = rules;
+    lines = map line_of config.statics;
+    rounds = rounds;
+    turns = 0;
+    stopped = false;
+    shards = opened_shards config;
+    holders = map holder_of config.statics;
+    seed = seed;
+    drawn = 1;
+    drops = no_drops;
+    moment = now;
+    told = 0;
+    endings = 0;
+    unopened = 0;
+    closed = false;
+    kept = [];
+  }

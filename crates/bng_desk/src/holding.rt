@@ -1,0 +1,242 @@
+//! A round of given items: opened and settled, or refused for want of memory.
+ghost use Rattle.std.specs.Prelude.{◌≡◌, ◌+◌, ◌*◌, ◌^◌, ◌≤◌, ◌<◌, [], ℕ, false, length, replicate, take, vec_capacity};
+ghost use Rattle.std.specs.List.{All};
+ghost use Rattle.bng_base.specs.Causes.{HasCause};
+ghost use Rattle.bng_base.specs.Told.{Grows};
+ghost use Rattle.bng_engine.specs.Progress.{IsReady};
+ghost use Rattle.bng_shard.specs.Sums.{IsLow};
+ghost use Rattle.bng_desk.specs.Counting.{Within};
+ghost use Rattle.bng_desk.specs.Kept.{octets_most, drops_most};
+ghost use Rattle.bng_desk.specs.Taking.{IsEmpty, HasRows, AreInOrder, AreItems, RoundHeld, HoldsOne, HoldsEnds, outs_of_items};
+ghost use Rattle.bng_desk.specs.Round.{refused_of};
+ghost use Rattle.bng_desk.specs.Turn.{told_if};
+
+use crate::drops::{Drops, count_refused};
+use crate::lists::Lists;
+use crate::round::{deal_all, prepare_all, settle_all};
+use bng_base::{Entry, Item, Listed, Loose, OutRecord, RoundRecord};
+use bng_plant::{Noted, Plant, Trace};
+use bng_shard::{PlainPool, Rules, Shard};
+use std::alloc::Global;
+use std::mem;
+
+/// What names a round: its number, its moment in milliseconds and its second on the wall.
+#[derive(Clone, Copy)]
+pub(crate) struct Named {
+    pub(crate) number: u64,
+    pub(crate) moment: u64,
+    pub(crate) wall: u64,
+}
+
+// What the trace is told of a round, from its lists.
+fn recorded(
+    named: Named,
+    allowances: Vec<u32>,
+    journals: Vec<Listed<Entry>>,
+    loose: Vec<Loose>,
+    outs: Vec<OutRecord>,
+    refused: Vec<Item>,
+) -> RoundRecord
+    ensures { result ≡ record { number = named.number; moment = named.moment; wall = named.wall; allowances = allowances.items; journals = journals.items; loose = loose.items; outs = outs.items; refused = refused.items } }
+{
+    RoundRecord {
+        number: named.number,
+        moment: named.moment,
+        wall: named.wall,
+        allowances: Listed::of(allowances),
+        journals: Listed::of(journals),
+        loose: Listed::of(loose),
+        outs: Listed::of(outs),
+        refused: Listed::of(refused),
+    }
+}
+
+// Deals the items to the shards, and settles.
+pub(crate) fn opened<P: Plant>(
+    rules: &Rules,
+    shards: &mut [Shard],
+    pool: &PlainPool,
+    plant: &mut P,
+    named: Named,
+    lists: Lists,
+    drops: &mut Drops,
+) -> RoundRecord
+    requires numbers { AreInOrder shards.old }
+    requires count { length shards.old ≡ rules.now.shards }
+    requires some { 1 ≤ rules.now.shards }
+    requires few { rules.now.shards ≤ 64 }
+    requires held { All (λ h. h.shard < rules.now.shards) pool.now }
+    requires auth { 0 < length rules.now.link.auth.items }
+    requires moment { named.moment < 2 ^ 60 }
+    requires items { AreItems lists.items.items }
+    requires ready { All (IsReady (length lists.items.items)) shards.old }
+    requires rows { All HasRows shards.old }
+    requires low { All (λ v. All (IsLow (2 ^ 62 + 2 ^ 61)) v.rows) shards.old }
+    requires few_outs { outs_of_items lists.items.items ≤ 4480 + 320 * length shards.old }
+    requires loose { (lists.loose.items ≡ []) × (512 ≤ vec_capacity lists.loose) }
+    requires journals { (lists.journals.items ≡ []) × (length shards.old ≤ vec_capacity lists.journals) }
+    requires outs { (lists.outs.items ≡ []) × (4480 + 320 * length shards.old ≤ vec_capacity lists.outs) }
+    requires allowances { lists.allowances.items ≡ replicate (length shards.old) 0 }
+    requires refused { lists.refused.items ≡ [] }
+    requires drops { Within (2 ^ 61) drops.old }
+    ensures round { RoundHeld rules.now pool.now named lists.items.items (P.told plant.old) (P.told plant.new) shards.old shards.new drops.old drops.new result }
+    ensures empty { All IsEmpty shards.new }
+    ensures numbers { AreInOrder shards.new }
+    ensures low { (most : ℕ) → All (λ v. All (IsLow most) v.rows) shards.old → All (λ v. All (IsLow (most + octets_most)) v.rows) shards.new }
+    ensures within { (most : ℕ) → Within most drops.old → Within (most + drops_most) drops.new }
+{
+    let Lists {
+        items,
+        mut loose,
+        allowances,
+        mut journals,
+        mut outs,
+        refused,
+    } = lists;
+    deal_all(rules, shards, pool, named.moment, items, &mut loose, drops);
+    settle_all(shards, plant, &mut outs, &mut journals, drops);
+    recorded(named, allowances, journals, loose, outs, refused)
+}
+
+// The record of a round that was not opened, with the items of the outside that it refused.
+pub(crate) fn refused(
+    alloc: Global,
+    shards: usize,
+    named: Named,
+    lists: Lists,
+    refused: Vec<Item>,
+) -> RoundRecord
+    requires loose { lists.loose.items ≡ [] }
+    requires journals { (lists.journals.items ≡ []) × (shards ≤ vec_capacity lists.journals) }
+    requires outs { lists.outs.items ≡ [] }
+    requires allowances { lists.allowances.items ≡ replicate shards 0 }
+    ensures { result ≡ record { number = named.number; moment = named.moment; wall = named.wall; allowances = replicate shards 0; journals = replicate shards []; loose = []; outs = []; refused = refused.items } }
+{
+    let Lists {
+        items: _,
+        loose,
+        allowances,
+        mut journals,
+        outs,
+        refused: _,
+    } = lists;
+    for _shard in 0..shards {
+        journals.push_reserved(Listed::of(Vec::new(alloc)));
+    }
+    recorded(named, allowances, journals, loose, outs, refused)
+}
+
+/// Holds a round of these items; or, for want of memory, refuses the first so many of them, which came from the outside.
+pub(crate) fn hold<P: Plant>(
+    alloc: Global,
+    rules: &Rules,
+    shards: &mut [Shard],
+    pool: &PlainPool,
+    plant: &mut P,
+    named: Named,
+    mut lists: Lists,
+    taken: usize,
+    drops: &mut Drops,
+) -> RoundRecord
+    requires numbers { AreInOrder shards.old }
+    requires count { length shards.old ≡ rules.now.shards }
+    requires some { 1 ≤ rules.now.shards }
+    requires few { rules.now.shards ≤ 64 }
+    requires held { All (λ h. h.shard < rules.now.shards) pool.now }
+    requires auth { 0 < length rules.now.link.auth.items }
+    requires moment { named.moment < 2 ^ 60 }
+    requires items { AreItems lists.items.items }
+    requires empty_before { All IsEmpty shards.old }
+    requires low { All (λ v. All (IsLow (2 ^ 62 + 2 ^ 61)) v.rows) shards.old }
+    requires few_outs { outs_of_items lists.items.items ≤ 4480 + 320 * length shards.old }
+    requires loose { (lists.loose.items ≡ []) × (512 ≤ vec_capacity lists.loose) }
+    requires journals { (lists.journals.items ≡ []) × (length shards.old ≤ vec_capacity lists.journals) }
+    requires outs { (lists.outs.items ≡ []) × (4480 + 320 * length shards.old ≤ vec_capacity lists.outs) }
+    requires allowances { lists.allowances.items ≡ replicate (length shards.old) 0 }
+    requires refused { lists.refused.items ≡ [] }
+    requires outside { refused_of lists.items.items ≡ take taken lists.items.items }
+    requires drops { Within (2 ^ 61) drops.old }
+    ensures round { HoldsOne rules.now pool.now named lists.items.items (P.told plant.old) (P.told plant.new) shards.old shards.new drops.old drops.new result }
+    ensures empty { All IsEmpty shards.new }
+    ensures numbers { AreInOrder shards.new }
+    ensures low { (most : ℕ) → All (λ v. All (IsLow most) v.rows) shards.old → All (λ v. All (IsLow (most + octets_most)) v.rows) shards.new }
+    ensures within { (most : ℕ) → Within most drops.old → Within (most + drops_most) drops.new }
+{
+    let count = lists.items.len() as u16;
+    if prepare_all(shards, alloc, count) {
+        return opened(rules, shards, pool, plant, named, lists, drops);
+    }
+    let mut items = mem::replace(&mut lists.items, Vec::new(alloc));
+    items.truncate(taken);
+    count_refused(drops, items.len());
+    refused(alloc, shards.len(), named, lists, items)
+}
+
+/// A round of Ends as it came out: its record, and whether it was opened.
+#[derive(Drop)]
+pub(crate) struct Ending {
+    pub(crate) record: RoundRecord,
+    pub(crate) is_opened: bool,
+}
+
+/// Holds a round of these Ends; or, for want of memory, keeps them for the next turn.
+pub(crate) fn hold_ends<P: Plant>(
+    alloc: Global,
+    rules: &Rules,
+    shards: &mut [Shard],
+    pool: &PlainPool,
+    plant: &mut P,
+    named: Named,
+    mut lists: Lists,
+    kept: &mut Vec<Item>,
+    drops: &mut Drops,
+) -> Ending
+    requires numbers { AreInOrder shards.old }
+    requires count { length shards.old ≡ rules.now.shards }
+    requires some { 1 ≤ rules.now.shards }
+    requires few { rules.now.shards ≤ 64 }
+    requires held { All (λ h. h.shard < rules.now.shards) pool.now }
+    requires auth { 0 < length rules.now.link.auth.items }
+    requires moment { named.moment < 2 ^ 60 }
+    requires items { AreItems lists.items.items }
+    requires empty_before { All IsEmpty shards.old }
+    requires low { All (λ v. All (IsLow (2 ^ 62 + 2 ^ 61)) v.rows) shards.old }
+    requires few_outs { outs_of_items lists.items.items ≤ 4480 + 320 * length shards.old }
+    requires loose { (lists.loose.items ≡ []) × (512 ≤ vec_capacity lists.loose) }
+    requires journals { (lists.journals.items ≡ []) × (length shards.old ≤ vec_capacity lists.journals) }
+    requires outs { (lists.outs.items ≡ []) × (4480 + 320 * length shards.old ≤ vec_capacity lists.outs) }
+    requires allowances { lists.allowances.items ≡ replicate (length shards.old) 0 }
+    requires refused { lists.refused.items ≡ [] }
+    requires outside { refused_of lists.items.items ≡ [] }
+    requires none_kept { kept.old.items ≡ [] }
+    requires drops { Within (2 ^ 61) drops.old }
+    ensures round { HoldsEnds rules.now pool.now named lists.items.items (P.told plant.old) (P.told plant.new) shards.old shards.new drops.old drops.new result.record result.is_opened kept.new.items }
+    ensures empty { All IsEmpty shards.new }
+    ensures numbers { AreInOrder shards.new }
+    ensures low { (most : ℕ) → All (λ v. All (IsLow most) v.rows) shards.old → All (λ v. All (IsLow (most + octets_most)) v.rows) shards.new }
+    ensures within { (most : ℕ) → Within most drops.old → Within (most + drops_most) drops.new }
+{
+    let count = lists.items.len() as u16;
+    if prepare_all(shards, alloc, count) {
+        return Ending {
+            record: opened(rules, shards, pool, plant, named, lists, drops),
+            is_opened: true,
+        };
+    }
+    *kept = mem::replace(&mut lists.items, Vec::new(alloc));
+    Ending {
+        record: refused(alloc, shards.len(), named, lists, Vec::new(alloc)),
+        is_opened: false,
+    }
+}
+
+/// Tells the trace a round, and says whether it took it.
+pub(crate) fn note<T: Trace>(trace: &mut T, round: &RoundRecord) -> bool
+    ensures rounds { Grows (T.told trace.old).rounds (T.told trace.new).rounds (told_if result round.now) }
+    ensures cause { HasCause (T.told trace.old).faults (T.told trace.new).faults (result ≡ false) }
+{
+    match trace.note(round) {
+        Noted::Ok => true,
+        Noted::Failed => false,
+    }
+}

@@ -1,0 +1,108 @@
+//! What was taken from the access ports and the core, as the items of a round.
+ghost use Rattle.std.specs.Prelude.{◌≡◌, ◌∷◌, [], ◌+◌, ◌≤◌, ◌<◌, ◌^◌, length, vec_capacity};
+ghost use Rattle.bng_desk.specs.Items.{kind_of};
+ghost use Rattle.bng_desk.specs.Taking.{Takes};
+ghost use Rattle.bng_desk.specs.Turn.{most_of, ports_up_to, data_roles};
+
+use crate::calls::receive;
+use crate::flags::both;
+use crate::random::Draws;
+use bng_base::{Frame, Item, ItemKind, Received, Role};
+use bng_plant::Plant;
+use bng_shard::Rules;
+
+/// How many datagrams of the access ports a turn takes, all together.
+const PORTS_MOST: usize = 224;
+
+/// How many datagrams of the core a turn takes.
+const CORE_MOST: usize = 224;
+
+// Takes datagrams of a role until Empty, Failed or this number; each is an item. Says whether nothing was taken.
+fn take_role<P: Plant>(
+    plant: &mut P,
+    role: Role,
+    kind: ItemKind,
+    most: usize,
+    draws: &mut Draws,
+    items: &mut Vec<Item>,
+) -> bool
+    requires kind { kind ≡ kind_of role }
+    requires few { most ≤ 224 }
+    requires room { length items.old.items + most ≤ vec_capacity items.old }
+    requires drawn { draws.old.drawn < 2 ^ 61 }
+    ensures takes { Takes (role ∷ []) (λ _. most) most (P.told plant.old) (P.told plant.new) draws.old draws.new items.old.items items.new.items result }
+    ensures capacity { vec_capacity items.new ≡ vec_capacity items.old }
+{
+    let mut quiet = true;
+    for _taken in 0..most {
+        let mut frame = Frame::new();
+        match receive(plant, role, &mut frame) {
+            Received::Got { from, cut } => {
+                let random = draws.sixteen();
+                items.push_reserved(Item {
+                    kind,
+                    from,
+                    frame,
+                    cut,
+                    random,
+                    target: 0,
+                    ask: 0,
+                });
+                quiet = false;
+            }
+            Received::Empty | Received::Failed => return quiet,
+        }
+    }
+    quiet
+}
+
+// Takes from each access port in its order.
+fn take_ports<P: Plant>(
+    rules: &Rules,
+    plant: &mut P,
+    draws: &mut Draws,
+    items: &mut Vec<Item>,
+) -> bool
+    requires some { 1 ≤ length rules.now.access }
+    requires few { length rules.now.access ≤ 16 }
+    requires room { length items.old.items + 224 ≤ vec_capacity items.old }
+    requires drawn { draws.old.drawn < 2 ^ 60 }
+    ensures takes { Takes (ports_up_to (length rules.now.access)) (most_of rules.now) 224 (P.told plant.old) (P.told plant.new) draws.old draws.new items.old.items items.new.items result }
+    ensures capacity { vec_capacity items.new ≡ vec_capacity items.old }
+{
+    let ports = rules.access.as_slice().len();
+    let most = PORTS_MOST / ports;
+    let mut quiet = true;
+    for place in 0..ports {
+        let number = place as u8 + 1;
+        let read = take_role(
+            plant,
+            Role::Access(number),
+            ItemKind::Access(number),
+            most,
+            draws,
+            items,
+        );
+        quiet = both(quiet, read);
+    }
+    quiet
+}
+
+/// Takes from the access ports and then from the core, and says whether nothing was taken.
+pub(crate) fn take_data<P: Plant>(
+    rules: &Rules,
+    plant: &mut P,
+    draws: &mut Draws,
+    items: &mut Vec<Item>,
+) -> bool
+    requires some { 1 ≤ length rules.now.access }
+    requires few { length rules.now.access ≤ 16 }
+    requires room { length items.old.items + 448 ≤ vec_capacity items.old }
+    requires drawn { draws.old.drawn < 2 ^ 59 }
+    ensures takes { Takes (data_roles rules.now) (most_of rules.now) 448 (P.told plant.old) (P.told plant.new) draws.old draws.new items.old.items items.new.items result }
+    ensures capacity { vec_capacity items.new ≡ vec_capacity items.old }
+{
+    let ports = take_ports(rules, plant, draws, items);
+    let core = take_role(plant, Role::Core, ItemKind::Core, CORE_MOST, draws, items);
+    both(ports, core)
+}

@@ -1,0 +1,105 @@
+-- What a turn leaves of the desk, by its round alone.
+use Rattle.std.proofs.Common.{◌≡◌, ℕ, List, [], ◌∷◌, map, Option, Some, None, refl, ap, ◌∙◌}
+use Rattle.bng_base.specs.declared.item.Entry.{Entry}
+use Rattle.bng_base.specs.declared.item.Item.{Item}
+use Rattle.bng_base.specs.Chain.{Chain}
+use Rattle.bng_base.proofs.ChainLaws.{chain_append}
+use Rattle.bng_engine.specs.Sight.{Sight}
+use Rattle.bng_shard.specs.State.{State}
+use Rattle.bng_desk.specs.Model.{Desk}
+use Rattle.bng_desk.specs.Round.{Round, IsRound, left_by}
+use Rattle.bng_desk.specs.Turn.{Turn, EndTurn, RoundOf, Step, EndStep, after_round, items_of, ending_items}
+use Rattle.bng_gate.specs.Rounds.{round_in, end_round_in, rounds_in}
+use Rattle.bng_gate.specs.Serving.{Made, MadeEnd, Goes, GoesEnding, Run, EndRun}
+
+-- the shards after a round, or after one that was not opened
+abbrev pub left_after : List (Sight State Entry) → Option Round → List (Sight State Entry)
+left_after shards None = shards
+left_after shards (Some round) = map left_by round.shards
+
+-- the round was one of this desk, at some moment and of some items
+abbrev pub IsOf : Desk → Option Round → Type 0
+IsOf d None = Unit {0}
+IsOf d (Some round) = (moment : ℕ) × (items : List Item) × IsRound d.rules d.shards d.holders moment items round
+
+-- the desk went on by a round, or as it was; what it serves and who holds an address stay
+pub record Follows (d : Desk) (round : Option Round) (d' : Desk) : Type 0 where
+  pub is_round : IsOf d round
+  pub shards : d'.shards ≡ left_after d.shards round
+  pub holders : d'.holders ≡ d.holders
+  pub rules : d'.rules ≡ d.rules
+  pub lines : d'.lines ≡ d.lines
+
+is_of : (d : Desk) (moment : ℕ) (items : List Item) (round : Option Round) → RoundOf d moment items round → IsOf d round
+is_of d moment items None h = tt
+is_of d moment items (Some round) h = (moment, items, h)
+
+-- what a round leaves
+shards_after : (d : Desk) (items : List Item) (round : Option Round) → (after_round d items round).shards ≡ left_after d.shards round
+shards_after d items None = refl
+shards_after d items (Some round) = refl
+
+holders_after : (d : Desk) (items : List Item) (round : Option Round) → (after_round d items round).holders ≡ d.holders
+holders_after d items None = refl
+holders_after d items (Some round) = refl
+
+rules_after : (d : Desk) (items : List Item) (round : Option Round) → (after_round d items round).rules ≡ d.rules
+rules_after d items None = refl
+rules_after d items (Some round) = refl
+
+lines_after : (d : Desk) (items : List Item) (round : Option Round) → (after_round d items round).lines ≡ d.lines
+lines_after d items None = refl
+lines_after d items (Some round) = refl
+
+pub step_follows : (d d' : Desk) (t : Option Turn) → Step d t d' → Follows d (round_in t) d'
+step_follows d d' None step = record {
+  is_round = tt;
+  shards = ap (λ (x : Desk). x.shards) step;
+  holders = ap (λ (x : Desk). x.holders) step;
+  rules = ap (λ (x : Desk). x.rules) step;
+  lines = ap (λ (x : Desk). x.lines) step;
+}
+step_follows d d' (Some t) step = record {
+  is_round = is_of d t.moment (items_of d t) t.round step.1;
+  shards = ap (λ (x : Desk). x.shards) step.2 ∙ shards_after d (items_of d t) t.round;
+  holders = ap (λ (x : Desk). x.holders) step.2 ∙ holders_after d (items_of d t) t.round;
+  rules = ap (λ (x : Desk). x.rules) step.2 ∙ rules_after d (items_of d t) t.round;
+  lines = ap (λ (x : Desk). x.lines) step.2 ∙ lines_after d (items_of d t) t.round;
+}
+
+pub end_follows : (d d' : Desk) (t : Option EndTurn) → EndStep d t d' → Follows d (end_round_in t) d'
+end_follows d d' None step = record {
+  is_round = tt;
+  shards = ap (λ (x : Desk). x.shards) step;
+  holders = ap (λ (x : Desk). x.holders) step;
+  rules = ap (λ (x : Desk). x.rules) step;
+  lines = ap (λ (x : Desk). x.lines) step;
+}
+end_follows d d' (Some t) step = record {
+  is_round = is_of d t.moment (ending_items d) t.round step.1;
+  shards = ap (λ (x : Desk). x.shards) step.2 ∙ shards_after d (ending_items d) t.round;
+  holders = ap (λ (x : Desk). x.holders) step.2 ∙ holders_after d (ending_items d) t.round;
+  rules = ap (λ (x : Desk). x.rules) step.2 ∙ rules_after d (ending_items d) t.round;
+  lines = ap (λ (x : Desk). x.lines) step.2 ∙ lines_after d (ending_items d) t.round;
+}
+
+-- a chain, seen by what each of its links has
+chain_map : {S T U : Type 0} (step : S → T → S → Type 0) (other : S → U → S → Type 0) (f : T → U) → ((s : S) (t : T) (s' : S) → step s t s' → other s (f t) s') → (s s' : S) (ts : List T) → Chain step s ts s' → Chain other s (map f ts) s'
+chain_map step other f each s s' [] run = run
+chain_map step other f each s s' (t ∷ ts) run = (run.0, each s t run.0 run.1, chain_map step other f each run.0 s' ts run.2)
+
+-- the turns of serving and of the ending, by their rounds
+pub run_follows : (d over last : Desk) (turns : List Made) (endings : List MadeEnd) → Run d turns over → EndRun over endings last → Chain Follows d (rounds_in turns endings) last
+run_follows d over last turns endings run ending =
+    chain_append Follows d over last (map (λ (m : Made). round_in m.turn) turns) (map (λ (m : MadeEnd). end_round_in m.turn) endings)
+    (chain_map Goes Follows (λ (m : Made). round_in m.turn) (λ s m s' h. step_follows s s' m.turn h.1) d over turns run)
+    (chain_map GoesEnding Follows (λ (m : MadeEnd). end_round_in m.turn) (λ s m s' h. end_follows s s' m.turn h.1) over last endings ending)
+
+-- what stays over all rounds
+pub lines_stay : (d d' : Desk) (rounds : List (Option Round)) → Chain Follows d rounds d' → d'.lines ≡ d.lines
+lines_stay d d' [] run = ap (λ (x : Desk). x.lines) run
+lines_stay d d' (r ∷ rounds) run = lines_stay run.0 d' rounds run.2 ∙ run.1.lines
+
+pub holders_stay : (d d' : Desk) (rounds : List (Option Round)) → Chain Follows d rounds d' → d'.holders ≡ d.holders
+holders_stay d d' [] run = ap (λ (x : Desk). x.holders) run
+holders_stay d d' (r ∷ rounds) run = holders_stay run.0 d' rounds run.2 ∙ run.1.holders

@@ -1,0 +1,126 @@
+-- A desk that was opened over a configuration: its terms are those of the circuits.
+use Rattle.std.proofs.Common.{◌≡◌, ◌||◌, ℕ, ◌+◌, Bool, true, false, List, [], ◌∷◌, map, length, refl, sym, ap, ◌∙◌, arith, eqb}
+use Rattle.std.specs.List.{AllByRecursion, sum_by, count_by, range_with_len}
+use Rattle.std.proofs.lemmas.Bool.{eqb-true, ne_eqb}
+use Rattle.std.proofs.lemmas.List.Elements.{recursion_from_All}
+use Rattle.std.proofs.lemmas.List.Sums.{sum_by-cons}
+use Rattle.bng_base.specs.declared.address.Ip4.{Ip4}
+use Rattle.bng_base.specs.declared.address.SessionNo.{SessionNo}
+use Rattle.bng_base.specs.declared.settings.Static.{Static}
+use Rattle.bng_config.specs.declared.config.Config.{Config}
+use Rattle.bng_config.specs.Rules.{KeepsRules, IsSessionOf}
+use Rattle.bng_engine.specs.Accounted.{IsNew, past_of}
+use Rattle.bng_engine.specs.Laws.{Opens}
+use Rattle.bng_engine.specs.Protocol.{AreNumbered}
+use Rattle.bng_engine.specs.Run.{Past}
+use Rattle.bng_engine.specs.Sums.{leases_at, one_if}
+use Rattle.bng_engine.specs.Terms.{Key, keys}
+use Rattle.bng_engine.specs.World.{is_held, holders}
+use Rattle.bng_shard.specs.declared.rules.Rules.{Rules}
+use Rattle.bng_shard.specs.Protocol.{term_of, terms_of, terms_after, pppoe, opened}
+use Rattle.bng_shard.specs.State.{State}
+use Rattle.bng_desk.specs.Opening.{shard_of, holder_of, statics_of, opened_shards}
+use Rattle.bng_desk.specs.Round.{sights_of, sight_of, held_by}
+use Rattle.bng_gate.proofs.Lists.{Apart, apart_of, IsWithin, sum_parts}
+
+-- What a configuration keeps, by recursion ------------------------------------------------------------------------------
+
+same_session : (x y : SessionNo) → x.0 ≡ y.0 → x ≡ y
+same_session x y e = let make : ℕ → SessionNo = λ n. record { 0 = n } in ap make e
+
+same_address : (x y : Ip4) → x.0 ≡ y.0 → x ≡ y
+same_address x y e = let make : ℕ → Ip4 = λ n. record { 0 = n } in ap make e
+
+abbrev pub session_in : Static → ℕ
+session_in c = c.session.0
+
+abbrev pub address_in : Static → ℕ
+address_in c = c.address.0
+
+pub sessions_apart : (config : Config) → KeepsRules config → Apart session_in config.statics
+sessions_apart config rules = apart_of session_in config.statics (λ i j d lt within e. rules.sessions i j d lt within (same_session _ _ e))
+
+pub addresses_apart : (config : Config) → KeepsRules config → Apart address_in config.statics
+addresses_apart config rules = apart_of address_in config.statics (λ i j d lt within e. rules.addresses i j d lt within (same_address _ _ e))
+
+all_in : (shards : ℕ) (cs : List Static) → AllByRecursion (λ c. IsSessionOf shards c.session.0) cs → AllByRecursion (λ c. IsWithin 0 shards (shard_of c)) cs
+all_in shards [] h = tt
+all_in shards (c ∷ cs) h =
+    let low = h.0.shard in
+    (record { low = omega arith; high = omega (arith, low) }, all_in shards cs h.1)
+
+pub shards_within : (config : Config) → KeepsRules config → AllByRecursion (λ c. IsWithin 0 config.shards (shard_of c)) config.statics
+shards_within config rules = all_in config.shards config.statics (recursion_from_All (λ c. IsSessionOf config.shards c.session.0) config.statics rules.sharded)
+
+-- the parts of the shards, each counted for itself, are the whole
+pub sum_shards : (config : Config) → KeepsRules config → (h : Static → ℕ) → sum_by (λ n. sum_by h (statics_of config n)) (range_with_len 0 config.shards) ≡ sum_by h config.statics
+sum_shards config rules h = sum_parts shard_of h 0 config.shards config.statics (shards_within config rules)
+
+-- The opening -----------------------------------------------------------------------------------------------------------
+
+pub none_ended : (n : ℕ) (cs : List Static) → AllByRecursion (λ t. t.ended ≡ false) (terms_after n cs)
+none_ended n [] = tt
+none_ended n (c ∷ cs) = (refl, none_ended (n + 1) cs)
+
+numbered : (n m : ℕ) (cs : List Static) → m ≡ n + length cs → AreNumbered n (keys (terms_after n cs)) m
+numbered n m [] e = omega (arith, e)
+numbered n m (c ∷ cs) e = (refl, numbered (n + 1) m cs (omega (arith, e)))
+
+module _ (r : Rules) where
+  new_shard : (number : ℕ) (cs : List Static) → IsNew (pppoe r) (record { number = number; state = record { number = number; statics = cs; sessions = [] }; rows = (opened number cs).rows; journal = []; outs = []; records = []; stops = []; room = 0 })
+  new_shard number cs = record { rows = refl; live = none_ended 0 cs; numbered = numbered 0 (length cs) cs (omega arith) }
+
+  new_shards : (config : Config) (ns : List ℕ) → AllByRecursion (IsNew (pppoe r)) (sights_of (map (λ n. opened n (statics_of config n)) ns))
+  new_shards config [] = tt
+  new_shards config (n ∷ ns) = (new_shard n (statics_of config n), new_shards config ns)
+
+  -- how many terms of a shard have an address
+  leases_are : (a n : ℕ) (cs : List Static) → leases_at a (keys (terms_after n cs)) ≡ count_by (λ c. eqb (address_in c) a) cs
+  leases_are a n [] = refl
+  leases_are a n (c ∷ cs) =
+      omega (
+        arith,
+        sum_by-cons (λ (k : Key). one_if (eqb k.lease.0 a)) (term_of c (n + 1)).key (keys (terms_after (n + 1) cs)),
+        sum_by-cons (λ (x : Static). one_if (eqb (address_in x) a)) c cs,
+        leases_are a (n + 1) cs,
+      )
+
+  holders_are : (config : Config) (a : ℕ) (ns : List ℕ) → holders (pppoe r) a (map past_of (sights_of (map (λ n. opened n (statics_of config n)) ns))) ≡ sum_by (λ n. count_by (λ c. eqb (address_in c) a) (statics_of config n)) ns
+  holders_are config a [] = refl
+  holders_are config a (n ∷ ns) =
+      let rest = sights_of (map (λ (m : ℕ). opened m (statics_of config m)) ns) in
+      let here : Past State = record { state = record { number = n; statics = statics_of config n; sessions = [] }; records = []; stops = [] } in
+      omega (
+        arith,
+        sum_by-cons (λ (s : Past State). leases_at a (keys (terms_of s.state))) here (map past_of rest),
+        sum_by-cons (λ (m : ℕ). count_by (λ (c : Static). eqb (address_in c) a) (statics_of config m)) n ns,
+        leases_are a 0 (statics_of config n),
+        holders_are config a ns,
+      )
+
+-- an address that no two have is there once, or not at all
+none_at : (a : ℕ) (c : Static) (cs : List Static) → address_in c ≡ a → AllByRecursion (λ y. address_in y ≡ address_in c → ⊥) cs → count_by (λ x. eqb (address_in x) a) cs ≡ 0
+none_at a c [] e h = refl
+none_at a c (y ∷ ys) e h =
+    omega (
+      arith,
+      sum_by-cons (λ (x : Static). one_if (eqb (address_in x) a)) y ys,
+      ap one_if (ne_eqb (address_in y) a (λ f. h.0 (f ∙ sym e))),
+      none_at a c ys e h.1,
+    )
+
+held_at : (a : ℕ) (c : Static) (cs : List Static) (b : Bool) → eqb (address_in c) a ≡ b → AllByRecursion (λ y. address_in y ≡ address_in c → ⊥) cs → count_by (λ x. eqb (address_in x) a) cs ≡ one_if (is_held a (held_by (map holder_of cs)))
+    → one_if b + count_by (λ x. eqb (address_in x) a) cs ≡ one_if (b || is_held a (held_by (map holder_of cs)))
+held_at a c cs true e h rest = omega (arith, none_at a c cs (eqb-true (address_in c) a e) h)
+held_at a c cs false e h rest = omega (arith, rest)
+
+pub held_once : (a : ℕ) (cs : List Static) → Apart address_in cs → count_by (λ c. eqb (address_in c) a) cs ≡ one_if (is_held a (held_by (map holder_of cs)))
+held_once a [] h = refl
+held_once a (c ∷ cs) h = sum_by-cons (λ (x : Static). one_if (eqb (address_in x) a)) c cs ∙ held_at a c cs (eqb (address_in c) a) refl h.0 (held_once a cs h.1)
+
+-- the desk at its opening holds each circuit's term with its address, and nothing else
+pub opens : (r : Rules) (config : Config) → KeepsRules config → Opens (pppoe r) (sight_of (opened_shards config) (map holder_of config.statics))
+opens r config rules = record {
+  new = new_shards r config (range_with_len 0 config.shards);
+  holds = λ a. holders_are r config a (range_with_len 0 config.shards) ∙ sum_shards config rules (λ (c : Static). one_if (eqb (address_in c) a)) ∙ held_once a config.statics (addresses_apart config rules);
+}

@@ -1,0 +1,221 @@
+-- What the turns of a run tell: what they took on the access ports and the core, and what their rounds sent.
+use Rattle.std.proofs.Common.{◌≡◌, ◌||◌, ℕ, zero, suc, ◌+◌, Bool, true, false, not, cond, List, [], ◌∷◌, ◌++◌, map, Option, Some, None, refl, sym, ap, subst, ◌∙◌, append-nil}
+use Rattle.std.specs.Prelude.{filter}
+use Rattle.std.specs.List.{AllByRecursion, flat_map, list_any, range_with_len}
+use Rattle.std.proofs.lemmas.Bool.{or_parts}
+use Rattle.std.proofs.lemmas.List.Concat.{flat_map-append}
+use Rattle.std.proofs.lemmas.List.Elements.{filter-append}
+use Rattle.std.proofs.lemmas.List.Folds.{flat_map-map}
+use Rattle.bng_base.specs.declared.item.OutRecord.{OutRecord}
+use Rattle.bng_base.specs.declared.outside.Datagram.{Datagram}
+use Rattle.bng_base.specs.declared.outside.Role.{Role}
+use Rattle.bng_base.specs.declared.outside.Role.TheVariants.{Access, Core, Control}
+use Rattle.bng_base.specs.FateOf.{Arrival}
+use Rattle.bng_base.specs.Roles.{is_data}
+use Rattle.bng_engine.specs.Laws.{sends_of}
+use Rattle.bng_engine.specs.Progress.{all_records}
+use Rattle.bng_engine.specs.Run.{Part}
+use Rattle.bng_engine.specs.Wire.{went}
+use Rattle.bng_engine.proofs.Everywhere.{all_append}
+use Rattle.bng_engine.proofs.Wire.{went_append}
+use Rattle.bng_shard.specs.Deed.{Deed}
+use Rattle.bng_desk.specs.Control.{Heeded, reply, is_answered}
+use Rattle.bng_desk.specs.Items.{DataReading}
+use Rattle.bng_desk.specs.Model.{Desk}
+use Rattle.bng_desk.specs.Reading.{taken_in}
+use Rattle.bng_desk.specs.Round.{Round}
+use Rattle.bng_desk.specs.Turn.{Turn, EndTurn, Step, data_stretch, round_stretch, stretch_of, end_stretch}
+use Rattle.bng_gate.specs.Rounds.{round_in, end_round_in, rounds_in, part_in, parts_in, rounds_of, plant_of, on_data, readings_in, readings_of}
+use Rattle.bng_gate.specs.Serving.{Made, MadeEnd, Run, run_stretch, ending_stretch}
+
+on_data_append : (a b : List Datagram) → on_data (a ++ b) ≡ on_data a ++ on_data b
+on_data_append a b = filter-append (λ (d : Datagram). is_data d.role) a b
+
+-- What the rounds sent --------------------------------------------------------------------------------------------------
+
+abbrev pub sends_in : Option Round → List OutRecord
+sends_in None = []
+sends_in (Some round) = all_records round.shards
+
+pub sends_are : (rounds : List (Option Round)) → sends_of (flat_map parts_in rounds) ≡ flat_map sends_in rounds
+sends_are [] = refl
+sends_are (None ∷ rounds) = sends_are rounds
+sends_are (Some round ∷ rounds) =
+    ap (λ (os : List OutRecord). os ++ sends_of (flat_map parts_in rounds)) (flat_map-map (λ (x : Part Deed). x.records) part_in round.shards)
+    ∙ ap (λ (os : List OutRecord). all_records round.shards ++ os) (sends_are rounds)
+
+no_replies : (hs : List Heeded) → on_data (map reply hs) ≡ []
+no_replies [] = refl
+no_replies (h ∷ hs) = no_replies hs
+
+none_sent : (readings : List DataReading) → (data_stretch readings).sent ≡ []
+none_sent [] = refl
+none_sent (r ∷ rs) = none_sent rs
+
+round_sent : (round : Option Round) → (round_stretch round).sent ≡ went (sends_in round)
+round_sent None = refl
+round_sent (Some round) = refl
+
+turn_sent : (d : Desk) (t : Option Turn) → on_data (stretch_of d t).plant.sent ≡ on_data (went (sends_in (round_in t)))
+turn_sent d None = refl
+turn_sent d (Some t) =
+    let replies = map reply (filter is_answered t.control) in
+    let rest = (data_stretch t.readings).sent ++ ((round_stretch t.round).sent ++ []) in
+    on_data_append (replies ++ []) rest
+    ∙ ap (λ (ds : List Datagram). on_data ds ++ on_data rest) (append-nil replies)
+    ∙ ap (λ (ds : List Datagram). ds ++ on_data rest) (no_replies (filter is_answered t.control))
+    ∙ ap (λ (ds : List Datagram). on_data (ds ++ ((round_stretch t.round).sent ++ []))) (none_sent t.readings)
+    ∙ ap on_data (append-nil (round_stretch t.round).sent ∙ round_sent t.round)
+
+end_sent : (d : Desk) (t : Option EndTurn) → (end_stretch d t).plant.sent ≡ went (sends_in (end_round_in t))
+end_sent d None = refl
+end_sent d (Some t) = round_sent t.round
+
+turns_sent : (turns : List Made) → on_data (run_stretch turns).plant.sent ≡ on_data (went (flat_map sends_in (map (λ m. round_in m.turn) turns)))
+turns_sent [] = refl
+turns_sent (m ∷ turns) =
+    let here = went (sends_in (round_in m.turn)) in
+    let later = flat_map sends_in (map (λ (x : Made). round_in x.turn) turns) in
+    on_data_append (stretch_of m.desk m.turn).plant.sent (run_stretch turns).plant.sent
+    ∙ ap (λ (ds : List Datagram). ds ++ on_data (run_stretch turns).plant.sent) (turn_sent m.desk m.turn)
+    ∙ ap (λ (ds : List Datagram). on_data here ++ ds) (turns_sent turns)
+    ∙ sym (ap on_data (went_append (sends_in (round_in m.turn)) later) ∙ on_data_append here (went later))
+
+endings_sent : (endings : List MadeEnd) → (ending_stretch endings).plant.sent ≡ went (flat_map sends_in (map (λ m. end_round_in m.turn) endings))
+endings_sent [] = refl
+endings_sent (m ∷ endings) =
+    let later = flat_map sends_in (map (λ (x : MadeEnd). end_round_in x.turn) endings) in
+    ap (λ (ds : List Datagram). ds ++ (ending_stretch endings).plant.sent) (end_sent m.desk m.turn)
+    ∙ ap (λ (ds : List Datagram). went (sends_in (end_round_in m.turn)) ++ ds) (endings_sent endings)
+    ∙ sym (went_append (sends_in (end_round_in m.turn)) later)
+
+-- what was sent on the access ports and to the core are the datagrams of the rounds
+pub sent_are : (turns : List Made) (endings : List MadeEnd) → on_data (plant_of turns endings).sent ≡ on_data (went (sends_of (rounds_of turns endings)))
+sent_are turns endings =
+    let serving = map (λ (m : Made). round_in m.turn) turns in
+    let ending = map (λ (m : MadeEnd). end_round_in m.turn) endings in
+    on_data_append (run_stretch turns).plant.sent (ending_stretch endings).plant.sent
+    ∙ ap (λ (ds : List Datagram). ds ++ on_data (ending_stretch endings).plant.sent) (turns_sent turns)
+    ∙ ap (λ (ds : List Datagram). on_data (went (flat_map sends_in serving)) ++ on_data ds) (endings_sent endings)
+    ∙ sym (ap (λ (os : List OutRecord). on_data (went os)) (sends_are (rounds_in turns endings) ∙ flat_map-append sends_in serving ending)
+    ∙ ap on_data (went_append (flat_map sends_in serving) (flat_map sends_in ending))
+    ∙ on_data_append (went (flat_map sends_in serving)) (went (flat_map sends_in ending)))
+
+-- What was taken --------------------------------------------------------------------------------------------------------
+
+none_of_control : (arrivals : List Arrival) → on_data (taken_in Control arrivals) ≡ []
+none_of_control [] = refl
+none_of_control (a ∷ as') = none_of_control as'
+
+all_of_role : (role : Role) (arrivals : List Arrival) → is_data role ≡ true → on_data (taken_in role arrivals) ≡ taken_in role arrivals
+all_of_role role [] e = refl
+all_of_role role (a ∷ as') e =
+    let d : Datagram = record { role = role; peer = a.from; octets = a.octets } in
+    let rest = on_data (taken_in role as') in
+    ap (λ (b : Bool). cond b (d ∷ rest) rest) e ∙ ap (λ (ds : List Datagram). d ∷ ds) (all_of_role role as' e)
+
+abbrev taken_by_reading : DataReading → List Datagram
+taken_by_reading r = taken_in r.role r.arrivals
+
+data_taken : (readings : List DataReading) → AllByRecursion (λ role. is_data role ≡ true) (map (λ r. r.role) readings) → on_data (data_stretch readings).taken ≡ flat_map taken_by_reading readings
+data_taken [] h = refl
+data_taken (r ∷ rs) h =
+    on_data_append (taken_in r.role r.arrivals ++ []) (data_stretch rs).taken
+    ∙ ap (λ (ds : List Datagram). on_data ds ++ on_data (data_stretch rs).taken) (append-nil (taken_in r.role r.arrivals))
+    ∙ ap (λ (ds : List Datagram). ds ++ on_data (data_stretch rs).taken) (all_of_role r.role r.arrivals h.0)
+    ∙ ap (λ (ds : List Datagram). taken_in r.role r.arrivals ++ ds) (data_taken rs h.1)
+
+ports_data : (n m : ℕ) → AllByRecursion (λ role. is_data role ≡ true) (map Access (range_with_len n m) ++ Core ∷ [])
+ports_data n zero = (refl, tt)
+ports_data n (suc m) = (refl, ports_data (n + 1) m)
+
+turn_taken : (d d' : Desk) (t : Option Turn) → Step d t d' → (e : Desk) → on_data (stretch_of e t).plant.taken ≡ flat_map taken_by_reading (readings_in t)
+turn_taken d d' None step e = refl
+turn_taken d d' (Some t) step e =
+    let heeded = map (λ (h : Heeded). h.arrival) t.control in
+    let rest = (data_stretch t.readings).taken ++ ((round_stretch t.round).taken ++ []) in
+    let roles : AllByRecursion (λ role. is_data role ≡ true) (map (λ r. r.role) t.readings) = subst (AllByRecursion (λ role. is_data role ≡ true)) (sym step.0.roles) (ports_data 1 _) in
+    on_data_append (taken_in Control heeded ++ []) rest
+    ∙ ap (λ (ds : List Datagram). on_data ds ++ on_data rest) (append-nil (taken_in Control heeded))
+    ∙ ap (λ (ds : List Datagram). ds ++ on_data rest) (none_of_control heeded)
+    ∙ ap (λ (ds : List Datagram). on_data ((data_stretch t.readings).taken ++ (ds ++ []))) (round_taken t.round)
+    ∙ ap on_data (append-nil (data_stretch t.readings).taken)
+    ∙ data_taken t.readings roles
+  where
+    round_taken : (round : Option Round) → (round_stretch round).taken ≡ []
+    round_taken None = refl
+    round_taken (Some round) = refl
+
+turns_taken : (d d' : Desk) (turns : List Made) → Run d turns d' → on_data (run_stretch turns).plant.taken ≡ flat_map taken_by_reading (readings_of turns)
+turns_taken d d' [] run = refl
+turns_taken d d' (m ∷ turns) run =
+    on_data_append (stretch_of m.desk m.turn).plant.taken (run_stretch turns).plant.taken
+    ∙ ap (λ (ds : List Datagram). ds ++ on_data (run_stretch turns).plant.taken) (turn_taken d run.0 m.turn run.1.1 m.desk)
+    ∙ ap (λ (ds : List Datagram). flat_map taken_by_reading (readings_in m.turn) ++ ds) (turns_taken run.0 d' turns run.2)
+    ∙ sym (flat_map-append taken_by_reading (readings_in m.turn) (readings_of turns))
+
+end_taken : (d : Desk) (t : Option EndTurn) → (end_stretch d t).plant.taken ≡ []
+end_taken d None = refl
+end_taken d (Some t) = round_taken t.round
+  where
+    round_taken : (round : Option Round) → (round_stretch round).taken ≡ []
+    round_taken None = refl
+    round_taken (Some round) = refl
+
+endings_taken : (endings : List MadeEnd) → (ending_stretch endings).plant.taken ≡ []
+endings_taken [] = refl
+endings_taken (m ∷ endings) = ap (λ (ds : List Datagram). ds ++ (ending_stretch endings).plant.taken) (end_taken m.desk m.turn) ∙ endings_taken endings
+
+-- what was taken from them are the datagrams of the readings
+pub taken_are : (d d' : Desk) (turns : List Made) (endings : List MadeEnd) → Run d turns d' → on_data (plant_of turns endings).taken ≡ flat_map taken_by_reading (readings_of turns)
+taken_are d d' turns endings run =
+    ap (λ (ds : List Datagram). on_data ((run_stretch turns).plant.taken ++ ds)) (endings_taken endings)
+    ∙ ap on_data (append-nil (run_stretch turns).plant.taken)
+    ∙ turns_taken d d' turns run
+
+-- Where nothing failed --------------------------------------------------------------------------------------------------
+
+all_went : (os : List OutRecord) → list_any (λ o. not o.sent) os ≡ false → AllByRecursion (λ o. o.sent ≡ true) os
+all_went [] e = tt
+all_went (o ∷ os) e =
+    let parts = or_parts (not o.sent) (list_any (λ (x : OutRecord). not x.sent) os) e in
+    (not_not o.sent parts.0, all_went os parts.1)
+  where
+    not_not : (b : Bool) → not b ≡ false → b ≡ true
+    not_not true e = refl
+    not_not false e = absurd cc
+
+round_went : (round : Option Round) → (round_stretch round).failed ≡ false → AllByRecursion (λ o. o.sent ≡ true) (sends_in round)
+round_went None e = tt
+round_went (Some round) e = all_went (all_records round.shards) e
+
+turn_went : (d : Desk) (t : Option Turn) → (stretch_of d t).plant.failed ≡ false → AllByRecursion (λ o. o.sent ≡ true) (sends_in (round_in t))
+turn_went d None e = tt
+turn_went d (Some t) e =
+    let after_control = (or_parts _ ((data_stretch t.readings).failed || ((round_stretch t.round).failed || false)) e).1 in
+    let after_data = (or_parts (data_stretch t.readings).failed ((round_stretch t.round).failed || false) after_control).1 in
+    round_went t.round (or_parts (round_stretch t.round).failed false after_data).0
+
+end_went : (d : Desk) (t : Option EndTurn) → (end_stretch d t).plant.failed ≡ false → AllByRecursion (λ o. o.sent ≡ true) (sends_in (end_round_in t))
+end_went d None e = tt
+end_went d (Some t) e = round_went t.round e
+
+turns_went : (turns : List Made) → (run_stretch turns).plant.failed ≡ false → AllByRecursion (λ o. o.sent ≡ true) (flat_map sends_in (map (λ m. round_in m.turn) turns))
+turns_went [] e = tt
+turns_went (m ∷ turns) e =
+    let parts = or_parts (stretch_of m.desk m.turn).plant.failed (run_stretch turns).plant.failed e in
+    all_append (λ o. o.sent ≡ true) (sends_in (round_in m.turn)) (flat_map sends_in (map (λ (x : Made). round_in x.turn) turns)) (turn_went m.desk m.turn parts.0) (turns_went turns parts.1)
+
+endings_went : (endings : List MadeEnd) → (ending_stretch endings).plant.failed ≡ false → AllByRecursion (λ o. o.sent ≡ true) (flat_map sends_in (map (λ m. end_round_in m.turn) endings))
+endings_went [] e = tt
+endings_went (m ∷ endings) e =
+    let parts = or_parts (end_stretch m.desk m.turn).plant.failed (ending_stretch endings).plant.failed e in
+    all_append (λ o. o.sent ≡ true) (sends_in (end_round_in m.turn)) (flat_map sends_in (map (λ (x : MadeEnd). end_round_in x.turn) endings)) (end_went m.desk m.turn parts.0) (endings_went endings parts.1)
+
+pub unfailing_went : (turns : List Made) (endings : List MadeEnd) → (plant_of turns endings).failed ≡ false → AllByRecursion (λ o. o.sent ≡ true) (sends_of (rounds_of turns endings))
+unfailing_went turns endings e =
+    let parts = or_parts (run_stretch turns).plant.failed (ending_stretch endings).plant.failed e in
+    let serving = map (λ (m : Made). round_in m.turn) turns in
+    let ending = map (λ (m : MadeEnd). end_round_in m.turn) endings in
+    subst (AllByRecursion (λ o. o.sent ≡ true)) (sym (sends_are (rounds_in turns endings) ∙ flat_map-append sends_in serving ending))
+    (all_append (λ o. o.sent ≡ true) (flat_map sends_in serving) (flat_map sends_in ending) (turns_went turns parts.0) (endings_went endings parts.1))

@@ -1,0 +1,51 @@
+-- The turns of the ending so far, and the one that this iteration made.
+use Rattle.std.proofs.Common.{refl, sym, ◌∙◌, [], ◌∷◌, ◌++◌}
+use Rattle.bng_base.specs.Stretch.{Outside}
+use Rattle.bng_base.proofs.StretchLaws.{extends_none}
+use Rattle.bng_base.proofs.ChainLaws.{chain_more}
+use Rattle.bng_gate.specs.Serving.{MadeEnd, GoesEnding}
+use Rattle.bng_gate.proofs.States.{not_serving, ending, end_fault_of}
+use Rattle.bng_gate.proofs.Turns.{told_end, noted_end, stays_over}
+use Rattle.bng_gate.proofs.Faults.{fails_finishing}
+use Rattle.bng_gate.proofs.serving.finish.Goals as goal
+
+pub ending-init : goal.ending-init
+ending-init g c = record {
+  ends = [];
+  run = refl;
+  told = extends_none (record { plant = g.P.Plant.told c.args.plant.now; clock = g.C.Clock.told c.args.clock.now; trace = g.T.Trace.told c.args.trace.now });
+  noted = refl;
+  over = not_serving c.args.desk.now c.requires.over;
+  later = c.requires.later;
+}
+
+pub ending-preserved : goal.ending-preserved
+ending-preserved g c =
+    let first : Outside = record { plant = g.P.Plant.told c.args.plant.now; clock = g.C.Clock.told c.args.clock.now; trace = g.T.Trace.told c.args.trace.now } in
+    let mid : Outside = record { plant = g.P.Plant.told c.ending.plant; clock = g.C.Clock.told c.ending.clock; trace = g.T.Trace.told c.ending.trace } in
+    let last : Outside = record { plant = g.P.Plant.told c.turn-made.new.plant; clock = g.C.Clock.told c.turn-made.new.clock; trace = g.T.Trace.told c.turn-made.new.trace } in
+    let so_far = c.ending.invariant in
+    let d = c.ending.desk in
+    let ends = ending d (sym c.is_ending.ensures ∙ c.ending-test.true) in
+    let here = c.turn-made.ensures.ending ends.0 in
+    let m : MadeEnd = record { desk = d; turn = here.turn } in
+    record {
+      ends = so_far.ends ++ m ∷ [];
+      run = chain_more GoesEnding c.args.desk.now d c.turn-made.new.self so_far.ends m so_far.run (refl, here.step);
+      told = told_end so_far.ends m first mid last so_far.told here.told;
+      noted = noted_end so_far.ends m so_far.noted (end_fault_of d here.turn c.turn-made.result here.answer ∙ sym c.is_fault.ensures ∙ c.if-is_fault.false);
+      over = stays_over d c.turn-made.new.self here.turn here.step ∙ so_far.over;
+      later = here.moment;
+    }
+
+pub returns-then-is_fault-clause-failed : goal.returns-then-is_fault-clause-failed
+returns-then-is_fault-clause-failed g c =
+    let first : Outside = record { plant = g.P.Plant.told c.args.plant.now; clock = g.C.Clock.told c.args.clock.now; trace = g.T.Trace.told c.args.trace.now } in
+    let mid : Outside = record { plant = g.P.Plant.told c.ending.plant; clock = g.C.Clock.told c.ending.clock; trace = g.T.Trace.told c.ending.trace } in
+    let last : Outside = record { plant = g.P.Plant.told c.turn-made.new.plant; clock = g.C.Clock.told c.turn-made.new.clock; trace = g.T.Trace.told c.turn-made.new.trace } in
+    let so_far = c.ending.invariant in
+    let d = c.ending.desk in
+    let ends = ending d (sym c.is_ending.ensures ∙ c.ending-test.true) in
+    let here = c.turn-made.ensures.ending ends.0 in
+    fails_finishing c.args.desk.now d c.turn-made.new.self first mid last so_far.ends here.turn so_far.run here.step so_far.told here.told so_far.noted
+    (end_fault_of d here.turn c.turn-made.result here.answer ∙ sym c.is_fault.ensures ∙ c.if-is_fault.true)

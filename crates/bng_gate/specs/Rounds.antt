@@ -1,0 +1,90 @@
+-- The rounds of a run, and what they sent and dropped.
+use Rattle.std.specs.Prelude.{List, [], ◌∷◌, ◌++◌, Option, Some, None, filter, length, map}
+use Rattle.std.specs.List.{flat_map}
+use Rattle.bng_base.specs.declared.item.Item.{Item}
+use Rattle.bng_base.specs.declared.outside.Datagram.{Datagram}
+use Rattle.bng_base.specs.Roles.{is_data}
+use Rattle.bng_base.specs.Stretch.{PlantStretch, plant_joined}
+use Rattle.bng_engine.specs.Accounted.{opening}
+use Rattle.bng_engine.specs.Run.{Part}
+use Rattle.bng_engine.specs.Sight.{Sight}
+use Rattle.bng_engine.specs.World.{World}
+use Rattle.bng_shard.specs.Deed.{Deed}
+use Rattle.bng_shard.specs.State.{State}
+use Rattle.bng_desk.specs.declared.drops.Drops.{Drops}
+use Rattle.bng_desk.specs.Counting.{no_drops, plus}
+use Rattle.bng_desk.specs.Model.{Desk}
+use Rattle.bng_desk.specs.Items.{DataReading}
+use Rattle.bng_desk.specs.Round.{Round, sight_of, drops_in, refused_of, with_refused}
+use Rattle.bng_desk.specs.Turn.{Turn, EndTurn, items_of, ending_items}
+use Rattle.bng_gate.specs.Serving.{Made, MadeEnd, run_stretch, ending_stretch}
+
+-- the round of a turn, where one was opened
+abbrev pub round_in : Option Turn → Option Round
+round_in None = None
+round_in (Some t) = t.round
+
+abbrev pub end_round_in : Option EndTurn → Option Round
+end_round_in None = None
+end_round_in (Some t) = t.round
+
+-- those of all turns: of serving, and then of the ending
+abbrev pub rounds_in : List Made → List MadeEnd → List (Option Round)
+rounds_in turns endings = map (λ m. round_in m.turn) turns ++ map (λ m. end_round_in m.turn) endings
+
+-- what a round added to a shard
+abbrev pub part_in : Sight State Deed → Part Deed
+part_in v = record { journal = v.journal; records = v.records; stops = v.stops }
+
+-- what it added to each shard, in the order of their numbers; nothing where it was not opened
+abbrev pub parts_in : Option Round → List (List (Part Deed))
+parts_in None = []
+parts_in (Some round) = map part_in round.shards ∷ []
+
+-- the rounds that were opened, by what each added to each shard
+abbrev pub rounds_of : List Made → List MadeEnd → List (List (Part Deed))
+rounds_of turns endings = flat_map parts_in (rounds_in turns endings)
+
+-- the shards of a desk, in which nothing has happened yet
+abbrev pub world_of : Desk → World State
+world_of d = opening (sight_of d.shards d.holders)
+
+-- what the turns add to what the plant tells, one after another
+abbrev pub plant_of : List Made → List MadeEnd → PlantStretch
+plant_of turns endings = plant_joined (run_stretch turns).plant (ending_stretch endings).plant
+
+-- the datagrams of the access ports and of the core
+abbrev pub on_data : List Datagram → List Datagram
+on_data ds = filter (λ d. is_data d.role) ds
+
+-- the readings of the access ports and of the core
+abbrev pub readings_in : Option Turn → List DataReading
+readings_in None = []
+readings_in (Some t) = t.readings
+
+abbrev pub readings_of : List Made → List DataReading
+readings_of turns = flat_map (λ m. readings_in m.turn) turns
+
+-- what a round drops: by the fates of its items and the packets whose own send failed, or all items of the outside, where it
+-- was not opened
+abbrev pub round_drops : List Item → Option Round → Drops
+round_drops items None = with_refused (length (refused_of items))
+round_drops items (Some round) = drops_in items round
+
+-- a turn that wanted memory took nothing, and drops nothing
+abbrev pub drops_made : Desk → Option Turn → Drops
+drops_made d None = no_drops
+drops_made d (Some t) = round_drops (items_of d t) t.round
+
+abbrev pub drops_ended : Desk → Option EndTurn → Drops
+drops_ended d None = no_drops
+drops_ended d (Some t) = round_drops (ending_items d) t.round
+
+-- cause by cause, the sums
+abbrev pub all_drops : List Drops → Drops
+all_drops [] = no_drops
+all_drops (d ∷ ds) = plus d (all_drops ds)
+
+-- what the turns drop
+abbrev pub drops_of_run : List Made → List MadeEnd → Drops
+drops_of_run turns endings = all_drops (map (λ m. drops_made m.desk m.turn) turns ++ map (λ m. drops_ended m.desk m.turn) endings)

@@ -1,0 +1,192 @@
+//! Packets of provisioned circuits.
+use super::{
+    CONFIGURATION, PACKET, SERVE, TWO_PORTS, frame_and_stop, loopback, run_over, script_of, sends,
+};
+use bng_base::Role;
+use std::test::Fail;
+
+/// The same after forwarding.
+const FORWARDED: [u8; 20] = [
+    0x45, 0, 0, 0x54, 0, 1, 0, 0, 0x3f, 1, 0xaf, 0xa5, 10, 0, 0, 2, 0xc0, 0, 2, 1,
+];
+
+/// The same from 10.0.0.3.
+const SPOOFED: [u8; 20] = [
+    0x45, 0, 0, 0x54, 0, 1, 0, 0, 0x40, 1, 0xae, 0xa4, 10, 0, 0, 3, 0xc0, 0, 2, 1,
+];
+
+/// A packet of 20 octets from 10.0.0.2 with TTL 2 in a frame of the circuit, padded to 60 octets.
+const PADDED: [u8; 60] = [
+    0x02, 0, 0, 0, 0, 0xfe, 0x02, 0, 0, 0, 0, 0x01, 0x88, 0x64, 0x11, 0x00, 0x04, 0x01, 0x00, 0x16,
+    0x00, 0x21, 0x45, 0, 0, 0x14, 0, 2, 0, 0, 2, 0x11, 0xec, 0xd4, 10, 0, 0, 2, 0xc0, 0, 2, 1, 0,
+    0, 0, 0, 0, 0, 0, 0, 0, 0, 0, 0, 0, 0, 0, 0, 0, 0,
+];
+
+/// The packet that goes to the core for it.
+const UP: [u8; 20] = [
+    0x45, 0, 0, 0x14, 0, 2, 0, 0, 1, 0x11, 0xed, 0xd4, 10, 0, 0, 2, 0xc0, 0, 2, 1,
+];
+
+/// A packet of the core to 10.0.0.2 with TTL 2.
+const FROM_CORE: [u8; 20] = [
+    0x45, 0, 0, 0x14, 0, 2, 0, 0, 2, 0x11, 0xec, 0xd4, 0xc0, 0, 2, 1, 10, 0, 0, 2,
+];
+
+/// The frame that goes on the circuit for it.
+const DOWN: [u8; 42] = [
+    0x02, 0, 0, 0, 0, 0x01, 0x02, 0, 0, 0, 0, 0xfe, 0x88, 0x64, 0x11, 0x00, 0x04, 0x01, 0x00, 0x16,
+    0x00, 0x21, 0x45, 0, 0, 0x14, 0, 2, 0, 0, 1, 0x11, 0xed, 0xd4, 0xc0, 0, 2, 1, 10, 0, 0, 2,
+];
+
+/// A packet of the core to 10.0.0.3 with TTL 2.
+const TO_THE_OTHER: [u8; 20] = [
+    0x45, 0, 0, 0x14, 0, 2, 0, 0, 2, 0x11, 0xec, 0xd3, 0xc0, 0, 2, 1, 10, 0, 0, 3,
+];
+
+/// The frame that goes on the second port's circuit for it.
+const DOWN_THE_OTHER: [u8; 42] = [
+    0x02, 0, 0, 0, 0, 0x02, 0x02, 0, 0, 0, 0, 0xfd, 0x88, 0x64, 0x11, 0x00, 0x04, 0x02, 0x00, 0x16,
+    0x00, 0x21, 0x45, 0, 0, 0x14, 0, 2, 0, 0, 1, 0x11, 0xed, 0xd3, 0xc0, 0, 2, 1, 10, 0, 0, 3,
+];
+
+/// A PADT of the circuit's session.
+const PADT: [u8; 20] = [
+    0x02, 0, 0, 0, 0, 0xfe, 0x02, 0, 0, 0, 0, 0x01, 0x88, 0x63, 0x11, 0xa7, 0x04, 0x01, 0, 0,
+];
+
+/// A PADI with an empty Service-Name.
+const PADI: [u8; 24] = [
+    0xff, 0xff, 0xff, 0xff, 0xff, 0xff, 0x02, 0, 0, 0, 0, 0x01, 0x88, 0x63, 0x11, 0x09, 0, 0, 0, 4,
+    1, 1, 0, 0,
+];
+
+#[test]
+fn a_packet_is_forwarded_with_ttl_and_sum_changed(rt: HostRuntime) -> Result<(), Fail> {
+    let alloc = rt.alloc();
+    let script = frame_and_stop(alloc, &PACKET)?;
+    let ended = run_over(&rt, alloc, &SERVE, CONFIGURATION, script, &[], &[])?;
+    assert_eq!(rt; ended.status, 0);
+    assert_eq!(rt;
+        ended.out.text(),
+        b"total in=84 out=0\nstatic 10.0.0.2 in=84 out=0\ndrop Malformed 0\ndrop NoSession 0\ndrop NotOpen 0\ndrop Expired 0\ndrop Spoofed 0\ndrop TooBig 0\ndrop Exceeded 0\ndrop LinkFailed 0\ndrop WantOfMemory 0\n".as_slice()
+    );
+    assert!(rt; ended.err.text().is_empty());
+    let sent = ended.plant.sent();
+    assert_eq!(rt; sent.len(), 2);
+    assert_eq!(rt; sent[0].role, Role::Core);
+    assert_eq!(rt; sent[0].peer, loopback(9001));
+    let packet = sent[0].octets.as_slice();
+    assert_eq!(rt; packet.len(), 84);
+    assert_eq!(rt; &packet[..20], FORWARDED.as_slice());
+    assert!(rt; packet[20..].iter().all(|octet| *octet == 7));
+    assert_eq!(rt; sent[1].role, Role::Control);
+    assert_eq!(rt; sent[1].octets.as_slice(), b"stopping\n".as_slice());
+    Ok(())
+}
+
+#[test]
+fn a_packet_that_does_not_go_is_counted_as_a_drop_alone(rt: HostRuntime) -> Result<(), Fail> {
+    let alloc = rt.alloc();
+    let script = frame_and_stop(alloc, &PACKET)?;
+    // Three binds, the receives of Control, twice of the access port and of the core, and then the send to the core.
+    let failed = run_over(&rt, alloc, &SERVE, CONFIGURATION, script, &[8], &[])?;
+    assert_eq!(rt; failed.status, 0);
+    assert_eq!(rt;
+        failed.out.text(),
+        b"total in=0 out=0\nstatic 10.0.0.2 in=0 out=0\ndrop Malformed 0\ndrop NoSession 0\ndrop NotOpen 0\ndrop Expired 0\ndrop Spoofed 0\ndrop TooBig 0\ndrop Exceeded 0\ndrop LinkFailed 1\ndrop WantOfMemory 0\n".as_slice()
+    );
+    let script = frame_and_stop(alloc, &SPOOFED)?;
+    let spoofed = run_over(&rt, alloc, &SERVE, CONFIGURATION, script, &[], &[])?;
+    assert_eq!(rt; spoofed.status, 0);
+    assert_eq!(rt;
+        spoofed.out.text(),
+        b"total in=0 out=0\nstatic 10.0.0.2 in=0 out=0\ndrop Malformed 0\ndrop NoSession 0\ndrop NotOpen 0\ndrop Expired 0\ndrop Spoofed 1\ndrop TooBig 0\ndrop Exceeded 0\ndrop LinkFailed 0\ndrop WantOfMemory 0\n".as_slice()
+    );
+    assert_eq!(rt; spoofed.plant.sent().len(), 1);
+    Ok(())
+}
+
+#[test]
+fn packets_pass_both_ways_without_their_padding(rt: HostRuntime) -> Result<(), Fail> {
+    let alloc = rt.alloc();
+    let list: [(Role, u16, &[u8]); 3] = [
+        (Role::Access(1), 9011, &PADDED),
+        (Role::Core, 9001, &FROM_CORE),
+        (Role::Control, 5, b"stats"),
+    ];
+    let script = script_of(alloc, &list)?;
+    let ended = run_over(&rt, alloc, &SERVE, CONFIGURATION, script, &[], &[])?;
+    assert_eq!(rt; ended.status, 0);
+    assert_eq!(rt;
+        ended.out.text(),
+        b"total in=20 out=20\nstatic 10.0.0.2 in=20 out=20\ndrop Malformed 0\ndrop NoSession 0\ndrop NotOpen 0\ndrop Expired 0\ndrop Spoofed 0\ndrop TooBig 0\ndrop Exceeded 0\ndrop LinkFailed 0\ndrop WantOfMemory 0\n".as_slice()
+    );
+    let wanted: [(Role, u16, &[u8]); 4] = [
+        (Role::Core, 9001, &UP),
+        (Role::Access(1), 9011, &DOWN),
+        (Role::Control, 5, b"unknown\n"),
+        (Role::Control, 5, b"stopping\n"),
+    ];
+    sends(&rt, &ended, &wanted);
+    Ok(())
+}
+
+#[test]
+fn each_circuit_gets_its_own_packets_on_its_own_port(rt: HostRuntime) -> Result<(), Fail> {
+    let alloc = rt.alloc();
+    let list: [(Role, u16, &[u8]); 4] = [
+        (Role::Access(1), 9011, &PADDED),
+        (Role::Access(2), 9021, &PADDED),
+        (Role::Core, 9001, &TO_THE_OTHER),
+        (Role::Core, 9001, &FROM_CORE),
+    ];
+    let script = script_of(alloc, &list)?;
+    let ended = run_over(&rt, alloc, &SERVE, TWO_PORTS, script, &[], &[])?;
+    assert_eq!(rt; ended.status, 0);
+    assert_eq!(rt;
+        ended.out.text(),
+        b"total in=20 out=40\nstatic 10.0.0.2 in=20 out=20\nstatic 10.0.0.3 in=0 out=20\ndrop Malformed 1\ndrop NoSession 0\ndrop NotOpen 0\ndrop Expired 0\ndrop Spoofed 0\ndrop TooBig 0\ndrop Exceeded 0\ndrop LinkFailed 0\ndrop WantOfMemory 0\n".as_slice()
+    );
+    let sent = ended.plant.sent();
+    assert_eq!(rt; sent.len(), 4);
+    assert_eq!(rt; sent[0].role, Role::Core);
+    assert_eq!(rt; sent[1].role, Role::Access(2));
+    assert_eq!(rt; sent[1].peer, loopback(9021));
+    assert_eq!(rt; sent[1].octets.as_slice(), DOWN_THE_OTHER.as_slice());
+    assert_eq!(rt; sent[2].role, Role::Access(1));
+    assert_eq!(rt; sent[2].octets.as_slice(), DOWN.as_slice());
+    Ok(())
+}
+
+#[test]
+fn what_does_not_pass_is_counted_by_its_cause(rt: HostRuntime) -> Result<(), Fail> {
+    let alloc = rt.alloc();
+    let mut other_padt = PADT;
+    other_padt[17] = 2;
+    let mut ipv6 = PADDED;
+    ipv6[21] = 0x57;
+    let mut expired = PADDED;
+    expired[30] = 1;
+    expired[32] = 0xed;
+    let list: [(Role, u16, &[u8]); 9] = [
+        (Role::Access(1), 9011, &PADI),
+        (Role::Access(1), 9011, &PADT),
+        (Role::Access(1), 9011, &ipv6),
+        (Role::Access(1), 9011, &other_padt),
+        (Role::Access(1), 9011, &expired),
+        (Role::Access(1), 9012, &PADDED),
+        (Role::Core, 9001, &TO_THE_OTHER),
+        (Role::Core, 9001, &UP),
+        (Role::Core, 9002, &FROM_CORE),
+    ];
+    let script = script_of(alloc, &list)?;
+    let ended = run_over(&rt, alloc, &SERVE, CONFIGURATION, script, &[], &[])?;
+    assert_eq!(rt; ended.status, 0);
+    assert_eq!(rt;
+        ended.out.text(),
+        b"total in=0 out=0\nstatic 10.0.0.2 in=0 out=0\ndrop Malformed 2\ndrop NoSession 3\ndrop NotOpen 0\ndrop Expired 1\ndrop Spoofed 0\ndrop TooBig 0\ndrop Exceeded 0\ndrop LinkFailed 0\ndrop WantOfMemory 0\n".as_slice()
+    );
+    assert_eq!(rt; ended.plant.sent().len(), 2);
+    assert_eq!(rt; ended.plant.sent()[0].octets.as_slice().get(15), Some(&7));
+    Ok(())
+}

@@ -1,0 +1,126 @@
+//! How a run ends that does not come to its report.
+use super::{CONFIGURATION, PACKET, SERVE, TWO_PORTS, frame_and_stop, run_over, run_told, seed};
+use bng_plant::{MemoryPlant, MemoryTrace, NoTrace};
+use std::test::Fail;
+
+const NO_SESSION: &str = r#"[gateway]
+name = "bng1"
+[core]
+local = "127.0.0.1:9000"
+peer = "127.0.0.1:9001"
+[control]
+local = "127.0.0.1:9002"
+[[access]]
+local = "127.0.0.1:9010"
+peer = "127.0.0.1:9011"
+mac = "02:00:00:00:00:fe"
+[[static]]
+port = 1
+mac = "02:00:00:00:00:01"
+session = 1023
+address = "10.0.0.2"
+"#;
+
+const USAGE: &str =
+    "usage: bng serve CONFIG [--trace FILE] [--rounds N] | check CONFIG | exercise N [--workers W] | audit FILE\n";
+
+#[test]
+fn each_status_has_its_line(rt: HostRuntime) -> Result<(), Fail> {
+    let alloc = rt.alloc();
+    let none = run_over(&rt, alloc, &[], CONFIGURATION, Vec::new(alloc), &[], &[])?;
+    assert_eq!(rt; none.status, 1);
+    assert_eq!(rt; none.err.text(), USAGE.as_bytes());
+    let refused = run_over(&rt, alloc, &SERVE, NO_SESSION, Vec::new(alloc), &[], &[])?;
+    assert_eq!(rt; refused.status, 2);
+    assert_eq!(rt;
+        refused.err.text(),
+        b"bng: config: C5 static.1.session\n".as_slice()
+    );
+    let unbound = run_over(&rt, alloc, &SERVE, TWO_PORTS, Vec::new(alloc), &[4], &[])?;
+    assert_eq!(rt; unbound.status, 3);
+    assert_eq!(rt;
+        unbound.err.text(),
+        b"bng: cannot open access 2\n".as_slice()
+    );
+    let missing = ["serve", "missing.toml"];
+    let missing = run_over(
+        &rt,
+        alloc,
+        &missing,
+        CONFIGURATION,
+        Vec::new(alloc),
+        &[],
+        &[],
+    )?;
+    assert_eq!(rt; missing.status, 3);
+    assert_eq!(rt;
+        missing.err.text(),
+        b"bng: cannot open configuration\n".as_slice()
+    );
+    let unbound = run_over(
+        &rt,
+        alloc,
+        &SERVE,
+        CONFIGURATION,
+        Vec::new(alloc),
+        &[2],
+        &[],
+    )?;
+    assert_eq!(rt; unbound.status, 3);
+    assert_eq!(rt; unbound.err.text(), b"bng: cannot open core\n".as_slice());
+    let script = frame_and_stop(alloc, &PACKET)?;
+    let unwritten = run_over(&rt, alloc, &SERVE, CONFIGURATION, script, &[], &[1])?;
+    assert_eq!(rt; unwritten.status, 5);
+    assert_eq!(rt; unwritten.err.text(), b"bng: output failed\n".as_slice());
+    Ok(())
+}
+
+#[test]
+fn without_a_seed_nothing_is_bound(rt: HostRuntime) -> Result<(), Fail> {
+    let alloc = rt.alloc();
+    let script = frame_and_stop(alloc, &PACKET)?;
+    let plant = MemoryPlant::new(alloc, script, Vec::new(alloc), 64)?;
+    let source = seed(alloc, &[1])?;
+    let ended = run_told(
+        &rt,
+        alloc,
+        &SERVE,
+        CONFIGURATION,
+        plant,
+        source,
+        &mut NoTrace,
+        &[],
+    )?;
+    assert_eq!(rt; ended.status, 3);
+    assert_eq!(rt; ended.err.text(), b"bng: cannot open seed\n".as_slice());
+    assert!(rt; ended.plant.bound().is_empty() && ended.out.text().is_empty());
+    Ok(())
+}
+
+#[test]
+fn a_round_that_the_trace_does_not_take_is_the_last(rt: HostRuntime) -> Result<(), Fail> {
+    let alloc = rt.alloc();
+    // The round of the packet, and that of the ending after the round of `stop`.
+    for (note, sent) in [(1, 1), (3, 2)] {
+        let script = frame_and_stop(alloc, &PACKET)?;
+        let plant = MemoryPlant::new(alloc, script, Vec::new(alloc), 64)?;
+        let fails: [u64; 1] = [note];
+        let mut trace = MemoryTrace::new(alloc, fails.to_vec(alloc)?, 8, 64)?;
+        let source = seed(alloc, &[])?;
+        let ended = run_told(
+            &rt,
+            alloc,
+            &SERVE,
+            CONFIGURATION,
+            plant,
+            source,
+            &mut trace,
+            &[],
+        )?;
+        assert_eq!(rt; ended.status, 5);
+        assert_eq!(rt; ended.err.text(), b"bng: trace failed\n".as_slice());
+        assert!(rt; ended.out.text().is_empty());
+        assert_eq!(rt; ended.plant.sent().len(), sent);
+    }
+    Ok(())
+}
