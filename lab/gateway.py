@@ -3,6 +3,7 @@
 import itertools
 import os
 import shutil
+import signal
 import socket
 import subprocess
 import tempfile
@@ -16,6 +17,7 @@ LOOPBACK = "127.0.0.1"
 CONFIGURATION = """\
 [gateway]
 name = "bng1"
+services = ["inet"]
 [core]
 local = "127.0.0.1:{core}"
 peer = "127.0.0.1:{core_peer}"
@@ -94,6 +96,11 @@ def is_built():
     return max(newest(*sources), listed) <= os.path.getmtime(PROGRAM)
 
 
+def tried(configuration, seconds=30):
+    """The words that run the program unproved, from the folder of its crate, for so many seconds at most."""
+    return ["rt", "try", "--seconds", str(seconds), "--data", f"lab.toml={configuration}", "--", "serve", "lab.toml"]
+
+
 def udp(address=LOOPBACK):
     """A socket of the loopback on a port that the system picks, which waits five seconds at most."""
     end = socket.socket(socket.AF_INET, socket.SOCK_DGRAM)
@@ -131,12 +138,23 @@ class Lab:
         return self
 
     def __exit__(self, *_):
-        if self.program is not None and self.program.poll() is None:
-            os.killpg(self.program.pid, 9)
-            self.program.wait()
+        self.end_early()
         for end in (self.access, self.core, self.control, self.stranger):
             end.close()
         shutil.rmtree(self.folder, ignore_errors=True)
+
+    def end_early(self):
+        """Ends a program that runs still: by the word, by an interrupt, at which `rt try` ends what it runs, or by a kill."""
+        if self.program is None or self.program.poll() is not None:
+            return
+        self.send(b"stop", self.control, "control")
+        for number in (signal.SIGINT, signal.SIGKILL):
+            try:
+                self.program.wait(3)
+                return
+            except subprocess.TimeoutExpired:
+                os.killpg(self.program.pid, number)
+        self.program.wait()
 
     def write(self, name, text):
         path = os.path.join(self.folder, name)

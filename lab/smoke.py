@@ -4,7 +4,8 @@ import os
 import subprocess
 import sys
 
-from gateway import CRATE, PROGRAM, USAGE, Lab, delivery, frame, is_built, packet, report, run, udp
+from gateway import CRATE, PROGRAM, USAGE, Lab, delivery, frame, is_built, packet, report, run, tried, udp
+from sessions import serves_sessions
 
 PACKET = packet()
 LOWERED = bytes.fromhex("45000054 00010000 3f01afa5 0a000002 c0000201") + PACKET[20:]
@@ -161,15 +162,16 @@ def try_all(checks):
         forwards_both_ways(checks, built, 10)
         drops_and_counts_bad_input(checks, built, 10)
         forwards_bursts_in_order(checks, built, 10)
+        serves_sessions(checks, built, 10)
         refuses_bad_beginnings(checks)
         refuses_bad_configurations(checks)
         says_when_nobody_takes_its_report(checks)
     else:
-        print("smoke: the built program is missing or older than its sources: runs under rt try, and only twice")
+        print("smoke: the built program is missing or older than its sources: runs under rt try, and only three times")
         os.chdir(CRATE)
-        tried = lambda file: ["rt", "try", "--seconds", "30", "--data", f"lab.toml={file}", "--", "serve", "lab.toml"]
         forwards_one_packet(checks, tried, 300)
         drops_and_counts_bad_input(checks, tried, 300)
+        serves_sessions(checks, tried, 300)
 
 
 def main():

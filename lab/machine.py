@@ -1,0 +1,113 @@
+"""A Linux that is made of Debian's packages, in an emulated machine whose network cable is a UDP socket."""
+
+import glob
+import os
+import re
+import shutil
+import subprocess
+
+QEMU, BUSYBOX, PPPD = shutil.which("qemu-system-x86_64"), shutil.which("busybox"), "/usr/sbin/pppd"
+MODULES = ["e1000", "pppoe"]
+
+# After pppd's end the machine stays for the PADT, which the gateway sends 3 s after its Terminate-Ack.
+INIT = """\
+#!/bin/busybox sh
+/bin/busybox --install -s /bin
+mount -t devtmpfs dev /dev
+mount -t proc proc /proc
+mount -t sysfs sys /sys
+for module in {modules}; do insmod /modules/$module; done
+ip link set eth0 up
+until grep -q 1 /sys/class/net/eth0/carrier; do sleep 1; done
+pppd plugin {plugin} eth0 user subscriber password secret \\
+    debug nodetach noipdefault lcp-echo-interval 2 lcp-echo-failure 5 &
+pppd=$!
+(read line </dev/console && kill -TERM $pppd) &
+wait $pppd
+echo "pppd ended with status $?"
+sleep 4
+reboot -f
+"""
+
+
+def plugin():
+    """pppd's plugin for PPPoE, or None."""
+    return max(glob.glob("/usr/lib/pppd/*/rp-pppoe.so"), default=None)
+
+
+def module_lists():
+    """For each installed kernel its modules in the order of loading, where it has all that are needed."""
+    lists = {}
+    for path in glob.glob("/lib/modules/*/modules.dep"):
+        folder = os.path.dirname(path)
+        with open(path, encoding="ascii") as file:
+            lines = [line.rstrip().split(":") for line in file]
+        needs = {os.path.basename(module): [module, *others.split()] for module, others in lines}
+        wanted = [name + ".ko" for name in MODULES]
+        kernel = "/boot/vmlinuz-" + os.path.basename(folder)
+        if all(name in needs for name in wanted) and os.access(kernel, os.R_OK):
+            lists[kernel] = [os.path.join(folder, module) for name in wanted for module in reversed(needs[name])]
+    return lists
+
+
+def lacking():
+    """The packages of Debian that are needed and not there."""
+    there = {
+        "qemu-system-x86": QEMU,
+        "busybox-static": BUSYBOX and not libraries(BUSYBOX),
+        "ppp": os.path.exists(PPPD) and plugin(),
+        "linux-image-amd64": module_lists(),
+    }
+    return [package for package, found in there.items() if not found]
+
+
+def libraries(program):
+    """The files that the dynamic linker loads for a program, none where it is linked statically."""
+    said = subprocess.run(["ldd", program], capture_output=True, text=True, check=False).stdout
+    return re.findall(r"(/\S+) \(0x", said)
+
+
+def entry(name, mode, octets):
+    """A file in cpio's format newc, as Linux takes it for its first file system."""
+    spelled = name.encode() + b"\0"
+    fields = [0, mode, 0, 0, 1, 0, len(octets), 0, 0, 0, 0, len(spelled), 0]
+    head = b"070701" + b"".join(b"%08x" % field for field in fields) + spelled
+    return head + bytes(-len(head) % 4) + octets + bytes(-len(octets) % 4)
+
+
+def contents(path):
+    with open(path, "rb") as file:
+        return file.read()
+
+
+def file_system(modules):
+    """The archive of all files of the machine."""
+    files = {path: contents(path) for path in [PPPD, plugin(), *libraries(PPPD)]}
+    files |= {"/modules/" + os.path.basename(path): contents(path) for path in modules}
+    files["/bin/busybox"] = contents(BUSYBOX)
+    names = " ".join(os.path.basename(path) for path in modules)
+    files["/init"] = INIT.format(modules=names, plugin=plugin()).encode()
+    folders = {"/dev", "/proc", "/sys", "/run", "/var/run", "/etc/ppp"}
+    for path in [*files, *folders]:
+        while (path := os.path.dirname(path)) != "/":
+            folders.add(path)
+    entries = [entry(path[1:], 0o40755, b"") for path in sorted(folders)]
+    entries += [entry(path[1:], 0o100755, octets) for path, octets in files.items()]
+    return b"".join(entries) + entry("TRAILER!!!", 0, b"")
+
+
+def boot(folder, mac, near, far):
+    """Starts the machine, whose network card sends each frame from the UDP port `near` to `far` and takes those that come
+    to `near`. Its console is the standard input and output."""
+    kernel, modules = max(module_lists().items(), key=lambda found: os.path.getmtime(found[0]))
+    disk = os.path.join(folder, "initrd")
+    with open(disk, "wb") as file:
+        file.write(file_system(modules))
+    ends = [f"{end}.type=inet,{end}.host=127.0.0.1,{end}.port={port}" for end, port in (("local", near), ("remote", far))]
+    command = [
+        QEMU, "-accel", "tcg", "-m", "256", "-nodefaults", "-no-reboot", "-display", "none", "-serial", "stdio",
+        "-kernel", kernel, "-initrd", disk, "-append", "console=ttyS0 quiet panic=-1 ipv6.disable=1",
+        "-netdev", ",".join(["dgram", "id=cable", *ends]),
+        "-device", f"e1000,netdev=cable,mac={mac},romfile=",
+    ]
+    return subprocess.Popen(command, stdin=subprocess.PIPE, stdout=subprocess.PIPE, stderr=subprocess.STDOUT)

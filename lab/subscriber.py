@@ -1,0 +1,83 @@
+"""PPPoE subscribers behind the gateway's access port, as a script plays them."""
+
+import collections
+import select
+import time
+
+from pppoe import DATA, DISCOVERY, LCP, SESSION, Frame, Packet, frame_octets, frame_words, packet_octets
+from pppoe import read_frame, read_packet, tags_octets
+
+PORT = bytes.fromhex("0200000000fe")
+
+
+class Line:
+    """Our end of the access port, which brings each frame of the gateway to its subscriber."""
+
+    def __init__(self, lab):
+        self.lab = lab
+        self.waiting = collections.defaultdict(collections.deque)
+
+    def take(self, patience):
+        """Takes one frame of the gateway, and says whether one came in so many seconds."""
+        ready, _, _ = select.select([self.lab.access], [], [], patience)
+        if ready:
+            octets = self.lab.receive(self.lab.access)[0]
+            frame = read_frame(octets)
+            if frame is None or frame_octets(frame) != octets:
+                raise RuntimeError(f"the gateway sent what is no PPPoE frame, or one with padding: {octets.hex()}")
+            self.waiting[frame.destination].append((frame, time.monotonic()))
+        return bool(ready)
+
+    def receive(self, mac):
+        """The next frame to this MAC and the moment at which it came, or None where none comes in five seconds."""
+        end = time.monotonic() + 5
+        while not self.waiting[mac]:
+            if not self.take(max(0, end - time.monotonic())):
+                return None
+        return self.waiting[mac].popleft()
+
+    def is_quiet(self):
+        """Whether no frame is left for any host."""
+        while self.take(0):
+            pass
+        return not any(self.waiting.values())
+
+
+class Subscriber:
+    """One host, with the SESSION_ID of its session, 0 before it has one, and the moment at which its last frame came."""
+
+    session = 0
+    heard_at = 0.0
+
+    def __init__(self, line, mac):
+        self.line, self.mac = line, bytes.fromhex(mac)
+
+    def send(self, frame):
+        self.line.lab.send(frame_octets(frame))
+
+    def discover(self, code, *tags, session=0, to=PORT):
+        """Sends a frame of the discovery stage, a PADI to all with `to=BROADCAST`."""
+        self.send(Frame(to, self.mac, DISCOVERY, code, session, tags_octets(tags)))
+
+    def say(self, payload):
+        """Sends a PPP frame in the session."""
+        self.send(Frame(PORT, self.mac, SESSION, DATA, self.session, payload))
+
+    def say_lcp(self, code, identifier, data=b""):
+        self.say(packet_octets(Packet(LCP, code, identifier, data)))
+
+    def hear(self):
+        """The next frame from the gateway."""
+        came = self.line.receive(self.mac)
+        if came is None:
+            raise RuntimeError(f"the host {self.mac.hex()} heard nothing for five seconds")
+        frame, self.heard_at = came
+        return frame
+
+    def hear_lcp(self):
+        """The next frame from the gateway, an LCP packet of the session."""
+        frame = self.hear()
+        packet = read_packet(frame.payload)
+        if frame[1:5] != (PORT, SESSION, DATA, self.session) or packet is None or packet.protocol != LCP:
+            raise RuntimeError(f"the host {self.mac.hex()} heard no LCP packet of its session, but {frame_words(frame)}")
+        return packet
