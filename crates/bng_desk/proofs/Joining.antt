@@ -14,6 +14,7 @@ use Rattle.bng_engine.specs.Progress.{Kept, InRound, Settles, all_records}
 use Rattle.bng_engine.specs.Protocol.{StepLaws}
 use Rattle.bng_engine.specs.Sight.{Row, Sight, resumed}
 use Rattle.bng_engine.specs.Terms.{Key, keys}
+use Rattle.bng_engine.proofs.Still.{still_turn}
 use Rattle.bng_shard.specs.declared.pool.Holder.{Holder}
 use Rattle.bng_shard.specs.declared.rules.Rules.{Rules}
 use Rattle.bng_shard.specs.declared.whose.Whose.{Whose}
@@ -21,15 +22,15 @@ use Rattle.bng_shard.specs.Deed.{Deed}
 use Rattle.bng_shard.specs.Protocol.{pppoe, terms_of}
 use Rattle.bng_shard.specs.State.{State}
 use Rattle.bng_shard.specs.Sums.{IsLow}
+use Rattle.bng_shard.proofs.StepLaws.{pppoe_still}
 use Rattle.bng_desk.specs.declared.drops.Drops.{Drops}
 use Rattle.bng_desk.specs.declared.holding.Named.{Named}
 use Rattle.bng_desk.specs.Counting.{plus, drops_of}
 use Rattle.bng_desk.specs.Items.{loose_in}
-use Rattle.bng_desk.specs.Round.{Round, AreDealt, sights_of, is_failed, with_failed}
+use Rattle.bng_desk.specs.Round.{Round, AreDealt, held_by, sights_of, is_failed, with_failed}
 use Rattle.bng_desk.specs.Taking.{Deals, SettlesAll, RoundHeld, Shows}
 use Rattle.bng_desk.proofs.DropLaws.{same}
 use Rattle.bng_desk.proofs.Readying.{all_onward}
-use Rattle.bng_desk.proofs.Rounding.{turn_of}
 use Rattle.bng_desk.proofs.Zips.{zip_length}
 
 abbrev Shards : Type 0
@@ -134,7 +135,7 @@ module _ (r : Rules) where
         is = record {
           whose = deals.is_whose;
           dealt = c.dealt 0 named.moment items deals.whose deals.dealt;
-          turn = turn_of r laws vs holders deals.sights s.settled deals.rounds s.settles;
+          turn = still_turn (pppoe r) (pppoe_still r) laws (sights_of vs) deals.sights s.settled (held_by holders) deals.rounds s.settles;
         };
         shards_are = s.left;
         drops_are = s.drops_are ∙ ap (λ (x : Drops). plus x (with_failed n)) deals.drops_are

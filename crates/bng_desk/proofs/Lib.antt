@@ -1,6 +1,5 @@
 pub mod Going
 pub mod DropLaws
-pub mod Rounding
 pub mod Drawing
 pub mod TakeLaws
 pub mod ItemLaws

@@ -1,10 +1,9 @@
 -- Shards whose outs were sent, as the engine sees a settlement.
-use Rattle.std.proofs.Common.{◌≡◌, ℕ, ◌+◌, List, [], ◌∷◌, ◌++◌, map, length, refl, sym, ap, subst, ◌∙◌, arith}
+use Rattle.std.proofs.Common.{◌≡◌, ℕ, List, [], ◌∷◌, ◌++◌, map, length, refl, sym, ap, subst, ◌∙◌}
 use Rattle.std.specs.List.{AllByRecursion, AllZip, count_by}
-use Rattle.std.proofs.lemmas.List.{length-map, nil_from_length}
+use Rattle.std.proofs.lemmas.List.{length-map}
 use Rattle.bng_base.specs.declared.item.Entry.{Entry}
 use Rattle.bng_base.specs.declared.item.OutRecord.{OutRecord}
-use Rattle.bng_base.specs.declared.settings.Static.{Static}
 use Rattle.bng_base.specs.Stretch.{ExtendsPlant}
 use Rattle.bng_base.specs.Told.{PlantTold}
 use Rattle.bng_engine.specs.Progress.{InRound, RowsFit, Settles, answered, all_records}
@@ -13,11 +12,13 @@ use Rattle.bng_engine.specs.Round.{unsent}
 use Rattle.bng_engine.specs.Sight.{Sight, Row, plus as plus_row, reaped, rows_left}
 use Rattle.bng_engine.specs.Terms.{Term, Stop, keys}
 use Rattle.bng_engine.proofs.Sends.{sent_as, round_unsent}
+use Rattle.bng_engine.proofs.Still.{rows_whole}
 use Rattle.bng_engine.proofs.Walks.{zip_right}
 use Rattle.bng_shard.specs.declared.rules.Rules.{Rules}
 use Rattle.bng_shard.specs.Deed.{Deed}
-use Rattle.bng_shard.specs.Protocol.{pppoe, terms_after, terms_of}
+use Rattle.bng_shard.specs.Protocol.{pppoe, terms_of}
 use Rattle.bng_shard.specs.State.{State, settled}
+use Rattle.bng_shard.proofs.StepLaws.{pppoe_still}
 use Rattle.bng_desk.specs.declared.drops.Drops.{Drops}
 use Rattle.bng_desk.specs.Counting.{plus}
 use Rattle.bng_desk.specs.Round.{left_by, is_failed, with_failed, sends_stretch}
@@ -27,12 +28,6 @@ use Rattle.bng_desk.proofs.Settling.{AreOuts, settled_with, all_settled, joined_
 
 abbrev pub Sights : Type 0
 Sights = List (Sight State Deed)
-
--- no term ends, so each row stays
-left_whole : (n : ℕ) (cs : List Static) (rows : List Row) → length rows ≡ length (terms_after n cs) → rows_left (terms_after n cs) rows ≡ rows
-left_whole n [] rows e = sym (nil_from_length rows e)
-left_whole n (c ∷ cs) [] e = refl
-left_whole n (c ∷ cs) (r ∷ rows) e = ap (λ (xs : List Row). r ∷ xs) (left_whole (n + 1) cs rows (omega (arith, e)))
 
 unsent_same : (outs : List OutRecord) → AllByRecursion IsUnsent outs → map unsent outs ≡ outs
 unsent_same [] h = refl
@@ -63,7 +58,7 @@ module _ (r : Rules) where
       let rows = map (plus_row rs) w.rows in
       let fit : length w.rows ≡ length (terms_of w.state) =
       sym (length-map w.rows (λ (x : Row). x.key)) ∙ ap (λ (x : Sight State Deed). length (map (λ (y : Row). y.key) x.rows)) (sym is) ∙ ap length h.rows ∙ ap (λ (x : Sight State Deed). length (keys (terms_of x.state))) is ∙ length-map (terms_of w.state) (λ (t : Term). t.key) in
-      let whole : rows ≡ rows_left (terms_of w.state) rows = sym (left_whole 0 w.state.statics rows (length-map w.rows (plus_row rs) ∙ fit)) in
+      let whole : rows ≡ rows_left (terms_of w.state) rows = sym (rows_whole (terms_of w.state) rows ((pppoe_still r).live w.state) (length-map w.rows (plus_row rs) ∙ fit)) in
       let records : w.records ≡ [] = ap (λ (x : Sight State Deed). x.records) (sym is) ∙ h.records in
       let stops : w.stops ≡ [] = ap (λ (x : Sight State Deed). x.stops) (sym is) ∙ h.stops in
       ap (λ (xs : List Row). made w.number (settled w.state) xs w.records w.stops) whole

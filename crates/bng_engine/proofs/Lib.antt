@@ -18,3 +18,4 @@ pub mod OnWire
 pub mod RoundSums
 pub mod Runs
 pub mod Circuits
+pub mod Still

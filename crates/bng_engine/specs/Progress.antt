@@ -1,10 +1,10 @@
 -- A shard within a turn: made ready, in a round, and settled.
-use Rattle.std.specs.Prelude.{◌≡◌, ℕ, ◌≤◌, ◌==◌, ◌||◌, Bool, true, false, List, [], map, length, count_by, sum_by}
+use Rattle.std.specs.Prelude.{◌≡◌, ℕ, ◌≤◌, List, [], map, length}
 use Rattle.std.specs.List.{flat_map}
 use Rattle.bng_base.specs.declared.item.OutRecord.{OutRecord}
-use Rattle.bng_engine.specs.Terms.{Stop, keys}
+use Rattle.bng_engine.specs.Terms.{keys}
 use Rattle.bng_engine.specs.Protocol.{Protocol}
-use Rattle.bng_engine.specs.Round.{after, outs_of, AreSteps, claims_of, refusals_of, unsent}
+use Rattle.bng_engine.specs.Round.{after, outs_of, AreSteps, unsent}
 use Rattle.bng_engine.specs.Sight.{Row, Sight, resumed, plus, reaped}
 
 -- the state and the sums are as before
@@ -50,22 +50,3 @@ module _ {S E : Type 0} (p : Protocol S E) where
 -- all records of a turn, in the order of the shards
 abbrev pub all_records : {S E : Type 0} → List (Sight S E) → List OutRecord
 all_records vs = flat_map (λ v. v.records) vs
-
--- all Stops of a turn, in the order of the shards
-abbrev pub all_stops : {S E : Type 0} → List (Sight S E) → List Stop
-all_stops vs = flat_map (λ v. v.stops) vs
-
--- an address in a round: it was claimed at most once, where it was free, and is held now where it was or was claimed
-pub record GrewAt (was is : Bool) (claims refusals : ℕ) : Type 0 where
-  pub few : claims ≤ 1
-  pub free : 1 ≤ claims → was ≡ false
-  pub told : 1 ≤ refusals → is ≡ true
-  pub now : is ≡ (was || (1 == claims))
-
--- how many entries of the round claimed the address so far
-abbrev pub claims_at : {S E : Type 0} → Protocol S E → ℕ → List (Sight S E) → ℕ
-claims_at p address vs = sum_by (λ v. count_by (λ a. a == address) (claims_of p v.journal)) vs
-
--- how many entries of the round were told so far that it is held
-abbrev pub refusals_at : {S E : Type 0} → Protocol S E → ℕ → List (Sight S E) → ℕ
-refusals_at p address vs = sum_by (λ v. count_by (λ a. a == address) (refusals_of p v.journal)) vs

@@ -68,3 +68,10 @@ pub record StepLaws {S E : Type 0} (p : Protocol S E) : Type 0 where
   pub unsent : (s : S) (e : E) → p.is_step s e → AllByRecursion IsUnsent (p.outs s e)
   pub settles : (s : S) → p.terms (p.settled s) ≡ filter is_live (p.terms s)
   pub settles_begun : (s : S) → p.begun (p.settled s) ≡ p.begun s
+
+-- the laws of a protocol in which no term begins and none ends: no step claims an address, none is told that one is held, and no
+-- state has a term that has ended
+pub record StillLaws {S E : Type 0} (p : Protocol S E) : Type 0 where
+  pub claims : (s : S) (e : E) → p.is_step s e → p.claimed e ≡ []
+  pub refusals : (s : S) (e : E) → p.is_step s e → p.refused e ≡ []
+  pub live : (s : S) → AllByRecursion (λ t. t.ended ≡ false) (p.terms s)

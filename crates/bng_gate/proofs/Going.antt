@@ -1,10 +1,8 @@
 -- The rounds of a run are turns of the engine, in which no address is claimed.
-use Rattle.std.proofs.Common.{◌≡◌, ◌||◌, ℕ, ◌+◌, Bool, true, false, cond, List, [], ◌∷◌, ◌++◌, map, Option, Some, None, refl, sym, ap, subst, ◌∙◌, eqb}
+use Rattle.std.proofs.Common.{◌≡◌, ◌||◌, true, false, List, [], ◌∷◌, map, Option, Some, None, refl, sym, ap, subst, ◌∙◌, eqb}
 use Rattle.std.specs.List.{AllByRecursion, AllZip, flat_map}
-use Rattle.std.proofs.lemmas.List.Folds.{flat_map-map}
 use Rattle.bng_base.specs.declared.address.Ip4.{Ip4}
 use Rattle.bng_base.specs.declared.item.Entry.{Entry}
-use Rattle.bng_base.specs.declared.item.Item.{Item}
 use Rattle.bng_base.specs.Chain.{Chain}
 use Rattle.bng_engine.specs.Laws.{TurnBy}
 use Rattle.bng_engine.specs.Protocol.{Protocol}
@@ -15,15 +13,15 @@ use Rattle.bng_engine.specs.Sight.{Sight, Row, resumed, plus, stops_from, rows_l
 use Rattle.bng_engine.specs.Terms.{keys}
 use Rattle.bng_engine.specs.Turn.{DeskSight, TurnOf, parts_of}
 use Rattle.bng_engine.specs.World.{is_held, claimed_at}
+use Rattle.bng_engine.proofs.Still.{no_claims}
 use Rattle.bng_engine.proofs.Walks.{zip_both}
 use Rattle.bng_shard.specs.declared.rules.Rules.{Rules}
-use Rattle.bng_shard.specs.declared.whose.Whose.{Whose}
 use Rattle.bng_shard.specs.Deed.{Deed}
-use Rattle.bng_shard.specs.Protocol.{pppoe, claimed_by, entry_of}
+use Rattle.bng_shard.specs.Protocol.{pppoe}
 use Rattle.bng_shard.specs.State.{State}
-use Rattle.bng_desk.specs.Items.{entries_in, stands_in}
+use Rattle.bng_shard.proofs.StepLaws.{pppoe_still}
 use Rattle.bng_desk.specs.Model.{Desk}
-use Rattle.bng_desk.specs.Round.{Round, IsRound, AreDealt, left_by, sights_of, sight_of, held_by}
+use Rattle.bng_desk.specs.Round.{Round, IsRound, left_by, sights_of, sight_of, held_by}
 use Rattle.bng_gate.specs.Rounds.{parts_in}
 use Rattle.bng_gate.proofs.Follows.{Follows, IsOf}
 
@@ -56,28 +54,18 @@ module _ {S E : Type 0} (p : Protocol S E) where
     shrank = t.shrank;
   }
 
--- An entry of a round claims no address ----------------------------------------------------------------------------------
-
-one_claims_none : (b : Bool) (place moment : ℕ) (i : Item) (rest : List Entry) → flat_map (λ (e : Entry). claimed_by e.claim) rest ≡ [] → flat_map (λ (e : Entry). claimed_by e.claim) (cond b (entry_of 0 place moment i ∷ []) [] ++ rest) ≡ []
-one_claims_none true place moment i rest h = h
-one_claims_none false place moment i rest h = h
-
-entries_claim_none : (shard place moment : ℕ) (items : List Item) (whose : List Whose) → flat_map (λ (e : Entry). claimed_by e.claim) (entries_in shard place moment items whose) ≡ []
-entries_claim_none shard place moment [] whose = refl
-entries_claim_none shard place moment (i ∷ is) [] = refl
-entries_claim_none shard place moment (i ∷ is) (w ∷ ws) = one_claims_none (stands_in shard w) place moment i (entries_in shard (place + 1) moment is ws) (entries_claim_none shard (place + 1) moment is ws)
+-- A turn of the engine claims no address -----------------------------------------------------------------------------------
 
 module _ (r : Rules) where
   -- a shard's part claims none
   abbrev pub IsClaimless : Part Deed → Type 0
   IsClaimless x = claims_of (pppoe r) x.journal ≡ []
 
-  dealt_claimless : (shard moment : ℕ) (items : List Item) (whose : List Whose) (vs : List (Sight State Deed)) → AreDealt shard moment items whose vs → AllByRecursion IsClaimless (map (part_of (pppoe r)) vs)
-  dealt_claimless shard moment items whose [] h = tt
-  dealt_claimless shard moment items whose (v ∷ vs) h = (
-    sym (flat_map-map (λ (e : Entry). claimed_by e.claim) (λ (d : Deed). d.entry) v.journal) ∙ ap (flat_map (λ (e : Entry). claimed_by e.claim)) h.0 ∙ entries_claim_none shard 0 moment items whose,
-    dealt_claimless (shard + 1) moment items whose vs h.1,
-  )
+  moved_claimless : (vs ws : List (Sight State Deed)) → AllZip (Moves (pppoe r)) vs ws → AllByRecursion IsClaimless (map (part_of (pppoe r)) ws)
+  moved_claimless [] [] m = tt
+  moved_claimless [] (w ∷ ws) m = absurd m
+  moved_claimless (v ∷ vs) [] m = absurd m
+  moved_claimless (v ∷ vs) (w ∷ ws) m = (no_claims (pppoe r) (pppoe_still r) v.state w.journal m.0.steps, moved_claimless vs ws m.1)
 
   -- a turn of the engine that claims none
   pub record Turns (v : DeskSight State Deed) (t : List (Part Deed)) (v' : DeskSight State Deed) : Type 0 where
@@ -113,7 +101,7 @@ module _ (r : Rules) where
       let here : IsRound r d.shards d.holders is.0 is.1 round = subst (λ (x : Rules). IsRound x d.shards d.holders is.0 is.1 round) e is.2 in
       record {
         by = record { turn = turn_from (pppoe r) v (sight_of d.shards d.holders) (sight_after d round) stands.shards stands.held here.turn; parts = refl };
-        claimless = dealt_claimless r 0 is.0 is.1 round.whose round.shards here.dealt;
+        claimless = moved_claimless r (sights_of d.shards) round.shards here.turn.shards;
       }
 
   round_stands : (d d' : Desk) (round : Round) → Follows d (Some round) d' → Stands (sight_after d round) d'

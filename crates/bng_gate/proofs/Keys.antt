@@ -14,16 +14,18 @@ use Rattle.bng_engine.specs.Progress.{Kept}
 use Rattle.bng_engine.specs.Protocol.{AnyOf, HasKey, IsOwned, StepLaws}
 use Rattle.bng_engine.specs.Round.{after, outs_of, unsent}
 use Rattle.bng_engine.specs.Run.{Part, Past}
-use Rattle.bng_engine.specs.Sight.{Sight, Row, resumed, plus, stops_from, Moves, part_of, row_of, Tells}
+use Rattle.bng_engine.specs.Sight.{Sight, Row, Moves, part_of, row_of, Tells}
 use Rattle.bng_engine.specs.Spelled.{IsSpelled}
 use Rattle.bng_engine.specs.Terms.{Key, Stop, keys, key_in}
 use Rattle.bng_engine.specs.Turn.{DeskSight}
 use Rattle.bng_engine.proofs.Everywhere.{all_weaker, all_append, all_mapped, all_filter, if_some_weaker}
 use Rattle.bng_engine.proofs.Journals.{run_begins, run_owned, run_spelled}
+use Rattle.bng_engine.proofs.Still.{no_stops}
 use Rattle.bng_shard.specs.declared.rules.Rules.{Rules}
 use Rattle.bng_shard.specs.Deed.{Deed}
 use Rattle.bng_shard.specs.Protocol.{terms_of, terms_after, pppoe, opened}
 use Rattle.bng_shard.specs.State.{State}
+use Rattle.bng_shard.proofs.StepLaws.{pppoe_still}
 use Rattle.bng_desk.specs.Opening.{shard_of, statics_of}
 use Rattle.bng_desk.specs.Round.{sights_of}
 use Rattle.bng_gate.proofs.Lists.{all_by_place}
@@ -91,12 +93,6 @@ none_mapped : {X Y : Type 0} (f : X → Y) (xs : List X) → map f xs ≡ [] →
 none_mapped f [] e = refl
 none_mapped f (x ∷ xs) e = absurd cc
 
--- no Stop is formed
-no_stops_from : (n : ℕ) (cs : List Static) (rows : List Row) → stops_from (terms_after n cs) rows ≡ []
-no_stops_from n [] rows = refl
-no_stops_from n (c ∷ cs) [] = refl
-no_stops_from n (c ∷ cs) (r ∷ rows) = no_stops_from (n + 1) cs rows
-
 key_of_row : (r : Rules) (records : List OutRecord) (ks : List Key) → map (λ (x : Row). x.key) (map (row_of (pppoe r) records) ks) ≡ ks
 key_of_row r records [] = refl
 key_of_row r records (k ∷ ks) = ap (λ (js : List Key). k ∷ js) (key_of_row r records ks)
@@ -123,11 +119,6 @@ module _ (r : Rules) (laws : StepLaws (pppoe r)) where
       let before : AllByRecursion (IsOurs Q) (map unsent v'.records) = subst (AllByRecursion (IsOurs Q)) (sym m.outs) ours in
       all_weaker (λ o. IsOurs Q (unsent o)) (IsOurs Q) (λ o h. record { spelled = h.spelled; known = h.known }) v'.records (all_mapped (IsOurs Q) unsent v'.records before)
 
-  stops_none : (v v' : Sight State Deed) → Moves (pppoe r) v v' → v'.stops ≡ []
-  stops_none v v' m =
-      let mid = after (pppoe r) v.state v'.journal in
-      m.stops ∙ no_stops_from 0 mid.statics (map (plus v'.records) (resumed (keys (terms_of mid)) v.rows))
-
   -- Over all shards -----------------------------------------------------------------------------------------------------
 
   all_keys_stay : (vs ws : List (Sight State Deed)) (kss : List (List Key)) → AllZip (Moves (pppoe r)) vs ws → AllByRecursion (IsClaimless r) (map (part_of (pppoe r)) ws) → AllZip HasKeys vs kss → AllZip HasKeys ws kss
@@ -151,7 +142,7 @@ module _ (r : Rules) (laws : StepLaws (pppoe r)) where
   all_stops_none [] (w ∷ ws) m = absurd m
   all_stops_none (v ∷ vs) [] m = absurd m
   all_stops_none (v ∷ vs) (w ∷ ws) m =
-      ap (λ (ss : List Stop). ss ++ flat_map (λ (x : Part Deed). x.stops) (map (part_of (pppoe r)) ws)) (stops_none v w m.0) ∙ all_stops_none vs ws m.1
+      ap (λ (ss : List Stop). ss ++ flat_map (λ (x : Part Deed). x.stops) (map (part_of (pppoe r)) ws)) (no_stops (pppoe r) (pppoe_still r) v w m.0) ∙ all_stops_none vs ws m.1
 
   -- Over all rounds -----------------------------------------------------------------------------------------------------
 

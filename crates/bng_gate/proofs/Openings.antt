@@ -19,6 +19,7 @@ use Rattle.bng_engine.specs.World.{is_held, holders}
 use Rattle.bng_shard.specs.declared.rules.Rules.{Rules}
 use Rattle.bng_shard.specs.Protocol.{term_of, terms_of, terms_after, pppoe, opened}
 use Rattle.bng_shard.specs.State.{State}
+use Rattle.bng_shard.proofs.StepLaws.{none_ended}
 use Rattle.bng_desk.specs.Opening.{shard_of, holder_of, statics_of, opened_shards}
 use Rattle.bng_desk.specs.Round.{sights_of, sight_of, held_by}
 use Rattle.bng_gate.proofs.Lists.{Apart, apart_of, IsWithin, sum_parts}
@@ -57,10 +58,6 @@ pub sum_shards : (config : Config) → KeepsRules config → (h : Static → ℕ
 sum_shards config rules h = sum_parts shard_of h 0 config.shards config.statics (shards_within config rules)
 
 -- The opening -----------------------------------------------------------------------------------------------------------
-
-pub none_ended : (n : ℕ) (cs : List Static) → AllByRecursion (λ t. t.ended ≡ false) (terms_after n cs)
-none_ended n [] = tt
-none_ended n (c ∷ cs) = (refl, none_ended (n + 1) cs)
 
 numbered : (n m : ℕ) (cs : List Static) → m ≡ n + length cs → AreNumbered n (keys (terms_after n cs)) m
 numbered n m [] e = omega (arith, e)

@@ -1,5 +1,5 @@
 -- What was done with an item, by its kind.
-use Rattle.std.proofs.Common.{◌≡◌, ℕ, ◌+◌, ◌≤◌, List, [], ◌++◌, length, refl, sym, ap, subst, ◌∙◌, arith}
+use Rattle.std.proofs.Common.{◌≡◌, ℕ, ◌≤◌, List, length, refl, sym, ap, subst}
 use Rattle.bng_base.specs.declared.fate.Fate.{Fate}
 use Rattle.bng_base.specs.declared.fate.Fate.TheVariants.{Consumed}
 use Rattle.bng_base.specs.declared.item.Entry.{Entry}
@@ -10,7 +10,7 @@ use Rattle.bng_base.specs.declared.item.OutRecord.{OutRecord}
 use Rattle.bng_shard.specs.declared.rules.Rules.{Rules}
 use Rattle.bng_shard.specs.declared.sending.At.{At}
 use Rattle.bng_shard.specs.State.{State}
-use Rattle.bng_shard.specs.Deed.{Deed, at_of, handled, ignored}
+use Rattle.bng_shard.specs.Deed.{handled, ignored}
 use Rattle.bng_shard.specs.Doing.{DoesWith}
 use Rattle.bng_shard.specs.Hearing.{Does, outs_most}
 use Rattle.bng_shard.specs.Protocol.{entry_of}

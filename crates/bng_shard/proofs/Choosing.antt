@@ -3,7 +3,7 @@ use Rattle.std.proofs.Common.{◌≡◌, ◌⊎◌, ◌<◌, ◌≤◌, ◌+◌,
 use Rattle.std.proofs.lemmas.List.{take_more, take_all, length-take-le}
 use Rattle.std.specs.Prelude.{IfSome, IfNone, IsFalse, slice_get}
 use Rattle.std.specs.List.{All}
-use Rattle.std.proofs.lemmas.List.Elements.{All-push, All-nil, All-weaker}
+use Rattle.std.proofs.lemmas.List.Elements.{All-push, All-weaker}
 use Rattle.bng_shard.specs.declared.choice.First.{First}
 use Rattle.bng_shard.specs.State.{Session}
 use Rattle.bng_shard.specs.Timers.{ComesFirst, IsDueAt, IsFirstDue, IsLowest, AllEnded}

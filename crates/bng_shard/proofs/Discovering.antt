@@ -1,6 +1,6 @@
 -- What was done with a frame of the discovery stage, of what is known of its parts.
 use Rattle.std.proofs.Common.{◌≡◌, ℕ, ◌+◌, ◌<◌, ◌≤◌, ◌⊎◌, ◌==◌, Bool, true, false, not, is_some, cond, ltb, ◌||◌, List, [], ◌∷◌, ◌++◌, Option, Some, None, length, inl, inr, refl, sym, ap, subst, ◌∙◌, arith, length-append, append_assoc, option_map}
-use Rattle.std.specs.Prelude.{slice_get, IfSome, IsTrue, find}
+use Rattle.std.specs.Prelude.{slice_get, IfSome, find}
 use Rattle.std.proofs.lemmas.Bool.{ltb-true}
 use Rattle.std.proofs.lemmas.List.{append-nil}
 use Rattle.bng_base.specs.declared.address.Mac.{Mac}
@@ -9,7 +9,7 @@ use Rattle.bng_base.specs.declared.item.Entry.{Entry}
 use Rattle.bng_base.specs.declared.item.Item.{Item}
 use Rattle.bng_base.specs.declared.item.OutRecord.{OutRecord}
 use Rattle.bng_base.specs.declared.settings.AccessPort.{AccessPort}
-use Rattle.bng_base.specs.PppoeGrammar.{PppoeTag, PppoeFrame, AreTags, AsksOneService, IsDiscovery, is_request}
+use Rattle.bng_base.specs.PppoeGrammar.{PppoeTag, PppoeFrame, AreTags, AsksOneService, IsDiscovery}
 use Rattle.bng_discovery.specs.declared.answers.Answer.{Answer}
 use Rattle.bng_discovery.specs.declared.answers.Answer.TheVariants as answer
 use Rattle.bng_discovery.specs.declared.port.PortRules.{PortRules}
@@ -21,7 +21,7 @@ use Rattle.bng_shard.specs.declared.rules.Rules.{Rules}
 use Rattle.bng_shard.specs.declared.sending.At.{At}
 use Rattle.bng_shard.specs.State.{State, Session, vacant, port_at, offers_at, is_used, numbers_of}
 use Rattle.bng_shard.specs.Deed.{Deed, at_of, frame_outs, handled, ignored}
-use Rattle.bng_shard.specs.Discovery.{Answers, Discovers, Makes, Repeats, host_uniq_of, is_repeated, repeated_at}
+use Rattle.bng_shard.specs.Discovery.{Answers, Discovers, host_uniq_of, is_repeated, repeated_at}
 use Rattle.bng_shard.specs.Doing.{DoesWith}
 use Rattle.bng_shard.specs.Driven.{Driven}
 use Rattle.bng_shard.specs.Link.{Drives, told}

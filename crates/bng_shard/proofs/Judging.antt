@@ -4,7 +4,6 @@ use Rattle.std.specs.Prelude.{MatchOption}
 use Rattle.std.specs.List.{position}
 use Rattle.bng_base.specs.declared.address.Mac.{Mac}
 use Rattle.bng_base.specs.PppoeGrammar.{PppoeTag, PppoeFrame}
-use Rattle.bng_discovery.specs.declared.answers.Answer.{Answer}
 use Rattle.bng_discovery.specs.declared.answers.Answer.TheVariants as answer
 use Rattle.bng_discovery.specs.declared.answers.ErrorTag.TheVariants.{AcSystemError}
 use Rattle.bng_discovery.specs.declared.port.PortRules.{PortRules}

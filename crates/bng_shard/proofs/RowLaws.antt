@@ -7,7 +7,6 @@ use Rattle.bng_base.specs.declared.settings.Static.{Static}
 use Rattle.bng_engine.specs.Sight.{Row, new_row, resumed}
 use Rattle.bng_engine.specs.Terms.{Key, keys}
 use Rattle.bng_shard.specs.declared.running.Running.{Running}
-use Rattle.bng_shard.specs.declared.sums.Traffic.{Traffic}
 use Rattle.bng_shard.specs.Protocol.{term_of, terms_after, row_at}
 use Rattle.bng_shard.specs.Running.{row_from, rows_in, begun}
 use Rattle.bng_shard.specs.Sums.{traffic_in}

@@ -1,5 +1,5 @@
 -- What the table of discovery answers where there may be one session more, and where not.
-use Rattle.std.proofs.Common.{◌≡◌, ℕ, ◌==◌, Bool, true, false, not, ◌&&◌, Option, Some, None, List, refl}
+use Rattle.std.proofs.Common.{◌≡◌, ◌==◌, Bool, true, false, not, ◌&&◌, Option, Some, List, refl}
 use Rattle.std.specs.Prelude.{if◌then◌else◌}
 use Rattle.bng_base.specs.PppoeGrammar.{PppoeTag, PppoeFrame}
 use Rattle.bng_discovery.specs.declared.answers.Answer.{Answer}

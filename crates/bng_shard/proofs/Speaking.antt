@@ -1,26 +1,19 @@
 -- What was done with a frame that names a session, of what is known of its parts.
-use Rattle.std.proofs.Common.{◌≡◌, ℕ, ◌+◌, ◌<◌, ◌≤◌, ◌⊎◌, Bool, true, false, List, [], ◌∷◌, ◌++◌, Option, Some, None, length, inl, inr, refl, sym, ap, subst, ◌∙◌, arith, length-append}
-use Rattle.std.specs.Prelude.{slice_get, slice_index_or, IsTrue, IsFalse}
+use Rattle.std.proofs.Common.{◌≡◌, ℕ, ◌+◌, ◌<◌, ◌≤◌, ◌⊎◌, List, ◌++◌, Some, None, length, inl, inr, refl, ap, ◌∙◌, arith, length-append}
+use Rattle.std.specs.Prelude.{slice_get, slice_index_or}
 use Rattle.std.proofs.lemmas.Option.{slice_get_cases}
-use Rattle.std.proofs.lemmas.List.{append-nil}
-use Rattle.bng_base.specs.declared.fate.Fate.TheVariants.{Consumed, Dropped}
-use Rattle.bng_base.specs.declared.fate.DropCause.TheVariants.{NotOpen}
 use Rattle.bng_base.specs.declared.item.Entry.{Entry}
 use Rattle.bng_base.specs.declared.item.Item.{Item}
 use Rattle.bng_base.specs.declared.item.OutRecord.{OutRecord}
-use Rattle.bng_base.specs.PppoeGrammar.{PppoeFrame}
-use Rattle.bng_base.specs.PppGrammar.{PppFrame, IsPpp}
 use Rattle.bng_ppp.specs.declared.rules.Input.{Input}
 use Rattle.bng_shard.specs.declared.rules.Rules.{Rules}
 use Rattle.bng_shard.specs.declared.sending.At.{At}
 use Rattle.bng_shard.specs.State.{State, Session}
-use Rattle.bng_shard.specs.Deed.{at_of, handled}
-use Rattle.bng_shard.specs.Doing.{DoesWith}
+use Rattle.bng_shard.specs.Deed.{at_of}
 use Rattle.bng_shard.specs.Driven.{Driven}
-use Rattle.bng_shard.specs.Frames.{HearsPpp, HearsSession}
-use Rattle.bng_shard.specs.Link.{Drives, told, said_outs, with_session}
+use Rattle.bng_shard.specs.Link.{Drives, told, said_outs}
 use Rattle.bng_shard.specs.Protocol.{entry_of}
-use Rattle.bng_shard.proofs.Carrying.{its_place, nothing_done}
+use Rattle.bng_shard.proofs.Carrying.{its_place}
 
 one_of : {X : Type 0} (xs : List X) (i : ℕ) → ((x : X) × (i < length xs) × (slice_get xs i ≡ Some x) × (slice_index_or xs i x ≡ x)) ⊎ ((length xs ≤ i) × (slice_get xs i ≡ None)) → i < length xs → (x : X) × (slice_get xs i ≡ Some x)
 one_of xs i (inl h) within = (h.0, h.2)

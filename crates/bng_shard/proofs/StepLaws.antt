@@ -1,12 +1,12 @@
 -- The protocol of a shard meets the laws of a step.
-use Rattle.std.proofs.Common.{◌≡◌, ◌⊎◌, inl, inr, ℕ, zero, suc, ◌+◌, ◌≤◌, Bool, true, List, [], ◌∷◌, filter, Option, Some, IfSome, MatchOption, length, slice_get, is_some, count_by, if◌then◌else◌, refl, sym, ap, subst, ◌∙◌, arith, append-nil}
+use Rattle.std.proofs.Common.{◌≡◌, ◌⊎◌, inl, inr, ℕ, zero, suc, ◌+◌, ◌≤◌, Bool, true, false, List, [], ◌∷◌, filter, Option, Some, IfSome, MatchOption, length, slice_get, is_some, count_by, if◌then◌else◌, refl, sym, ap, subst, ◌∙◌, arith, append-nil}
 use Rattle.std.specs.List.{AllByRecursion}
 use Rattle.std.proofs.lemmas.List.Sums.{sum_by-cons}
 use Rattle.std.proofs.lemmas.Option.{same_Some, slice_get_within}
 use Rattle.bng_base.specs.declared.item.Charge.{Charge}
 use Rattle.bng_base.specs.declared.item.OutRecord.{OutRecord}
 use Rattle.bng_base.specs.declared.settings.Static.{Static}
-use Rattle.bng_engine.specs.Protocol.{StepLaws, Begins, AnyOf, IsFor, IsAddressed, IsUnsent}
+use Rattle.bng_engine.specs.Protocol.{StepLaws, StillLaws, Begins, AnyOf, IsFor, IsAddressed, IsUnsent}
 use Rattle.bng_engine.specs.Spelled.{IsSpelled, IsNoPacket, IsInDirection}
 use Rattle.bng_engine.specs.Sums.{octets_if, one_if}
 use Rattle.bng_engine.specs.Terms.{Term, is_live, keys}
@@ -15,7 +15,7 @@ use Rattle.bng_shard.specs.declared.rules.Rules.{Rules}
 use Rattle.bng_shard.specs.State.{State}
 use Rattle.bng_shard.specs.Deed.{Deed, at_of, out, is_forwarded}
 use Rattle.bng_shard.specs.Frames.{charge_of}
-use Rattle.bng_shard.specs.Protocol.{term_of, terms_after, terms_of, claimed_by, pppoe, packet_octets}
+use Rattle.bng_shard.specs.Protocol.{term_of, terms_after, terms_of, claimed_by, refused_by, pppoe, packet_octets}
 use Rattle.bng_shard.specs.Step.{Step}
 use Rattle.bng_shard.proofs.Statics.{step_statics}
 use Rattle.bng_shard.proofs.Spelling.{IsControl, AreControl}
@@ -94,6 +94,14 @@ pppoe_laws r = record {
   settles = λ s. sym (all_live 0 s.statics);
   settles_begun = λ s. refl;
 }
+
+pub none_ended : (n : ℕ) (cs : List Static) → AllByRecursion (λ t. t.ended ≡ false) (terms_after n cs)
+none_ended n [] = tt
+none_ended n (c ∷ cs) = (refl, none_ended (n + 1) cs)
+
+-- no term begins, and none ends
+pub pppoe_still : (r : Rules) → StillLaws (pppoe r)
+pppoe_still r = record { claims = λ s d h. ap claimed_by h.claim; refusals = λ s d h. ap refused_by h.claim; live = λ s. none_ended 0 s.statics }
 
 -- Octets and fates ------------------------------------------------------------------------------------------------------
 

@@ -1,20 +1,18 @@
 -- What a Tick and an End did so far, and what follows on it.
-use Rattle.std.proofs.Common.{◌≡◌, ◌<◌, ◌≤◌, ◌+◌, ◌*◌, ◌-◌, ℕ, zero, suc, true, false, Option, Some, None, List, [], ◌∷◌, ◌++◌, length, get_or, refl, inl, inr, sym, ap, subst, ◌∙◌, arith, append_assoc, append-nil, length-append, add-zero, zero-add}
+use Rattle.std.proofs.Common.{◌≡◌, ◌<◌, ◌≤◌, ◌+◌, ◌-◌, ℕ, suc, true, false, Some, List, [], ◌++◌, length, get_or, refl, inl, inr, sym, ap, subst, ◌∙◌, arith, append_assoc, append-nil, length-append, add-zero, zero-add}
 use Rattle.std.specs.Prelude.{slice_get}
 use Rattle.std.proofs.lemmas.Option.{get_or_from_slice_get}
 use Rattle.bng_base.specs.declared.item.Entry.{Entry}
 use Rattle.bng_base.specs.declared.item.OutRecord.{OutRecord}
 use Rattle.bng_ppp.specs.declared.rules.Input.TheVariants.{Timer}
-use Rattle.bng_ppp.specs.LinkState.{LinkState}
 use Rattle.bng_ppp.specs.LinkRelation.{LinkSteps}
-use Rattle.bng_ppp.specs.Said.{Said}
 use Rattle.bng_shard.specs.declared.rules.Rules.{Rules}
 use Rattle.bng_shard.specs.declared.sending.At.{At}
 use Rattle.bng_shard.specs.State.{State, Session}
 use Rattle.bng_shard.specs.Deed.{at_of}
-use Rattle.bng_shard.specs.Link.{Drives, told, said_outs, ends_outs, with_session}
+use Rattle.bng_shard.specs.Link.{Drives, told, said_outs, ends_outs}
 use Rattle.bng_shard.specs.Driven.{Driven}
-use Rattle.bng_shard.specs.Timers.{Ticks, Ends, IsFirstDue, NoneIsDue, IsLowest, AllEnded}
+use Rattle.bng_shard.specs.Timers.{Ticks, Ends, IsFirstDue, NoneIsDue, IsLowest}
 use Rattle.bng_shard.specs.Timed.{TickedOnce, EndedOnce, Ticked, Ended}
 
 -- the session that stands at the place that was found

@@ -2,7 +2,6 @@
 use Rattle.std.specs.Prelude.{◌≡◌, ◌⊎◌, ℕ, ◌≤◌, ◌==◌, Bool, true, false, not, ◌&&◌, List, [], ◌∷◌, ◌++◌, Option, Some, None, length, is_some, slice_get, position, option_map}
 use Rattle.std.specs.Str.{bytes_eq}
 use Rattle.bng_base.specs.declared.address.Mac.{Mac}
-use Rattle.bng_base.specs.declared.fate.DropCause.TheVariants.{NoSession as NoSuchSession}
 use Rattle.bng_base.specs.declared.item.Entry.{Entry}
 use Rattle.bng_base.specs.declared.item.OutRecord.{OutRecord}
 use Rattle.bng_base.specs.declared.settings.AccessPort.{AccessPort}

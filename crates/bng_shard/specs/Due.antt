@@ -1,6 +1,5 @@
 -- The deadlines of a shard.
-use Rattle.std.specs.Prelude.{◌≡◌, ℕ, ◌≤◌, List, Some, None, fold, Option}
-use Rattle.std.specs.List.{All}
+use Rattle.std.specs.Prelude.{ℕ, None, fold, Option}
 use Rattle.bng_ppp.specs.LinkRelation.{earliest}
 use Rattle.bng_shard.specs.State.{State, Session}
 use Rattle.bng_shard.specs.Timers.{deadline_of}

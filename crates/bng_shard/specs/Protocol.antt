@@ -1,6 +1,5 @@
 -- The protocol of a shard, as the engine reads it.
 use Rattle.std.specs.Prelude.{◌≡◌, ℕ, ◌+◌, ◌≤◌, ◌==◌, true, false, List, [], ◌∷◌, ◌++◌, Option, length, map, sum_by, find}
-use Rattle.bng_base.specs.declared.address.Ip4.{Ip4}
 use Rattle.bng_base.specs.declared.circuit.Circuit.TheVariants.{Pppoe}
 use Rattle.bng_base.specs.declared.fate.Fate.{Fate}
 use Rattle.bng_base.specs.declared.item.Claim.{Claim}
@@ -12,7 +11,7 @@ use Rattle.bng_base.specs.declared.settings.Static.{Static}
 use Rattle.bng_engine.specs.Protocol.{Protocol}
 use Rattle.bng_engine.specs.Sight.{Sight, Row, stepped, new_row}
 use Rattle.bng_engine.specs.Sums.{octets_if}
-use Rattle.bng_engine.specs.Terms.{Key, Term, keys}
+use Rattle.bng_engine.specs.Terms.{Term, keys}
 use Rattle.bng_shard.specs.declared.rules.Rules.{Rules}
 use Rattle.bng_shard.specs.State.{State, settled}
 use Rattle.bng_shard.specs.Deed.{Deed}

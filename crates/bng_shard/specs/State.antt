@@ -1,5 +1,5 @@
 -- What a shard holds: its provisioned circuits and the sessions that discovery made.
-use Rattle.std.specs.Prelude.{ℕ, ◌+◌, ◌*◌, ◌-◌, ◌==◌, Bool, not, ◌&&◌, ◌||◌, nat_lt, length, List, Option, Some, None, filter, find, slice_get, if◌then◌else◌}
+use Rattle.std.specs.Prelude.{ℕ, ◌+◌, ◌*◌, ◌-◌, ◌==◌, Bool, not, ◌&&◌, ◌||◌, nat_lt, length, List, Option, None, filter, find, slice_get, if◌then◌else◌}
 use Rattle.std.specs.List.{list_any, range_with_len}
 use Rattle.std.specs.Str.{bytes_eq}
 use Rattle.bng_base.specs.declared.address.Mac.{Mac}
@@ -7,7 +7,6 @@ use Rattle.bng_base.specs.declared.settings.AccessPort.{AccessPort}
 use Rattle.bng_base.specs.declared.settings.Static.{Static}
 use Rattle.bng_discovery.specs.declared.port.PortRules.{PortRules}
 use Rattle.bng_ppp.specs.LinkState.{LinkState}
-use Rattle.bng_shard.specs.declared.rules.Rules.{Rules}
 
 -- A session of the subscriber at this MAC on the port with this number: its SESSION_ID, the Host-Uniq with which it was made,
 -- if it had one, its link, and whether it has ended. One that has ended keeps its place until the round is settled.

@@ -1,5 +1,5 @@
 -- A step of a shard: what it does with one entry.
-use Rattle.std.specs.Prelude.{◌≡◌, ℕ}
+use Rattle.std.specs.Prelude.{◌≡◌}
 use Rattle.bng_base.specs.declared.item.Claim.TheVariants.{NoClaim}
 use Rattle.bng_base.specs.declared.item.Entry.{Entry}
 use Rattle.bng_base.specs.declared.item.ItemKind.{ItemKind}

@@ -1,5 +1,5 @@
 -- Which shard an item is for.
-use Rattle.std.specs.Prelude.{◌≡◌, ◌⊎◌, ◌≢◌, ℕ, ◌/◌, ◌%◌, ◌<◌, ◌≤◌, ◌==◌, true, List, Option, Some, None, sum, find}
+use Rattle.std.specs.Prelude.{◌≡◌, ◌⊎◌, ℕ, ◌/◌, ◌%◌, ◌<◌, ◌≤◌, ◌==◌, List, Option, Some, None, sum, find}
 use Rattle.bng_base.specs.declared.address.Ip4.{Ip4}
 use Rattle.bng_base.specs.declared.address.Mac.{Mac}
 use Rattle.bng_base.specs.declared.fate.DropCause.TheVariants.{Malformed, NoSession}
@@ -8,7 +8,7 @@ use Rattle.bng_base.specs.declared.ipv4.Ipv4.{Ipv4}
 use Rattle.bng_base.specs.declared.item.Item.{Item}
 use Rattle.bng_base.specs.declared.item.ItemKind.{ItemKind}
 use Rattle.bng_base.specs.declared.item.ItemKind.TheVariants.{Access, Core, Tunnel, Verdict, Change, Tick, End}
-use Rattle.bng_base.specs.FateOf.{Arrival, arrival_of}
+use Rattle.bng_base.specs.FateOf.{arrival_of}
 use Rattle.bng_base.specs.PppoeGrammar.{PppoeFrame}
 use Rattle.bng_forward.specs.Fates.{IsFrame, NamesSession, IsCorePacket}
 use Rattle.bng_shard.specs.declared.rules.Rules.{Rules}

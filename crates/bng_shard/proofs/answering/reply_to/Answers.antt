@@ -1,13 +1,12 @@
-use Rattle.std.proofs.Common.{◌≡◌, ℕ, true, Bool, List, Option, Some, None, inl, inr, is_some, refl, sym, ap, subst, ◌∙◌}
-use Rattle.std.specs.List.{position}
+use Rattle.std.proofs.Common.{◌≡◌, ℕ, true, Bool, List, Option, Some, inl, inr, is_some, sym, ap, subst, ◌∙◌}
 use Rattle.bng_base.specs.PppoeGrammar.{PppoeTag, AreTags}
 use Rattle.bng_discovery.specs.declared.answers.Answer.{Answer}
 use Rattle.bng_discovery.specs.declared.answers.Answer.TheVariants.{Offer, Make, Again, Refuse, Ended, NoSession, Ignore}
 use Rattle.bng_discovery.specs.Table.{table, first_row}
 use Rattle.bng_pppoe_wire.specs.View.{frame_of}
-use Rattle.bng_shard.specs.State.{State, Session, vacant}
-use Rattle.bng_shard.specs.Discovery.{host_uniq_of, is_repeated, repeated_at}
-use Rattle.bng_shard.specs.Replying.{IsAnswer, IsReply}
+use Rattle.bng_shard.specs.State.{State, vacant}
+use Rattle.bng_shard.specs.Discovery.{host_uniq_of, repeated_at}
+use Rattle.bng_shard.specs.Replying.{IsAnswer}
 use Rattle.bng_shard.proofs.Rows.{other_answer}
 use Rattle.bng_shard.proofs.Judging.{place_along, make_or_refuse, never_again}
 use Rattle.bng_shard.proofs.answering.reply_to.Goals as goal

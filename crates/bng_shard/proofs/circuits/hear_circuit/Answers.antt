@@ -1,4 +1,4 @@
-use Rattle.std.proofs.Common.{◌≡◌, ℕ, ◌<◌, List, [], ◌∷◌, ◌++◌, Some, length, ap, subst, ◌∙◌, arith}
+use Rattle.std.proofs.Common.{◌≡◌, ℕ, List, [], ◌∷◌, ◌++◌, Some, length, ap, subst, ◌∙◌, arith}
 use Rattle.std.specs.Prelude.{slice_get}
 use Rattle.std.proofs.lemmas.Option.{slice_get_within}
 use Rattle.bng_base.specs.Packet.{Packet}
@@ -6,7 +6,6 @@ use Rattle.bng_base.specs.declared.item.Charge.{Charge}
 use Rattle.bng_base.specs.declared.outside.Role.TheVariants.{Core}
 use Rattle.bng_base.specs.declared.settings.AccessPort.{AccessPort}
 use Rattle.bng_base.specs.declared.settings.Static.{Static}
-use Rattle.bng_forward.specs.declared.opened.Opened.{Opened}
 use Rattle.bng_forward.specs.declared.opened.Opened.TheVariants.{Ends, Passes}
 use Rattle.bng_forward.specs.Opened.{IsOpenedUp}
 use Rattle.bng_shard.specs.State.{State}

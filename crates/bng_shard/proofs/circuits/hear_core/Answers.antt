@@ -1,13 +1,11 @@
-use Rattle.std.proofs.Common.{◌≡◌, ℕ, ◌<◌, false, List, [], ◌∷◌, ◌++◌, Option, Some, None, length, ap, subst, sym, ◌∙◌, arith}
+use Rattle.std.proofs.Common.{◌≡◌, ℕ, false, List, [], ◌∷◌, ◌++◌, Some, length, ap, subst, sym, ◌∙◌, arith}
 use Rattle.std.specs.Prelude.{slice_get}
 use Rattle.std.proofs.lemmas.Option.{slice_get_within}
 use Rattle.bng_base.specs.Packet.{Packet}
 use Rattle.bng_base.specs.declared.item.Charge.{Charge}
 use Rattle.bng_base.specs.declared.item.OutRecord.{OutRecord}
 use Rattle.bng_base.specs.declared.outside.Role.TheVariants.{Access}
-use Rattle.bng_base.specs.declared.settings.AccessPort.{AccessPort}
 use Rattle.bng_base.specs.declared.settings.Static.{Static}
-use Rattle.bng_forward.specs.declared.opened.Opened.{Opened}
 use Rattle.bng_forward.specs.declared.opened.Opened.TheVariants.{Ends, Passes}
 use Rattle.bng_forward.specs.Framed.{IsFrameTo}
 use Rattle.bng_forward.specs.Opened.{IsOpenedDown, PassesDown}

@@ -1,9 +1,6 @@
-use Rattle.std.proofs.Common.{◌≡◌, ℕ, ◌<◌, List, Option, Some, inl, inr, refl, sym, ap, ◌∙◌}
-use Rattle.std.specs.Prelude.{slice_get}
-use Rattle.std.proofs.lemmas.Option.{slice_get_within}
-use Rattle.bng_base.specs.PppoeGrammar.{PppoeTag, AreTags}
-use Rattle.bng_discovery.specs.declared.answers.Answer.TheVariants.{Offer, Make, Again, Refuse, Ended, NoSession, Ignore}
-use Rattle.bng_discovery.specs.Reply.{pado_of, pads_of, refusal_of}
+use Rattle.std.proofs.Common.{refl, sym, ◌∙◌}
+use Rattle.bng_discovery.specs.declared.answers.Answer.TheVariants.{Offer, Refuse}
+use Rattle.bng_discovery.specs.Reply.{pado_of, refusal_of}
 use Rattle.bng_pppoe_wire.specs.View.{frame_of}
 use Rattle.bng_shard.specs.Discovery.{host_uniq_of}
 use Rattle.bng_shard.proofs.Discovering.{few_sessions, short_uniq, not_offered, said_nothing, frame_said, said_again, session_made, repeated_within}

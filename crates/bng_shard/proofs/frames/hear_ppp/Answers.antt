@@ -1,11 +1,10 @@
-use Rattle.std.proofs.Common.{◌≡◌, ℕ, ◌<◌, List, Option, Some, true, false, inl, inr, refl, sym, ap, subst, ◌∙◌}
-use Rattle.std.specs.Prelude.{slice_get}
+use Rattle.std.proofs.Common.{◌≡◌, false, inl, inr, refl, sym, ap, ◌∙◌}
 use Rattle.std.proofs.lemmas.Option.{same_Some}
 use Rattle.bng_base.specs.declared.fate.Fate.TheVariants.{Consumed, Dropped}
 use Rattle.bng_base.specs.declared.fate.DropCause.TheVariants.{NotOpen}
 use Rattle.bng_pppoe_wire.specs.View.{frame_of}
 use Rattle.bng_ppp.specs.declared.rules.Input.TheVariants.{Frame}
-use Rattle.bng_shard.specs.State.{State, Session}
+use Rattle.bng_shard.specs.State.{Session}
 use Rattle.bng_shard.specs.Deed.{handled}
 use Rattle.bng_shard.specs.Frames.{HearsPpp}
 use Rattle.bng_shard.specs.Link.{with_session}

@@ -1,4 +1,4 @@
-use Rattle.std.proofs.Common.{ℕ, drop, refl}
+use Rattle.std.proofs.Common.{drop, refl}
 use Rattle.byteorder.specs.Endian.{big_from}
 use Rattle.bng_shard.proofs.frames.is_data.Goals as goal
 

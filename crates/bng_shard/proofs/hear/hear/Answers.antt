@@ -1,7 +1,6 @@
-use Rattle.std.proofs.Common.{◌≡◌, ◌≤◌, arith, ap, refl}
+use Rattle.std.proofs.Common.{arith, refl}
 use Rattle.bng_base.specs.declared.item.ItemKind.TheVariants.{Access, Core, Tunnel, Verdict, Change}
 use Rattle.bng_shard.specs.Frames.{HearsCore}
-use Rattle.bng_shard.specs.Step.{Hears}
 use Rattle.bng_shard.proofs.Arriving.{does_more}
 use Rattle.bng_shard.proofs.ByKind.{stepped, ticked, ended, passed_over}
 use Rattle.bng_shard.proofs.hear.hear.Goals as goal

@@ -1,4 +1,4 @@
-use Rattle.std.proofs.Common.{◌≡◌, ℕ, List, inl, refl, ap}
+use Rattle.std.proofs.Common.{ℕ, List, inl, refl, ap}
 use Rattle.bng_base.specs.declared.fate.Fate.TheVariants.{Dropped}
 use Rattle.bng_base.specs.declared.fate.DropCause.TheVariants.{Malformed}
 use Rattle.bng_base.specs.FateOf.{Arrival}

@@ -1,4 +1,4 @@
-use Rattle.std.proofs.Common.{◌≡◌, List, sym, ap, ◌∙◌}
+use Rattle.std.proofs.Common.{sym, ap, ◌∙◌}
 use Rattle.bng_pppoe_wire.specs.View.{frame_of}
 use Rattle.bng_shard.specs.State.{State}
 use Rattle.bng_shard.proofs.Arriving.{by_discovery, by_circuit, by_session, no_session}

@@ -1,9 +1,12 @@
 use Rattle.bng_shard.proofs.Statics.{step_statics}
-use Rattle.bng_shard.proofs.StepLaws.{pppoe_laws, light, data_fates}
+use Rattle.bng_shard.proofs.StepLaws.{pppoe_laws, pppoe_still, light, data_fates}
 use Rattle.bng_shard.proofs.laws.steps_meet_laws.Goals as goal
 
 pub returns-clause-laws : goal.returns-clause-laws
 returns-clause-laws c = pppoe_laws
+
+pub returns-clause-still : goal.returns-clause-still
+returns-clause-still c = pppoe_still
 
 pub returns-clause-circuits : goal.returns-clause-circuits
 returns-clause-circuits c = step_statics

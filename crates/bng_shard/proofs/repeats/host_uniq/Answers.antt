@@ -1,4 +1,4 @@
-use Rattle.std.proofs.Common.{◌≡◌, List, Option, option_map, ap, ◌∙◌}
+use Rattle.std.proofs.Common.{List, Option, option_map, ap, ◌∙◌}
 use Rattle.bng_base.specs.PppoeGrammar.{PppoeTag}
 use Rattle.bng_pppoe_wire.specs.declared.view.Tag.{Tag}
 use Rattle.bng_pppoe_wire.specs.View.{tags_of}

@@ -1,6 +1,4 @@
-use Rattle.std.proofs.Common.{◌<◌, ap, length, refl}
-use Rattle.bng_base.specs.declared.codec.Written.TheVariants.{Done, Full}
-use Rattle.bng_base.specs.declared.frame.TheConstants.{LONGEST}
+use Rattle.std.proofs.Common.{ap, length, refl}
 use Rattle.bng_base.specs.Packet.{Packet}
 use Rattle.bng_base.specs.PppoeGrammar.{PppoeFrame, pppoe_text}
 use Rattle.bng_discovery.specs.Reply.{refusal_of}

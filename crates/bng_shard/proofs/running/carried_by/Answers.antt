@@ -1,5 +1,5 @@
 use Rattle.std.proofs.Common.{ap, sym, ◌∙◌}
-use Rattle.std.specs.Prelude.{Option, option_map}
+use Rattle.std.specs.Prelude.{option_map}
 use Rattle.bng_shard.specs.declared.running.Running.{Running}
 use Rattle.bng_shard.specs.Running.{row_from}
 use Rattle.bng_shard.specs.Sums.{traffic_in}

@@ -1,4 +1,4 @@
-use Rattle.std.proofs.Common.{◌≡◌, ℕ, List, refl, inl, ap, sym}
+use Rattle.std.proofs.Common.{ℕ, List, refl, inl, ap}
 use Rattle.bng_base.specs.FateOf.{Arrival}
 use Rattle.bng_shard.proofs.Holding.{no_frame}
 use Rattle.bng_shard.proofs.whose.whose_frame.Goals as goal

@@ -1,4 +1,4 @@
-use Rattle.std.proofs.Common.{◌≡◌, ◌<◌, ℕ, sym, ◌∙◌, arith}
+use Rattle.std.proofs.Common.{sym, ◌∙◌, arith}
 use Rattle.bng_shard.proofs.Holding.{held_inside}
 use Rattle.bng_shard.proofs.whose.whose_packet.Goals as goal
 

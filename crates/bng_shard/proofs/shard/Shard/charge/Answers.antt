@@ -1,11 +1,8 @@
-use Rattle.std.proofs.Common.{◌≡◌, ◌^◌, ◌∙◌, ◌∷◌, [], ap, sym, subst, map, length, ℕ, List}
+use Rattle.std.proofs.Common.{◌^◌, ◌∙◌, ap, sym, subst, map, List}
 use Rattle.std.specs.List.{All}
 use Rattle.bng_base.specs.declared.item.Entry.{Entry}
-use Rattle.bng_engine.specs.Protocol.{AreNumbered}
-use Rattle.bng_engine.specs.Sight.{Row, Sight, plus}
-use Rattle.bng_engine.specs.Terms.{Key, keys}
+use Rattle.bng_engine.specs.Sight.{Row, Sight}
 use Rattle.bng_shard.specs.declared.running.Running.{Running}
-use Rattle.bng_shard.specs.Protocol.{terms_of}
 use Rattle.bng_shard.specs.Running.{rows_in}
 use Rattle.bng_shard.specs.State.{State}
 use Rattle.bng_shard.specs.Sums.{IsLow}

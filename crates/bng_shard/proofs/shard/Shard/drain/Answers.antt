@@ -1,4 +1,4 @@
-use Rattle.std.proofs.Common.{◌≡◌, ◌∙◌, ap, sym, arith, length, Vec, Global}
+use Rattle.std.proofs.Common.{◌∙◌, ap, sym, arith, length, Vec, Global}
 use Rattle.bng_base.specs.declared.item.Entry.{Entry}
 use Rattle.bng_engine.specs.Terms.{keys}
 use Rattle.bng_shard.specs.State.{State, sessions_most}

@@ -1,4 +1,4 @@
-use Rattle.std.proofs.Common.{◌≡◌, ◌∙◌, ap, arith, map, length, List}
+use Rattle.std.proofs.Common.{◌∙◌, ap, arith, map, length, List}
 use Rattle.bng_base.specs.declared.settings.Static.{Static}
 use Rattle.bng_engine.specs.Sight.{Row, new_row}
 use Rattle.bng_engine.specs.Terms.{keys}

@@ -1,6 +1,5 @@
-use Rattle.std.proofs.Common.{◌≡◌, ◌≤◌, ◌+◌, ◌-◌, ◌∷◌, [], ap, sym, subst, arith, length, length-append, refl, true, false, List}
+use Rattle.std.proofs.Common.{◌≡◌, ◌≤◌, ◌-◌, ◌∷◌, [], ap, sym, subst, arith, length, length-append, refl, true, false}
 use Rattle.bng_base.specs.declared.item.Entry.{Entry}
-use Rattle.bng_base.specs.declared.item.OutRecord.{OutRecord}
 use Rattle.bng_engine.specs.Sight.{Sight}
 use Rattle.bng_shard.specs.Fits.{owed}
 use Rattle.bng_shard.specs.Protocol.{Handles, entry_of}

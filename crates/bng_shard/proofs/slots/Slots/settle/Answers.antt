@@ -1,4 +1,4 @@
-use Rattle.std.proofs.Common.{rules, ap, ◌∙◌, List, not}
+use Rattle.std.proofs.Common.{rules, ap, ◌∙◌, List}
 use Rattle.std.proofs.lemmas.Fn.{filter_same}
 use Rattle.bng_shard.specs.State.{State, Session, settled}
 use Rattle.bng_shard.proofs.slots.Slots.settle.Goals as goal
