@@ -19,17 +19,26 @@ add_assoc a b c = omega arith
 add_zero : (a : ℕ) → (a + 0) ≡ a
 add_zero a = omega arith
 
+zero_add : (a : ℕ) → (0 + a) ≡ a
+zero_add a = omega arith
+
 pub plant_assoc : (a b c : PlantStretch) → plant_joined (plant_joined a b) c ≡ plant_joined a (plant_joined b c)
 plant_assoc a b c = rw (append_assoc a.heard b.heard c.heard, append_assoc a.taken b.taken c.taken, append_assoc a.sent b.sent c.sent, add_assoc a.failed b.failed c.failed)
 
 pub plant_right : (a : PlantStretch) → plant_joined a plant_none ≡ a
 plant_right a = rw (append-nil a.heard, append-nil a.taken, append-nil a.sent, add_zero a.failed)
 
+pub plant_left : (a : PlantStretch) → plant_joined plant_none a ≡ a
+plant_left a = rw (zero_add a.failed)
+
 pub joined_assoc : (a b c : Stretch) → joined (joined a b) c ≡ joined a (joined b c)
 joined_assoc a b c = rw (append_assoc a.plant.heard b.plant.heard c.plant.heard, append_assoc a.plant.taken b.plant.taken c.plant.taken, append_assoc a.plant.sent b.plant.sent c.plant.sent, add_assoc a.plant.failed b.plant.failed c.plant.failed, append_assoc a.answers b.answers c.answers, append_assoc a.rounds b.rounds c.rounds, or_assoc a.unnoted b.unnoted c.unnoted)
 
 pub joined_none : (a : Stretch) → joined a no_stretch ≡ a
 joined_none a = rw (append-nil a.plant.heard, append-nil a.plant.taken, append-nil a.plant.sent, add_zero a.plant.failed, append-nil a.answers, append-nil a.rounds, or_false a.unnoted)
+
+pub none_joined : (a : Stretch) → joined no_stretch a ≡ a
+none_joined a = rw (zero_add a.plant.failed)
 
 pub plant_stays : (p : PlantTold) → ExtendsPlant p p plant_none
 plant_stays p = record { bound = refl; heard = grows_if_told_none p.heard; taken = grows_none p.taken; sent = grows_none p.sent; causes = no_causes p.faults }
