@@ -11,7 +11,8 @@ use Rattle.bng_l2tp_call.specs.Values.{message_type}
 use Rattle.bng_l2tp_call.specs.Messages.{is_type, is_taken, same_phase}
 use Rattle.bng_l2tp_call.specs.CallState.{CallState}
 use Rattle.bng_l2tp_call.specs.Refusals.{refusal_of, IsRefused}
-use Rattle.bng_l2tp_call.specs.Steps.{Step, nothing, refuses, IsAccepted, Hears, passed, refused, requested, connected, disconnected, error_notified, link_set, accepted, judged, message_step}
+use Rattle.bng_l2tp_call.specs.Steps.{Step, nothing, refuses, IsAccepted, Hears, passed, refused, requested, connected, disconnected, error_notified, link_set}
+use Rattle.bng_l2tp_call.specs.Cases.{accepted, judged, message_step}
 
 -- the phases and the messages that are taken in them
 pub data Takes : Phase → Option ℕ → Type 0 where

@@ -11,7 +11,8 @@ use Rattle.bng_l2tp_call.specs.Messages.{is_type, is_taken}
 use Rattle.bng_l2tp_call.specs.CallState.{CallState, is_idle, stands}
 use Rattle.bng_l2tp_call.specs.Refusals.{IsRefused}
 use Rattle.bng_l2tp_call.specs.Spelling.{cdn, code_of, administrative, TellsCode, TellsReply}
-use Rattle.bng_l2tp_call.specs.Steps.{Step, nothing, tells, ends, to_peer, number_of, addressed, IsAccepted, IsLast, Hears, passed, refused, requested, connected, disconnected, error_notified, link_set, message_step, end_step}
+use Rattle.bng_l2tp_call.specs.Steps.{Step, nothing, tells, ends, to_peer, number_of, addressed, IsAccepted, IsLast, Hears, passed, refused, requested, connected, disconnected, error_notified, link_set, end_step}
+use Rattle.bng_l2tp_call.specs.Cases.{message_step}
 use Rattle.bng_l2tp_call.specs.Sound.{peer_number_after}
 use Rattle.bng_l2tp_call.proofs.Table.{Takes, icrq_idle, iccn_waiting, cdn_waiting, cdn_established, wen_waiting, wen_established, sli_waiting, sli_established, takes, message_hears, hears_is, refused_step}
 use Rattle.bng_l2tp_call.proofs.Codes.{same_cause, icrp_tells_none}

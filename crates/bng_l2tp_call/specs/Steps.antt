@@ -1,5 +1,5 @@
 -- What the calls of a `Call` do, by RFC 2661 sections 6.6 to 6.14 and 7.4.2.
-use Rattle.std.specs.Prelude.{◌≡◌, ℕ, true, false, ◌⊎◌, if◌then◌else◌, List, [], ◌∷◌, Option, Some, None, unwrap_or}
+use Rattle.std.specs.Prelude.{◌≡◌, ℕ, true, false, ◌⊎◌, if◌then◌else◌, List, [], ◌∷◌, Some, None, unwrap_or}
 use Rattle.bng_l2tp_wire.specs.Avps.{L2tpAvp}
 use Rattle.bng_l2tp_wire.specs.Messages.{ControlMessage, control_text}
 use Rattle.bng_l2tp_call.specs.declared.phase.Phase.TheVariants.{WaitConnect, Established, Ended}
@@ -7,7 +7,7 @@ use Rattle.bng_l2tp_call.specs.declared.refusal.Refusal.{Refusal}
 use Rattle.bng_l2tp_call.specs.Numbers.{icrq_type, iccn_type, cdn_type, wen_type, sli_type}
 use Rattle.bng_l2tp_call.specs.Values.{message_type, assigned_session}
 use Rattle.bng_l2tp_call.specs.View.{Said}
-use Rattle.bng_l2tp_call.specs.Messages.{is_type, is_taken}
+use Rattle.bng_l2tp_call.specs.Messages.{is_taken}
 use Rattle.bng_l2tp_call.specs.CallState.{CallState, is_idle, stands}
 use Rattle.bng_l2tp_call.specs.Refusals.{refusal_of, IsRefused}
 use Rattle.bng_l2tp_call.specs.Spelling.{icrp, cdn, code_of, administrative}
@@ -77,22 +77,6 @@ pub data Hears (s : CallState) (m : ControlMessage) : Step → Type 0 where
   disconnected : IsAccepted s m cdn_type → Hears s m (ends (nothing s))
   error_notified : IsAccepted s m wen_type → Hears s m (nothing s)
   link_set : IsAccepted s m sli_type → Hears s m (nothing s)
-
--- the same, as the cases are looked at one after the other
-abbrev pub accepted : CallState → Option ℕ → List L2tpAvp → Step
-accepted s type avps =
-    if is_type type icrq_type then replies s avps
-    else (if is_type type iccn_type then opens s
-    else (if is_type type cdn_type then ends (nothing s)
-    else nothing s))
-
-abbrev pub judged : CallState → Option ℕ → List L2tpAvp → Option Refusal → Step
-judged s type avps None = accepted s type avps
-judged s type avps (Some cause) = refuses s avps cause
-
-unfoldable pub message_step : CallState → List L2tpAvp → Step
-message_step s avps =
-    if is_taken s.phase (message_type avps) then judged s (message_type avps) avps (refusal_of s avps) else nothing s
 
 -- the gateway ends the call
 unfoldable pub end_step : CallState → Step

@@ -6,7 +6,8 @@ ghost use Rattle.bng_l2tp_call.specs.CallState.{fresh, stands};
 ghost use Rattle.bng_l2tp_call.specs.Values.{message_type};
 ghost use Rattle.bng_l2tp_call.specs.Refusals.{refusal_of, IsRefused};
 ghost use Rattle.bng_l2tp_call.specs.Spelling.{code_of as code_of_refusal, administrative as code_of_end, TellsCode, TellsReply};
-ghost use Rattle.bng_l2tp_call.specs.Steps.{Step, Hears, IsAccepted, IsLast, to_peer, number_of, addressed, refuses, replies, opens, ends, accepted, message_step, end_step};
+ghost use Rattle.bng_l2tp_call.specs.Steps.{Step, Hears, IsAccepted, IsLast, to_peer, number_of, addressed, refuses, replies, opens, ends, end_step};
+ghost use Rattle.bng_l2tp_call.specs.Cases.{accepted, message_step};
 ghost use Rattle.bng_l2tp_call.specs.Sound.{IsCall, IsSound, peer_number_after};
 
 use crate::judge::{asks_for_sequencing, has_unknown, has_wrong_avp, is_taken, lacks_slot};
@@ -171,7 +172,7 @@ impl Call {
     }
 
     // A message of the peer.
-    #[tactic(auto, unfolding(crate::specs::Steps::message_step))]
+    #[tactic(auto, unfolding(crate::specs::Cases::message_step))]
     fn hear(&mut self, avps: &[Avp<'_>]) -> TunnelStep
         ensures said { said result ≡ (message_step self.old (avps_of avps.now)).said }
         ensures after { self.new ≡ (message_step self.old (avps_of avps.now)).after }
