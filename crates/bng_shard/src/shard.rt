@@ -18,7 +18,6 @@ use crate::sending::At;
 use crate::session::Session;
 use crate::slots::Slots;
 use crate::sums::{Charged, Traffic};
-use crate::timers::due;
 use bng_base::{Claim, Entry, Fate, Item, LONGEST, OutRecord, SessionNo, Static};
 use std::alloc::{AllocError, Global};
 use std::marker::Model;
@@ -108,6 +107,7 @@ impl Shard {
                 number,
                 statics,
                 sessions,
+                rest: None,
             },
             rows,
             journal: Vec::new(alloc),
@@ -178,6 +178,27 @@ impl Shard {
         (journal, outs)
     }
 
+    /// Keeps an empty list for the journals of the rounds to come, as one that `drain` handed out: its room serves again. No round
+    /// may be going on.
+    pub fn keep_journal(&mut self, list: Vec<Entry>)
+        requires empty { list.items ≡ [] }
+        requires journal { self.old.journal ≡ [] }
+        ensures { self.new ≡ record self.old { room = 0 } }
+    {
+        self.room = 0;
+        self.journal = list;
+    }
+
+    /// The same for what is to be sent.
+    pub fn keep_outs(&mut self, list: Vec<OutRecord>)
+        requires empty { list.items ≡ [] }
+        requires outs { self.old.outs ≡ [] }
+        ensures { self.new ≡ record self.old { room = 0 } }
+    {
+        self.room = 0;
+        self.outs = list;
+    }
+
     /// Takes the answer to the send of an out that `drain` handed out: where it was sent, the octets of its packet are added to its
     /// term's row. It is called once for each.
     pub fn charge(&mut self, out: &OutRecord) -> Charged
@@ -193,7 +214,7 @@ impl Shard {
     pub fn due(&self) -> Option<u64>
         ensures { result ≡ due_of self.now.state }
     {
-        due(&self.slots)
+        self.slots.due()
     }
 
     /// How many sessions discovery made that are still there.
