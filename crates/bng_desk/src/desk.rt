@@ -11,14 +11,14 @@ use crate::drops::{Drops, NO_DROPS};
 use crate::due::{deadline_of, to_end, wait_until};
 use crate::flags::{both, either};
 use crate::gathering::gather;
-use crate::holding::{Named, hold, hold_ends, note};
+use crate::holding::{Ending, Named, hold, hold_ends, note};
 use crate::line::Line;
 use crate::lists::Lists;
 use crate::opening;
 use crate::random::Draws;
 use crate::report::report;
 use crate::sums::{all_carried, sessions_in};
-use bng_base::{Frame, Ip4, Item, Listed};
+use bng_base::{Entry, Frame, Ip4, Item, Listed};
 use bng_config::Config;
 use bng_plant::{Clock, Gate, Plant, Trace};
 use bng_ppp::LinkRules;
@@ -61,7 +61,8 @@ pub enum Turned {
     WantOfMemory,
 }
 
-/// The desk. Contracts see what it serves, its shards, and what it counts.
+/// The desk. Contracts see what it serves, its shards, and what it counts. The lists of its turns are kept from one to the next:
+/// `lists`, and in `spare` those of the shards' journals.
 #[derive(Drop)]
 pub struct Desk {
     rules: Rules,
@@ -79,6 +80,8 @@ pub struct Desk {
     unopened: u64,
     closed: bool,
     kept: Vec<Item>,
+    lists: Lists,
+    spare: Vec<Vec<Entry>>,
 }
 
 impl Model for Desk {
@@ -206,6 +209,8 @@ impl Desk {
             unopened: 0,
             closed: false,
             kept: Vec::new(alloc),
+            lists: Lists::new(alloc),
+            spare: Vec::new(alloc),
         })
     }
 
@@ -259,7 +264,7 @@ impl Desk {
             (record { plant = P.told plant.old; clock = C.told clock.old; trace = T.told trace.old })
             (record { plant = P.told plant.new; clock = C.told clock.new; trace = T.told trace.new }) result }
     {
-        let Ok(mut lists) = Lists::of(alloc, self.shards.len()) else {
+        let Ok(mut lists) = self.lists.take(alloc, self.shards.len()) else {
             self.turns += 1;
             return Turned::WantOfMemory;
         };
@@ -289,9 +294,11 @@ impl Desk {
             named,
             lists,
             gathered.taken,
+            &mut self.spare,
             &mut self.drops,
         );
         let noted = note(trace, &round);
+        self.lists = Lists::of_round(alloc, round, &mut self.spare);
         let wait = wait_until(deadline_of(self.shards.as_slice()), now);
         wait_if(plant, both(both(heeding.idle, gathered.quiet), noted), wait);
         self.told += 1;
@@ -315,7 +322,7 @@ impl Desk {
             (record { plant = P.told plant.old; clock = C.told clock.old; trace = T.told trace.old })
             (record { plant = P.told plant.new; clock = C.told clock.new; trace = T.told trace.new }) result }
     {
-        let Ok(mut lists) = Lists::of(alloc, self.shards.len()) else {
+        let Ok(mut lists) = self.lists.take(alloc, self.shards.len()) else {
             self.endings += 1;
             self.unopened += 1;
             return Turned::WantOfMemory;
@@ -338,14 +345,17 @@ impl Desk {
             named,
             lists,
             &mut self.kept,
+            &mut self.spare,
             &mut self.drops,
         );
-        let noted = note(trace, &ending.record);
+        let Ending { record, is_opened } = ending;
+        let noted = note(trace, &record);
+        self.lists = Lists::of_round(alloc, record, &mut self.spare);
         self.told += 1;
         self.moment = now;
         self.endings += 1;
-        self.unopened = unopened_after(ending.is_opened, self.unopened);
-        self.closed = either(self.closed, ending.is_opened);
+        self.unopened = unopened_after(is_opened, self.unopened);
+        self.closed = either(self.closed, is_opened);
         answer(noted)
     }
 

@@ -18,7 +18,7 @@ use Rattle.bng_desk.proofs.Keeping.{IsLeft, AreEnds, kept_ended, endings_left, a
 use Rattle.bng_desk.proofs.Readying.{Shards}
 use Rattle.bng_desk.proofs.desk.Desk.end.Given.{Over}
 use Rattle.bng_desk.proofs.desk.Desk.end.Goals as goal
-use Rattle.bng_desk.proofs.desk.Desk.end.Goals.{After-to_end, After-drop-ending-5}
+use Rattle.bng_desk.proofs.desk.Desk.end.Goals.{After-to_end, After-answer}
 
 module _ (g : Over) (c : After-to_end g) where
   abbrev before : Shards → Desk
@@ -72,7 +72,7 @@ hold_ends-ending-requires-clause-few_outs g c =
 pub hold_ends-ending-requires-clause-outside : goal.hold_ends-ending-requires-clause-outside
 hold_ends-ending-requires-clause-outside g c = (are_ends g (goal.at.hold_ends-ending-requires-clause-outside g c).After-to_end).none
 
-module _ (g : Over) (c : After-drop-ending-5 g) (b : After-to_end g) where
+module _ (g : Over) (c : After-answer g) (b : After-to_end g) where
   same_length : length c.hold_ends-ending.new.shards ≡ c.self.inside.shards.len
   same_length = omega (arith, c.hold_ends-ending.auto.shards, c.as_mut_slice.ensures.len, c.self.inside.shards.ok.0)
 

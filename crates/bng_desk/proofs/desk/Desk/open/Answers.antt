@@ -19,9 +19,9 @@ use Rattle.bng_desk.specs.Opening.{AreOffersOf, line_of, holder_of, shard_of}
 use Rattle.bng_desk.specs.Random.{Drawn, draw}
 use Rattle.bng_desk.proofs.Fresh.{fresh_rested, kept_fresh}
 use Rattle.bng_desk.proofs.desk.Desk.open.Goals as goal
-use Rattle.bng_desk.proofs.desk.Desk.open.Goals.{After-new}
+use Rattle.bng_desk.proofs.desk.Desk.open.Goals.{After-new-3}
 
-module _ (c : After-new) where
+module _ (c : After-new-3) where
   abbrev statics : ℕ → List Static
   statics n = filter (λ (s : Static). shard_of s == n) c.args.config.statics
 

@@ -1,4 +1,4 @@
-use Rattle.std.proofs.Common.{◌≡◌, ℕ, ◌+◌, ◌*◌, Bool, ◌&&◌, Option, map, length, refl, sym, ap, subst, arith, ◌∙◌}
+use Rattle.std.proofs.Common.{◌≡◌, ℕ, ◌+◌, ◌*◌, ◌<◌, ◌≤◌, Bool, ◌&&◌, Option, map, length, refl, sym, ap, subst, arith, ◌∙◌}
 use Rattle.std.specs.List.{All}
 use Rattle.std.specs.Vec.{with_items}
 use Rattle.std.proofs.lemmas.List.{with_items_is}
@@ -15,9 +15,9 @@ use Rattle.bng_desk.proofs.Readying.{Shards}
 use Rattle.bng_desk.proofs.Turning.{served, after_turn}
 use Rattle.bng_desk.proofs.desk.Desk.serve.Given.{Over}
 use Rattle.bng_desk.proofs.desk.Desk.serve.Goals as goal
-use Rattle.bng_desk.proofs.desk.Desk.serve.Goals.{After-drop-round-5}
+use Rattle.bng_desk.proofs.desk.Desk.serve.Goals.{After-answer}
 
-module _ (g : Over) (c : After-drop-round-5 g) where
+module _ (g : Over) (c : After-answer g) where
   abbrev before : Shards → Desk
   before shards = record {
     rules = c.self.inside.rules;
@@ -53,6 +53,34 @@ module _ (g : Over) (c : After-drop-round-5 g) where
     counts = c.hold-round.ensures.within (drops_most * c.self.inside.told) c.self.invariant.counts;
     drawn_is = omega (arith, ap (λ (x : Drawn). x.drawn) c.gather-gathered.ensures.gathers.draws_are, c.gather-gathered.ensures.items.few);
   }
+
+pub invariant_of-self : goal.invariant_of-self
+invariant_of-self g c =
+    let was = c.self.invariant in
+    let made : c.args.self.now.turns ≤ c.args.self.now.rounds = subst (λ (x : Desk). x.turns ≤ x.rounds) c.self.view_is was.made in
+    let left : c.self.inside.turns < c.self.inside.rounds = subst (λ (x : Desk). x.turns < x.rounds) (sym c.self.view_is) (turns_left c.args.self.now c.requires.state made) in
+    record {
+      some_port = was.some_port;
+      few_ports = was.few_ports;
+      shards = was.shards;
+      some_shard = was.some_shard;
+      few_shards = was.few_shards;
+      order = was.order;
+      empty = was.empty;
+      auth = was.auth;
+      holders = was.holders;
+      most = was.most;
+      made = omega (arith, left);
+      endings = was.endings;
+      unopened = was.unopened;
+      told = omega (arith, was.told);
+      drawn = was.drawn;
+      low = was.low;
+      counts = was.counts;
+      kept = was.kept;
+      kept_outs = was.kept_outs;
+      none_refused = was.none_refused;
+    }
 
 pub invariant_of-self-2 : goal.invariant_of-self-2
 invariant_of-self-2 g c =
