@@ -78,6 +78,10 @@ fn memory_for(
     Ok((sessions, rows))
 }
 
+/// For how many items a round makes room at first: as many as a turn of the desk has at most, so that no later round makes the lists
+/// anew. Of the room only what is used is touched.
+const ITEMS_AT_FIRST: usize = 512;
+
 // Makes room for a round of so many items in lists that are empty, and says whether there is.
 fn reserve(journal: &mut Vec<Entry>, outs: &mut Vec<OutRecord>, items: usize) -> bool
     requires few { items < 2 ^ 16 }
@@ -90,6 +94,20 @@ fn reserve(journal: &mut Vec<Entry>, outs: &mut Vec<OutRecord>, items: usize) ->
         return false;
     }
     outs.reserve(OUTS * items + TIMED_OUTS).is_ok()
+}
+
+// The same, with room for a full round where there is memory for that.
+fn reserve_amply(journal: &mut Vec<Entry>, outs: &mut Vec<OutRecord>, items: usize) -> bool
+    requires few { items < 2 ^ 16 }
+    requires none { (journal.old.items ≡ []) × (outs.old.items ≡ []) }
+    ensures none_still { (journal.new.items ≡ []) × (outs.new.items ≡ []) }
+    ensures journal { result ≡ true → items ≤ vec_capacity journal.new }
+    ensures outs { result ≡ true → 10 * items + 640 ≤ vec_capacity outs.new }
+{
+    if items < ITEMS_AT_FIRST && reserve(journal, outs, ITEMS_AT_FIRST) {
+        return true;
+    }
+    reserve(journal, outs, items)
 }
 
 impl Shard {
@@ -128,7 +146,7 @@ impl Shard {
     {
         let items = usize::from(items);
         self.room = 0;
-        if !reserve(&mut self.journal, &mut self.outs, items) {
+        if !reserve_amply(&mut self.journal, &mut self.outs, items) {
             return Err(ShardError::OutOfMemory);
         }
         self.room = items;
