@@ -1,5 +1,6 @@
-/* Two tools for lab/bench. `loop` forwards as the gateway does, but looks at nothing: one recvfrom and one sendto a
-   packet, and a poll where nothing is there. `load` sends frames and counts the packets that come back. */
+/* Three tools for lab/bench. `loop` forwards as the gateway does, but looks at nothing: one recvfrom and one sendto a
+   packet, and a poll where nothing is there. `load` sends frames as fast as they come back and counts these; `pace` sends
+   them one by one at an even pace. */
 #define _GNU_SOURCE
 #include <arpa/inet.h>
 #include <errno.h>
@@ -103,11 +104,40 @@ static int load(char **words) {
     return 0;
 }
 
+/* pace OUT_FD IN_FD PORT SECONDS RATE: the same, one frame after the other, RATE of them a second */
+static int pace(char **words) {
+    int outward = atoi(words[0]), inward = atoi(words[1]);
+    struct sockaddr_in to = loopback(words[2]);
+    static char frame[LONGEST], room[LONGEST];
+    size_t length = fread(frame, 1, sizeof frame, stdin);
+    long came = 0, sent = 0, most = (long)(atof(words[3]) * atof(words[4]));
+    double start = seconds(), rate = atof(words[4]), quiet = start;
+    while (sent < most || (came < sent && seconds() - quiet < 0.2)) {
+        double now = seconds();
+        if (sent < most && now - start >= (double)sent / rate) {
+            sendto(outward, frame, length, 0, (struct sockaddr *)&to, sizeof to);
+            sent++;
+            quiet = now;
+        }
+        struct pollfd wait = {inward, POLLIN, 0};
+        double left = start + (double)sent / rate - seconds();
+        struct timespec most_wait = {0, sent == most ? 1000000 : left > 0 ? (long)(left * 1e9) : 0};
+        if (ppoll(&wait, 1, &most_wait, NULL) > 0)
+            while (recv(inward, room, sizeof room, MSG_DONTWAIT) >= 0)
+                came++;
+    }
+    printf("%ld %ld %.6f\n", came, sent - came, seconds() - start);
+    return 0;
+}
+
 int main(int count, char **words) {
     if (count == 7 && strcmp(words[1], "loop") == 0)
         return forward(words + 2);
     if (count == 6 && strcmp(words[1], "load") == 0)
         return load(words + 2);
-    fprintf(stderr, "usage: bench loop ACCESS CORE CORE_PEER ACCESS_PEER CONTROL | bench load OUT_FD IN_FD PORT SECONDS\n");
+    if (count == 7 && strcmp(words[1], "pace") == 0)
+        return pace(words + 2);
+    fprintf(stderr, "usage: bench loop ACCESS CORE CORE_PEER ACCESS_PEER CONTROL | bench load OUT_FD IN_FD PORT SECONDS"
+                    " | bench pace OUT_FD IN_FD PORT SECONDS RATE\n");
     return 1;
 }

@@ -1,5 +1,8 @@
 """Measures what the real program forwards between a subscriber and the core, beside a plain loop in C, both over sockets of
-the loopback, in turns on the same machine. The numbers are of this machine and this moment; the ratios say more."""
+the loopback, in turns on the same machine. The numbers are of this machine and this moment; the ratios say more.
+
+Saturated: as many packets as come back, with 4 and with 64 shards. Paced: 2,500 packets a second, with 1 and with 64 shards,
+and with many sessions beside the one circuit, in processor time a packet."""
 
 import collections
 import os
@@ -7,11 +10,18 @@ import shutil
 import statistics
 import subprocess
 import sys
+import tempfile
 
+from crowd import open_sessions
 from gateway import HOME, Lab, frame, packet
 
 BUILDING = 4 * 3600
 SIZES = (64, 576, 1400)
+SHARDS = (4, 64)
+PACE = 2500
+SESSIONS = 16000
+# Shards and sessions, which send no echoes.
+PACED = ((1, 0), (64, 0), (64, SESSIONS))
 TICKS = os.sysconf("SC_CLK_TCK")
 
 
@@ -30,15 +40,17 @@ class Spent:
 Run = collections.namedtuple("Run", "pace used faults came lost")
 
 
-def measure(tool, lab, way, size, seconds):
+def measure(tool, lab, way, size, seconds, rate=None):
     before = Spent(lab.program.pid)
     if way == "up":
         ends, to = (lab.access.fileno(), lab.core.fileno()), "access"
-        octets = frame(packet(length=size))
+        octets = frame(packet(length=size), session=lab.session)
     else:
         ends, to = (lab.core.fileno(), lab.access.fileno()), "core"
         octets = packet("192.0.2.1", "10.0.0.2", length=size)
-    command = [tool, "load", *map(str, ends), str(lab.ports[to]), str(seconds)]
+    command = [tool, "pace" if rate else "load", *map(str, ends), str(lab.ports[to]), str(seconds)]
+    if rate:
+        command.append(str(rate))
     done = subprocess.run(
         command, input=octets, stdout=subprocess.PIPE, pass_fds=ends, timeout=seconds + 20, check=True
     )
@@ -66,24 +78,21 @@ def table(results):
     print("A ratio is ours to plain C's: in packets for the same wall time, and for the same processor time.")
 
 
-def main(rounds=5, seconds=1.0):
-    compiler = shutil.which("cc") or shutil.which("gcc") or shutil.which("clang")
-    if compiler is None:
-        print("bench: it measures beside a loop in C, and there is no C compiler here", file=sys.stderr)
-        return 1
-    with Lab() as plain, Lab() as ours:
-        tool = os.path.join(plain.folder, "bench")
-        source = os.path.join(os.path.dirname(os.path.abspath(__file__)), "bench.c")
-        subprocess.run([compiler, "-O2", "-Wall", "-o", tool, source], check=True)
-        ours.start([os.path.join(HOME, "bng"), "serve", ours.configuration], patience=BUILDING, stderr=None)
+def serve(lab):
+    lab.start([os.path.join(HOME, "bng"), "serve", lab.configuration], patience=BUILDING, stderr=None)
+
+
+def compare(tool, shards, rounds, seconds):
+    """The gateway with so many shards beside the plain loop, in turns."""
+    with Lab() as plain, Lab(f"shards = {shards}\n") as ours:
+        serve(ours)
         peers = [plain.core.getsockname()[1], plain.access.getsockname()[1]]
         ports = [plain.ports["access"], plain.ports["core"], *peers, plain.ports["control"]]
         plain.start([tool, "loop", *map(str, ports)])
         results = {(way, size): ([], []) for way in ("up", "down") for size in SIZES}
         octets = {"up": 0, "down": 0}
         lost = 0
-        machine = f"{os.cpu_count()} processors, load {os.getloadavg()[0]:.1f}"
-        print(f"{rounds} runs of {seconds} s at each size, in turns; {machine}")
+        print(f"\n{shards} shards, saturated: {rounds} runs of {seconds} s at each size, in turns")
         for way, size in results:
             for turn in range(rounds + 1):
                 for lab, runs in zip((plain, ours), results[way, size]):
@@ -102,6 +111,35 @@ def main(rounds=5, seconds=1.0):
         said = out.splitlines()[0]
         print(f"The report says {said}, and in={octets['up']} out={octets['down']} came, {lost} packets lost on the way.")
         return status
+
+
+def pace(tool, shards, sessions, rounds, seconds):
+    """Processor microseconds a packet at an even pace, to the core: the median."""
+    with Lab(f"shards = {shards}\necho = 0\n", session=1) as lab:
+        serve(lab)
+        if sessions:
+            open_sessions(lab, sessions)
+        runs = [measure(tool, lab, "up", 576, seconds, PACE) for _ in range(rounds)]
+        middle = median(runs)
+        print(f"{shards:6} {sessions:9} {middle.pace:12,.0f} {middle.used:10.2f} {middle.faults:19.4f} {sum(run.lost for run in runs):6}")
+        lab.send(b"stop", lab.control, "control")
+        return lab.end(60)[0]
+
+
+def main(rounds=5, seconds=1.0):
+    compiler = shutil.which("cc") or shutil.which("gcc") or shutil.which("clang")
+    if compiler is None:
+        print("bench: it measures beside a loop in C, and there is no C compiler here", file=sys.stderr)
+        return 1
+    with tempfile.TemporaryDirectory(prefix="bng-bench-") as folder:
+        tool = os.path.join(folder, "bench")
+        source = os.path.join(os.path.dirname(os.path.abspath(__file__)), "bench.c")
+        subprocess.run([compiler, "-O2", "-Wall", "-o", tool, source], check=True)
+        print(f"{os.cpu_count()} processors, load {os.getloadavg()[0]:.1f}")
+        failed = any([compare(tool, shards, rounds, seconds) for shards in SHARDS])
+        print(f"\nPaced, {PACE} packets a second of 576 octets to the core, {rounds} runs of {seconds} s")
+        print("shards  sessions    packets/s  us/packet  page faults/packet   lost")
+        return int(failed or any([pace(tool, *kind, rounds, seconds) for kind in PACED]))
 
 
 if __name__ == "__main__":

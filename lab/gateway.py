@@ -117,7 +117,11 @@ def bound_ports():
 
 class Lab:
     """A folder and the sockets of all parties. `access`, `core`, `control` and `stranger` are ours; `ports` has the
-    gateway's ends. Leaving it ends what it started."""
+    gateway's ends. Leaving it ends what it started. `keys` are lines more of the configuration's table `gateway`,
+    and `session` is the SESSION_ID of the circuit."""
+
+    def __init__(self, keys="", session=1025):
+        self.keys, self.session = keys, session
 
     def __enter__(self):
         self.folder = tempfile.mkdtemp(prefix="bng-lab-")
@@ -133,7 +137,9 @@ class Lab:
                 **self.ports,
                 core_peer=self.core.getsockname()[1],
                 access_peer=self.access.getsockname()[1],
-            ),
+            )
+            .replace("[core]", self.keys + "[core]")
+            .replace("session = 1025", f"session = {self.session}"),
         )
         return self
 

@@ -1,10 +1,10 @@
 -- What one stretch of a run adds to what the outside tells.
-use Rattle.std.specs.Prelude.{◌≡◌, Bool, true, false, ◌||◌, List, [], ◌++◌}
+use Rattle.std.specs.Prelude.{◌≡◌, ℕ, ◌+◌, Bool, true, false, ◌||◌, List, [], ◌++◌}
 use Rattle.bng_base.specs.declared.outside.Datagram.{Datagram}
 use Rattle.bng_base.specs.declared.outside.Heard.{Heard}
 use Rattle.bng_base.specs.declared.outside.ClockAnswer.{ClockAnswer}
 use Rattle.bng_base.specs.declared.round.RoundRecord.{RoundRecord}
-use Rattle.bng_base.specs.Causes.{HasCause}
+use Rattle.bng_base.specs.Causes.{HasCause, HasCauses}
 use Rattle.bng_base.specs.Told.{PlantTold, ClockTold, TraceTold, Grows, GrowsIfTold}
 
 -- what the objects that a turn uses tell
@@ -13,26 +13,26 @@ pub record Outside : Type 0 where
   pub clock : ClockTold
   pub trace : TraceTold
 
--- receives and waits, datagrams in and out, and whether a receive or a send failed
+-- receives and waits, datagrams in and out, and how many receives and sends failed
 pub record PlantStretch : Type 0 where
   pub heard : List Heard
   pub taken : List Datagram
   pub sent : List Datagram
-  pub failed : Bool
+  pub failed : ℕ
 
 abbrev pub plant_none : PlantStretch
-plant_none = record { heard = []; taken = []; sent = []; failed = false }
+plant_none = record { heard = []; taken = []; sent = []; failed = 0 }
 
 abbrev pub plant_joined : PlantStretch → PlantStretch → PlantStretch
-plant_joined a b = record { heard = a.heard ++ b.heard; taken = a.taken ++ b.taken; sent = a.sent ++ b.sent; failed = a.failed || b.failed }
+plant_joined a b = record { heard = a.heard ++ b.heard; taken = a.taken ++ b.taken; sent = a.sent ++ b.sent; failed = a.failed + b.failed }
 
--- what is told grew by these, no role was bound, and where something failed the count rose
+-- what is told grew by these, no role was bound, and the count rose as often as something failed
 pub record ExtendsPlant (old new : PlantTold) (p : PlantStretch) : Type 0 where
   pub bound : new.bound ≡ old.bound
   pub heard : GrowsIfTold old.heard new.heard p.heard
   pub taken : Grows old.taken new.taken p.taken
   pub sent : Grows old.sent new.sent p.sent
-  pub cause : HasCause old.faults new.faults (p.failed ≡ true)
+  pub causes : HasCauses old.faults new.faults p.failed
 
 -- moments and rounds beside these, and whether a note failed
 pub record Stretch : Type 0 where

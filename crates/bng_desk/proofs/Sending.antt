@@ -1,6 +1,6 @@
 -- A shard's outs are sent, one after the other.
-use Rattle.std.proofs.Common.{◌≡◌, ℕ, ◌+◌, ◌≤◌, Bool, true, false, ◌&&◌, ◌||◌, not, cond, List, [], ◌∷◌, ◌++◌, map, Option, Some, None, is_some, length, length-append, refl, sym, ap, subst, ◌∙◌, arith, append-nil, append_assoc}
-use Rattle.std.specs.List.{All, count_by, list_any}
+use Rattle.std.proofs.Common.{◌≡◌, ℕ, ◌+◌, ◌≤◌, Bool, true, false, ◌&&◌, not, cond, List, [], ◌∷◌, ◌++◌, map, Option, Some, None, is_some, length, length-append, refl, sym, ap, subst, ◌∙◌, arith, append-nil, append_assoc}
+use Rattle.std.specs.List.{All, count_by}
 use Rattle.std.proofs.lemmas.List.{length-map, map-append}
 use Rattle.std.proofs.lemmas.List.Elements.{All-map, All-weaker}
 use Rattle.std.proofs.lemmas.List.Sums.{sum_by-le-sum_by, sum_by_push, sum_by-append}
@@ -26,10 +26,10 @@ use Rattle.bng_shard.specs.Sums.{IsLow, charged_as}
 use Rattle.bng_desk.specs.declared.drops.Drops.{Drops}
 use Rattle.bng_desk.specs.Counting.{plus, Within}
 use Rattle.bng_desk.specs.Reading.{sending}
-use Rattle.bng_desk.specs.Round.{is_failed, with_failed, sends_stretch}
+use Rattle.bng_desk.specs.Round.{is_failed, with_failed, not_sent, sends_stretch}
 use Rattle.bng_desk.specs.Taking.{is_lost, Sends}
 use Rattle.bng_desk.proofs.DropLaws.{same}
-use Rattle.bng_desk.proofs.Going.{any_pushed}
+use Rattle.bng_desk.proofs.Going.{count_pushed}
 
 -- some of its outs were sent, and these are left
 pub record SendsSome (v w : Sight State Entry) (old new : PlantTold) (outs outs' : List OutRecord) (rest : List OutRecord) (drops drops' : Drops) : Type 0 where
@@ -72,15 +72,14 @@ one_went : (r : OutRecord) (sent : Bool) → r.sent ≡ sent → cond sent (data
 one_went r true e = sym (ap (λ (b : Bool). map datagram_of (cond b (r ∷ []) [])) e)
 one_went r false e = sym (ap (λ (b : Bool). map datagram_of (cond b (r ∷ []) [])) e)
 
-abbrev made : List Datagram → Bool → PlantStretch
+abbrev made : List Datagram → ℕ → PlantStretch
 made sent failed = record { heard = []; taken = []; sent = sent; failed = failed }
 
 stretch_more : (records : List OutRecord) (r : OutRecord) → plant_joined (sends_stretch records) (sending r.role r.to r.frame r.sent) ≡ sends_stretch (records ++ r ∷ [])
 stretch_more records r =
     let sent : went records ++ cond r.sent (datagram_of r ∷ []) [] ≡ went (records ++ r ∷ []) =
     ap (λ (ds : List Datagram). went records ++ ds) (one_went r r.sent refl) ∙ sym (went_append records (r ∷ [])) in
-    let failed : (list_any (λ (o : OutRecord). not o.sent) records || not r.sent) ≡ list_any (λ (o : OutRecord). not o.sent) (records ++ r ∷ []) = sym (any_pushed (λ (o : OutRecord). not o.sent) records r) in
-    ap (λ (ds : List Datagram). made ds (list_any (λ (o : OutRecord). not o.sent) records || not r.sent)) sent ∙ ap (λ (b : Bool). made (went (records ++ r ∷ [])) b) failed
+    ap (λ (ds : List Datagram). made ds (count_by not_sent records + one_if (not_sent r))) sent ∙ ap (λ (n : ℕ). made (went (records ++ r ∷ [])) n) (count_pushed not_sent records r)
 
 -- Octets ----------------------------------------------------------------------------------------------------------------
 

@@ -1,10 +1,9 @@
 -- The shards are settled, one after the other.
-use Rattle.std.proofs.Common.{◌≡◌, ℕ, ◌+◌, ◌<◌, ◌≤◌, Bool, ◌||◌, not, List, [], ◌∷◌, ◌++◌, map, length, take, drop, get_or, set, refl, sym, ap, subst, ◌∙◌, arith, append-nil, length-append}
-use Rattle.std.specs.List.{All, AllByRecursion, AllZip, count_by, flat_map, list_any, sum_by}
+use Rattle.std.proofs.Common.{◌≡◌, ℕ, ◌+◌, ◌<◌, ◌≤◌, List, [], ◌∷◌, ◌++◌, map, length, take, drop, get_or, set, refl, sym, ap, subst, ◌∙◌, arith, append-nil, length-append}
+use Rattle.std.specs.List.{All, AllByRecursion, AllZip, count_by, flat_map, sum_by}
 use Rattle.std.proofs.lemmas.List.{length-map, map-append, take_more, take_more_set, take_all, drop-set-lt, drop-drop}
 use Rattle.std.proofs.lemmas.List.Concat.{flat_map-append}
 use Rattle.std.proofs.lemmas.List.Elements.{recursion_from_All, All-from_recursion}
-use Rattle.std.proofs.lemmas.List.Folds.{list_any-append}
 use Rattle.std.proofs.lemmas.List.Sums.{sum_by-append, sum_by-cons}
 use Rattle.bng_base.specs.declared.item.Entry.{Entry}
 use Rattle.bng_base.specs.declared.item.OutRecord.{OutRecord}
@@ -23,7 +22,7 @@ use Rattle.bng_shard.specs.State.{State, settled}
 use Rattle.bng_shard.specs.Sums.{IsLow}
 use Rattle.bng_desk.specs.declared.drops.Drops.{Drops}
 use Rattle.bng_desk.specs.Counting.{plus}
-use Rattle.bng_desk.specs.Round.{is_failed, with_failed, sends_stretch}
+use Rattle.bng_desk.specs.Round.{is_failed, with_failed, not_sent, sends_stretch}
 use Rattle.bng_desk.specs.Taking.{IsEmpty, AreInOrder, Sends}
 use Rattle.bng_desk.proofs.Readying.{Shards, order_kept}
 use Rattle.bng_desk.proofs.Zips.{zip_push}
@@ -83,13 +82,13 @@ joined_count (v ∷ vs) (rs ∷ rss) h =
 
 -- What is told ----------------------------------------------------------------------------------------------------------
 
-abbrev made : List Datagram → Bool → PlantStretch
+abbrev made : List Datagram → ℕ → PlantStretch
 made sent failed = record { heard = []; taken = []; sent = sent; failed = failed }
 
 stretches : (a b : List OutRecord) → plant_joined (sends_stretch a) (sends_stretch b) ≡ sends_stretch (a ++ b)
 stretches a b =
-    ap (λ (ds : List Datagram). made ds (list_any (λ (o : OutRecord). not o.sent) a || list_any (λ (o : OutRecord). not o.sent) b)) (sym (went_append a b))
-    ∙ ap (λ (failed : Bool). made (went (a ++ b)) failed) (sym (list_any-append (λ (o : OutRecord). not o.sent) a b))
+    ap (λ (ds : List Datagram). made ds (count_by not_sent a + count_by not_sent b)) (sym (went_append a b))
+    ∙ ap (λ (n : ℕ). made (went (a ++ b)) n) (sym (sum_by-append (λ (o : OutRecord). one_if (not_sent o)) a b))
 
 -- One after the other ---------------------------------------------------------------------------------------------------
 

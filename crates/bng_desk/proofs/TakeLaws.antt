@@ -16,7 +16,7 @@ use Rattle.bng_base.specs.FateOf.{Arrival}
 use Rattle.bng_base.specs.Packet.{Packet}
 use Rattle.bng_base.specs.Told.{PlantTold}
 use Rattle.bng_base.specs.Stretch.{PlantStretch, plant_joined, ExtendsPlant}
-use Rattle.bng_base.proofs.StretchLaws.{plant_assoc, plant_right, plant_more, plant_stays}
+use Rattle.bng_base.proofs.StretchLaws.{plant_assoc, plant_left, plant_right, plant_more, plant_stays}
 use Rattle.bng_desk.specs.declared.reading.Ended.{Ended}
 use Rattle.bng_desk.specs.declared.reading.Ended.TheVariants.{Full, Dry, Broken}
 use Rattle.bng_desk.specs.Items.{DataReading, kind_of, arrived, taken_items, drawn_from}
@@ -33,7 +33,7 @@ made kind from cut headroom payload random = record { kind = kind; from = from; 
 
 -- what the receives of these add
 abbrev pub taking : Role → List Arrival → PlantStretch
-taking role arrivals = record { heard = receives role arrivals; taken = taken_in role arrivals; sent = []; failed = false }
+taking role arrivals = record { heard = receives role arrivals; taken = taken_in role arrivals; sent = []; failed = 0 }
 
 taking_more : (role : Role) (bs : List Arrival) (a : Arrival) → plant_joined (taking role bs) (receiving role (Got a.from a.cut) a.octets) ≡ taking role (bs ++ a ∷ [])
 taking_more role bs a =
@@ -120,7 +120,7 @@ taken_within most n Broken ends = omega arith
 -- Roles one after the other ---------------------------------------------------------------------------------------------
 
 stretch_joined : (rs ss : List DataReading) → plant_joined (data_stretch rs) (data_stretch ss) ≡ data_stretch (rs ++ ss)
-stretch_joined [] ss = refl
+stretch_joined [] ss = plant_left (data_stretch ss)
 stretch_joined (r ∷ rs) ss = plant_assoc (reading_stretch r) (data_stretch rs) (data_stretch ss) ∙ ap (plant_joined (reading_stretch r)) (stretch_joined rs ss)
 
 is_empty_append : {X : Type 0} (xs ys : List X) → is_empty (xs ++ ys) ≡ (is_empty xs && is_empty ys)

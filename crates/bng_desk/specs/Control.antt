@@ -1,5 +1,5 @@
 -- The words of the Control role.
-use Rattle.std.specs.Prelude.{◌≡◌, ℕ, ◌/◌, ◌==◌, Bool, not, ◌&&◌, ◌||◌, List, [], ◌∷◌, length, map, codes, if◌then◌else◌}
+use Rattle.std.specs.Prelude.{◌≡◌, ℕ, ◌/◌, ◌==◌, Bool, not, ◌&&◌, ◌||◌, List, [], ◌∷◌, length, map, codes, count_by, if◌then◌else◌}
 use Rattle.std.specs.List.{filter, list_any}
 use Rattle.std.specs.Str.{bytes_eq}
 use Rattle.bng_base.specs.declared.outside.Datagram.{Datagram}
@@ -7,6 +7,7 @@ use Rattle.bng_base.specs.declared.outside.Role.TheVariants.{Control}
 use Rattle.bng_base.specs.FateOf.{Arrival}
 use Rattle.bng_base.specs.Told.{PlantTold}
 use Rattle.bng_base.specs.Stretch.{PlantStretch, plant_joined, ExtendsPlant}
+use Rattle.bng_engine.specs.Sums.{one_if}
 use Rattle.bng_desk.specs.declared.reading.Ended.{Ended}
 use Rattle.bng_desk.specs.declared.control.Heeding.{Heeding}
 use Rattle.bng_desk.specs.Reading.{receives, taken_in, ending_stretch, EndsRight, is_empty}
@@ -45,13 +46,13 @@ reply_text a = if is_stop a then codes "stopping\n" else codes "unknown\n"
 abbrev pub reply : Heeded → Datagram
 reply h = record { role = Control; peer = h.arrival.from; octets = reply_text h.arrival }
 
--- what these datagrams and the answers to them add to what the plant tells
+-- what these datagrams and the answers to them add to what the plant tells; each answer that was not sent had failed
 abbrev pub heeding : List Heeded → PlantStretch
 heeding heeded = record {
   heard = receives Control (map (λ h. h.arrival) heeded);
   taken = taken_in Control (map (λ h. h.arrival) heeded);
   sent = map reply (filter is_answered heeded);
-  failed = list_any is_unanswered heeded;
+  failed = count_by is_unanswered heeded;
 }
 
 -- what the reading of Control adds
@@ -60,7 +61,7 @@ control_stretch heeded ended = plant_joined (heeding heeded) (ending_stretch Con
 
 -- what the answer to one datagram adds
 abbrev pub answering : Heeded → PlantStretch
-answering h = record { heard = []; taken = []; sent = if is_answered h then reply h ∷ [] else []; failed = is_unanswered h }
+answering h = record { heard = []; taken = []; sent = if is_answered h then reply h ∷ [] else []; failed = one_if (is_unanswered h) }
 
 -- a datagram of Control was answered, or is of another sender
 pub record Answers (old new : PlantTold) (a : Arrival) (stop : Bool) : Type 0 where

@@ -10,6 +10,7 @@ use Rattle.bng_base.specs.declared.outside.Received.TheVariants.{Got, Empty, Fai
 use Rattle.bng_base.specs.Told.{taken_by}
 use Rattle.bng_base.specs.FateOf.{Arrival}
 use Rattle.bng_base.specs.Stretch.{PlantStretch}
+use Rattle.bng_engine.specs.Sums.{one_if}
 use Rattle.bng_desk.specs.declared.reading.Ended.{Ended}
 use Rattle.bng_desk.specs.declared.reading.Ended.TheVariants.{Full, Dry, Broken}
 
@@ -40,7 +41,7 @@ is_broken Broken = true
 
 -- what the end of a reading adds to what the plant tells
 abbrev pub ending_stretch : Role → Ended → PlantStretch
-ending_stretch role ended = record { heard = last_receive role ended; taken = []; sent = []; failed = is_broken ended }
+ending_stretch role ended = record { heard = last_receive role ended; taken = []; sent = []; failed = one_if (is_broken ended) }
 
 abbrev pub is_empty : {X : Type 0} → List X → Bool
 is_empty [] = true
@@ -53,8 +54,8 @@ is_failed Empty = false
 is_failed Failed = true
 
 abbrev pub receiving : Role → Received → List ℕ → PlantStretch
-receiving role answer octets = record { heard = Receive role answer ∷ []; taken = taken_by role answer octets; sent = []; failed = is_failed answer }
+receiving role answer octets = record { heard = Receive role answer ∷ []; taken = taken_by role answer octets; sent = []; failed = one_if (is_failed answer) }
 
 -- what a send adds, by whether it was sent
 abbrev pub sending : Role → Peer → List ℕ → Bool → PlantStretch
-sending role to octets sent = record { heard = []; taken = []; sent = if sent then record { role = role; peer = to; octets = octets } ∷ [] else []; failed = not sent }
+sending role to octets sent = record { heard = []; taken = []; sent = if sent then record { role = role; peer = to; octets = octets } ∷ [] else []; failed = one_if (not sent) }

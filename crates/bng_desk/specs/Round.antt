@@ -1,6 +1,6 @@
 -- A round and its settlement.
 use Rattle.std.specs.Prelude.{◌≡◌, ℕ, ◌+◌, Bool, not, ◌&&◌, List, [], ◌∷◌, ◌++◌, map, filter, length, replicate, is_some, count_by}
-use Rattle.std.specs.List.{AllZip, flat_map, list_any}
+use Rattle.std.specs.List.{AllZip, flat_map}
 use Rattle.bng_base.specs.declared.address.Ip4.{Ip4}
 use Rattle.bng_base.specs.declared.fate.Fate.{Fate}
 use Rattle.bng_base.specs.declared.item.Entry.{Entry}
@@ -71,9 +71,13 @@ with_failed n = record no_drops { link_failed = n }
 abbrev pub drops_in : List Item → Round → Drops
 drops_in items round = plus (drops_of (fates_in items round)) (with_failed (count_by is_failed (all_records round.shards)))
 
--- what its sends add to what the plant tells
+-- a send that the plant did not take
+abbrev pub not_sent : OutRecord → Bool
+not_sent o = not o.sent
+
+-- what its sends add to what the plant tells; each that was not sent had failed
 abbrev pub sends_stretch : List OutRecord → PlantStretch
-sends_stretch records = record { heard = []; taken = []; sent = went records; failed = list_any (λ o. not o.sent) records }
+sends_stretch records = record { heard = []; taken = []; sent = went records; failed = count_by not_sent records }
 
 -- what the trace is told of it; no term may begin
 abbrev pub record_of : ℕ → ℕ → ℕ → List Item → Round → RoundRecord

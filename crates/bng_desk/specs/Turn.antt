@@ -121,11 +121,11 @@ waits true ms = Wait ms ∷ []
 waits false ms = []
 
 abbrev pub waiting_stretch : Bool → ℕ → PlantStretch
-waiting_stretch idle ms = record { heard = waits idle ms; taken = []; sent = []; failed = false }
+waiting_stretch idle ms = record { heard = waits idle ms; taken = []; sent = []; failed = 0 }
 
 -- what the reading of a role adds
 abbrev pub reading_stretch : DataReading → PlantStretch
-reading_stretch r = plant_joined (record { heard = receives r.role r.arrivals; taken = taken_in r.role r.arrivals; sent = []; failed = false }) (ending_stretch r.role r.ended)
+reading_stretch r = plant_joined (record { heard = receives r.role r.arrivals; taken = taken_in r.role r.arrivals; sent = []; failed = 0 }) (ending_stretch r.role r.ended)
 
 -- what these readings add, one after the other
 abbrev pub data_stretch : List DataReading → PlantStretch

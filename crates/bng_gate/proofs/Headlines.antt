@@ -1,12 +1,10 @@
 -- The headline of a run, from its turns.
-use Rattle.std.proofs.Common.{◌≡◌, ℕ, List, [], map, Option, refl, sym, ap, subst, ◌∙◌}
+use Rattle.std.proofs.Common.{◌≡◌, ℕ, List, [], map, Option, refl, sym, ap, subst, ◌∙◌, arith}
 use Rattle.std.specs.List.{AllByRecursion, AllZip, range_with_len}
-use Rattle.std.proofs.lemmas.Bool.{false_from_ne_true}
 use Rattle.bng_base.specs.declared.outside.Datagram.{Datagram}
 use Rattle.bng_base.specs.declared.outside.Heard.{Heard}
 use Rattle.bng_base.specs.Chain.{Chain}
 use Rattle.bng_base.specs.Told.{Grows, GrowsIfTold}
-use Rattle.bng_base.proofs.ToldLaws.{rose_late}
 use Rattle.bng_config.specs.declared.config.Config.{Config}
 use Rattle.bng_config.specs.Configuration.{IsRead}
 use Rattle.bng_config.specs.Rules.{KeepsRules}
@@ -42,7 +40,7 @@ use Rattle.bng_gate.proofs.Follows.{Follows, run_follows, lines_stay}
 use Rattle.bng_gate.proofs.Going.{Leads, stands_itself, rounds_lead, by_turns}
 use Rattle.bng_gate.proofs.Keys.{HasKeys, HasRows, IsKeyOf, IsOurs, all_keys, opened_keys, all_keys_known, run_keys, run_ours, run_stops, rows_have, world_keys}
 use Rattle.bng_gate.proofs.Openings.{opens}
-use Rattle.bng_gate.proofs.Telling.{sent_are, taken_are, unfailing_went}
+use Rattle.bng_gate.proofs.Telling.{sent_are, taken_are, unsent_failed}
 use Rattle.bng_gate.proofs.Traffic.{traffic_same, input_all, output_all}
 
 module _ (config : Config) (rules : KeepsRules config) (seed : List ℕ) (old new : World) (run : Runs config seed (outside old) (outside new) old.out new.out) where
@@ -147,8 +145,7 @@ module _ (config : Config) (rules : KeepsRules config) (seed : List ℕ) (old ne
     printed = subst (λ (text : List ℕ). Grows old.out.bytes new.out.bytes text) report run.printed;
     all_input = input_all config rules run.last.shards rows run.last.holders sent rounds sends stops on_wire;
     all_output = output_all config rules run.last.shards rows run.last.holders sent rounds sends stops on_wire;
-    unfailing = λ unfailed.
-        unfailing_went run.turns run.endings (false_from_ne_true (plant_of run.turns run.endings).failed (λ f. unfailed (rose_late old.plant.faults run.opening_outside.plant.faults new.plant.faults run.begins.binds.later (run.told.plant.cause.cause f))));
+    unsent = record { later = omega (arith, run.begins.binds.later, run.told.plant.causes.later); rose = omega (arith, run.begins.binds.later, run.told.plant.causes.rose, unsent_failed run.turns run.endings) };
   }
 
 pub headline : (text : List ℕ) (config : Config) (seed : List ℕ) (old new : World) → IsRead text config → Runs config seed (outside old) (outside new) old.out new.out → Headline config old new

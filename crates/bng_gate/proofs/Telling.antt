@@ -1,11 +1,11 @@
 -- What the turns of a run tell: what they took on the access ports and the core, and what their rounds sent.
-use Rattle.std.proofs.Common.{◌≡◌, ◌||◌, ℕ, zero, suc, ◌+◌, Bool, true, false, not, cond, List, [], ◌∷◌, ◌++◌, map, Option, Some, None, refl, sym, ap, subst, ◌∙◌, append-nil}
+use Rattle.std.proofs.Common.{◌≡◌, ◌||◌, ℕ, zero, suc, ◌+◌, Bool, true, false, not, cond, List, [], ◌∷◌, ◌++◌, map, Option, Some, None, refl, sym, ap, subst, ◌∙◌, append-nil, ◌≤◌, arith}
 use Rattle.std.specs.Prelude.{filter}
-use Rattle.std.specs.List.{AllByRecursion, flat_map, list_any, range_with_len}
-use Rattle.std.proofs.lemmas.Bool.{or_parts}
+use Rattle.std.specs.List.{AllByRecursion, count_by, flat_map, range_with_len}
 use Rattle.std.proofs.lemmas.List.Concat.{flat_map-append}
 use Rattle.std.proofs.lemmas.List.Elements.{filter-append}
 use Rattle.std.proofs.lemmas.List.Folds.{flat_map-map}
+use Rattle.std.proofs.lemmas.List.Sums.{sum_by-append}
 use Rattle.bng_base.specs.declared.item.OutRecord.{OutRecord}
 use Rattle.bng_base.specs.declared.outside.Datagram.{Datagram}
 use Rattle.bng_base.specs.declared.outside.Role.{Role}
@@ -15,15 +15,15 @@ use Rattle.bng_base.specs.Roles.{is_data}
 use Rattle.bng_engine.specs.Laws.{sends_of}
 use Rattle.bng_engine.specs.Progress.{all_records}
 use Rattle.bng_engine.specs.Run.{Part}
+use Rattle.bng_engine.specs.Sums.{one_if}
 use Rattle.bng_engine.specs.Wire.{went}
-use Rattle.bng_engine.proofs.Everywhere.{all_append}
 use Rattle.bng_engine.proofs.Wire.{went_append}
 use Rattle.bng_shard.specs.Deed.{Deed}
 use Rattle.bng_desk.specs.Control.{Heeded, reply, is_answered}
 use Rattle.bng_desk.specs.Items.{DataReading}
 use Rattle.bng_desk.specs.Model.{Desk}
 use Rattle.bng_desk.specs.Reading.{taken_in}
-use Rattle.bng_desk.specs.Round.{Round}
+use Rattle.bng_desk.specs.Round.{Round, not_sent}
 use Rattle.bng_desk.specs.Turn.{Turn, EndTurn, Step, data_stretch, round_stretch, stretch_of, end_stretch}
 use Rattle.bng_gate.specs.Rounds.{round_in, end_round_in, rounds_in, part_in, parts_in, rounds_of, plant_of, on_data, readings_in, readings_of}
 use Rattle.bng_gate.specs.Serving.{Made, MadeEnd, Run, run_stretch, ending_stretch}
@@ -173,49 +173,52 @@ taken_are d d' turns endings run =
     ∙ ap on_data (append-nil (run_stretch turns).plant.taken)
     ∙ turns_taken d d' turns run
 
--- Where nothing failed --------------------------------------------------------------------------------------------------
+-- What failed --------------------------------------------------------------------------------------------------------
 
-all_went : (os : List OutRecord) → list_any (λ o. not o.sent) os ≡ false → AllByRecursion (λ o. o.sent ≡ true) os
-all_went [] e = tt
-all_went (o ∷ os) e =
-    let parts = or_parts (not o.sent) (list_any (λ (x : OutRecord). not x.sent) os) e in
-    (not_not o.sent parts.0, all_went os parts.1)
-  where
-    not_not : (b : Bool) → not b ≡ false → b ≡ true
-    not_not true e = refl
-    not_not false e = absurd cc
+unsent_append : (as' bs : List OutRecord) → count_by not_sent (as' ++ bs) ≡ count_by not_sent as' + count_by not_sent bs
+unsent_append as' bs = sum_by-append (λ (o : OutRecord). one_if (not_sent o)) as' bs
 
-round_went : (round : Option Round) → (round_stretch round).failed ≡ false → AllByRecursion (λ o. o.sent ≡ true) (sends_in round)
-round_went None e = tt
-round_went (Some round) e = all_went (all_records round.shards) e
+round_failed : (round : Option Round) → (round_stretch round).failed ≡ count_by not_sent (sends_in round)
+round_failed None = refl
+round_failed (Some round) = refl
 
-turn_went : (d : Desk) (t : Option Turn) → (stretch_of d t).plant.failed ≡ false → AllByRecursion (λ o. o.sent ≡ true) (sends_in (round_in t))
-turn_went d None e = tt
-turn_went d (Some t) e =
-    let after_control = (or_parts _ ((data_stretch t.readings).failed || ((round_stretch t.round).failed || false)) e).1 in
-    let after_data = (or_parts (data_stretch t.readings).failed ((round_stretch t.round).failed || false) after_control).1 in
-    round_went t.round (or_parts (round_stretch t.round).failed false after_data).0
+turn_failed : (d : Desk) (t : Option Turn) → count_by not_sent (sends_in (round_in t)) ≤ (stretch_of d t).plant.failed
+turn_failed d None = omega arith
+turn_failed d (Some t) = omega (arith, round_failed t.round)
 
-end_went : (d : Desk) (t : Option EndTurn) → (end_stretch d t).plant.failed ≡ false → AllByRecursion (λ o. o.sent ≡ true) (sends_in (end_round_in t))
-end_went d None e = tt
-end_went d (Some t) e = round_went t.round e
+end_failed : (d : Desk) (t : Option EndTurn) → count_by not_sent (sends_in (end_round_in t)) ≤ (end_stretch d t).plant.failed
+end_failed d None = omega arith
+end_failed d (Some t) = omega (arith, round_failed t.round)
 
-turns_went : (turns : List Made) → (run_stretch turns).plant.failed ≡ false → AllByRecursion (λ o. o.sent ≡ true) (flat_map sends_in (map (λ m. round_in m.turn) turns))
-turns_went [] e = tt
-turns_went (m ∷ turns) e =
-    let parts = or_parts (stretch_of m.desk m.turn).plant.failed (run_stretch turns).plant.failed e in
-    all_append (λ o. o.sent ≡ true) (sends_in (round_in m.turn)) (flat_map sends_in (map (λ (x : Made). round_in x.turn) turns)) (turn_went m.desk m.turn parts.0) (turns_went turns parts.1)
+turns_failed : (turns : List Made) → count_by not_sent (flat_map sends_in (map (λ m. round_in m.turn) turns)) ≤ (run_stretch turns).plant.failed
+turns_failed [] = omega arith
+turns_failed (m ∷ turns) =
+    omega (
+      arith,
+      unsent_append (sends_in (round_in m.turn)) (flat_map sends_in (map (λ (x : Made). round_in x.turn) turns)),
+      turn_failed m.desk m.turn,
+      turns_failed turns,
+    )
 
-endings_went : (endings : List MadeEnd) → (ending_stretch endings).plant.failed ≡ false → AllByRecursion (λ o. o.sent ≡ true) (flat_map sends_in (map (λ m. end_round_in m.turn) endings))
-endings_went [] e = tt
-endings_went (m ∷ endings) e =
-    let parts = or_parts (end_stretch m.desk m.turn).plant.failed (ending_stretch endings).plant.failed e in
-    all_append (λ o. o.sent ≡ true) (sends_in (end_round_in m.turn)) (flat_map sends_in (map (λ (x : MadeEnd). end_round_in x.turn) endings)) (end_went m.desk m.turn parts.0) (endings_went endings parts.1)
+endings_failed : (endings : List MadeEnd) → count_by not_sent (flat_map sends_in (map (λ m. end_round_in m.turn) endings)) ≤ (ending_stretch endings).plant.failed
+endings_failed [] = omega arith
+endings_failed (m ∷ endings) =
+    omega (
+      arith,
+      unsent_append (sends_in (end_round_in m.turn)) (flat_map sends_in (map (λ (x : MadeEnd). end_round_in x.turn) endings)),
+      end_failed m.desk m.turn,
+      endings_failed endings,
+    )
 
-pub unfailing_went : (turns : List Made) (endings : List MadeEnd) → (plant_of turns endings).failed ≡ false → AllByRecursion (λ o. o.sent ≡ true) (sends_of (rounds_of turns endings))
-unfailing_went turns endings e =
-    let parts = or_parts (run_stretch turns).plant.failed (ending_stretch endings).plant.failed e in
+-- no more of what the rounds had to send was not sent than failed
+pub unsent_failed : (turns : List Made) (endings : List MadeEnd) → count_by not_sent (sends_of (rounds_of turns endings)) ≤ (plant_of turns endings).failed
+unsent_failed turns endings =
     let serving = map (λ (m : Made). round_in m.turn) turns in
     let ending = map (λ (m : MadeEnd). end_round_in m.turn) endings in
-    subst (AllByRecursion (λ o. o.sent ≡ true)) (sym (sends_are (rounds_in turns endings) ∙ flat_map-append sends_in serving ending))
-    (all_append (λ o. o.sent ≡ true) (flat_map sends_in serving) (flat_map sends_in ending) (turns_went turns parts.0) (endings_went endings parts.1))
+    omega (
+      arith,
+      ap (count_by not_sent) (sends_are (rounds_in turns endings) ∙ flat_map-append sends_in serving ending),
+      unsent_append (flat_map sends_in serving) (flat_map sends_in ending),
+      turns_failed turns,
+      endings_failed endings,
+    )

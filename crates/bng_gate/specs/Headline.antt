@@ -1,6 +1,6 @@
 -- What a run says in the subject's own words.
-use Rattle.std.specs.Prelude.{◌≡◌, ℕ, true, List, [], Some, length, map, take, drop, slice_get}
-use Rattle.std.specs.List.{All, AllByRecursion, flat_map, range_with_len}
+use Rattle.std.specs.Prelude.{◌≡◌, ℕ, true, List, [], Some, length, map, take, drop, slice_get, count_by}
+use Rattle.std.specs.List.{All, flat_map, range_with_len}
 use Rattle.byteorder.specs.Endian.{big_from}
 use Rattle.bng_base.specs.declared.ipv4.Ipv4.{Ipv4}
 use Rattle.bng_base.specs.declared.outside.Datagram.{Datagram}
@@ -8,7 +8,7 @@ use Rattle.bng_base.specs.declared.outside.Heard.{Heard}
 use Rattle.bng_base.specs.declared.outside.Role.{Role}
 use Rattle.bng_base.specs.declared.outside.Role.TheVariants.{Access}
 use Rattle.bng_base.specs.declared.settings.Static.{Static}
-use Rattle.bng_base.specs.Causes.{Rose}
+use Rattle.bng_base.specs.Causes.{HasCauses}
 use Rattle.bng_base.specs.Chain.{Chain}
 use Rattle.bng_base.specs.Ipv4Grammar.{IsIpv4}
 use Rattle.bng_base.specs.Roles.{is_core, is_access}
@@ -26,6 +26,7 @@ use Rattle.bng_desk.specs.Model.{input_of, output_of}
 use Rattle.bng_desk.specs.Opening.{line_of, statics_of}
 use Rattle.bng_desk.specs.Reading.{taken_in}
 use Rattle.bng_desk.specs.Report.{report_text, by_number}
+use Rattle.bng_desk.specs.Round.{not_sent}
 use Rattle.bng_gate.specs.Rounds.{rounds_of, world_of, plant_of, on_data, readings_of, drops_of_run}
 use Rattle.bng_gate.specs.Run.{World, outside, Runs}
 
@@ -113,5 +114,5 @@ pub record Headline (config : Config) (old new : World) : Type 0 where
   pub printed : Grows old.out.bytes new.out.bytes (report_text (map line_of config.statics) (all_traffic config sent) (by_number (drops_of_run run.turns run.endings)))
   pub all_input : input_of (all_traffic config sent) ≡ input_told is_input sent
   pub all_output : output_of (all_traffic config sent) ≡ output_told is_output sent
-  -- Where no call of the plant failed, all that the rounds had to send was sent.
-  pub unfailing : ¬ (Rose old.plant.faults new.plant.faults) → AllByRecursion (λ o. o.sent ≡ true) (sends_of (rounds_of run.turns run.endings))
+  -- Of what the rounds had to send, no more was not sent than the plant's count rose, unless that stands at its end.
+  pub unsent : HasCauses old.plant.faults new.plant.faults (count_by not_sent (sends_of (rounds_of run.turns run.endings)))

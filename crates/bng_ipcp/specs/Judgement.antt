@@ -5,7 +5,7 @@ use Rattle.byteorder.specs.Endian.{big_number, big_bytes}
 use Rattle.bng_base.specs.declared.address.Ip4.{Ip4}
 use Rattle.bng_base.specs.PppGrammar.{PppOption}
 use Rattle.bng_ppp_wire.specs.View.{options_of}
-use Rattle.bng_ipcp.specs.declared.option.TheConstants.{IP_ADDRESS, PRIMARY_DNS, SECONDARY_DNS}
+use Rattle.bng_ipcp.specs.Options.{ip_address, primary_dns, secondary_dns}
 use Rattle.bng_ipcp.specs.declared.judgement.IpcpRules.{IpcpRules}
 use Rattle.bng_ipcp.specs.declared.judgement.Class.{Class}
 use Rattle.bng_ipcp.specs.declared.judgement.Class.TheVariants.{Ack, Nak, Reject}
@@ -17,8 +17,8 @@ use Rattle.bng_ipcp.specs.Made.{all_made_of}
 -- that is not negotiated has none.
 abbrev pub right_address : IpcpRules → ℕ → Option Ip4
 right_address r kind =
-    if kind == IP_ADDRESS then Some r.lease
-    else (if kind == PRIMARY_DNS then slice_index_or r.dns 0 None else (if kind == SECONDARY_DNS then slice_index_or r.dns 1 None else None))
+    if kind == ip_address then Some r.lease
+    else (if kind == primary_dns then slice_index_or r.dns 0 None else (if kind == secondary_dns then slice_index_or r.dns 1 None else None))
 
 -- the class of an option that is negotiated and has another address
 abbrev pub not_good : IpcpRules → Class
@@ -58,8 +58,8 @@ names options kind = list_any (λ o. o.kind == kind) options
 -- what a Configure-Nak adds to a request that asks for no address: the lease, while Naks may go out
 abbrev pub added : IpcpRules → List PppOption → List PppOption
 added r request =
-    if r.no_more_naks || names request IP_ADDRESS then []
-    else record { kind = IP_ADDRESS; value = big_bytes 4 r.lease.0 } ∷ []
+    if r.no_more_naks || names request ip_address then []
+    else record { kind = ip_address; value = big_bytes 4 r.lease.0 } ∷ []
 
 -- the options of a Configure-Reject: those of the request of that class, in its order
 abbrev pub rejected : IpcpRules → List PppOption → List PppOption

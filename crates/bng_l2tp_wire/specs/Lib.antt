@@ -1,3 +1,5 @@
+pub mod AttributeTypes
+pub mod MessageTypes
 pub mod Avps
 pub mod Messages
 pub mod View

@@ -3,7 +3,7 @@ use Rattle.std.specs.Prelude.{◌≡◌, ◌≢◌, ℕ, Bool, true, false, ◌&
 use Rattle.byteorder.specs.Endian.{big_number, big_bytes}
 use Rattle.bng_base.specs.PppGrammar.{PppOption}
 use Rattle.bng_ppp_wire.specs.View.{options_of}
-use Rattle.bng_lcp.specs.declared.option.TheConstants.{MAXIMUM_RECEIVE_UNIT, MAGIC_NUMBER, LEAST_MRU}
+use Rattle.bng_lcp.specs.Options.{maximum_receive_unit, magic_number, least_mru}
 use Rattle.bng_lcp.specs.declared.judgement.LcpRules.{LcpRules}
 use Rattle.bng_lcp.specs.declared.judgement.Class.{Class}
 use Rattle.bng_lcp.specs.declared.judgement.Class.TheVariants.{Ack, Nak, Reject}
@@ -13,15 +13,15 @@ use Rattle.bng_lcp.specs.Made.{all_made_of}
 
 -- a Maximum-Receive-Unit of the length that the standard gives it
 abbrev pub is_mru : PppOption → Bool
-is_mru o = o.kind == MAXIMUM_RECEIVE_UNIT && length o.value == 2
+is_mru o = o.kind == maximum_receive_unit && length o.value == 2
 
 -- a Magic-Number of the length that the standard gives it
 abbrev pub is_magic : PppOption → Bool
-is_magic o = o.kind == MAGIC_NUMBER && length o.value == 4
+is_magic o = o.kind == magic_number && length o.value == 4
 
 -- a Maximum-Receive-Unit that is taken: 128 to the limit
 abbrev pub is_mru_within : ℕ → ℕ → Bool
-is_mru_within limit mru = nat_le LEAST_MRU mru && nat_le mru limit
+is_mru_within limit mru = nat_le least_mru mru && nat_le mru limit
 
 -- a magic number is never 0, and two ends have different ones
 abbrev pub is_good_magic : LcpRules → ℕ → Bool
@@ -54,8 +54,8 @@ magic_from n = if n == 0 then 1 else n
 -- what a Configure-Nak has in an option's place
 abbrev pub suggested : LcpRules → PppOption → PppOption
 suggested r o =
-    if o.kind == MAXIMUM_RECEIVE_UNIT then record { kind = MAXIMUM_RECEIVE_UNIT; value = big_bytes 2 r.limit }
-    else record { kind = MAGIC_NUMBER; value = big_bytes 4 (magic_from r.fresh_magic) }
+    if o.kind == maximum_receive_unit then record { kind = maximum_receive_unit; value = big_bytes 2 r.limit }
+    else record { kind = magic_number; value = big_bytes 4 (magic_from r.fresh_magic) }
 
 -- the options of a Configure-Reject: those of the request of that class, in its order
 abbrev pub rejected : LcpRules → List PppOption → List PppOption

@@ -1,3 +1,4 @@
+pub mod Options
 pub mod Made
 pub mod Judgement
 pub mod Asked

@@ -5,9 +5,9 @@ use Rattle.byteorder.specs.Endian.{big_number}
 use Rattle.bng_base.specs.PppGrammar.{ControlPacket, PppOption, AreOptions}
 use Rattle.bng_base.specs.declared.settings.AuthKind.{AuthKind}
 use Rattle.bng_base.specs.declared.settings.AuthKind.TheVariants.{Chap, Pap}
-use Rattle.bng_ppp_wire.specs.declared.code.TheConstants.{CONFIGURE_ACK, CONFIGURE_NAK, CONFIGURE_REJECT}
-use Rattle.bng_ppp_wire.specs.declared.protocol.TheConstants as protocol
-use Rattle.bng_lcp.specs.declared.option.TheConstants.{MAXIMUM_RECEIVE_UNIT, AUTHENTICATION_PROTOCOL, MAGIC_NUMBER, CHAP_WITH_MD5}
+use Rattle.bng_ppp_wire.specs.Codes.{configure_ack, configure_nak, configure_reject}
+use Rattle.bng_ppp_wire.specs.Protocols as protocol
+use Rattle.bng_lcp.specs.Options.{maximum_receive_unit, authentication_protocol, magic_number, chap_with_md5}
 use Rattle.bng_lcp.specs.declared.asked.LcpOptions.{LcpOptions}
 use Rattle.bng_lcp.specs.declared.asked.SentRequest.{SentRequest}
 use Rattle.bng_lcp.specs.declared.taken.Taken.{Taken}
@@ -31,22 +31,22 @@ names options kind = list_any (λ o. o.kind == kind) options
 -- A Configure-Ack has the options of the request.
 pub record Acks (ask : Ask) (reply : ControlPacket) : Type 0 where
   pub sent : SentRequest
-  pub reply_is : IsReply ask reply CONFIGURE_ACK sent (asked sent.options)
+  pub reply_is : IsReply ask reply configure_ack sent (asked sent.options)
 
 pub record Naks (ask : Ask) (reply : ControlPacket) (options : List PppOption) : Type 0 where
   pub sent : SentRequest
-  pub reply_is : IsReply ask reply CONFIGURE_NAK sent options
+  pub reply_is : IsReply ask reply configure_nak sent options
 
 -- A Configure-Reject has those options of the request whose types it names, in its order and as they are.
 pub record Rejects (ask : Ask) (reply : ControlPacket) (options : List PppOption) : Type 0 where
   pub sent : SentRequest
-  pub reply_is : IsReply ask reply CONFIGURE_REJECT sent options
+  pub reply_is : IsReply ask reply configure_reject sent options
   pub part : options ≡ filter (λ o. names options o.kind) (asked sent.options)
 
 -- whether the data of an Authentication-Protocol are these of a protocol
 abbrev pub is_auth : AuthKind → List ℕ → Bool
-is_auth Chap value = length value == 3 && big_number 2 value == protocol.CHAP && slice_index value 2 == CHAP_WITH_MD5
-is_auth Pap value = length value == 2 && big_number 2 value == protocol.PAP
+is_auth Chap value = length value == 3 && big_number 2 value == protocol.chap && slice_index value 2 == chap_with_md5
+is_auth Pap value = length value == 2 && big_number 2 value == protocol.pap
 
 abbrev pub same_auth : AuthKind → AuthKind → Bool
 same_auth Chap Chap = true
@@ -65,7 +65,7 @@ abbrev pub changed_by : Ask → ℕ → LcpOptions → PppOption → LcpOptions
 changed_by ask magic w o =
     if is_mru o then (if is_some w.mru && is_mru_within ask.limit (big_number 2 o.value) then record w { mru = Some (big_number 2 o.value) } else w)
     else (if is_magic o then (if is_some w.magic then record w { magic = Some magic } else w)
-    else (if o.kind == AUTHENTICATION_PROTOCOL then record w { auth = auth_after ask.allowed o.value w.auth } else w))
+    else (if o.kind == authentication_protocol then record w { auth = auth_after ask.allowed o.value w.auth } else w))
 
 -- what is asked for after a Configure-Nak, with the first four of the random octets as a new magic number
 abbrev pub after_nak : Ask → List ℕ → List PppOption → LcpOptions
@@ -74,9 +74,9 @@ after_nak ask random options = fold (changed_by ask (magic_from (big_number 4 ra
 -- what is left of the wanted options where these are asked for no longer
 abbrev pub left_out : LcpOptions → List PppOption → LcpOptions
 left_out wanted options = record {
-  mru = if names options MAXIMUM_RECEIVE_UNIT then None else wanted.mru;
+  mru = if names options maximum_receive_unit then None else wanted.mru;
   auth = wanted.auth;
-  magic = if names options MAGIC_NUMBER then None else wanted.magic;
+  magic = if names options magic_number then None else wanted.magic;
 }
 
 -- What becomes of a reply. It is ignored exactly where it is none of the three.
@@ -84,8 +84,8 @@ abbrev pub Takes : Taken → Ask → ControlPacket → List ℕ → Ask → Type
 Takes Accepted old reply random new = Acks old reply × (new ≡ old)
 Takes Changed old reply random new =
     ((options : List PppOption) × Naks old reply options × (new ≡ record old { wanted = after_nak old random options }))
-    ⊎ ((options : List PppOption) × Rejects old reply options × IsFalse (names options AUTHENTICATION_PROTOCOL) × (new ≡ record old { wanted = left_out old.wanted options }))
+    ⊎ ((options : List PppOption) × Rejects old reply options × IsFalse (names options authentication_protocol) × (new ≡ record old { wanted = left_out old.wanted options }))
 Takes Unwilling old reply random new =
-    ((options : List PppOption) × Rejects old reply options × IsTrue (names options AUTHENTICATION_PROTOCOL)) × (new ≡ old)
+    ((options : List PppOption) × Rejects old reply options × IsTrue (names options authentication_protocol)) × (new ≡ old)
 Takes Ignored old reply random new =
     (¬ (Acks old reply)) × ((options : List PppOption) → ¬ (Naks old reply options)) × ((options : List PppOption) → ¬ (Rejects old reply options)) × (new ≡ old)

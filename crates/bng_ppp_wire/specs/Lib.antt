@@ -1,2 +1,4 @@
+pub mod Codes
+pub mod Protocols
 pub mod View
 pub mod Listing

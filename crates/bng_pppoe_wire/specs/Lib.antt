@@ -1,3 +1,5 @@
+pub mod Codes
+pub mod TagTypes
 pub mod View
 pub mod Front
 pub mod Scan

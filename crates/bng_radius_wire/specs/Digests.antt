@@ -3,8 +3,8 @@ use Rattle.std.specs.Prelude.{◌≡◌, ◌==◌, ℕ, ◌≤◌, Bool, ◌||�
 use Rattle.std.specs.List.{position_from, AllByRecursion}
 use Rattle.md5.specs.Md5.{md5}
 use Rattle.bng_digest.specs.Authentication.{hmac_md5}
-use Rattle.bng_radius_wire.specs.declared.codes.TheConstants.{ACCOUNTING_REQUEST, DISCONNECT_REQUEST, COA_REQUEST}
-use Rattle.bng_radius_wire.specs.declared.kinds.TheConstants.{MESSAGE_AUTHENTICATOR}
+use Rattle.bng_radius_wire.specs.Codes.{accounting_request, disconnect_request, coa_request}
+use Rattle.bng_radius_wire.specs.AttributeTypes as types
 use Rattle.bng_radius_wire.specs.Attributes.{Field}
 use Rattle.bng_radius_wire.specs.Grammar.{Packet, spelling}
 
@@ -18,11 +18,11 @@ abbrev pub response_authenticator : Packet → (request secret : List ℕ) → L
 response_authenticator p request secret = md5 (spelling (record p { authenticator = request }) ++ secret)
 
 abbrev pub is_message_authenticator : Field → Bool
-is_message_authenticator f = f.kind == MESSAGE_AUTHENTICATOR
+is_message_authenticator f = f.kind == types.message_authenticator
 
 -- the packet with this value of the Message-Authenticator that stands at place i
 abbrev pub with_message_authenticator : Packet → ℕ → List ℕ → Packet
-with_message_authenticator p i value = record p { attributes = slice_set p.attributes i (record { kind = MESSAGE_AUTHENTICATOR; value = value }) }
+with_message_authenticator p i value = record p { attributes = slice_set p.attributes i (record { kind = types.message_authenticator; value = value }) }
 
 -- what the Message-Authenticator at place i is to be: HMAC-MD5 under the secret over the packet with this authenticator,
 -- and with zeros as that value
@@ -33,7 +33,7 @@ message_authenticator p i authenticator secret =
 -- a Message-Authenticator at place i, if there is one, is right
 abbrev pub IsRightAt : Packet → ℕ → (authenticator secret : List ℕ) → Type 0
 IsRightAt p i authenticator secret =
-    (f : Field) → slice_get p.attributes i ≡ Some f → f.kind ≡ MESSAGE_AUTHENTICATOR → f.value ≡ message_authenticator p i authenticator secret
+    (f : Field) → slice_get p.attributes i ≡ Some f → f.kind ≡ types.message_authenticator → f.value ≡ message_authenticator p i authenticator secret
 
 -- a reply to the request with this authenticator that has the right digests
 pub record IsSigned (p : Packet) (request secret : List ℕ) : Type 0 where
@@ -55,7 +55,7 @@ signed_reply p request secret =
 
 -- the codes whose Request Authenticator is a digest over zeros in its own place
 abbrev pub has_digest : ℕ → Bool
-has_digest code = (code == ACCOUNTING_REQUEST) || (code == DISCONNECT_REQUEST) || (code == COA_REQUEST)
+has_digest code = (code == accounting_request) || (code == disconnect_request) || (code == coa_request)
 
 -- a request, signed: a digest for those codes, and for any other the authenticator that it has
 abbrev pub signed_request : Packet → (secret : List ℕ) → Packet
@@ -63,7 +63,7 @@ signed_request p secret = if has_digest p.code then signed_reply p zeros secret 
 
 -- a Message-Authenticator has room for a digest
 abbrev pub HasRoom : Field → Type 0
-HasRoom f = f.kind ≡ MESSAGE_AUTHENTICATOR → length f.value ≡ 16
+HasRoom f = f.kind ≡ types.message_authenticator → length f.value ≡ 16
 
 -- at most one Message-Authenticator, whose value has 16 octets
 pub record CanBeSigned (p : Packet) : Type 0 where

@@ -1,3 +1,5 @@
+pub mod Codes
+pub mod AttributeTypes
 pub mod Attributes
 pub mod Grammar
 pub mod Digests

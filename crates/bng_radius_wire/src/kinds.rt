@@ -1,5 +1,7 @@
 //! The attributes that the gateway writes or reads, by their types (RFC 2865 section 5, RFC 2866 section 5,
 //! RFC 2869 section 5, RFC 5176 section 3.6).
+ghost use Rattle.std.specs.Prelude.{◌≡◌};
+ghost use Rattle.bng_radius_wire.specs.AttributeTypes as standard;
 
 pub const USER_NAME: u8 = 1;
 
@@ -70,3 +72,42 @@ pub const NAS_PORT_ID: u8 = 87;
 pub const FRAMED_POOL: u8 = 88;
 
 pub const ERROR_CAUSE: u8 = 101;
+
+/// Each of these types is the one that its standard gives.
+pub fn are_standard()
+    ensures user_name { USER_NAME ≡ standard.user_name }
+    ensures user_password { USER_PASSWORD ≡ standard.user_password }
+    ensures chap_password { CHAP_PASSWORD ≡ standard.chap_password }
+    ensures nas_ip_address { NAS_IP_ADDRESS ≡ standard.nas_ip_address }
+    ensures nas_port { NAS_PORT ≡ standard.nas_port }
+    ensures service_type { SERVICE_TYPE ≡ standard.service_type }
+    ensures framed_protocol { FRAMED_PROTOCOL ≡ standard.framed_protocol }
+    ensures framed_ip_address { FRAMED_IP_ADDRESS ≡ standard.framed_ip_address }
+    ensures filter_id { FILTER_ID ≡ standard.filter_id }
+    ensures reply_message { REPLY_MESSAGE ≡ standard.reply_message }
+    ensures state { STATE ≡ standard.state }
+    ensures class { CLASS ≡ standard.class }
+    ensures session_timeout { SESSION_TIMEOUT ≡ standard.session_timeout }
+    ensures idle_timeout { IDLE_TIMEOUT ≡ standard.idle_timeout }
+    ensures calling_station_id { CALLING_STATION_ID ≡ standard.calling_station_id }
+    ensures nas_identifier { NAS_IDENTIFIER ≡ standard.nas_identifier }
+    ensures proxy_state { PROXY_STATE ≡ standard.proxy_state }
+    ensures acct_status_type { ACCT_STATUS_TYPE ≡ standard.acct_status_type }
+    ensures acct_input_octets { ACCT_INPUT_OCTETS ≡ standard.acct_input_octets }
+    ensures acct_output_octets { ACCT_OUTPUT_OCTETS ≡ standard.acct_output_octets }
+    ensures acct_session_id { ACCT_SESSION_ID ≡ standard.acct_session_id }
+    ensures acct_session_time { ACCT_SESSION_TIME ≡ standard.acct_session_time }
+    ensures acct_input_packets { ACCT_INPUT_PACKETS ≡ standard.acct_input_packets }
+    ensures acct_output_packets { ACCT_OUTPUT_PACKETS ≡ standard.acct_output_packets }
+    ensures acct_terminate_cause { ACCT_TERMINATE_CAUSE ≡ standard.acct_terminate_cause }
+    ensures acct_input_gigawords { ACCT_INPUT_GIGAWORDS ≡ standard.acct_input_gigawords }
+    ensures acct_output_gigawords { ACCT_OUTPUT_GIGAWORDS ≡ standard.acct_output_gigawords }
+    ensures event_timestamp { EVENT_TIMESTAMP ≡ standard.event_timestamp }
+    ensures chap_challenge { CHAP_CHALLENGE ≡ standard.chap_challenge }
+    ensures nas_port_type { NAS_PORT_TYPE ≡ standard.nas_port_type }
+    ensures message_authenticator { MESSAGE_AUTHENTICATOR ≡ standard.message_authenticator }
+    ensures acct_interim_interval { ACCT_INTERIM_INTERVAL ≡ standard.acct_interim_interval }
+    ensures nas_port_id { NAS_PORT_ID ≡ standard.nas_port_id }
+    ensures framed_pool { FRAMED_POOL ≡ standard.framed_pool }
+    ensures error_cause { ERROR_CAUSE ≡ standard.error_cause }
+{}

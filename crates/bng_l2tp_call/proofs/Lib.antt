@@ -1,0 +1,5 @@
+mod Placing
+pub mod Table
+mod Codes
+mod Soundness
+mod Told

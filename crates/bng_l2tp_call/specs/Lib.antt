@@ -1,0 +1,9 @@
+pub mod Numbers
+pub mod Values
+pub mod View
+pub mod Messages
+pub mod CallState
+pub mod Refusals
+pub mod Spelling
+pub mod Steps
+pub mod Sound
