@@ -5,6 +5,7 @@ ghost use Rattle.bng_desk.specs.Model.{state_of, all_carried};
 ghost use Rattle.bng_desk.specs.Opening.{IsOpened};
 ghost use Rattle.bng_desk.specs.Report.{by_number, report_text};
 ghost use Rattle.bng_desk.specs.Turn.{MakesTurn, MakesEnd, DoesNothing, answer_if, waiting_stretch};
+ghost use Rattle.bng_desk.specs.Turn.{told_after as number_after};
 
 use crate::control::heed;
 use crate::drops::{Drops, NO_DROPS};
@@ -134,6 +135,14 @@ fn unopened_after(is_opened: bool, unopened: u64) -> u64
     ensures { result ≡ (if is_opened then 0 else unopened + 1) }
 {
     if is_opened { 0 } else { unopened + 1 }
+}
+
+// The number of the last round that the trace took, after one more.
+fn told_after(noted: bool, told: u64) -> u64
+    requires { told < 2 ^ 63 }
+    ensures { result ≡ number_after noted told }
+{
+    if noted { told + 1 } else { told }
 }
 
 impl Desk {
@@ -294,7 +303,7 @@ impl Desk {
         let noted = note(trace, &round);
         let wait = wait_until(deadline_of(self.shards.as_slice()), now);
         wait_if(plant, both(both(heeding.idle, gathered.quiet), noted), wait);
-        self.told += 1;
+        self.told = told_after(noted, self.told);
         self.turns += 1;
         self.stopped = either(self.stopped, heeding.stop);
         self.moment = now;
@@ -341,7 +350,7 @@ impl Desk {
             &mut self.drops,
         );
         let noted = note(trace, &ending.record);
-        self.told += 1;
+        self.told = told_after(noted, self.told);
         self.moment = now;
         self.endings += 1;
         self.unopened = unopened_after(ending.is_opened, self.unopened);
