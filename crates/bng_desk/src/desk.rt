@@ -5,6 +5,7 @@ ghost use Rattle.bng_desk.specs.Model.{state_of, all_carried};
 ghost use Rattle.bng_desk.specs.Opening.{IsOpened};
 ghost use Rattle.bng_desk.specs.Report.{by_number, report_text};
 ghost use Rattle.bng_desk.specs.Turn.{MakesTurn, MakesEnd, DoesNothing, answer_if, waiting_stretch};
+ghost use Rattle.bng_desk.specs.Turn.{told_after as number_after};
 
 use crate::control::heed;
 use crate::drops::{Drops, NO_DROPS};
@@ -137,6 +138,14 @@ fn unopened_after(is_opened: bool, unopened: u64) -> u64
     ensures { result ≡ (if is_opened then 0 else unopened + 1) }
 {
     if is_opened { 0 } else { unopened + 1 }
+}
+
+// The number of the last round that the trace took, after one more.
+fn told_after(noted: bool, told: u64) -> u64
+    requires { told < 2 ^ 63 }
+    ensures { result ≡ number_after noted told }
+{
+    if noted { told + 1 } else { told }
 }
 
 impl Desk {
@@ -301,7 +310,7 @@ impl Desk {
         self.lists = Lists::of_round(alloc, round, &mut self.spare);
         let wait = wait_until(deadline_of(self.shards.as_slice()), now);
         wait_if(plant, both(both(heeding.idle, gathered.quiet), noted), wait);
-        self.told += 1;
+        self.told = told_after(noted, self.told);
         self.turns += 1;
         self.stopped = either(self.stopped, heeding.stop);
         self.moment = now;
@@ -351,7 +360,7 @@ impl Desk {
         let Ending { record, is_opened } = ending;
         let noted = note(trace, &record);
         self.lists = Lists::of_round(alloc, record, &mut self.spare);
-        self.told += 1;
+        self.told = told_after(noted, self.told);
         self.moment = now;
         self.endings += 1;
         self.unopened = unopened_after(is_opened, self.unopened);

@@ -1,5 +1,5 @@
 //! A round of given items: opened and settled, or refused for want of memory.
-ghost use Rattle.std.specs.Prelude.{◌≡◌, ◌+◌, ◌*◌, ◌^◌, ◌≤◌, ◌<◌, [], ℕ, false, length, replicate, take, vec_capacity};
+ghost use Rattle.std.specs.Prelude.{◌≡◌, ◌+◌, ◌*◌, ◌^◌, ◌≤◌, ◌<◌, [], ℕ, true, false, length, replicate, take, vec_capacity};
 ghost use Rattle.std.specs.List.{All};
 ghost use Rattle.bng_base.specs.Causes.{HasCause};
 ghost use Rattle.bng_base.specs.Told.{Grows};
@@ -236,6 +236,7 @@ pub(crate) fn hold_ends<P: Plant>(
 pub(crate) fn note<T: Trace>(trace: &mut T, round: &RoundRecord) -> bool
     ensures rounds { Grows (T.told trace.old).rounds (T.told trace.new).rounds (told_if result round.now) }
     ensures cause { HasCause (T.told trace.old).faults (T.told trace.new).faults (result ≡ false) }
+    ensures uncounted { result ≡ true → (T.told trace.new).faults ≡ (T.told trace.old).faults }
 {
     match trace.note(round) {
         Noted::Ok => true,
