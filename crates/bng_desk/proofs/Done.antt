@@ -16,7 +16,7 @@ use Rattle.bng_desk.specs.Kept.{rested}
 use Rattle.bng_desk.specs.Model.{Desk}
 use Rattle.bng_desk.specs.Round.{Round, IsRound, record_of, refused_record}
 use Rattle.bng_desk.specs.Taking.{HoldsOne}
-use Rattle.bng_desk.specs.Turn.{Turn, RoundOf, after_round, round_stretch, round_told, items_of, after, plant_stretch, data_stretch, waiting_stretch, is_idle, wait_for, deadline_in}
+use Rattle.bng_desk.specs.Turn.{Turn, RoundOf, after_round, told_after, round_stretch, round_told, items_of, after, plant_stretch, data_stretch, waiting_stretch, is_idle, wait_for, deadline_in}
 use Rattle.bng_desk.proofs.Resting.{kept_rested, left_rested, round_rested}
 
 abbrev Shards : Type 0
@@ -54,17 +54,17 @@ round_done d named items p p' vs ws drops' told_is (inr h) shards number =
       record_told = h.record_told ∙ ap (λ (n : ℕ). refused_record n named.moment named.wall (length vs) items) number ∙ ap (λ (n : ℕ). refused_record (d.told + 1) named.moment named.wall n items) count;
     }
 
--- a round changes no more than the shards, the drops and the count of rounds
-after_parts : (d : Desk) (items : List Item) (round : Option Round) → record d { shards = (after_round d items round).shards; drops = (after_round d items round).drops; told = d.told + 1 } ≡ after_round d items round
+-- a round changes no more than the shards and the drops
+after_parts : (d : Desk) (items : List Item) (round : Option Round) → record d { shards = (after_round d items round).shards; drops = (after_round d items round).drops } ≡ after_round d items round
 after_parts d items None = refl
 after_parts d items (Some round) = refl
 
 pub is_after : (d d' : Desk) (t : Turn) (shards : Shards) (drops : Drops) → shards ≡ (after_round d (items_of d t) t.round).shards → drops ≡ (after_round d (items_of d t) t.round).drops
-    → d' ≡ record d { shards = shards; drops = drops; told = d.told + 1; turns = d.turns + 1; stopped = d.stopped || has_stop t.control; drawn = d.drawn + length (items_of d t); moment = t.moment } → d' ≡ after d t
+    → d' ≡ record d { shards = shards; drops = drops; told = told_after t.noted d.told; turns = d.turns + 1; stopped = d.stopped || has_stop t.control; drawn = d.drawn + length (items_of d t); moment = t.moment } → d' ≡ after d t
 is_after d d' t shards drops shards_are drops_are is =
-    let rest = λ (x : Desk). let y : Desk = record x { turns = d.turns + 1; stopped = d.stopped || has_stop t.control; drawn = d.drawn + length (items_of d t); moment = t.moment } in y in
-    is ∙ ap (λ (xs : Shards). rest (record d { shards = xs; drops = drops; told = d.told + 1 })) shards_are
-    ∙ ap (λ (x : Drops). rest (record d { shards = (after_round d (items_of d t) t.round).shards; drops = x; told = d.told + 1 })) drops_are
+    let rest = λ (x : Desk). let y : Desk = record x { told = told_after t.noted d.told; turns = d.turns + 1; stopped = d.stopped || has_stop t.control; drawn = d.drawn + length (items_of d t); moment = t.moment } in y in
+    is ∙ ap (λ (xs : Shards). rest (record d { shards = xs; drops = drops })) shards_are
+    ∙ ap (λ (x : Drops). rest (record d { shards = (after_round d (items_of d t) t.round).shards; drops = x })) drops_are
     ∙ ap rest (after_parts d (items_of d t) t.round)
 
 -- the phases of a turn, one after the other

@@ -1,5 +1,5 @@
 -- A turn of the ending, from its phases.
-use Rattle.std.proofs.Common.{◌≡◌, inl, inr, ℕ, ◌+◌, ◌≤◌, Bool, false, ◌||◌, cond, if◌then◌else◌, List, [], ◌∷◌, Option, None, Some, map, refl, sym, ap, subst, ◌∙◌, arith}
+use Rattle.std.proofs.Common.{◌≡◌, inl, inr, ℕ, ◌+◌, ◌≤◌, Bool, true, false, ◌||◌, cond, if◌then◌else◌, List, [], ◌∷◌, Option, None, Some, map, refl, sym, ap, subst, ◌∙◌, arith}
 use Rattle.bng_base.specs.declared.item.Item.{Item}
 use Rattle.bng_base.specs.declared.outside.ClockAnswer.TheVariants.{Now, Wall}
 use Rattle.bng_base.specs.declared.round.RoundRecord.{RoundRecord}
@@ -16,10 +16,10 @@ use Rattle.bng_desk.specs.Model.{Desk}
 use Rattle.bng_desk.specs.Random.{Drawn}
 use Rattle.bng_desk.specs.Round.{Round}
 use Rattle.bng_desk.specs.Taking.{HoldsEnds}
-use Rattle.bng_desk.specs.Turn.{EndTurn, MakesEnd, after_end, after_round, ending_items, ending_draws, is_opened, answer_if, told_if}
+use Rattle.bng_desk.specs.Turn.{EndTurn, MakesEnd, after_end, after_round, ending_items, ending_draws, is_opened, answer_if, told_if, told_after}
 use Rattle.bng_desk.proofs.Done.{RoundDone, round_done}
 use Rattle.bng_desk.proofs.Readying.{Shards}
-use Rattle.bng_desk.proofs.Turning.{unnoted}
+use Rattle.bng_desk.proofs.Turning.{unnoted, well_noted}
 
 -- what a turn of the ending has of its round
 record EndDone (d : Desk) (moment wall : ℕ) (items : List Item) (old new : PlantTold) (shards : Shards) (drops : Drops) (told_is : RoundRecord) (opened : Bool) (kept : List Item) : Type 0 where
@@ -39,24 +39,24 @@ pub kept_as : (P : List Item → Type 0) (r : Rules) (holders : List Holder) (na
 kept_as P r holders named items p p' vs ws drops drops' told_is opened kept (inl h) none some = subst P (sym h.1) none
 kept_as P r holders named items p p' vs ws drops drops' told_is opened kept (inr h) none some = subst P (sym h.1) some
 
-abbrev pub after_ending : Desk → Shards → Drops → Drawn → ℕ → Bool → List Item → ℕ → Desk
-after_ending d shards drops draws unopened closed kept moment =
-    record d { shards = shards; drops = drops; seed = draws.seed; drawn = draws.drawn; told = d.told + 1; moment = moment; endings = d.endings + 1; unopened = unopened; closed = closed; kept = kept }
+abbrev pub after_ending : Desk → Shards → Drops → Drawn → ℕ → Bool → List Item → ℕ → ℕ → Desk
+after_ending d shards drops draws unopened closed kept moment told =
+    record d { shards = shards; drops = drops; seed = draws.seed; drawn = draws.drawn; told = told; moment = moment; endings = d.endings + 1; unopened = unopened; closed = closed; kept = kept }
 
--- a round changes no more than the shards, the drops and the count of rounds
+-- a round changes no more than the shards and the drops
 parts : (d : Desk) (moment wall : ℕ) (noted : Bool) (round : Option Round) →
     after_ending d (after_round d (ending_items d) round).shards (after_round d (ending_items d) round).drops (record { seed = d.seed; drawn = d.drawn + ending_draws d }) (if is_opened round then 0 else d.unopened + 1) (d.closed || is_opened round)
-    (if is_opened round then [] else ending_items d) moment ≡ after_end d (record { moment = moment; wall = wall; round = round; noted = noted })
+    (if is_opened round then [] else ending_items d) moment (told_after noted d.told) ≡ after_end d (record { moment = moment; wall = wall; round = round; noted = noted })
 parts d moment wall noted None = refl
 parts d moment wall noted (Some round) = refl
 
 module _ (d : Desk) (vs ws : Shards) (named : Named) (noted : Bool) (draws : Drawn) (items : List Item) (drops : Drops) (told_is : RoundRecord) (opened : Bool) (kept : List Item) (p₀ p₁ : PlantTold) where
   pub ended : d.shards ≡ map rested vs → named.number ≡ d.told + 1 → items ≡ ending_items d → draws ≡ record { seed = d.seed; drawn = d.drawn + ending_draws d } → HoldsEnds d.rules d.holders named items p₀ p₁ vs ws d.drops drops told_is opened kept
       → d.moment ≤ named.moment → (c₀ c₁ c₂ : ClockTold) → GrowsIfTold c₀.answers c₁.answers (Now named.moment ∷ []) → GrowsIfTold c₁.answers c₂.answers (Wall named.wall ∷ []) → c₂.last ≡ named.moment
-      → (t₀ t₁ : TraceTold) → Grows t₀.rounds t₁.rounds (told_if noted told_is) → HasCause t₀.faults t₁.faults (noted ≡ false) → (result : Turned) → result ≡ answer_if noted
-      → (unopened : ℕ) → unopened ≡ (if opened then 0 else d.unopened + 1) → (closed : Bool) → closed ≡ (d.closed || opened)
-      → MakesEnd d (after_ending d (map rested ws) drops draws unopened closed kept named.moment) (record { plant = p₀; clock = c₀; trace = t₀ }) (record { plant = p₁; clock = c₂; trace = t₁ }) result
-  ended shards number same draws_are held later c₀ c₁ c₂ now wall last t₀ t₁ rounds cause result result_is unopened unopened_is closed closed_is =
+      → (t₀ t₁ : TraceTold) → Grows t₀.rounds t₁.rounds (told_if noted told_is) → HasCause t₀.faults t₁.faults (noted ≡ false) → (noted ≡ true → t₁.faults ≡ t₀.faults) → (result : Turned) → result ≡ answer_if noted
+      → (unopened : ℕ) → unopened ≡ (if opened then 0 else d.unopened + 1) → (closed : Bool) → closed ≡ (d.closed || opened) → (told' : ℕ) → told' ≡ told_after noted d.told
+      → MakesEnd d (after_ending d (map rested ws) drops draws unopened closed kept named.moment told') (record { plant = p₀; clock = c₀; trace = t₀ }) (record { plant = p₁; clock = c₂; trace = t₁ }) result
+  ended shards number same draws_are held later c₀ c₁ c₂ now wall last t₀ t₁ rounds cause uncounted result result_is unopened unopened_is closed closed_is told' told_as =
       let all = ending_items d in
       let e = end_done d named all p₀ p₁ vs ws drops told_is opened kept (subst (λ (is : List Item). HoldsEnds d.rules d.holders named is p₀ p₁ vs ws d.drops drops told_is opened kept) same held) shards number in
       let done = e.done in
@@ -72,12 +72,13 @@ module _ (d : Desk) (vs ws : Shards) (named : Named) (noted : Bool) (draws : Dra
         step = (
           later,
           done.is,
-          ap (λ (xs : Shards). after_ending d xs drops draws unopened closed kept named.moment) done.shards_are
-              ∙ ap (λ (x : Drops). after_ending d shards' x draws unopened closed kept named.moment) done.drops_are
-              ∙ ap (λ (x : Drawn). after_ending d shards' drops' x unopened closed kept named.moment) draws_are
-              ∙ ap (λ (n : ℕ). after_ending d shards' drops' draws' n closed kept named.moment) (unopened_is ∙ ap (λ (b : Bool). cond b 0 (d.unopened + 1)) e.opened_is)
-              ∙ ap (λ (b : Bool). after_ending d shards' drops' draws' unopened' b kept named.moment) (closed_is ∙ ap (λ (b : Bool). d.closed || b) e.opened_is)
-              ∙ ap (λ (is : List Item). after_ending d shards' drops' draws' unopened' closed' is named.moment) e.kept_is
+          ap (λ (xs : Shards). after_ending d xs drops draws unopened closed kept named.moment told') done.shards_are
+              ∙ ap (λ (x : Drops). after_ending d shards' x draws unopened closed kept named.moment told') done.drops_are
+              ∙ ap (λ (x : Drawn). after_ending d shards' drops' x unopened closed kept named.moment told') draws_are
+              ∙ ap (λ (n : ℕ). after_ending d shards' drops' draws' n closed kept named.moment told') (unopened_is ∙ ap (λ (b : Bool). cond b 0 (d.unopened + 1)) e.opened_is)
+              ∙ ap (λ (b : Bool). after_ending d shards' drops' draws' unopened' b kept named.moment told') (closed_is ∙ ap (λ (b : Bool). d.closed || b) e.opened_is)
+              ∙ ap (λ (is : List Item). after_ending d shards' drops' draws' unopened' closed' is named.moment told') e.kept_is
+              ∙ ap (λ (n : ℕ). after_ending d shards' drops' draws' unopened' closed' (if is_opened done.round then [] else all) named.moment n) told_as
               ∙ parts d named.moment named.wall noted done.round,
         );
         told = record {
@@ -85,6 +86,7 @@ module _ (d : Desk) (vs ws : Shards) (named : Named) (noted : Bool) (draws : Dra
           answers = grows_if_told_more c₀.answers c₁.answers c₂.answers (Now named.moment ∷ []) (Wall named.wall ∷ []) now wall;
           rounds = subst (λ (r : RoundRecord). Grows t₀.rounds t₁.rounds (told_if noted r)) done.record_told rounds;
           cause = record { later = cause.later; cause = λ f. cause.cause (unnoted noted f) };
+          uncounted = λ f. uncounted (well_noted noted f);
         };
         moment = omega (arith, last);
       }

@@ -14,7 +14,7 @@ use Rattle.bng_shard.specs.declared.pool.Holder.{Holder}
 use Rattle.bng_base.specs.declared.item.Item.{Item}
 use Rattle.bng_desk.specs.declared.drops.Drops.{Drops}
 use Rattle.bng_desk.specs.Counting.{Within, no_drops}
-use Rattle.bng_desk.specs.Kept.{IsKept, rested, octets_most, drops_most}
+use Rattle.bng_desk.specs.Kept.{IsKept, all_turns, rested, octets_most, drops_most}
 use Rattle.bng_desk.specs.Model.{Desk}
 use Rattle.bng_desk.specs.Round.{refused_of}
 use Rattle.bng_desk.specs.Taking.{IsEmpty, AreInOrder, AreItems, outs_of_items}
@@ -63,8 +63,8 @@ kept_fresh d statics shards some_port few_ports some_shard few_shards auth holde
       unopened = omega (arith, unopened);
       told = omega (arith, told);
       drawn = omega (arith, drawn);
-      low = subst (λ (xs : List (Sight State Entry)). All (λ v. All (IsLow (octets_most * d.told)) v.rows) xs) (sym shards) (fresh_low statics (octets_most * d.told) d.rules.shards);
-      counts = subst (λ (x : Drops). Within (drops_most * d.told) x) (sym drops) (record { malformed = omega arith; no_session = omega arith; not_open = omega arith; expired = omega arith; spoofed = omega arith; too_big = omega arith; exceeded = omega arith; link_failed = omega arith; want_of_memory = omega arith });
+      low = subst (λ (xs : List (Sight State Entry)). All (λ v. All (IsLow (octets_most * all_turns d)) v.rows) xs) (sym shards) (fresh_low statics (octets_most * all_turns d) d.rules.shards);
+      counts = subst (λ (x : Drops). Within (drops_most * all_turns d) x) (sym drops) (record { malformed = omega arith; no_session = omega arith; not_open = omega arith; expired = omega arith; spoofed = omega arith; too_big = omega arith; exceeded = omega arith; link_failed = omega arith; want_of_memory = omega arith });
       kept = subst AreItems (sym kept) empty.items;
       kept_outs = subst (λ (is : List Item). outs_of_items is ≤ 4480 + 320 * length d.shards) (sym kept) empty.outs;
       none_refused = subst (λ (is : List Item). refused_of is ≡ []) (sym kept) empty.none;

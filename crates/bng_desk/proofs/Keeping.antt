@@ -9,7 +9,7 @@ use Rattle.bng_desk.specs.declared.desk.DeskState.{DeskState}
 use Rattle.bng_desk.specs.declared.desk.DeskState.TheVariants.{Serving, Ending, Ended, Starved}
 use Rattle.bng_desk.specs.declared.drops.Drops.{Drops}
 use Rattle.bng_desk.specs.Counting.{Within}
-use Rattle.bng_desk.specs.Kept.{IsKept, octets_most, drops_most}
+use Rattle.bng_desk.specs.Kept.{IsKept, all_turns, octets_most, drops_most}
 use Rattle.bng_desk.specs.Model.{Desk, is_over, has_ended, has_starved, state_of, unopened_most, endings_most}
 use Rattle.bng_desk.specs.Items.{drawn_from, ends_of}
 use Rattle.bng_desk.specs.Random.{Drawn}
@@ -17,7 +17,7 @@ use Rattle.bng_desk.specs.Reading.{is_empty}
 use Rattle.bng_desk.specs.Round.{refused_of}
 use Rattle.bng_desk.specs.Taking.{IsEmpty, AreInOrder, AreItems, outs_of_items}
 use Rattle.bng_desk.proofs.Readying.{Shards}
-use Rattle.bng_desk.specs.Turn.{ending_items, ending_draws}
+use Rattle.bng_desk.specs.Turn.{ending_items, ending_draws, told_after}
 use Rattle.bng_desk.proofs.DropLaws.{within_wider}
 use Rattle.bng_desk.proofs.Ending.{after_ending}
 use Rattle.bng_desk.proofs.ItemLaws.{are_ends, outs_of_ends}
@@ -65,12 +65,12 @@ pub record IsLeft (d : Desk) (ws : Shards) (drops : Drops) (drawn : ℕ) : Type 
   pub shards : length ws ≡ length d.shards
   pub order : AreInOrder ws
   pub empty : All IsEmpty ws
-  pub low : All (HasLow (octets_most * d.told + octets_most)) ws
-  pub counts : Within (drops_most * d.told + drops_most) drops
+  pub low : All (HasLow (octets_most * all_turns d + octets_most)) ws
+  pub counts : Within (drops_most * all_turns d + drops_most) drops
   pub drawn_is : drawn ≤ d.drawn + 512
 
-pub kept_served : (d : Desk) (ws : Shards) (drops : Drops) (draws : Drawn) (stopped : Bool) (moment : ℕ) → IsKept d → d.turns < d.rounds → IsLeft d ws drops draws.drawn → IsKept (after_turn d ws drops draws stopped moment)
-kept_served d ws drops draws stopped moment k turns l = record {
+pub kept_served : (d : Desk) (ws : Shards) (drops : Drops) (draws : Drawn) (stopped : Bool) (moment told : ℕ) → IsKept d → d.turns < d.rounds → IsLeft d ws drops draws.drawn → told ≤ d.told + 1 → IsKept (after_turn d ws drops draws stopped moment told)
+kept_served d ws drops draws stopped moment told k turns l up = record {
   some_port = k.some_port;
   few_ports = k.few_ports;
   shards = l.shards ∙ k.shards;
@@ -84,18 +84,18 @@ kept_served d ws drops draws stopped moment k turns l = record {
   made = omega (arith, turns);
   endings = k.endings;
   unopened = k.unopened;
-  told = omega (arith, k.told);
+  told = omega (arith, k.told, up);
   drawn = omega (arith, k.drawn, l.drawn_is);
-  low = low_wider (octets_most * d.told + octets_most) (octets_most * (d.told + 1)) ws (omega arith) l.low;
-  counts = within_wider (drops_most * d.told + drops_most) (drops_most * (d.told + 1)) drops (omega arith) l.counts;
+  low = low_wider (octets_most * all_turns d + octets_most) (octets_most * (d.turns + 1 + d.endings)) ws (omega arith) l.low;
+  counts = within_wider (drops_most * all_turns d + drops_most) (drops_most * (d.turns + 1 + d.endings)) drops (omega arith) l.counts;
   kept = k.kept;
   kept_outs = omega (arith, k.kept_outs, l.shards);
   none_refused = k.none_refused;
 }
 
-pub kept_ended : (d : Desk) (ws : Shards) (drops : Drops) (draws : Drawn) (unopened : ℕ) (closed : Bool) (kept : List Item) (moment : ℕ) → IsKept d → d.endings < 2 ^ 40 → IsLeft d ws drops draws.drawn → unopened ≤ d.unopened + 1
-    → AreItems kept → outs_of_items kept ≤ 4480 + 320 * length d.shards → refused_of kept ≡ [] → IsKept (after_ending d ws drops draws unopened closed kept moment)
-kept_ended d ws drops draws unopened closed kept moment k left l few items outs none = record {
+pub kept_ended : (d : Desk) (ws : Shards) (drops : Drops) (draws : Drawn) (unopened : ℕ) (closed : Bool) (kept : List Item) (moment told : ℕ) → IsKept d → d.endings < 2 ^ 40 → IsLeft d ws drops draws.drawn → unopened ≤ d.unopened + 1 → told ≤ d.told + 1
+    → AreItems kept → outs_of_items kept ≤ 4480 + 320 * length d.shards → refused_of kept ≡ [] → IsKept (after_ending d ws drops draws unopened closed kept moment told)
+kept_ended d ws drops draws unopened closed kept moment told k left l few up items outs none = record {
   some_port = k.some_port;
   few_ports = k.few_ports;
   shards = l.shards ∙ k.shards;
@@ -109,14 +109,19 @@ kept_ended d ws drops draws unopened closed kept moment k left l few items outs 
   made = k.made;
   endings = omega (arith, left);
   unopened = omega (arith, k.unopened, few);
-  told = omega (arith, k.told);
+  told = omega (arith, k.told, up);
   drawn = omega (arith, k.drawn, l.drawn_is);
-  low = low_wider (octets_most * d.told + octets_most) (octets_most * (d.told + 1)) ws (omega arith) l.low;
-  counts = within_wider (drops_most * d.told + drops_most) (drops_most * (d.told + 1)) drops (omega arith) l.counts;
+  low = low_wider (octets_most * all_turns d + octets_most) (octets_most * (d.turns + (d.endings + 1))) ws (omega arith) l.low;
+  counts = within_wider (drops_most * all_turns d + drops_most) (drops_most * (d.turns + (d.endings + 1))) drops (omega arith) l.counts;
   kept = items;
   kept_outs = omega (arith, outs, l.shards);
   none_refused = none;
 }
+
+-- the number of the last round that the trace took rises by one at most
+pub few_told : (noted : Bool) (n : ℕ) → told_after noted n ≤ n + 1
+few_told true n = omega arith
+few_told false n = omega arith
 
 -- The items of a round of the ending ------------------------------------------------------------------------------------------
 

@@ -20,3 +20,4 @@ pub mod Fresh
 pub mod Turning
 pub mod Ending
 pub mod Keeping
+mod InPlace

@@ -23,8 +23,12 @@ octets_most = 2129920
 abbrev pub drops_most : ℕ
 drops_most = 32768
 
+-- how many turns it made, of serving and of the ending
+abbrev pub all_turns : Desk → ℕ
+all_turns d = d.turns + d.endings
+
 -- One port to sixteen, one shard to 64 in their order with nothing of a round in them, a way to authenticate. No sum is above what
--- the rounds so far could add, and none wraps before the last.
+-- the turns so far could add, and none wraps before the last.
 pub record IsKept (d : Desk) : Type 0 where
   pub some_port : 1 ≤ length d.rules.access
   pub few_ports : length d.rules.access ≤ 16
@@ -39,10 +43,10 @@ pub record IsKept (d : Desk) : Type 0 where
   pub made : d.turns ≤ d.rounds
   pub endings : d.endings ≤ 2 ^ 40
   pub unopened : d.unopened ≤ d.endings
-  pub told : d.told ≤ d.turns + d.endings
-  pub drawn : d.drawn ≤ 1 + 512 * d.told
-  pub low : All (λ v. All (IsLow (octets_most * d.told)) v.rows) d.shards
-  pub counts : Within (drops_most * d.told) d.drops
+  pub told : d.told ≤ all_turns d
+  pub drawn : d.drawn ≤ 1 + 512 * all_turns d
+  pub low : All (λ v. All (IsLow (octets_most * all_turns d)) v.rows) d.shards
+  pub counts : Within (drops_most * all_turns d) d.drops
   pub kept : AreItems d.kept
   pub kept_outs : outs_of_items d.kept ≤ 4480 + 320 * length d.shards
   pub none_refused : refused_of d.kept ≡ []

@@ -16,8 +16,8 @@ use Rattle.bng_desk.specs.declared.line.Line.{Line}
 
 -- By what it serves, the provisioned circuits in the order of the configuration, after how many turns it ends serving by
 -- itself, how many it made, whether it was told to stop, the shards in the order of their numbers, who holds an address, the
--- seed and how many times sixteen octets were drawn from it, the drops, the last moment that it was given, and how many rounds
--- it told. Of the ending: how many of its turns were made, how many in a row opened no round, whether one opened a round, and
+-- seed and how many times sixteen octets were drawn from it, the drops, the last moment that it was given, and the number of the
+-- last round that the trace took, 0 before the first. Of the ending: how many of its turns were made, how many in a row opened no round, whether one opened a round, and
 -- the items of the last round that was not opened.
 pub record Desk : Type 0 where
   pub rules : Rules

@@ -1,7 +1,8 @@
 -- A desk that was opened over a configuration.
-use Rattle.std.specs.Prelude.{◌≡◌, ℕ, ◌+◌, ◌/◌, ◌==◌, false, List, [], ◌∷◌, map, filter}
+use Rattle.std.specs.Prelude.{◌≡◌, ℕ, ◌+◌, ◌/◌, ◌==◌, false, List, [], ◌∷◌, Option, None, map, filter}
 use Rattle.std.specs.List.{range_with_len}
 use Rattle.arrayvec.specs.ArrayVec.{ArrayVec}
+use Rattle.bng_base.specs.declared.address.Ip4.{Ip4}
 use Rattle.bng_base.specs.declared.item.Entry.{Entry}
 use Rattle.bng_base.specs.declared.settings.AccessPort.{AccessPort}
 use Rattle.bng_base.specs.declared.settings.Static.{Static}
@@ -35,12 +36,22 @@ AreOffersOf name services key number (port ∷ ports) (offer ∷ offers) = IsOff
 abbrev pub AreOffers : Config → List ℕ → List AccessPort → List PortRules → Type 0
 AreOffers config seed ports offers = AreOffersOf config.name.items config.services.items (draw seed 0) 1 ports offers
 
+-- the gateway's own address and the DNS servers that it offers, for which there are no keys yet: it offers none, and 0.0.0.0
+abbrev pub no_address : Ip4
+no_address = record { 0 = 0 }
+
+abbrev pub no_dns : List (Option Ip4)
+no_dns = None ∷ None ∷ []
+
 -- by what the shards work
 pub record AreRules (config : Config) (seed : List ℕ) (r : Rules) : Type 0 where
   pub shards : r.shards ≡ config.shards
   pub core_peer : r.core_peer ≡ config.core_peer
   pub access : r.access ≡ config.access
   pub offers : AreOffers config seed config.access r.offers
+  pub name : r.link.name.items ≡ config.name.items
+  pub address : r.link.address ≡ no_address
+  pub dns : r.link.dns ≡ no_dns
   pub auth : r.link.auth.items ≡ config.auth.items
   pub echo : r.link.echo ≡ config.echo
 

@@ -82,8 +82,13 @@ RoundOf d moment items (Some round) = IsRound d.rules d.shards d.holders moment 
 
 -- the desk after a round, or after one that was not opened, whose items of the outside are dropped
 abbrev pub after_round : Desk → List Item → Option Round → Desk
-after_round d items None = record d { drops = plus d.drops (with_refused (length (refused_of items))); told = d.told + 1 }
-after_round d items (Some round) = record d { shards = map left_by round.shards; drops = plus d.drops (drops_in items round); told = d.told + 1 }
+after_round d items None = record d { drops = plus d.drops (with_refused (length (refused_of items))) }
+after_round d items (Some round) = record d { shards = map left_by round.shards; drops = plus d.drops (drops_in items round) }
+
+-- the number of the last round that the trace took, after one more; one that it did not take leaves it
+abbrev pub told_after : Bool → ℕ → ℕ
+told_after true told = told + 1
+told_after false told = told
 
 -- the desk that a turn leaves while serving
 abbrev pub after : Desk → Turn → Desk
@@ -92,6 +97,7 @@ after d t = record (after_round d (items_of d t) t.round) {
   stopped = d.stopped || has_stop t.control;
   drawn = d.drawn + length (items_of d t);
   moment = t.moment;
+  told = told_after t.noted d.told;
 }
 
 -- A turn that wanted memory is None: it counts as a turn, and all else is as before.
@@ -137,7 +143,7 @@ abbrev pub round_stretch : Option Round → PlantStretch
 round_stretch None = plant_none
 round_stretch (Some round) = sends_stretch (all_records round.shards)
 
--- what the trace is told
+-- what the trace is told: its number is one more than that of the last round that it took
 abbrev pub round_told : Desk → ℕ → ℕ → List Item → Option Round → RoundRecord
 round_told d moment wall items None = refused_record (d.told + 1) moment wall (length d.shards) items
 round_told d moment wall items (Some round) = record_of (d.told + 1) moment wall items round
@@ -199,6 +205,7 @@ abbrev pub after_end : Desk → EndTurn → Desk
 after_end d t = record (after_round d (ending_items d) t.round) {
   drawn = d.drawn + ending_draws d;
   moment = t.moment;
+  told = told_after t.noted d.told;
   endings = d.endings + 1;
   unopened = (if is_opened t.round then 0 else d.unopened + 1);
   closed = d.closed || is_opened t.round;

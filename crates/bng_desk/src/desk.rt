@@ -5,20 +5,21 @@ ghost use Rattle.bng_desk.specs.Model.{state_of, all_carried};
 ghost use Rattle.bng_desk.specs.Opening.{IsOpened};
 ghost use Rattle.bng_desk.specs.Report.{by_number, report_text};
 ghost use Rattle.bng_desk.specs.Turn.{MakesTurn, MakesEnd, DoesNothing, answer_if, waiting_stretch};
+ghost use Rattle.bng_desk.specs.Turn.{told_after as number_after};
 
 use crate::control::heed;
 use crate::drops::{Drops, NO_DROPS};
 use crate::due::{deadline_of, to_end, wait_until};
 use crate::flags::{both, either};
 use crate::gathering::gather;
-use crate::holding::{Named, hold, hold_ends, note};
+use crate::holding::{Ending, Named, hold, hold_ends, note};
 use crate::line::Line;
 use crate::lists::Lists;
 use crate::opening;
 use crate::random::Draws;
 use crate::report::report;
 use crate::sums::{all_carried, sessions_in};
-use bng_base::{Frame, Ip4, Item, Listed};
+use bng_base::{Entry, Frame, Ip4, Item, Listed};
 use bng_config::Config;
 use bng_plant::{Clock, Gate, Plant, Trace};
 use bng_ppp::LinkRules;
@@ -61,7 +62,8 @@ pub enum Turned {
     WantOfMemory,
 }
 
-/// The desk. Contracts see what it serves, its shards, and what it counts.
+/// The desk. Contracts see what it serves, its shards, and what it counts. The lists of its turns are kept from one to the next:
+/// `lists`, and in `spare` those of the shards' journals.
 #[derive(Drop)]
 pub struct Desk {
     rules: Rules,
@@ -79,6 +81,8 @@ pub struct Desk {
     unopened: u64,
     closed: bool,
     kept: Vec<Item>,
+    lists: Lists,
+    spare: Vec<Vec<Entry>>,
 }
 
 impl Model for Desk {
@@ -134,6 +138,14 @@ fn unopened_after(is_opened: bool, unopened: u64) -> u64
     ensures { result ≡ (if is_opened then 0 else unopened + 1) }
 {
     if is_opened { 0 } else { unopened + 1 }
+}
+
+// The number of the last round that the trace took, after one more.
+fn told_after(noted: bool, told: u64) -> u64
+    requires { told < 2 ^ 63 }
+    ensures { result ≡ number_after noted told }
+{
+    if noted { told + 1 } else { told }
 }
 
 impl Desk {
@@ -206,6 +218,8 @@ impl Desk {
             unopened: 0,
             closed: false,
             kept: Vec::new(alloc),
+            lists: Lists::new(alloc),
+            spare: Vec::new(alloc),
         })
     }
 
@@ -259,7 +273,7 @@ impl Desk {
             (record { plant = P.told plant.old; clock = C.told clock.old; trace = T.told trace.old })
             (record { plant = P.told plant.new; clock = C.told clock.new; trace = T.told trace.new }) result }
     {
-        let Ok(mut lists) = Lists::of(alloc, self.shards.len()) else {
+        let Ok(mut lists) = self.lists.take(alloc, self.shards.len()) else {
             self.turns += 1;
             return Turned::WantOfMemory;
         };
@@ -289,12 +303,14 @@ impl Desk {
             named,
             lists,
             gathered.taken,
+            &mut self.spare,
             &mut self.drops,
         );
         let noted = note(trace, &round);
+        self.lists = Lists::of_round(alloc, round, &mut self.spare);
         let wait = wait_until(deadline_of(self.shards.as_slice()), now);
         wait_if(plant, both(both(heeding.idle, gathered.quiet), noted), wait);
-        self.told += 1;
+        self.told = told_after(noted, self.told);
         self.turns += 1;
         self.stopped = either(self.stopped, heeding.stop);
         self.moment = now;
@@ -315,7 +331,7 @@ impl Desk {
             (record { plant = P.told plant.old; clock = C.told clock.old; trace = T.told trace.old })
             (record { plant = P.told plant.new; clock = C.told clock.new; trace = T.told trace.new }) result }
     {
-        let Ok(mut lists) = Lists::of(alloc, self.shards.len()) else {
+        let Ok(mut lists) = self.lists.take(alloc, self.shards.len()) else {
             self.endings += 1;
             self.unopened += 1;
             return Turned::WantOfMemory;
@@ -338,14 +354,17 @@ impl Desk {
             named,
             lists,
             &mut self.kept,
+            &mut self.spare,
             &mut self.drops,
         );
-        let noted = note(trace, &ending.record);
-        self.told += 1;
+        let Ending { record, is_opened } = ending;
+        let noted = note(trace, &record);
+        self.lists = Lists::of_round(alloc, record, &mut self.spare);
+        self.told = told_after(noted, self.told);
         self.moment = now;
         self.endings += 1;
-        self.unopened = unopened_after(ending.is_opened, self.unopened);
-        self.closed = either(self.closed, ending.is_opened);
+        self.unopened = unopened_after(is_opened, self.unopened);
+        self.closed = either(self.closed, is_opened);
         answer(noted)
     }
 

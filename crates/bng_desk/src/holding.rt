@@ -1,5 +1,5 @@
 //! A round of given items: opened and settled, or refused for want of memory.
-ghost use Rattle.std.specs.Prelude.{◌≡◌, ◌+◌, ◌*◌, ◌^◌, ◌≤◌, ◌<◌, [], ℕ, false, length, replicate, take, vec_capacity};
+ghost use Rattle.std.specs.Prelude.{◌≡◌, ◌+◌, ◌*◌, ◌^◌, ◌≤◌, ◌<◌, [], ℕ, true, false, length, replicate, take, vec_capacity};
 ghost use Rattle.std.specs.List.{All};
 ghost use Rattle.bng_base.specs.Causes.{HasCause};
 ghost use Rattle.bng_base.specs.Told.{Grows};
@@ -136,6 +136,7 @@ pub(crate) fn hold<P: Plant>(
     named: Named,
     mut lists: Lists,
     taken: usize,
+    spare: &mut Vec<Vec<Entry>>,
     drops: &mut Drops,
 ) -> RoundRecord
     requires numbers { AreInOrder shards.old }
@@ -163,7 +164,7 @@ pub(crate) fn hold<P: Plant>(
     ensures within { (most : ℕ) → Within most drops.old → Within (most + drops_most) drops.new }
 {
     let count = lists.items.len() as u16;
-    if prepare_all(shards, alloc, count) {
+    if prepare_all(shards, alloc, count, spare) {
         return opened(rules, shards, pool, plant, named, lists, drops);
     }
     let mut items = mem::replace(&mut lists.items, Vec::new(alloc));
@@ -189,6 +190,7 @@ pub(crate) fn hold_ends<P: Plant>(
     named: Named,
     mut lists: Lists,
     kept: &mut Vec<Item>,
+    spare: &mut Vec<Vec<Entry>>,
     drops: &mut Drops,
 ) -> Ending
     requires numbers { AreInOrder shards.old }
@@ -217,7 +219,7 @@ pub(crate) fn hold_ends<P: Plant>(
     ensures within { (most : ℕ) → Within most drops.old → Within (most + drops_most) drops.new }
 {
     let count = lists.items.len() as u16;
-    if prepare_all(shards, alloc, count) {
+    if prepare_all(shards, alloc, count, spare) {
         return Ending {
             record: opened(rules, shards, pool, plant, named, lists, drops),
             is_opened: true,
@@ -234,6 +236,7 @@ pub(crate) fn hold_ends<P: Plant>(
 pub(crate) fn note<T: Trace>(trace: &mut T, round: &RoundRecord) -> bool
     ensures rounds { Grows (T.told trace.old).rounds (T.told trace.new).rounds (told_if result round.now) }
     ensures cause { HasCause (T.told trace.old).faults (T.told trace.new).faults (result ≡ false) }
+    ensures uncounted { result ≡ true → (T.told trace.new).faults ≡ (T.told trace.old).faults }
 {
     match trace.note(round) {
         Noted::Ok => true,

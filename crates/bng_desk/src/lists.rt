@@ -1,8 +1,9 @@
 //! The lists of a turn.
 ghost use Rattle.std.specs.Prelude.{◌≡◌, ◌≤◌, ◌+◌, ◌*◌, [], length, vec_capacity, replicate, IfOk};
 
-use bng_base::{Entry, Item, Listed, Loose, OutRecord};
+use bng_base::{Entry, Item, Listed, Loose, OutRecord, RoundRecord};
 use std::alloc::{AllocError, Global};
+use std::mem;
 
 /// The most items of a round: 448 datagrams, and one Tick or End for each of 64 shards.
 pub(crate) const ITEMS_MOST: usize = 512;
@@ -13,7 +14,7 @@ const TAKEN_OUTS_MOST: usize = 4480;
 /// The most outs of a Tick or an End.
 const SHARD_OUTS_MOST: usize = 320;
 
-/// The lists of a turn, with room for all that it may put on them.
+/// The lists of a turn, with room for all that it may put on them. A desk keeps them from turn to turn.
 #[derive(Drop)]
 pub(crate) struct Lists {
     pub(crate) items: Vec<Item>,
@@ -24,9 +25,51 @@ pub(crate) struct Lists {
     pub(crate) refused: Vec<Item>,
 }
 
+// An empty list with room for so many, of one that was used before.
+fn roomy<T: Drop>(mut list: Vec<T>, room: usize) -> Result<Vec<T>, AllocError>
+    ensures { IfOk result (λ l. (l.items ≡ []) × (room ≤ vec_capacity l)) }
+{
+    list.clear();
+    match list.reserve(room) {
+        Ok(()) => Ok(list),
+        Err(_) => Err(AllocError),
+    }
+}
+
+// So many zeros, in the place of what was on a list.
+fn zeros(mut list: Vec<u32>, count: usize) -> Result<Vec<u32>, AllocError>
+    ensures { IfOk result (λ l. l.items ≡ replicate count 0) }
+{
+    list.clear();
+    match list.resize(count, 0) {
+        Ok(()) => Ok(list),
+        Err(_) => Err(AllocError),
+    }
+}
+
+// Keeps the list of a journal for a later round, if there is room to keep it.
+fn keep(spare: &mut Vec<Vec<Entry>>, journal: Vec<Entry>) {
+    match spare.push(journal) {
+        Ok(()) => {}
+        Err(_) => {}
+    }
+}
+
 impl Lists {
-    /// Empty lists for a turn over so many shards. No term may begin in a round: each allowance is 0.
-    pub(crate) fn of(alloc: Global, shards: usize) -> Result<Lists, AllocError>
+    /// Lists with nothing on them and no room.
+    pub(crate) fn new(alloc: Global) -> Lists {
+        Lists {
+            items: Vec::new(alloc),
+            loose: Vec::new(alloc),
+            allowances: Vec::new(alloc),
+            journals: Vec::new(alloc),
+            outs: Vec::new(alloc),
+            refused: Vec::new(alloc),
+        }
+    }
+
+    /// Empty lists for a turn over so many shards, of those of the turn before. No term may begin in a round: each allowance is 0.
+    pub(crate) fn take(&mut self, alloc: Global, shards: usize) -> Result<Lists, AllocError>
         requires { shards ≤ 64 }
         ensures items { IfOk result (λ l. (l.items.items ≡ []) × (512 ≤ vec_capacity l.items)) }
         ensures loose { IfOk result (λ l. (l.loose.items ≡ []) × (512 ≤ vec_capacity l.loose)) }
@@ -35,11 +78,19 @@ impl Lists {
         ensures outs { IfOk result (λ l. (l.outs.items ≡ []) × (4480 + 320 * shards ≤ vec_capacity l.outs)) }
         ensures refused { IfOk result (λ l. l.refused.items ≡ []) }
     {
-        let items = Vec::with_capacity(alloc, ITEMS_MOST)?;
-        let loose = Vec::with_capacity(alloc, ITEMS_MOST)?;
-        let allowances = vec![in alloc; 0u32; shards]?;
-        let journals = Vec::with_capacity(alloc, shards)?;
-        let outs = Vec::with_capacity(alloc, TAKEN_OUTS_MOST + SHARD_OUTS_MOST * shards)?;
+        let Lists {
+            items,
+            loose,
+            allowances,
+            journals,
+            outs,
+            refused: _,
+        } = mem::replace(self, Lists::new(alloc));
+        let items = roomy(items, ITEMS_MOST)?;
+        let loose = roomy(loose, ITEMS_MOST)?;
+        let allowances = zeros(allowances, shards)?;
+        let journals = roomy(journals, shards)?;
+        let outs = roomy(outs, TAKEN_OUTS_MOST + SHARD_OUTS_MOST * shards)?;
         Ok(Lists {
             items,
             loose,
@@ -48,5 +99,37 @@ impl Lists {
             outs,
             refused: Vec::new(alloc),
         })
+    }
+
+    /// The lists of a round that was told, for the next turn. Those of its journals go to `spare`.
+    pub(crate) fn of_round(
+        alloc: Global,
+        round: RoundRecord,
+        spare: &mut Vec<Vec<Entry>>,
+    ) -> Lists {
+        let RoundRecord {
+            number: _,
+            moment: _,
+            wall: _,
+            allowances,
+            journals,
+            loose,
+            outs,
+            refused,
+        } = round;
+        let mut journals = journals.into_vec();
+        for _shard in 0..journals.len() {
+            if let Some(journal) = journals.pop() {
+                keep(spare, journal.into_vec());
+            }
+        }
+        Lists {
+            items: refused.into_vec(),
+            loose: loose.into_vec(),
+            allowances: allowances.into_vec(),
+            journals,
+            outs: outs.into_vec(),
+            refused: Vec::new(alloc),
+        }
     }
 }

@@ -22,8 +22,36 @@ use bng_plant::Plant;
 use bng_shard::{Charged, PlainPool, Rules, Shard, Whose, whose_is};
 use std::alloc::Global;
 
-/// Makes all shards ready for a round of so many items, and says whether there is room.
-pub(crate) fn prepare_all(shards: &mut [Shard], alloc: Global, items: u16) -> bool
+// Lends a shard the list of a journal of before, emptied.
+fn lend(shard: &mut Shard, mut list: Vec<Entry>)
+    requires { shard.old.journal ≡ [] }
+    ensures { shard.new ≡ record shard.old { room = 0 } }
+{
+    list.clear();
+    shard.keep_journal(list);
+}
+
+// Makes a shard ready for a round of so many items, with the list of a journal of before where one is left.
+fn prepare_one(shard: &mut Shard, alloc: Global, items: u16, spare: &mut Vec<Vec<Entry>>) -> bool
+    requires { IsEmpty shard.old }
+    ensures kept { Kept shard.old shard.new }
+    ensures empty { IsEmpty shard.new }
+    ensures ready { result ≡ true → IsReady items shard.new }
+    ensures rows { result ≡ true → HasRows shard.new }
+{
+    if let Some(list) = spare.pop() {
+        lend(shard, list);
+    }
+    shard.prepare(alloc, items).is_ok()
+}
+
+/// Makes all shards ready for a round of so many items, and says whether there is room. Lists of `spare` serve for their journals.
+pub(crate) fn prepare_all(
+    shards: &mut [Shard],
+    alloc: Global,
+    items: u16,
+    spare: &mut Vec<Vec<Entry>>,
+) -> bool
     requires empty { All IsEmpty shards.old }
     ensures kept { AllZip Kept shards.old shards.new }
     ensures empty { All IsEmpty shards.new }
@@ -31,7 +59,7 @@ pub(crate) fn prepare_all(shards: &mut [Shard], alloc: Global, items: u16) -> bo
     ensures rows { result ≡ true → All HasRows shards.new }
 {
     for shard in shards.iter_mut() {
-        if shard.prepare(alloc, items).is_err() {
+        if !prepare_one(shard, alloc, items, spare) {
             return false;
         }
     }
@@ -141,16 +169,18 @@ fn settle<P: Plant>(
     requires few { length shard.old.outs ≤ 2 ^ 32 }
     requires drops { Within (2 ^ 62 + 2 ^ 61) drops.old }
     ensures sends { Sends shard.old shard.new (P.told plant.old) (P.told plant.new) outs.old.items outs.new.items result.items drops.old drops.new }
-    ensures capacity { vec_capacity outs.new ≡ vec_capacity outs.old }
+    ensures capacity { vec_capacity outs.old ≤ vec_capacity outs.new }
 {
-    let (journal, to_send) = shard.drain();
-    for mut out in to_send {
+    let (journal, mut to_send) = shard.drain();
+    for out in to_send.iter_mut() {
         let sent = send(plant, out.role, out.to, out.frame.as_slice());
         out.sent = sent;
-        let charged = shard.charge(&out);
+        let charged = shard.charge(out);
         count_failed(drops, charged, sent);
-        outs.push_reserved(out);
     }
+    let moved = outs.append(&mut to_send);
+    prove!(moved.is_ok());
+    shard.keep_outs(to_send);
     journal
 }
 

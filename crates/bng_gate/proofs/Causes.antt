@@ -11,7 +11,7 @@ use Rattle.bng_gate.specs.declared.texts.Opening.TheVariants.{Configuration, See
 use Rattle.bng_config.proofs.Exclusive.{no_fault}
 use Rattle.bng_gate.specs.Words.{Serves}
 use Rattle.bng_config.specs.Configuration.{HasFault}
-use Rattle.bng_gate.specs.Run.{World, Prepares, Fails, IsUnwritten, RunEnds, IsFaultless}
+use Rattle.bng_gate.specs.Run.{World, Prepares, Fails, WantsConfiguration, WantsService, IsUnwritten, RunEnds, IsFaultless}
 
 -- the statuses, one by one
 by_status : (status : ℕ) (Q : Type 0) → status ≤ 5 → (status ≡ 0 → Q) → (status ≡ 1 → Q) → (status ≡ 2 → Q) → (status ≡ 3 → Q) → (status ≡ 4 → Q) → (status ≡ 5 → Q) → Q
@@ -27,20 +27,24 @@ by_status status Q le q0 q1 q2 q3 q4 q5 =
 
 -- who opens a file has words that serve it
 fails_serves : (words : List (List ℕ)) (old new : World) (what : Opening) → Fails words old new what → (name : List ℕ) × Serves words name
-fails_serves words old new Configuration f = (f.0.name, f.0.command)
-fails_serves words old new Seed f = (f.1.opens.name, f.1.opens.command)
-fails_serves words old new Control f = (f.2.prepares.opens.name, f.2.prepares.opens.command)
-fails_serves words old new Core f = (f.2.prepares.opens.name, f.2.prepares.opens.command)
-fails_serves words old new (Access number) f = (f.2.prepares.opens.name, f.2.prepares.opens.command)
+fails_serves words old new Configuration f = (f.fails.name, f.fails.command)
+fails_serves words old new Seed f = (f.prepares.opens.name, f.prepares.opens.command)
+fails_serves words old new Control f = (f.ready.prepares.opens.name, f.ready.prepares.opens.command)
+fails_serves words old new Core f = (f.ready.prepares.opens.name, f.ready.prepares.opens.command)
+fails_serves words old new (Access number) f = (f.ready.prepares.opens.name, f.ready.prepares.opens.command)
+
+wants_serves : (words : List (List ℕ)) (old new : World) → WantsConfiguration words old new ⊎ WantsService words old new → (name : List ℕ) × Serves words name
+wants_serves words old new (inl w) = (w.wants.name, w.wants.command)
+wants_serves words old new (inr w) = (w.ready.prepares.opens.name, w.ready.prepares.opens.command)
 
 pub no_command : (words : List (List ℕ)) (old new : World) (status : ℕ) → RunEnds words old new status → ((name : List ℕ) → ¬ Serves words name) → (status ≡ 1) ⊎ (status ≡ 5)
 no_command words old new status r none =
     by_status status ((status ≡ 1) ⊎ (status ≡ 5)) r.no_other
     (λ s. let x = r.served s in absurd (none x.ready.prepares.opens.name x.ready.prepares.opens.command))
     (λ s. inl s)
-    (λ s. let x = r.refused s in absurd (none x.faulty.opens.name x.faulty.opens.command))
-    (λ s. let x = r.unopened s in let y = fails_serves words old new x.what x.fails in absurd (none y.0 y.1))
-    (λ s. let x = r.starved s in absurd (none x.name x.command))
+    (λ s. let x = r.refused s in absurd (none x.1.why.faulty.opens.name x.1.why.faulty.opens.command))
+    (λ s. let x = r.unopened s in let y = fails_serves words old new x.0 x.1.why.fails in absurd (none y.0 y.1))
+    (λ s. let y = wants_serves words old new (r.starved s).why in absurd (none y.0 y.1))
     (λ s. inr s)
 
 one_more : {X : Type 0} (xs : List X) (x : X) → xs ≡ xs ++ x ∷ [] → ⊥
@@ -67,42 +71,42 @@ read_well words old new config text fault p some grew broken =
 
 fails_read : (words : List (List ℕ)) (old new : World) (what : Opening) (text : List ℕ) (fault : Fault) → Fails words old new what → IsSome old.files.contents
     → Grows old.files.contents new.files.contents (text ∷ []) → HasFault text fault → ⊥
-fails_read words old new Configuration text fault f some grew broken = unread old.files.contents new.files.contents text some grew f.0.contents
-fails_read words old new Seed text fault f some grew broken = read_well words old.files new.files f.0 text fault f.1 some grew broken
-fails_read words old new Control text fault f some grew broken = read_well words old.files new.files f.0 text fault f.2.prepares some grew broken
-fails_read words old new Core text fault f some grew broken = read_well words old.files new.files f.0 text fault f.2.prepares some grew broken
-fails_read words old new (Access number) text fault f some grew broken = read_well words old.files new.files f.0 text fault f.2.prepares some grew broken
+fails_read words old new Configuration text fault f some grew broken = unread old.files.contents new.files.contents text some grew f.fails.contents
+fails_read words old new Seed text fault f some grew broken = read_well words old.files new.files f.config text fault f.prepares some grew broken
+fails_read words old new Control text fault f some grew broken = read_well words old.files new.files f.config text fault f.ready.prepares some grew broken
+fails_read words old new Core text fault f some grew broken = read_well words old.files new.files f.config text fault f.ready.prepares some grew broken
+fails_read words old new (Access number) text fault f some grew broken = read_well words old.files new.files f.config text fault f.ready.prepares some grew broken
 
 pub faulty : (words : List (List ℕ)) (old new : World) (status : ℕ) → RunEnds words old new status → IsSome old.files.contents → (text : List ℕ) (fault : Fault)
     → Grows old.files.contents new.files.contents (text ∷ []) → HasFault text fault → (status ≡ 2) ⊎ (status ≡ 4) ⊎ (status ≡ 5)
 faulty words old new status r some text fault grew broken =
     by_status status ((status ≡ 2) ⊎ (status ≡ 4) ⊎ (status ≡ 5)) r.no_other
     (λ s. let x = r.served s in absurd (read_well words old.files new.files x.config text fault x.ready.prepares some grew broken))
-    (λ s. let x = r.usage s in absurd (unread old.files.contents new.files.contents text some grew (ap (λ (f : FilesTold). f.contents) x.command.unread)))
+    (λ s. let x = r.usage s in absurd (unread old.files.contents new.files.contents text some grew (ap (λ (f : FilesTold). f.contents) x.why.command.unread)))
     (λ s. inl s)
-    (λ s. let x = r.unopened s in absurd (fails_read words old new x.what text fault x.fails some grew broken))
+    (λ s. let x = r.unopened s in absurd (fails_read words old new x.0 text fault x.1.why.fails some grew broken))
     (λ s. inr (inl s))
     (λ s. inr (inr s))
 
 fails_rose : (words : List (List ℕ)) (old new : World) (what : Opening) → Fails words old new what → IsFaultless old new → ⊥
-fails_rose words old new Configuration f none = none.files f.0.rose
-fails_rose words old new Seed f none = none.entropy f.2.rose
-fails_rose words old new Control f none = none.plant f.3.rose
-fails_rose words old new Core f none = none.plant f.3.rose
-fails_rose words old new (Access number) f none = none.plant f.3.fails.rose
+fails_rose words old new Configuration f none = none.files f.fails.rose
+fails_rose words old new Seed f none = none.entropy f.fails.rose
+fails_rose words old new Control f none = none.plant f.fails.rose
+fails_rose words old new Core f none = none.plant f.fails.rose
+fails_rose words old new (Access number) f none = none.plant f.fails.fails.rose
 
 unwritten_rose : (words : List (List ℕ)) (old new : World) → IsUnwritten words old new → IsFaultless old new → ⊥
-unwritten_rose words old new (inl f) none = none.trace f.fails.rose
-unwritten_rose words old new (inr (inl f)) none = none.out f
-unwritten_rose words old new (inr (inr f)) none = none.err f
+unwritten_rose words old new (inl f) none = none.trace f.why.fails.rose
+unwritten_rose words old new (inr (inl f)) none = none.out f.why.fails.fails.fails.rose
+unwritten_rose words old new (inr (inr f)) none = none.err f.fails.rose
 
 pub complete : (words : List (List ℕ)) (old new : World) (status : ℕ) → RunEnds words old new status → (name : List ℕ) → Serves words name
     → ((text : List ℕ) (fault : Fault) → Grows old.files.contents new.files.contents (text ∷ []) → ¬ HasFault text fault) → IsFaultless old new → (status ≡ 0) ⊎ (status ≡ 4)
 complete words old new status r name serves sound none =
     by_status status ((status ≡ 0) ⊎ (status ≡ 4)) r.no_other
     (λ s. inl s)
-    (λ s. let x = r.usage s in absurd (x.command.none name serves))
-    (λ s. let x = r.refused s in absurd (sound x.faulty.text x.fault x.faulty.opens.content x.faulty.broken))
-    (λ s. let x = r.unopened s in absurd (fails_rose words old new x.what x.fails none))
+    (λ s. let x = r.usage s in absurd (x.why.command.none name serves))
+    (λ s. let x = r.refused s in absurd (sound x.1.why.faulty.text x.0 x.1.why.faulty.opens.content x.1.why.faulty.broken))
+    (λ s. let x = r.unopened s in absurd (fails_rose words old new x.0 x.1.why.fails none))
     (λ s. inr s)
     (λ s. absurd (unwritten_rose words old new (r.unwritten s) none))

@@ -1,14 +1,12 @@
 -- A run ends with the turn whose round the trace did not take.
-use Rattle.std.proofs.Common.{◌≡◌, ◌<◌, Bool, true, false, List, Option, length, refl, sym, ◌∙◌, inl, inr}
+use Rattle.std.proofs.Common.{◌≡◌, ◌<◌, Bool, true, false, List, Option, length, refl, sym, ◌∙◌}
 use Rattle.std.specs.List.{list_any}
 use Rattle.std.proofs.lemmas.Bool.{true≢false}
-use Rattle.bng_base.specs.Causes.{Rose}
 use Rattle.bng_base.specs.Stretch.{Outside, Extends}
 use Rattle.bng_base.proofs.ChainLaws.{chain_more}
-use Rattle.bng_base.proofs.ToldLaws.{rose_late}
 use Rattle.bng_desk.specs.Model.{Desk}
 use Rattle.bng_desk.specs.Turn.{Turn, Step, stretch_of, EndTurn, EndStep, end_stretch}
-use Rattle.bng_gate.specs.Serving.{Made, MadeEnd, Goes, GoesEnding, Run, EndRun, run_stretch, ending_stretch, took_stop, AreNoted, FailsServing, FailsFinishing, FailsTurning}
+use Rattle.bng_gate.specs.Serving.{Made, MadeEnd, Goes, GoesEnding, Run, EndRun, run_stretch, ending_stretch, took_stop, AreNoted, FailsServing, FailsFinishing}
 use Rattle.bng_gate.proofs.Turns.{told_turn, unnoted_turn, told_end, unnoted_end}
 
 not_noted : (b : Bool) → b ≡ true → ¬ (b ≡ false)
@@ -46,8 +44,3 @@ module _ (d mid d' : Desk) (o o₁ o₂ : Outside) where
         unnoted = not_noted (end_stretch mid t).unnoted unnoted;
         rose = told.cause.cause (unnoted_end ends m unnoted);
       }
-
--- wherever it was, the trace's count rose
-pub rose_turning : (d d' : Desk) (o o' : Outside) → FailsTurning d d' o o' → Rose o.trace.faults o'.trace.faults
-rose_turning d d' o o' (inl f) = f.rose
-rose_turning d d' o o' (inr f) = rose_late o.trace.faults f.between.trace.faults o'.trace.faults f.serves.told.cause.later f.fails.rose

@@ -1,10 +1,10 @@
 -- The headline of a run, from its turns.
-use Rattle.std.proofs.Common.{◌≡◌, ℕ, List, [], map, Option, refl, sym, ap, subst, ◌∙◌, arith}
+use Rattle.std.proofs.Common.{◌≡◌, ◌⊎◌, inl, inr, ℕ, List, [], map, Option, refl, sym, ap, subst, ◌∙◌, arith}
 use Rattle.std.specs.List.{AllByRecursion, AllZip, range_with_len}
 use Rattle.bng_base.specs.declared.outside.Datagram.{Datagram}
 use Rattle.bng_base.specs.declared.outside.Heard.{Heard}
 use Rattle.bng_base.specs.Chain.{Chain}
-use Rattle.bng_base.specs.Told.{Grows, GrowsIfTold}
+use Rattle.bng_base.specs.Told.{PlantTold, Grows, GrowsIfTold}
 use Rattle.bng_config.specs.declared.config.Config.{Config}
 use Rattle.bng_config.specs.Configuration.{IsRead}
 use Rattle.bng_config.specs.Rules.{KeepsRules}
@@ -16,7 +16,7 @@ use Rattle.bng_engine.specs.Run.{Part, Past}
 use Rattle.bng_engine.specs.Terms.{keys}
 use Rattle.bng_engine.specs.Turn.{DeskSight}
 use Rattle.bng_engine.specs.World.{World as Gateway, Run as Rounds}
-use Rattle.bng_engine.specs.Wire.{went}
+use Rattle.bng_engine.specs.Wire.{went, is_input, is_output, input_told, output_told}
 use Rattle.bng_engine.proofs.Openings.{refused_keeps}
 use Rattle.bng_engine.proofs.Runs.{opens_accounted, rounds_are_right, run_conserves, turns_go_on, rows_account_on_wire}
 use Rattle.bng_shard.specs.declared.rules.Rules.{Rules}
@@ -27,13 +27,15 @@ use Rattle.bng_shard.specs.State.{State}
 use Rattle.bng_shard.proofs.StepLaws.{pppoe_laws}
 use Rattle.bng_desk.specs.declared.drops.Drops.{Drops}
 use Rattle.bng_desk.specs.declared.line.Line.{Line}
-use Rattle.bng_desk.specs.Model.{Desk, carried_on, all_carried}
+use Rattle.bng_desk.specs.Model.{Desk, carried_on, all_carried, input_of, output_of}
 use Rattle.bng_desk.specs.Opening.{line_of, holder_of, opened_shards}
 use Rattle.bng_desk.specs.Report.{report_text, by_number}
 use Rattle.bng_desk.specs.Round.{sight_of}
-use Rattle.bng_gate.specs.Headline.{Headline, all_traffic}
+use Rattle.bng_gate.specs.declared.texts.Refusal.{Refusal}
+use Rattle.bng_gate.specs.declared.texts.Refusal.TheVariants.{Usage, Refused, CannotOpen, OutOfMemory, TraceFailed, OutputFailed}
+use Rattle.bng_gate.specs.Headline.{Headline, IsSafe, IsQuiet, WasSafe, all_traffic}
 use Rattle.bng_gate.specs.Rounds.{rounds_in, rounds_of, plant_of, on_data, drops_of_run}
-use Rattle.bng_gate.specs.Run.{World, outside, Runs}
+use Rattle.bng_gate.specs.Run.{World, outside, Course, Runs, IsReady, IsUntouched, WantsToServe, Why, IsUnwritten, RunEnds}
 use Rattle.bng_gate.proofs.Addressing.{all_addressed}
 use Rattle.bng_gate.proofs.Drops.{all_dropped}
 use Rattle.bng_gate.proofs.Follows.{Follows, run_follows, lines_stay}
@@ -43,25 +45,25 @@ use Rattle.bng_gate.proofs.Openings.{opens}
 use Rattle.bng_gate.proofs.Telling.{sent_are, taken_are, unsent_failed}
 use Rattle.bng_gate.proofs.Traffic.{traffic_same, input_all, output_all}
 
-module _ (config : Config) (rules : KeepsRules config) (seed : List ℕ) (old new : World) (run : Runs config seed (outside old) (outside new) old.out new.out) where
+module _ (config : Config) (rules : KeepsRules config) (seed : List ℕ) (old new : World) (course : Course config seed (outside old) (outside new)) where
   abbrev r : Rules
-  r = run.opening.rules
+  r = course.opening.rules
 
   laws : StepLaws (pppoe r)
   laws = pppoe_laws r
 
   -- the engine's sights of the desk at the opening and at the end
   abbrev start : DeskSight State Deed
-  start = sight_of run.opening.shards run.opening.holders
+  start = sight_of course.opening.shards course.opening.holders
 
   abbrev end : DeskSight State Deed
-  end = sight_of run.last.shards run.last.holders
+  end = sight_of course.last.shards course.last.holders
 
   abbrev rounds : List (List (Part Deed))
-  rounds = rounds_of run.turns run.endings
+  rounds = rounds_of course.turns course.endings
 
   start_is : start ≡ sight_of (opened_shards config) (map holder_of config.statics)
-  start_is = ap (λ (d : Desk). sight_of d.shards d.holders) run.begins.is_opened.desk
+  start_is = ap (λ (d : Desk). sight_of d.shards d.holders) course.begins.is_opened.desk
 
   start_opens : Opens (pppoe r) start
   start_opens = subst (Opens (pppoe r)) (sym start_is) (opens r config rules)
@@ -69,11 +71,11 @@ module _ (config : Config) (rules : KeepsRules config) (seed : List ℕ) (old ne
   start_keys : AllZip HasKeys start.shards (all_keys config)
   start_keys = subst (λ (v : DeskSight State Deed). AllZip HasKeys v.shards (all_keys config)) (sym start_is) (opened_keys config (range_with_len 0 config.shards))
 
-  follows : Chain Follows run.opening (rounds_in run.turns run.endings) run.last
-  follows = run_follows run.opening run.over run.last run.turns run.endings run.run run.ending
+  follows : Chain Follows course.opening (rounds_in course.turns course.endings) course.last
+  follows = run_follows course.opening course.over course.last course.turns course.endings course.run course.ending
 
-  leads : Leads r start rounds run.last
-  leads = rounds_lead r run.opening run.last (rounds_in run.turns run.endings) follows refl start (stands_itself run.opening)
+  leads : Leads r start rounds course.last
+  leads = rounds_lead r course.opening course.last (rounds_in course.turns course.endings) follows refl start (stands_itself course.opening)
 
   goes : (w : Gateway State) × Rounds (pppoe r) (nothing_yet start) rounds w × Accounted (pppoe r) leads.sight w
   goes = turns_go_on (pppoe r) laws start leads.sight (nothing_yet start) rounds (by_turns r start leads.sight rounds leads.turns) (opens_accounted (pppoe r) laws start start_opens)
@@ -90,8 +92,8 @@ module _ (config : Config) (rules : KeepsRules config) (seed : List ℕ) (old ne
   end_keys : AllZip HasKeys leads.sight.shards (all_keys config)
   end_keys = run_keys r laws start leads.sight rounds (all_keys config) leads.turns start_keys
 
-  rows : AllZip HasRows run.last.shards (all_keys config)
-  rows = rows_have r leads.sight.shards run.last.shards goes.0.shards (all_keys config) leads.stands.shards end_keys accounted.tells.shards
+  rows : AllZip HasRows course.last.shards (all_keys config)
+  rows = rows_have r leads.sight.shards course.last.shards goes.0.shards (all_keys config) leads.stands.shards end_keys accounted.tells.shards
 
   terms : map (λ (x : Past State). keys (terms_of x.state)) goes.0.shards ≡ all_keys config
   terms = world_keys r leads.sight.shards goes.0.shards (all_keys config) goes.2.tells.shards end_keys
@@ -102,39 +104,31 @@ module _ (config : Config) (rules : KeepsRules config) (seed : List ℕ) (old ne
   stops : stops_of rounds ≡ []
   stops = run_stops r laws start leads.sight rounds leads.turns
 
-  lines : run.last.lines ≡ map line_of config.statics
-  lines = lines_stay run.opening run.last (rounds_in run.turns run.endings) follows ∙ ap (λ (d : Desk). d.lines) run.begins.is_opened.desk
+  lines : course.last.lines ≡ map line_of config.statics
+  lines = lines_stay course.opening course.last (rounds_in course.turns course.endings) follows ∙ ap (λ (d : Desk). d.lines) course.begins.is_opened.desk
 
   -- what was sent, as the plant tells it
   abbrev sent : List Datagram
-  sent = (plant_of run.turns run.endings).sent
+  sent = (plant_of course.turns course.endings).sent
 
   sends : on_data sent ≡ on_data (went (sends_of rounds))
-  sends = sent_are run.turns run.endings
+  sends = sent_are course.turns course.endings
 
-  drops : run.last.drops ≡ drops_of_run run.turns run.endings
-  drops = all_dropped run.opening run.over run.last run.turns run.endings (ap (λ (d : Desk). d.drops) run.begins.is_opened.desk) run.run run.ending
+  drops : course.last.drops ≡ drops_of_run course.turns course.endings
+  drops = all_dropped course.opening course.over course.last course.turns course.endings (ap (λ (d : Desk). d.drops) course.begins.is_opened.desk) course.run course.ending
 
-  report : report_text run.last.lines (all_carried run.last) (by_number run.last.drops) ≡ report_text (map line_of config.statics) (all_traffic config sent) (by_number (drops_of_run run.turns run.endings))
-  report =
-      ap (λ (ls : List Line). report_text ls (map (carried_on run.last.shards) ls) (by_number run.last.drops)) lines
-      ∙ ap (λ (ts : List Traffic). report_text (map line_of config.statics) ts (by_number run.last.drops)) (traffic_same config rules run.last.shards rows run.last.holders sent rounds sends stops on_wire)
-      ∙ ap (λ (d : Drops). report_text (map line_of config.statics) (all_traffic config sent) (by_number d)) drops
-
-  pub headline_of : Headline config old new
-  headline_of = record {
-    seed = seed;
-    run = run;
-    heard = (plant_of run.turns run.endings).heard;
-    heard_grew = subst (λ (x : Option (List Heard)). GrowsIfTold x new.plant.heard (plant_of run.turns run.endings).heard) run.begins.binds.heard run.told.plant.heard;
+  pub safe_of : IsSafe config seed old new course
+  safe_of = record {
+    heard = (plant_of course.turns course.endings).heard;
+    heard_grew = subst (λ (x : Option (List Heard)). GrowsIfTold x new.plant.heard (plant_of course.turns course.endings).heard) course.begins.bound.binds.heard course.told.plant.heard;
     are_heard = refl;
-    taken = (plant_of run.turns run.endings).taken;
-    taken_grew = subst (λ (x : Option (List Datagram)). Grows x new.plant.taken (plant_of run.turns run.endings).taken) run.begins.binds.taken run.told.plant.taken;
+    taken = (plant_of course.turns course.endings).taken;
+    taken_grew = subst (λ (x : Option (List Datagram)). Grows x new.plant.taken (plant_of course.turns course.endings).taken) course.begins.bound.binds.taken course.told.plant.taken;
     are_taken = refl;
     sent = sent;
-    sent_grew = subst (λ (x : Option (List Datagram)). Grows x new.plant.sent sent) run.begins.binds.sent run.told.plant.sent;
+    sent_grew = subst (λ (x : Option (List Datagram)). Grows x new.plant.sent sent) course.begins.bound.binds.sent course.told.plant.sent;
     are_sent = refl;
-    items = taken_are run.opening run.over run.turns run.endings run.run;
+    items = taken_are course.opening course.over course.turns course.endings course.run;
     sends = sends;
     world = goes.0;
     rounds = rounds_are_right (pppoe r) laws start rounds goes.0 run_from;
@@ -142,11 +136,75 @@ module _ (config : Config) (rules : KeepsRules config) (seed : List ℕ) (old ne
     no_stops = stops;
     conserved = run_conserves (pppoe r) laws start rounds goes.0 run_from;
     addressed = all_addressed config sent (sends_of rounds) sends ours;
-    printed = subst (λ (text : List ℕ). Grows old.out.bytes new.out.bytes text) report run.printed;
-    all_input = input_all config rules run.last.shards rows run.last.holders sent rounds sends stops on_wire;
-    all_output = output_all config rules run.last.shards rows run.last.holders sent rounds sends stops on_wire;
-    unsent = record { later = omega (arith, run.begins.binds.later, run.told.plant.causes.later); rose = omega (arith, run.begins.binds.later, run.told.plant.causes.rose, unsent_failed run.turns run.endings) };
+    unsent = record {
+      later = omega (arith, course.begins.bound.unfailed, course.told.plant.causes.later);
+      rose = omega (arith, course.begins.bound.unfailed, course.told.plant.causes.rose, unsent_failed course.turns course.endings);
+    };
+  }
+
+  report : report_text course.last.lines (all_carried course.last) (by_number course.last.drops) ≡ report_text (map line_of config.statics) (all_traffic config sent) (by_number (drops_of_run course.turns course.endings))
+  report =
+      ap (λ (ls : List Line). report_text ls (map (carried_on course.last.shards) ls) (by_number course.last.drops)) lines
+      ∙ ap (λ (ts : List Traffic). report_text (map line_of config.statics) ts (by_number course.last.drops)) (traffic_same config rules course.last.shards rows course.last.holders sent rounds sends stops on_wire)
+      ∙ ap (λ (d : Drops). report_text (map line_of config.statics) (all_traffic config sent) (by_number d)) drops
+
+  all_in : input_of (all_traffic config sent) ≡ input_told is_input sent
+  all_in = input_all config rules course.last.shards rows course.last.holders sent rounds sends stops on_wire
+
+  all_out : output_of (all_traffic config sent) ≡ output_told is_output sent
+  all_out = output_all config rules course.last.shards rows course.last.holders sent rounds sends stops on_wire
+
+module _ (config : Config) (rules : KeepsRules config) (seed : List ℕ) (old new : World) (run : Runs config seed (outside old) (outside new) old.out new.out) where
+  abbrev turned : Course config seed (outside old) (outside new)
+  turned = run.completes.course
+
+  headline_of : Headline config old new
+  unfolding safe_of
+  headline_of = record {
+    seed = seed;
+    run = run;
+    safe = safe_of config rules seed old new turned;
+    printed = subst (λ (text : List ℕ). Grows old.out.bytes new.out.bytes text) (report config rules seed old new turned) run.reports.printed;
+    all_input = all_in config rules seed old new turned;
+    all_output = all_out config rules seed old new turned;
   }
 
 pub headline : (text : List ℕ) (config : Config) (seed : List ℕ) (old new : World) → IsRead text config → Runs config seed (outside old) (outside new) old.out new.out → Headline config old new
 headline text config seed old new read run = headline_of config (read_keeps text config read) seed old new run
+
+-- Where a run came to no report, it was quiet, or its turns were safe ----------------------------------------------------------
+
+module _ (words : List (List ℕ)) (old new : World) where
+  abbrev QuietOrSafe : Type 0
+  QuietOrSafe = IsQuiet old new ⊎ WasSafe words old new
+
+  untouched : IsUntouched old new → QuietOrSafe
+  untouched u = inl (record { heard = ap (λ (p : PlantTold). p.heard) u.plant; taken = ap (λ (p : PlantTold). p.taken) u.plant; sent = ap (λ (p : PlantTold). p.sent) u.plant })
+
+  turned_safe : (config : Config) (seed : List ℕ) → IsReady words old new config seed → Course config seed (outside old) (outside new) → QuietOrSafe
+  turned_safe config seed ready course =
+      let prepares = ready.prepares in
+      inr (record { config = config; prepares = prepares; seed = seed; course = course; safe = safe_of config (read_keeps prepares.text config prepares.read) seed old new course })
+
+  wants_safe : (config : Config) (seed : List ℕ) → IsReady words old new config seed → WantsToServe config seed (outside old) (outside new) → QuietOrSafe
+  wants_safe config seed ready (inl w) = inl (record { heard = w.0.binds.heard; taken = w.0.binds.taken; sent = w.0.binds.sent })
+  wants_safe config seed ready (inr c) = turned_safe config seed ready c.course
+
+  why_safe : (refusal : Refusal) → Why words old new refusal → QuietOrSafe
+  why_safe Usage w = untouched w.untouched
+  why_safe (Refused fault) w = untouched w.untouched
+  why_safe (CannotOpen what) w = inl (record { heard = w.heard; taken = w.taken; sent = w.sent })
+  why_safe OutOfMemory (inl w) = untouched w.untouched
+  why_safe OutOfMemory (inr w) = wants_safe w.config w.seed w.ready w.wants
+  why_safe TraceFailed w = turned_safe w.config w.seed w.ready w.fails.course
+  why_safe OutputFailed w = turned_safe w.config w.seed w.ready w.fails.completes.course
+
+  unwritten_safe : IsUnwritten words old new → QuietOrSafe
+  unwritten_safe (inl r) = why_safe TraceFailed r.why
+  unwritten_safe (inr (inl r)) = why_safe OutputFailed r.why
+  unwritten_safe (inr (inr f)) = why_safe f.refusal f.why
+
+  -- with status 4 or 5
+  pub safe : (status : ℕ) → RunEnds words old new status → (status ≡ 4) ⊎ (status ≡ 5) → IsQuiet old new ⊎ WasSafe words old new
+  safe status r (inl s) = why_safe OutOfMemory (r.starved s).why
+  safe status r (inr s) = unwritten_safe (r.unwritten s)

@@ -2,6 +2,7 @@ pub mod States
 pub mod Turns
 pub mod Faults
 pub mod Binding
+pub mod Sayings
 pub mod Whole
 pub mod Ends
 pub mod Causes

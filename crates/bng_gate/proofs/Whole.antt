@@ -1,38 +1,129 @@
 -- A run is its opening, its turns and its report.
-use Rattle.std.proofs.Common.{◌≡◌, ℕ, Bool, false, ◌||◌, List, ap, subst}
-use Rattle.bng_base.specs.Told.{SinkTold}
-use Rattle.bng_base.specs.Stretch.{Outside}
-use Rattle.bng_base.proofs.StretchLaws.{extends_more}
+use Rattle.std.proofs.Common.{◌≡◌, ◌<◌, inl, inr, ℕ, Bool, false, ◌||◌, List, [], ◌∷◌, ◌++◌, length, refl, sym, ap, subst}
+use Rattle.bng_base.specs.Causes.{Rose}
+use Rattle.bng_base.specs.Told.{PlantTold, ClockTold, TraceTold, SinkTold}
+use Rattle.bng_base.specs.Stretch.{Outside, Stretch, Extends}
+use Rattle.bng_base.proofs.StretchLaws.{joined_none, extends_more}
+use Rattle.bng_base.proofs.ToldLaws.{rose_late}
 use Rattle.bng_config.specs.declared.config.Config.{Config}
-use Rattle.bng_desk.specs.Model.{Desk, state_of}
-use Rattle.bng_gate.specs.Run.{Begins, Reports, Runs}
-use Rattle.bng_gate.specs.Serving.{run_stretch, ending_stretch, EndsServing, MakesTurns}
-use Rattle.bng_gate.proofs.States.{ended_of}
+use Rattle.bng_desk.specs.Model.{Desk}
+use Rattle.bng_gate.specs.declared.texts.Refusal.{Refusal}
+use Rattle.bng_gate.specs.declared.texts.Refusal.TheVariants.{Usage, Refused, CannotOpen, OutOfMemory, TraceFailed, OutputFailed}
+use Rattle.bng_gate.specs.Run.{turns_most, Begins, IsUnbegun, Completes, FailsToNote, Reports, IsUnreported, Runs, IsUnserved}
+use Rattle.bng_gate.specs.Serving.{Made, run_stretch, ending_stretch, EndsServing, MakesTurns, FailsTurning}
 
-both_noted : (a b : Bool) → a ≡ false → b ≡ false → (a || b) ≡ false
+pub both_noted : (a b : Bool) → a ≡ false → b ≡ false → (a || b) ≡ false
 both_noted a b x y = cc
 
-pub runs_of : (config : Config) (seed : List ℕ) (old opening_outside new : Outside) (opening last : Desk) (out out' : SinkTold)
-    → Begins config seed old.plant opening_outside.plant old.clock opening_outside.clock opening → opening_outside.trace ≡ old.trace
-    → MakesTurns opening last opening_outside new → Reports last out out' → Runs config seed old new out out'
-runs_of config seed old opening_outside new opening last out out' begins untraced made reports =
-    let serves = made.serves in
-    let finishes = made.finishes in
-    record {
-      opening_outside = opening_outside;
+-- What was made of an opened desk.
+module _ (config : Config) (seed : List ℕ) (old between new : Outside) (opening last : Desk) (begins : Begins config seed old.plant between.plant old.clock between.clock opening) (untraced : between.trace ≡ old.trace) where
+  all_turns : opening.rounds ≡ turns_most
+  all_turns = ap (λ (d : Desk). d.rounds) begins.is_opened.desk
+
+  pub ends_all : (turns : List Made) → EndsServing opening.rounds turns → EndsServing turns_most turns
+  ends_all turns ends = subst (λ (n : ℕ). EndsServing n turns) all_turns ends
+
+  abbrev pub completes_of : MakesTurns opening last between new → Completes config seed old new
+  completes_of made = record {
+    course = record {
+      opening_outside = between;
       opening = opening;
       begins = begins;
       untraced = untraced;
-      turns = serves.turns;
+      turns = made.serves.turns;
       over = made.over;
-      run = serves.run;
-      ends = subst (λ (n : ℕ). EndsServing n serves.turns) (ap (λ (d : Desk). d.rounds) begins.is_opened.desk) serves.ends;
-      endings = finishes.ends;
+      run = made.serves.run;
+      endings = made.finishes.ends;
       last = last;
-      ending = finishes.run;
-      ended = ended_of (state_of last) finishes.over reports.unstarved;
-      told = extends_more opening_outside made.between new (run_stretch serves.turns) (ending_stretch finishes.ends) serves.told finishes.told;
-      noted = both_noted (run_stretch serves.turns).unnoted (ending_stretch finishes.ends).unnoted serves.noted finishes.noted;
-      printed = reports.printed;
-      later = reports.later;
-    }
+      ending = made.finishes.run;
+      told = extends_more between made.between new (run_stretch made.serves.turns) (ending_stretch made.finishes.ends) made.serves.told made.finishes.told;
+    };
+    whole = record {
+      ends = ends_all made.serves.turns made.serves.ends;
+      over = made.finishes.over;
+      noted = both_noted (run_stretch made.serves.turns).unnoted (ending_stretch made.finishes.ends).unnoted made.serves.noted made.finishes.noted;
+    };
+  }
+
+  pub runs_of : (out out' : SinkTold) → MakesTurns opening last between new → Reports last out out' → Runs config seed old new out out'
+  runs_of out out' made reports = record { completes = completes_of made; reports = reports }
+
+  -- the report was not written
+  pub unprinted_of : (out out' : SinkTold) → MakesTurns opening last between new → (refusal : Refusal) → IsUnreported last out out' refusal → IsUnserved config seed old new out out' refusal
+  unprinted_of out out' made Usage w = absurd w
+  unprinted_of out out' made (Refused fault) w = absurd w
+  unprinted_of out out' made (CannotOpen what) w = absurd w
+  unprinted_of out out' made OutOfMemory w = (inr (completes_of made), w)
+  unprinted_of out out' made TraceFailed w = absurd w
+  unprinted_of out out' made OutputFailed w = record { completes = completes_of made; fails = w }
+
+  rose_here : Rose between.trace.faults new.trace.faults → Rose old.trace.faults new.trace.faults
+  rose_here rose = subst (λ (t : TraceTold). Rose t.faults new.trace.faults) untraced rose
+
+  -- a round was not noted
+  pub fails_to_note : FailsTurning opening last between new → FailsToNote config seed old new
+  fails_to_note (inl f) =
+      let turns = f.turns ++ f.fault ∷ [] in
+      record {
+        course = record {
+          opening_outside = between;
+          opening = opening;
+          begins = begins;
+          untraced = untraced;
+          turns = turns;
+          over = last;
+          run = f.run;
+          endings = [];
+          last = last;
+          ending = refl;
+          told = subst (λ (s : Stretch). Extends between new s) (sym (joined_none (run_stretch turns))) f.told;
+        };
+        breaks = inl (record {
+          before = f.turns;
+          fault = f.fault;
+          are = refl;
+          none = refl;
+          noted = f.noted;
+          unnoted = f.unnoted;
+          within = subst (λ (n : ℕ). length f.turns < n) all_turns f.within;
+          none_before = f.none_before;
+        });
+        rose = rose_here f.rose;
+      }
+  fails_to_note (inr f) =
+      let endings = f.fails.ends ++ f.fails.fault ∷ [] in
+      record {
+        course = record {
+          opening_outside = between;
+          opening = opening;
+          begins = begins;
+          untraced = untraced;
+          turns = f.serves.turns;
+          over = f.over;
+          run = f.serves.run;
+          endings = endings;
+          last = last;
+          ending = f.fails.run;
+          told = extends_more between f.between new (run_stretch f.serves.turns) (ending_stretch endings) f.serves.told f.fails.told;
+        };
+        breaks = inr (record {
+          ends = ends_all f.serves.turns f.serves.ends;
+          served = f.serves.noted;
+          before = f.fails.ends;
+          fault = f.fails.fault;
+          are = refl;
+          noted = f.fails.noted;
+          unnoted = f.fails.unnoted;
+        });
+        rose = rose_here (rose_late between.trace.faults f.between.trace.faults new.trace.faults f.serves.told.cause.later f.fails.rose);
+      }
+
+-- no desk was opened
+pub unbegun : (config : Config) (seed : List ℕ) (p p' : PlantTold) (k k' : ClockTold) (t : TraceTold) (out : SinkTold) (refusal : Refusal) → IsUnbegun config p p' k k' refusal
+    → IsUnserved config seed (record { plant = p; clock = k; trace = t }) (record { plant = p'; clock = k'; trace = t }) out out refusal
+unbegun config seed p p' k k' t out Usage w = absurd w
+unbegun config seed p p' k k' t out (Refused fault) w = absurd w
+unbegun config seed p p' k k' t out (CannotOpen what) w = (w.0, w.1, refl, refl)
+unbegun config seed p p' k k' t out OutOfMemory w = (inl (w, refl), refl)
+unbegun config seed p p' k k' t out TraceFailed w = absurd w
+unbegun config seed p p' k k' t out OutputFailed w = absurd w

@@ -28,7 +28,7 @@ use Rattle.bng_desk.specs.Reading.{taken_in}
 use Rattle.bng_desk.specs.Report.{report_text, by_number}
 use Rattle.bng_desk.specs.Round.{not_sent}
 use Rattle.bng_gate.specs.Rounds.{rounds_of, world_of, plant_of, on_data, readings_of, drops_of_run}
-use Rattle.bng_gate.specs.Run.{World, outside, Runs}
+use Rattle.bng_gate.specs.Run.{World, outside, Prepares, Course, Runs}
 
 -- the octets are an IPv4 packet of which this holds, and nothing else
 pub record IsWhole (Holds : Ipv4 → Type 0) (octets : List ℕ) : Type 0 where
@@ -78,41 +78,59 @@ all_traffic config sent = map (traffic_of sent) config.statics
 abbrev pub keys_of_circuits : Config → List (List Key)
 keys_of_circuits config = map (λ n. keys (terms_after 0 (statics_of config n))) (range_with_len 0 config.shards)
 
--- What holds of a run that ended with its report, whatever frames and datagrams, repeats and moments it met.
+-- What holds of the turns that a run made, whatever frames and datagrams, repeats and moments it met.
+pub record IsSafe (config : Config) (seed : List ℕ) (old new : World) (course : Course config seed (outside old) (outside new)) : Type 0 where
+  -- What was heard, taken and sent was so in these turns, one after another.
+  pub heard : List Heard
+  pub heard_grew : GrowsIfTold old.plant.heard new.plant.heard heard
+  pub are_heard : heard ≡ (plant_of course.turns course.endings).heard
+  pub taken : List Datagram
+  pub taken_grew : Grows old.plant.taken new.plant.taken taken
+  pub are_taken : taken ≡ (plant_of course.turns course.endings).taken
+  pub sent : List Datagram
+  pub sent_grew : Grows old.plant.sent new.plant.sent sent
+  pub are_sent : sent ≡ (plant_of course.turns course.endings).sent
+  -- What was taken from the access ports and the core, each once and in order, are the datagrams of the turns' readings, which are
+  -- the items of their rounds. What was sent there, each once and in order, is what the rounds had to send and the plant answered
+  -- Sent for.
+  pub items : on_data taken ≡ flat_map (λ r. taken_in r.role r.arrivals) (readings_of course.turns)
+  pub sends : on_data sent ≡ on_data (went (sends_of (rounds_of course.turns course.endings)))
+  -- The rounds that were opened are a run from the opening. In none of them had two live terms one address, and each packet was of
+  -- a live term, on its circuit and with its address.
+  pub world : Gateway State
+  pub rounds : Chain (RightRound (pppoe course.opening.rules)) (world_of course.opening) (rounds_of course.turns course.endings) world
+  -- No term ended: those of the circuits are live in the end. For each circuit, address and direction what was sent is theirs.
+  pub terms : map (λ s. keys (terms_of s.state)) world.shards ≡ keys_of_circuits config
+  pub no_stops : stops_of (rounds_of course.turns course.endings) ≡ []
+  pub conserved : ConservedIn (pppoe course.opening.rules) world.shards
+  -- Each datagram to the core was a packet from the address of a circuit, and each packet on an access port was on a circuit, to its
+  -- address.
+  pub addressed : All (IsAddressed config) sent
+  -- Of what the rounds had to send, no more was not sent than the plant's count rose, unless that stands at its end.
+  pub unsent : HasCauses old.plant.faults new.plant.faults (count_by not_sent (sends_of (rounds_of course.turns course.endings)))
+
+-- What holds of a run that ended with its report.
 pub record Headline (config : Config) (old new : World) : Type 0 where
   -- The run was turns of serving from the opening on, and turns of the ending, until no session was left.
   pub seed : List ℕ
   pub run : Runs config seed (outside old) (outside new) old.out new.out
-  -- What was heard, taken and sent was so in these turns, one after another.
-  pub heard : List Heard
-  pub heard_grew : GrowsIfTold old.plant.heard new.plant.heard heard
-  pub are_heard : heard ≡ (plant_of run.turns run.endings).heard
-  pub taken : List Datagram
-  pub taken_grew : Grows old.plant.taken new.plant.taken taken
-  pub are_taken : taken ≡ (plant_of run.turns run.endings).taken
-  pub sent : List Datagram
-  pub sent_grew : Grows old.plant.sent new.plant.sent sent
-  pub are_sent : sent ≡ (plant_of run.turns run.endings).sent
-  -- What was taken from the access ports and the core, each once and in order, are the datagrams of the turns' readings, which are
-  -- the items of their rounds. What was sent there, each once and in order, is what the rounds had to send and the plant answered
-  -- Sent for.
-  pub items : on_data taken ≡ flat_map (λ r. taken_in r.role r.arrivals) (readings_of run.turns)
-  pub sends : on_data sent ≡ on_data (went (sends_of (rounds_of run.turns run.endings)))
-  -- The rounds that were opened are a run from the opening. In none of them had two live terms one address, and each packet was of
-  -- a live term, on its circuit and with its address.
-  pub world : Gateway State
-  pub rounds : Chain (RightRound (pppoe run.opening.rules)) (world_of run.opening) (rounds_of run.turns run.endings) world
-  -- No term ended: those of the circuits are live in the end. For each circuit, address and direction what was sent is theirs.
-  pub terms : map (λ s. keys (terms_of s.state)) world.shards ≡ keys_of_circuits config
-  pub no_stops : stops_of (rounds_of run.turns run.endings) ≡ []
-  pub conserved : ConservedIn (pppoe run.opening.rules) world.shards
-  -- Each datagram to the core was a packet from the address of a circuit, and each packet on an access port was on a circuit, to its
-  -- address.
-  pub addressed : All (IsAddressed config) sent
+  pub safe : IsSafe config seed old new run.completes.course
   -- The octets printed for a circuit are those of the packets that were sent for it, and all together are those of all packets that
   -- were sent. The drops printed are those of the rounds, and of those that could not be opened.
-  pub printed : Grows old.out.bytes new.out.bytes (report_text (map line_of config.statics) (all_traffic config sent) (by_number (drops_of_run run.turns run.endings)))
-  pub all_input : input_of (all_traffic config sent) ≡ input_told is_input sent
-  pub all_output : output_of (all_traffic config sent) ≡ output_told is_output sent
-  -- Of what the rounds had to send, no more was not sent than the plant's count rose, unless that stands at its end.
-  pub unsent : HasCauses old.plant.faults new.plant.faults (count_by not_sent (sends_of (rounds_of run.turns run.endings)))
+  pub printed : Grows old.out.bytes new.out.bytes (report_text (map line_of config.statics) (all_traffic config safe.sent) (by_number (drops_of_run run.completes.course.turns run.completes.course.endings)))
+  pub all_input : input_of (all_traffic config safe.sent) ≡ input_told is_input safe.sent
+  pub all_output : output_of (all_traffic config safe.sent) ≡ output_told is_output safe.sent
+
+-- nothing was heard or sent
+pub record IsQuiet (old new : World) : Type 0 where
+  pub heard : new.plant.heard ≡ old.plant.heard
+  pub taken : new.plant.taken ≡ old.plant.taken
+  pub sent : new.plant.sent ≡ old.plant.sent
+
+-- the configuration was read, and these turns were made of it
+pub record WasSafe (words : List (List ℕ)) (old new : World) : Type 0 where
+  pub config : Config
+  pub prepares : Prepares words old.files new.files config
+  pub seed : List ℕ
+  pub course : Course config seed (outside old) (outside new)
+  pub safe : IsSafe config seed old new course

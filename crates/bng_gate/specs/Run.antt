@@ -1,5 +1,6 @@
 -- A whole run, from the words to the report.
-use Rattle.std.specs.Prelude.{◌≡◌, ℕ, ◌+◌, ◌-◌, ◌^◌, ◌≤◌, ◌⊎◌, List, [], ◌∷◌, take, length}
+use Rattle.std.specs.Prelude.{◌≡◌, ℕ, ◌+◌, ◌-◌, ◌^◌, ◌≤◌, ◌<◌, ◌⊎◌, false, List, [], ◌∷◌, ◌++◌, take, length}
+use Rattle.std.specs.List.{list_any}
 use Rattle.bng_base.specs.declared.outside.Role.TheVariants.{Access, Core, Control}
 use Rattle.bng_base.specs.declared.outside.ClockAnswer.TheVariants.{Now, Wall}
 use Rattle.bng_base.specs.declared.outside.Bind.{Bind}
@@ -20,7 +21,8 @@ use Rattle.bng_gate.specs.declared.texts.Refusal.{Refusal}
 use Rattle.bng_gate.specs.declared.texts.Refusal.TheVariants.{Usage, Refused, CannotOpen, OutOfMemory, TraceFailed, OutputFailed}
 use Rattle.bng_gate.specs.Words.{Serves as ServesFile}
 use Rattle.bng_gate.specs.Texts.{refusal_text, status_of}
-use Rattle.bng_gate.specs.Serving.{Made, MadeEnd, Run, EndRun, run_stretch, ending_stretch, EndsServing, AreNoted, FailsTurning}
+use Rattle.bng_gate.specs.Saying.{FailsToSay}
+use Rattle.bng_gate.specs.Serving.{Made, MadeEnd, Run, EndRun, run_stretch, ending_stretch, made_stretch, made_end_stretch, took_stop, EndsServing, AreNoted}
 
 -- what all objects of a run tell
 pub record World : Type 0 where
@@ -36,12 +38,14 @@ pub record World : Type 0 where
 abbrev pub turns_most : ℕ
 turns_most = 2 ^ 40
 
--- the words serve a file with this text
+-- The configuration ---------------------------------------------------------------------------------------------------------
+
+-- the words serve a file with this text, which was read
 pub record Opens (words : List (List ℕ)) (old new : FilesTold) (text : List ℕ) : Type 0 where
   pub name : List ℕ
   pub command : ServesFile words name
   pub content : Grows old.contents new.contents (text ∷ [])
-  pub later : old.faults ≤ new.faults
+  pub unfailed : new.faults ≡ old.faults
 
 -- the words serve a file with a text that is this configuration
 pub record Prepares (words : List (List ℕ)) (old new : FilesTold) (config : Config) : Type 0 where
@@ -67,7 +71,14 @@ pub record IsFaulty (words : List (List ℕ)) (old new : FilesTold) (fault : Fau
   pub opens : Opens words old new text
   pub broken : HasFault text fault
 
--- why no configuration was read; want of memory is free, where the words serve a file
+-- the words serve a file, and memory was wanted for its text or for what the text says; no read failed
+pub record WantsToRead (words : List (List ℕ)) (old new : FilesTold) : Type 0 where
+  pub name : List ℕ
+  pub command : ServesFile words name
+  pub contents : (new.contents ≡ old.contents) ⊎ ((text : List ℕ) × Grows old.contents new.contents (text ∷ []))
+  pub unfailed : new.faults ≡ old.faults
+
+-- why no configuration was read
 abbrev pub IsUnprepared : List (List ℕ) → FilesTold → FilesTold → Refusal → Type 0
 IsUnprepared words old new Usage = IsNoCommand words old new
 IsUnprepared words old new (Refused fault) = IsFaulty words old new fault
@@ -76,9 +87,11 @@ IsUnprepared words old new (CannotOpen Seed) = ⊥
 IsUnprepared words old new (CannotOpen ControlOpening) = ⊥
 IsUnprepared words old new (CannotOpen CoreOpening) = ⊥
 IsUnprepared words old new (CannotOpen (AccessOpening number)) = ⊥
-IsUnprepared words old new OutOfMemory = (name : List ℕ) × ServesFile words name
+IsUnprepared words old new OutOfMemory = WantsToRead words old new
 IsUnprepared words old new TraceFailed = ⊥
 IsUnprepared words old new OutputFailed = ⊥
+
+-- The binds -----------------------------------------------------------------------------------------------------------------
 
 -- the binds of these access ports, the first of which has this number
 abbrev pub port_binds : ℕ → List AccessPort → List Bind
@@ -135,28 +148,46 @@ FailsAt config old new ControlOpening = FailsToBind config 0 old new
 FailsAt config old new CoreOpening = FailsToBind config 1 old new
 FailsAt config old new (AccessOpening number) = FailsToBindPort config number old new
 
+-- The seed ------------------------------------------------------------------------------------------------------------------
+
 -- a seed was given
 pub record Seeds (old new : EntropyTold) (seed : List ℕ) : Type 0 where
   pub given : Grows old.seeds new.seeds (seed ∷ [])
-  pub later : old.faults ≤ new.faults
+  pub unfailed : new.faults ≡ old.faults
 
 -- a seed was asked for, and none was given
 pub record FailsToSeed (old new : EntropyTold) : Type 0 where
   pub rose : Rose old.faults new.faults
   pub seeds : new.seeds ≡ old.seeds
 
--- all roles were bound, the clock was read, and this is the desk that was opened
-pub record Begins (config : Config) (seed : List ℕ) (plant plant' : PlantTold) (clock clock' : ClockTold) (opening : Desk) : Type 0 where
+-- The turns -----------------------------------------------------------------------------------------------------------------
+
+-- all roles were bound, no bind failed, and the clock was read
+pub record IsBound (config : Config) (plant plant' : PlantTold) (clock clock' : ClockTold) : Type 0 where
   pub binds : Binds config (binds_most config) plant plant'
+  pub unfailed : plant'.faults ≡ plant.faults
   pub now : ℕ
   pub wall : ℕ
   pub read : GrowsIfTold clock.answers clock'.answers (Now now ∷ Wall wall ∷ [])
   pub last : clock'.last ≡ now
-  pub is_opened : IsOpened config turns_most seed now opening
 
--- The run was these turns of serving and these of the ending, from the opening desk on, until no session was left: what is told
--- grew by theirs in order, and the report of the last desk was written.
-pub record Runs (config : Config) (seed : List ℕ) (old new : Outside) (out out' : SinkTold) : Type 0 where
+-- then this desk was opened
+pub record Begins (config : Config) (seed : List ℕ) (plant plant' : PlantTold) (clock clock' : ClockTold) (opening : Desk) : Type 0 where
+  pub bound : IsBound config plant plant' clock clock'
+  pub is_opened : IsOpened config turns_most seed bound.now opening
+
+-- why no desk was opened
+abbrev pub IsUnbegun : Config → PlantTold → PlantTold → ClockTold → ClockTold → Refusal → Type 0
+IsUnbegun config plant plant' clock clock' Usage = ⊥
+IsUnbegun config plant plant' clock clock' (Refused fault) = ⊥
+IsUnbegun config plant plant' clock clock' (CannotOpen what) = FailsAt config plant plant' what × (clock' ≡ clock)
+IsUnbegun config plant plant' clock clock' OutOfMemory = IsBound config plant plant' clock clock'
+IsUnbegun config plant plant' clock clock' TraceFailed = ⊥
+IsUnbegun config plant plant' clock clock' OutputFailed = ⊥
+
+-- The turns of a run from its opening on: those of serving, and then those of the ending, each from the desk that the one before
+-- left. What is told grew by theirs, one after another, and by nothing else.
+pub record Course (config : Config) (seed : List ℕ) (old new : Outside) : Type 0 where
   pub opening_outside : Outside
   pub opening : Desk
   pub begins : Begins config seed old.plant opening_outside.plant old.clock opening_outside.clock opening
@@ -164,76 +195,121 @@ pub record Runs (config : Config) (seed : List ℕ) (old new : Outside) (out out
   pub turns : List Made
   pub over : Desk
   pub run : Run opening turns over
-  pub ends : EndsServing turns_most turns
   pub endings : List MadeEnd
   pub last : Desk
   pub ending : EndRun over endings last
-  pub ended : state_of last ≡ Ended
   pub told : Extends opening_outside new (joined (run_stretch turns) (ending_stretch endings))
-  pub noted : AreNoted (joined (run_stretch turns) (ending_stretch endings))
-  pub printed : Grows out.bytes out'.bytes (report_text last.lines (all_carried last) (by_number last.drops))
-  pub later : out.faults ≤ out'.faults
 
--- the run came to a round that the trace did not take, and made no turn after it
+-- The turns came to their end: those of serving to `stop` or to the last of all, those of the ending to a desk with no session
+-- left, or to one that starved. The trace took each round.
+pub record IsWhole (turns : List Made) (endings : List MadeEnd) (last : Desk) : Type 0 where
+  pub ends : EndsServing turns_most turns
+  pub over : (state_of last ≡ Ended) ⊎ (state_of last ≡ Starved)
+  pub noted : AreNoted (joined (run_stretch turns) (ending_stretch endings))
+
+-- The last turn is one of serving, and the first whose round the trace did not take. None before it took `stop`.
+pub record BreaksServing (turns : List Made) (endings : List MadeEnd) : Type 0 where
+  pub before : List Made
+  pub fault : Made
+  pub are : turns ≡ before ++ fault ∷ []
+  pub none : endings ≡ []
+  pub noted : AreNoted (run_stretch before)
+  pub unnoted : ¬ AreNoted (made_stretch fault)
+  pub within : length before < turns_most
+  pub none_before : list_any took_stop before ≡ false
+
+-- The turns of serving came to their end, and the last one of the ending is the first whose round the trace did not take.
+pub record BreaksEnding (turns : List Made) (endings : List MadeEnd) : Type 0 where
+  pub ends : EndsServing turns_most turns
+  pub served : AreNoted (run_stretch turns)
+  pub before : List MadeEnd
+  pub fault : MadeEnd
+  pub are : endings ≡ before ++ fault ∷ []
+  pub noted : AreNoted (ending_stretch before)
+  pub unnoted : ¬ AreNoted (made_end_stretch fault)
+
+-- a run whose turns came to their end
+pub record Completes (config : Config) (seed : List ℕ) (old new : Outside) : Type 0 where
+  pub course : Course config seed old new
+  pub whole : IsWhole course.turns course.endings course.last
+
+-- a run that came to a round that the trace did not take, and made no turn after it
 pub record FailsToNote (config : Config) (seed : List ℕ) (old new : Outside) : Type 0 where
-  pub opening_outside : Outside
-  pub opening : Desk
-  pub begins : Begins config seed old.plant opening_outside.plant old.clock opening_outside.clock opening
-  pub untraced : opening_outside.trace ≡ old.trace
-  pub last : Desk
-  pub fails : FailsTurning opening last opening_outside new
+  pub course : Course config seed old new
+  pub breaks : BreaksServing course.turns course.endings ⊎ BreaksEnding course.turns course.endings
   pub rose : Rose old.trace.faults new.trace.faults
 
--- why no desk was opened; want of memory is free
-abbrev pub IsUnbegun : Config → PlantTold → PlantTold → Refusal → Type 0
-IsUnbegun config old new Usage = ⊥
-IsUnbegun config old new (Refused fault) = ⊥
-IsUnbegun config old new (CannotOpen what) = FailsAt config old new what
-IsUnbegun config old new OutOfMemory = Unit {0}
-IsUnbegun config old new TraceFailed = ⊥
-IsUnbegun config old new OutputFailed = ⊥
+-- The report ----------------------------------------------------------------------------------------------------------------
+
+abbrev pub report_of : Desk → List ℕ
+report_of d = report_text d.lines (all_carried d) (by_number d.drops)
 
 -- the report of a desk that did not starve was written
 pub record Reports (last : Desk) (out out' : SinkTold) : Type 0 where
   pub unstarved : ¬ (state_of last ≡ Starved)
-  pub printed : Grows out.bytes out'.bytes (report_text last.lines (all_carried last) (by_number last.drops))
+  pub printed : Grows out.bytes out'.bytes (report_of last)
   pub later : out.faults ≤ out'.faults
 
+-- a front of it was written, and then the sink failed
+pub record FailsToReport (last : Desk) (out out' : SinkTold) : Type 0 where
+  pub unstarved : ¬ (state_of last ≡ Starved)
+  pub fails : FailsToSay out out' (report_of last)
+
 -- why no report was written; want of memory is free
-abbrev pub IsUnreported : SinkTold → SinkTold → Refusal → Type 0
-IsUnreported out out' Usage = ⊥
-IsUnreported out out' (Refused fault) = ⊥
-IsUnreported out out' (CannotOpen what) = ⊥
-IsUnreported out out' OutOfMemory = out' ≡ out
-IsUnreported out out' TraceFailed = ⊥
-IsUnreported out out' OutputFailed = Rose out.faults out'.faults
+abbrev pub IsUnreported : Desk → SinkTold → SinkTold → Refusal → Type 0
+IsUnreported last out out' Usage = ⊥
+IsUnreported last out out' (Refused fault) = ⊥
+IsUnreported last out out' (CannotOpen what) = ⊥
+IsUnreported last out out' OutOfMemory = out' ≡ out
+IsUnreported last out out' TraceFailed = ⊥
+IsUnreported last out out' OutputFailed = FailsToReport last out out'
+
+-- The run came to its end with no session left, and the report of the last desk was written.
+pub record Runs (config : Config) (seed : List ℕ) (old new : Outside) (out out' : SinkTold) : Type 0 where
+  pub completes : Completes config seed old new
+  pub reports : Reports completes.course.last out out'
+
+-- The run came to its end with no session left, and a front of the report was written.
+pub record FailsToPrint (config : Config) (seed : List ℕ) (old new : Outside) (out out' : SinkTold) : Type 0 where
+  pub completes : Completes config seed old new
+  pub fails : FailsToReport completes.course.last out out'
+
+-- Memory was wanted: for the desk, before any turn; or once the turns had come to their end, for the report or since the desk
+-- starved.
+abbrev pub WantsToServe : Config → List ℕ → Outside → Outside → Type 0
+WantsToServe config seed old new = (IsBound config old.plant new.plant old.clock new.clock × (new.trace ≡ old.trace)) ⊎ Completes config seed old new
 
 -- why a configuration was not served to its report
 abbrev pub IsUnserved : Config → List ℕ → Outside → Outside → SinkTold → SinkTold → Refusal → Type 0
 IsUnserved config seed old new out out' Usage = ⊥
 IsUnserved config seed old new out out' (Refused fault) = ⊥
-IsUnserved config seed old new out out' (CannotOpen what) = FailsAt config old.plant new.plant what × (out' ≡ out)
-IsUnserved config seed old new out out' OutOfMemory = out' ≡ out
+IsUnserved config seed old new out out' (CannotOpen what) = FailsAt config old.plant new.plant what × (new.clock ≡ old.clock) × (new.trace ≡ old.trace) × (out' ≡ out)
+IsUnserved config seed old new out out' OutOfMemory = WantsToServe config seed old new × (out' ≡ out)
 IsUnserved config seed old new out out' TraceFailed = FailsToNote config seed old new × (out' ≡ out)
-IsUnserved config seed old new out out' OutputFailed = Rose out.faults out'.faults
+IsUnserved config seed old new out out' OutputFailed = FailsToPrint config seed old new out out'
 
 -- the line of a refusal was written, or the sink failed and the status is 5
 abbrev pub Told : SinkTold → SinkTold → Refusal → ℕ → Type 0
-Told old new refusal status = ((status ≡ status_of refusal) × Grows old.bytes new.bytes (refusal_text refusal)) ⊎ ((status ≡ 5) × Rose old.faults new.faults)
+Told old new refusal status = ((status ≡ status_of refusal) × Grows old.bytes new.bytes (refusal_text refusal)) ⊎ ((status ≡ 5) × FailsToSay old new (refusal_text refusal))
+
+-- The statuses --------------------------------------------------------------------------------------------------------------
 
 abbrev pub outside : World → Outside
 outside w = record { plant = w.plant; clock = w.clock; trace = w.trace }
 
--- no role was bound, read or sent on
-abbrev pub IsUntouched : World → World → Type 0
-IsUntouched old new = (new.plant ≡ old.plant) × (new.out ≡ old.out)
+-- no role was bound, read or sent on, the clock was not read, and nothing was traced or printed
+pub record IsUntouched (old new : World) : Type 0 where
+  pub plant : new.plant ≡ old.plant
+  pub clock : new.clock ≡ old.clock
+  pub trace : new.trace ≡ old.trace
+  pub out : new.out ≡ old.out
 
 -- the configuration was read, and a seed was given
 pub record IsReady (words : List (List ℕ)) (old new : World) (config : Config) (seed : List ℕ) : Type 0 where
   pub prepares : Prepares words old.files new.files config
   pub seeds : Seeds old.entropy new.entropy seed
 
--- Status 0: the configuration was read, and the run was its turns.
+-- the configuration was read, and the run was its turns and its report
 pub record IsServed (words : List (List ℕ)) (old new : World) : Type 0 where
   pub config : Config
   pub seed : List ℕ
@@ -241,57 +317,109 @@ pub record IsServed (words : List (List ℕ)) (old new : World) : Type 0 where
   pub runs : Runs config seed (outside old) (outside new) old.out new.out
   pub silent : new.err ≡ old.err
 
--- Status 1: the words are no command.
+-- the words are no command
 pub record IsUsage (words : List (List ℕ)) (old new : World) : Type 0 where
   pub command : IsNoCommand words old.files new.files
-  pub told : Grows old.err.bytes new.err.bytes (refusal_text Usage)
   pub untouched : IsUntouched old new
   pub unseeded : new.entropy ≡ old.entropy
 
--- Status 2: the configuration breaks a rule, and this is the first.
-pub record IsRefused (words : List (List ℕ)) (old new : World) : Type 0 where
-  pub fault : Fault
+-- the configuration breaks a rule, and this is the first
+pub record IsRefused (words : List (List ℕ)) (old new : World) (fault : Fault) : Type 0 where
   pub faulty : IsFaulty words old.files new.files fault
-  pub told : Grows old.err.bytes new.err.bytes (refusal_text (Refused fault))
   pub untouched : IsUntouched old new
   pub unseeded : new.entropy ≡ old.entropy
 
--- the file, the seed or a role that failed
-abbrev pub Fails : List (List ℕ) → World → World → Opening → Type 0
-Fails words old new Configuration = FailsToRead words old.files new.files × IsUntouched old new × (new.entropy ≡ old.entropy)
-Fails words old new Seed = (config : Config) × Prepares words old.files new.files config × FailsToSeed old.entropy new.entropy × IsUntouched old new
-Fails words old new ControlOpening = (config : Config) × (seed : List ℕ) × IsReady words old new config seed × FailsToBind config 0 old.plant new.plant
-Fails words old new CoreOpening = (config : Config) × (seed : List ℕ) × IsReady words old new config seed × FailsToBind config 1 old.plant new.plant
-Fails words old new (AccessOpening number) = (config : Config) × (seed : List ℕ) × IsReady words old new config seed × FailsToBindPort config number old.plant new.plant
+-- the file could not be read
+pub record IsUnread (words : List (List ℕ)) (old new : World) : Type 0 where
+  pub fails : FailsToRead words old.files new.files
+  pub untouched : IsUntouched old new
+  pub unseeded : new.entropy ≡ old.entropy
 
--- Status 3: what is named could not be opened, and no receive, send or wait was made.
-pub record IsUnopened (words : List (List ℕ)) (old new : World) : Type 0 where
-  pub what : Opening
+-- no seed was given
+pub record IsUnseeded (words : List (List ℕ)) (old new : World) : Type 0 where
+  pub config : Config
+  pub prepares : Prepares words old.files new.files config
+  pub fails : FailsToSeed old.entropy new.entropy
+  pub untouched : IsUntouched old new
+
+-- a role could not be bound, by what is asked of the binds
+pub record IsUnbound (words : List (List ℕ)) (old new : World) (Fails : Config → PlantTold → PlantTold → Type 0) : Type 0 where
+  pub config : Config
+  pub seed : List ℕ
+  pub ready : IsReady words old new config seed
+  pub fails : Fails config old.plant new.plant
+  pub clock : new.clock ≡ old.clock
+  pub trace : new.trace ≡ old.trace
+  pub out : new.out ≡ old.out
+
+-- what is named could not be opened
+abbrev pub Fails : List (List ℕ) → World → World → Opening → Type 0
+Fails words old new Configuration = IsUnread words old new
+Fails words old new Seed = IsUnseeded words old new
+Fails words old new ControlOpening = IsUnbound words old new (λ config p p'. FailsToBind config 0 p p')
+Fails words old new CoreOpening = IsUnbound words old new (λ config p p'. FailsToBind config 1 p p')
+Fails words old new (AccessOpening number) = IsUnbound words old new (λ config p p'. FailsToBindPort config number p p')
+
+-- what is named could not be opened, and no receive, send or wait was made
+pub record IsUnopened (words : List (List ℕ)) (old new : World) (what : Opening) : Type 0 where
   pub fails : Fails words old new what
-  pub told : Grows old.err.bytes new.err.bytes (refusal_text (CannotOpen what))
   pub heard : new.plant.heard ≡ old.plant.heard
+  pub taken : new.plant.taken ≡ old.plant.taken
   pub sent : new.plant.sent ≡ old.plant.sent
   pub out : new.out ≡ old.out
 
--- Status 4: want of memory, which is free where the words serve a file.
-pub record IsStarved (words : List (List ℕ)) (old new : World) : Type 0 where
-  pub name : List ℕ
-  pub command : ServesFile words name
-  pub told : Grows old.err.bytes new.err.bytes (refusal_text OutOfMemory)
+-- memory was wanted for the configuration, which alone was asked for
+pub record WantsConfiguration (words : List (List ℕ)) (old new : World) : Type 0 where
+  pub wants : WantsToRead words old.files new.files
+  pub untouched : IsUntouched old new
+  pub unseeded : new.entropy ≡ old.entropy
+
+-- the configuration was read, and memory was wanted for the desk, or once the turns had come to their end
+pub record WantsService (words : List (List ℕ)) (old new : World) : Type 0 where
+  pub config : Config
+  pub seed : List ℕ
+  pub ready : IsReady words old new config seed
+  pub wants : WantsToServe config seed (outside old) (outside new)
   pub out : new.out ≡ old.out
 
--- the trace did not take a round, which was said, and no report was written
+-- the trace did not take a round, and no report was written
 pub record IsUnnoted (words : List (List ℕ)) (old new : World) : Type 0 where
   pub config : Config
   pub seed : List ℕ
   pub ready : IsReady words old new config seed
   pub fails : FailsToNote config seed (outside old) (outside new)
-  pub told : Grows old.err.bytes new.err.bytes (refusal_text TraceFailed)
   pub out : new.out ≡ old.out
 
--- Status 5: the trace or a sink failed.
+-- the report could not be written
+pub record IsUnprinted (words : List (List ℕ)) (old new : World) : Type 0 where
+  pub config : Config
+  pub seed : List ℕ
+  pub ready : IsReady words old new config seed
+  pub fails : FailsToPrint config seed (outside old) (outside new) old.out new.out
+
+-- why a run came to no report
+abbrev pub Why : List (List ℕ) → World → World → Refusal → Type 0
+Why words old new Usage = IsUsage words old new
+Why words old new (Refused fault) = IsRefused words old new fault
+Why words old new (CannotOpen what) = IsUnopened words old new what
+Why words old new OutOfMemory = WantsConfiguration words old new ⊎ WantsService words old new
+Why words old new TraceFailed = IsUnnoted words old new
+Why words old new OutputFailed = IsUnprinted words old new
+
+-- so it was, and the line that says so was written
+pub record Refuses (words : List (List ℕ)) (old new : World) (refusal : Refusal) : Type 0 where
+  pub why : Why words old new refusal
+  pub told : Grows old.err.bytes new.err.bytes (refusal_text refusal)
+
+-- so it was, and the line that says so could not be written whole
+pub record FailsToTell (words : List (List ℕ)) (old new : World) : Type 0 where
+  pub refusal : Refusal
+  pub why : Why words old new refusal
+  pub fails : FailsToSay old.err new.err (refusal_text refusal)
+
+-- Status 5: the trace, `out` or `err` failed.
 abbrev pub IsUnwritten : List (List ℕ) → World → World → Type 0
-IsUnwritten words old new = IsUnnoted words old new ⊎ (Rose old.out.faults new.out.faults ⊎ Rose old.err.faults new.err.faults)
+IsUnwritten words old new = Refuses words old new TraceFailed ⊎ (Refuses words old new OutputFailed ⊎ FailsToTell words old new)
 
 -- at most one seed was asked for
 abbrev pub SeedsOnce : EntropyTold → EntropyTold → Type 0
@@ -300,10 +428,10 @@ SeedsOnce old new = (new ≡ old) ⊎ (FailsToSeed old new ⊎ ((seed : List ℕ
 -- What each status says of a run.
 pub record RunEnds (words : List (List ℕ)) (old new : World) (status : ℕ) : Type 0 where
   pub served : status ≡ 0 → IsServed words old new
-  pub usage : status ≡ 1 → IsUsage words old new
-  pub refused : status ≡ 2 → IsRefused words old new
-  pub unopened : status ≡ 3 → IsUnopened words old new
-  pub starved : status ≡ 4 → IsStarved words old new
+  pub usage : status ≡ 1 → Refuses words old new Usage
+  pub refused : status ≡ 2 → (fault : Fault) × Refuses words old new (Refused fault)
+  pub unopened : status ≡ 3 → (what : Opening) × Refuses words old new (CannotOpen what)
+  pub starved : status ≡ 4 → Refuses words old new OutOfMemory
   pub unwritten : status ≡ 5 → IsUnwritten words old new
   pub no_other : status ≤ 5
   pub seeds : SeedsOnce old.entropy new.entropy

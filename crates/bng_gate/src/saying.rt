@@ -1,5 +1,5 @@
 //! How a line is written.
-ghost use Rattle.std.specs.Prelude.{◌≡◌};
+ghost use Rattle.std.specs.Prelude.{◌≡◌, ◌++◌};
 ghost use Rattle.bng_gate.specs.Saying.{Says};
 ghost use Rattle.bng_gate.specs.Texts.{line_text};
 
@@ -12,15 +12,22 @@ fn say_text<X: Sink>(sink: &mut X, text: &[u8]) -> Wrote
     sink.write(text)
 }
 
+// Writes the parts after the first.
+fn say_rest<X: Sink>(sink: &mut X, line: &Line) -> Wrote
+    ensures { Says (X.told sink.old) (X.told sink.new) (line.now.middle.bytes ++ line.now.back.now) result }
+{
+    match say_text(sink, line.middle.as_bytes()) {
+        Wrote::Ok => say_text(sink, line.back.as_bytes()),
+        Wrote::Failed => Wrote::Failed,
+    }
+}
+
 /// Writes a line, part after part, until one fails.
 pub fn say<X: Sink>(sink: &mut X, line: &Line) -> Wrote
     ensures { Says (X.told sink.old) (X.told sink.new) (line_text line.now) result }
 {
-    if say_text(sink, line.front.as_bytes()) == Wrote::Failed {
-        return Wrote::Failed;
+    match say_text(sink, line.front.as_bytes()) {
+        Wrote::Ok => say_rest(sink, line),
+        Wrote::Failed => Wrote::Failed,
     }
-    if say_text(sink, line.middle.as_bytes()) == Wrote::Failed {
-        return Wrote::Failed;
-    }
-    say_text(sink, line.back.as_bytes())
 }

@@ -5,7 +5,7 @@ ghost use Rattle.bng_config.specs.declared.config.Config.{Config as Settings};
 ghost use Rattle.bng_config.specs.declared.fault.Fault.{Fault as Rule};
 ghost use Rattle.bng_config.specs.Configuration.{HasFault};
 ghost use Rattle.bng_config.specs.Rules.{KeepsRules};
-ghost use Rattle.bng_gate.specs.Headline.{Headline};
+ghost use Rattle.bng_gate.specs.Headline.{Headline, IsQuiet, WasSafe};
 ghost use Rattle.bng_gate.specs.Words.{Serves};
 ghost use Rattle.bng_gate.specs.Words.{texts as words_of};
 ghost use Rattle.bng_gate.specs.Run.{Prepares, IsUnprepared, Binds, binds_most, BindsPorts, FailsAtPort, FailsAt, Seeds, FailsToSeed, Runs, IsUnserved, Told, RunEnds, IsFaultless};
@@ -58,6 +58,7 @@ fn prepare<F: Files>(alloc: Global, words: &Vec<String>, files: &mut F) -> Resul
 fn bind_ports<P: Plant>(ports: &[AccessPort], plant: &mut P) -> Result<(), u8>
     requires few { length ports.now ≤ 16 }
     ensures bound { OnOk result (BindsPorts (length ports.now) ports.now (P.told plant.old) (P.told plant.new)) }
+    ensures unfailed { OnOk result ((P.told plant.new).faults ≡ (P.told plant.old).faults) }
     ensures failed { IfErr result (λ number. FailsAtPort number ports.now (P.told plant.old) (P.told plant.new)) }
 {
     for place in 0..ports.len() {
@@ -74,6 +75,7 @@ fn bind_ports<P: Plant>(ports: &[AccessPort], plant: &mut P) -> Result<(), u8>
 // Binds Control and then the core, and says which could not be bound.
 fn bind_ends<P: Plant>(config: &Config, plant: &mut P) -> Result<(), Opening>
     ensures bound { OnOk result (Binds config.now 2 (P.told plant.old) (P.told plant.new)) }
+    ensures unfailed { OnOk result ((P.told plant.new).faults ≡ (P.told plant.old).faults) }
     ensures failed { IfErr result (λ what. FailsAt config.now (P.told plant.old) (P.told plant.new) what) }
 {
     if plant.bind(Role::Control, config.control_local, None) == Bound::Failed {
@@ -89,6 +91,7 @@ fn bind_ends<P: Plant>(config: &Config, plant: &mut P) -> Result<(), Opening>
 fn bind_all<P: Plant>(config: &Config, plant: &mut P) -> Result<(), Opening>
     requires rules { KeepsRules config.now }
     ensures bound { OnOk result (Binds config.now (binds_most config.now) (P.told plant.old) (P.told plant.new)) }
+    ensures unfailed { OnOk result ((P.told plant.new).faults ≡ (P.told plant.old).faults) }
     ensures failed { IfErr result (λ what. FailsAt config.now (P.told plant.old) (P.told plant.new) what) }
 {
     if let Err(what) = bind_ends(config, plant) {
@@ -121,7 +124,7 @@ fn open_desk<P: Plant, C: Clock>(
 ) -> Result<Desk, Refusal>
     requires rules { KeepsRules config }
     ensures opened { IfOk result (λ desk. Begins config seed (P.told plant.old) (P.told plant.new) (C.told clock.old) (C.told clock.new) desk) }
-    ensures refused { IfErr result (λ refusal. IsUnbegun config (P.told plant.old) (P.told plant.new) refusal) }
+    ensures refused { IfErr result (λ refusal. IsUnbegun config (P.told plant.old) (P.told plant.new) (C.told clock.old) (C.told clock.new) refusal) }
 {
     if let Err(what) = bind_all(&config, plant) {
         return Err(Refusal::CannotOpen(what));
@@ -164,7 +167,7 @@ where
 // Writes the report of a desk, unless it starved.
 fn report<O: Sink>(alloc: Global, desk: &Desk, out: &mut O) -> Result<(), Refusal>
     ensures written { OnOk result (Reports desk.now (O.told out.old) (O.told out.new)) }
-    ensures refused { IfErr result (λ refusal. IsUnreported (O.told out.old) (O.told out.new) refusal) }
+    ensures refused { IfErr result (λ refusal. IsUnreported desk.now (O.told out.old) (O.told out.new) refusal) }
 {
     if has_starved(desk) {
         return Err(Refusal::OutOfMemory);
@@ -287,6 +290,14 @@ where
     // With status 0: no two live sessions ever held one address; the packets sent, their circuits and addresses; and the octets and
     // drops printed.
     ensures headline { result ≡ 0 → (config : Settings) × Prepares (words_of words.now.items) (F.told files.old) (F.told files.new) config × Headline config
+        (record { files = F.told files.old; plant = P.told plant.old; clock = C.told clock.old; entropy = E.told entropy.old; trace = T.told trace.old; out = O.told out.old; err = X.told err.old })
+        (record { files = F.told files.new; plant = P.told plant.new; clock = C.told clock.new; entropy = E.told entropy.new; trace = T.told trace.new; out = O.told out.new; err = X.told err.new }) }
+
+    // With status 4 or 5: nothing was heard or sent, or what the headline says of the turns holds of those that were made.
+    ensures safe { (result ≡ 4) ⊎ (result ≡ 5) → IsQuiet
+        (record { files = F.told files.old; plant = P.told plant.old; clock = C.told clock.old; entropy = E.told entropy.old; trace = T.told trace.old; out = O.told out.old; err = X.told err.old })
+        (record { files = F.told files.new; plant = P.told plant.new; clock = C.told clock.new; entropy = E.told entropy.new; trace = T.told trace.new; out = O.told out.new; err = X.told err.new })
+        ⊎ WasSafe (words_of words.now.items)
         (record { files = F.told files.old; plant = P.told plant.old; clock = C.told clock.old; entropy = E.told entropy.old; trace = T.told trace.old; out = O.told out.old; err = X.told err.old })
         (record { files = F.told files.new; plant = P.told plant.new; clock = C.told clock.new; entropy = E.told entropy.new; trace = T.told trace.new; out = O.told out.new; err = X.told err.new }) }
 

@@ -19,6 +19,7 @@ impl Trace for NoTrace {
     fn start(&mut self, _name: &str) -> Noted
         ensures rounds { (tells_nothing self.new).rounds ≡ (tells_nothing self.old).rounds }
         ensures cause { HasCause (tells_nothing self.old).faults (tells_nothing self.new).faults (result ≡ Noted.Failed) }
+        ensures uncounted { result ≡ Noted.Ok → (tells_nothing self.new).faults ≡ (tells_nothing self.old).faults }
         ensures unfailing { result ≡ Noted.Ok }
     {
         Noted::Ok
@@ -27,6 +28,7 @@ impl Trace for NoTrace {
     fn note(&mut self, round: &RoundRecord) -> Noted
         ensures rounds { Grows (tells_nothing self.old).rounds (tells_nothing self.new).rounds (notes round.now result) }
         ensures cause { HasCause (tells_nothing self.old).faults (tells_nothing self.new).faults (result ≡ Noted.Failed) }
+        ensures uncounted { result ≡ Noted.Ok → (tells_nothing self.new).faults ≡ (tells_nothing self.old).faults }
         ensures unfailing { result ≡ Noted.Ok }
     {
         let _ = round;

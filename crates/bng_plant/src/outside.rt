@@ -19,7 +19,8 @@ pub trait Plant {
         ensures heard { (told self.new).heard ≡ (told self.old).heard }
         ensures taken { (told self.new).taken ≡ (told self.old).taken }
         ensures sent { (told self.new).sent ≡ (told self.old).sent }
-        ensures cause { HasCause (told self.old).faults (told self.new).faults (result ≡ Bound.Failed) };
+        ensures cause { HasCause (told self.old).faults (told self.new).faults (result ≡ Bound.Failed) }
+        ensures uncounted { result ≡ Bound.Ok → (told self.new).faults ≡ (told self.old).faults };
 
     /// Takes the next datagram of a role into the frame, where one is there. The frame then has all its headroom.
     fn recv(&mut self, role: Role, into: &mut Frame) -> Received
@@ -71,7 +72,8 @@ pub trait Entropy {
 
     fn seed(&mut self) -> Seeded
         ensures seeds { Grows (told self.old).seeds (told self.new).seeds (seeds result) }
-        ensures cause { HasCause (told self.old).faults (told self.new).faults (result ≡ Seeded.Failed) };
+        ensures cause { HasCause (told self.old).faults (told self.new).faults (result ≡ Seeded.Failed) }
+        ensures uncounted { ¬ (result ≡ Seeded.Failed) → (told self.new).faults ≡ (told self.old).faults };
 }
 
 /// Files by name.
@@ -82,7 +84,8 @@ pub trait Files {
     fn read(&mut self, alloc: Global, name: &str) -> Result<Vec<u8>, FileError>
         ensures contents { IfOk result (λ text. Grows (told self.old).contents (told self.new).contents (text.items ∷ [])) }
         ensures kept { OnErr result ((told self.new).contents ≡ (told self.old).contents) }
-        ensures cause { HasCause (told self.old).faults (told self.new).faults (IsErrOf result FileError.Failed) };
+        ensures cause { HasCause (told self.old).faults (told self.new).faults (IsErrOf result FileError.Failed) }
+        ensures uncounted { ¬ IsErrOf result FileError.Failed → (told self.new).faults ≡ (told self.old).faults };
 }
 
 /// A keeper of rounds.
@@ -92,12 +95,14 @@ pub trait Trace {
     /// Opens the file of this name for the rounds that follow.
     fn start(&mut self, name: &str) -> Noted
         ensures rounds { (told self.new).rounds ≡ (told self.old).rounds }
-        ensures cause { HasCause (told self.old).faults (told self.new).faults (result ≡ Noted.Failed) };
+        ensures cause { HasCause (told self.old).faults (told self.new).faults (result ≡ Noted.Failed) }
+        ensures uncounted { result ≡ Noted.Ok → (told self.new).faults ≡ (told self.old).faults };
 
     /// Keeps a round.
     fn note(&mut self, round: &RoundRecord) -> Noted
         ensures rounds { Grows (told self.old).rounds (told self.new).rounds (notes round.now result) }
-        ensures cause { HasCause (told self.old).faults (told self.new).faults (result ≡ Noted.Failed) };
+        ensures cause { HasCause (told self.old).faults (told self.new).faults (result ≡ Noted.Failed) }
+        ensures uncounted { result ≡ Noted.Ok → (told self.new).faults ≡ (told self.old).faults };
 }
 
 /// Where text goes.

@@ -20,3 +20,4 @@ pub mod Timing
 pub mod Framing
 pub mod ByKind
 pub mod Vacant
+pub mod Leaving

@@ -20,3 +20,4 @@ pub mod Replying
 pub mod Making
 pub mod Choice
 pub mod Marking
+pub mod Resting

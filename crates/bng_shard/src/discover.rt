@@ -70,6 +70,7 @@ fn add(slots: &mut Slots, session: Session)
     requires { length slots.old.sessions < 1022 }
     ensures { slots.new ≡ record slots.old { sessions = slots.old.sessions ++ session ∷ [] } }
 {
+    slots.rest = None;
     slots.sessions.push_reserved(session);
 }
 

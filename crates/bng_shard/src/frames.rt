@@ -51,6 +51,7 @@ fn end_session(slots: &mut Slots, place: usize)
     requires found { place < length slots.old.sessions }
     ensures { (x : Seen) × (slice_get slots.old.sessions place ≡ Some x) × (slots.new ≡ with_session slots.old place (record x { ended = true })) }
 {
+    slots.rest = None;
     slots.sessions[place].ended = true;
 }
 
@@ -73,6 +74,7 @@ fn drive_at(
     ensures capacity { vec_capacity outs.new ≡ vec_capacity outs.old }
     ensures few { length outs.new.items ≤ length outs.old.items + 5 }
 {
+    slots.rest = None;
     drive(
         &mut slots.sessions[place],
         rules,

@@ -18,7 +18,6 @@ use crate::sending::At;
 use crate::session::Session;
 use crate::slots::Slots;
 use crate::sums::{Charged, Traffic};
-use crate::timers::due;
 use bng_base::{Claim, Entry, Fate, Item, LONGEST, OutRecord, SessionNo, Static};
 use std::alloc::{AllocError, Global};
 use std::marker::Model;
@@ -79,6 +78,10 @@ fn memory_for(
     Ok((sessions, rows))
 }
 
+/// For how many items a round makes room at first: as many as a turn of the desk has at most, so that no later round makes the lists
+/// anew. Of the room only what is used is touched.
+const ITEMS_AT_FIRST: usize = 512;
+
 // Makes room for a round of so many items in lists that are empty, and says whether there is.
 fn reserve(journal: &mut Vec<Entry>, outs: &mut Vec<OutRecord>, items: usize) -> bool
     requires few { items < 2 ^ 16 }
@@ -91,6 +94,20 @@ fn reserve(journal: &mut Vec<Entry>, outs: &mut Vec<OutRecord>, items: usize) ->
         return false;
     }
     outs.reserve(OUTS * items + TIMED_OUTS).is_ok()
+}
+
+// The same, with room for a full round where there is memory for that.
+fn reserve_amply(journal: &mut Vec<Entry>, outs: &mut Vec<OutRecord>, items: usize) -> bool
+    requires few { items < 2 ^ 16 }
+    requires none { (journal.old.items ≡ []) × (outs.old.items ≡ []) }
+    ensures none_still { (journal.new.items ≡ []) × (outs.new.items ≡ []) }
+    ensures journal { result ≡ true → items ≤ vec_capacity journal.new }
+    ensures outs { result ≡ true → 10 * items + 640 ≤ vec_capacity outs.new }
+{
+    if items < ITEMS_AT_FIRST && reserve(journal, outs, ITEMS_AT_FIRST) {
+        return true;
+    }
+    reserve(journal, outs, items)
 }
 
 impl Shard {
@@ -108,6 +125,7 @@ impl Shard {
                 number,
                 statics,
                 sessions,
+                rest: None,
             },
             rows,
             journal: Vec::new(alloc),
@@ -128,7 +146,7 @@ impl Shard {
     {
         let items = usize::from(items);
         self.room = 0;
-        if !reserve(&mut self.journal, &mut self.outs, items) {
+        if !reserve_amply(&mut self.journal, &mut self.outs, items) {
             return Err(ShardError::OutOfMemory);
         }
         self.room = items;
@@ -178,6 +196,27 @@ impl Shard {
         (journal, outs)
     }
 
+    /// Keeps an empty list for the journals of the rounds to come, as one that `drain` handed out: its room serves again. No round
+    /// may be going on.
+    pub fn keep_journal(&mut self, list: Vec<Entry>)
+        requires empty { list.items ≡ [] }
+        requires journal { self.old.journal ≡ [] }
+        ensures { self.new ≡ record self.old { room = 0 } }
+    {
+        self.room = 0;
+        self.journal = list;
+    }
+
+    /// The same for what is to be sent.
+    pub fn keep_outs(&mut self, list: Vec<OutRecord>)
+        requires empty { list.items ≡ [] }
+        requires outs { self.old.outs ≡ [] }
+        ensures { self.new ≡ record self.old { room = 0 } }
+    {
+        self.room = 0;
+        self.outs = list;
+    }
+
     /// Takes the answer to the send of an out that `drain` handed out: where it was sent, the octets of its packet are added to its
     /// term's row. It is called once for each.
     pub fn charge(&mut self, out: &OutRecord) -> Charged
@@ -193,7 +232,7 @@ impl Shard {
     pub fn due(&self) -> Option<u64>
         ensures { result ≡ due_of self.now.state }
     {
-        due(&self.slots)
+        self.slots.due()
     }
 
     /// How many sessions discovery made that are still there.

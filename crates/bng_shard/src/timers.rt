@@ -1,11 +1,9 @@
 //! Ticks and Ends.
 ghost use Rattle.std.specs.Prelude.{◌≡◌, ◌+◌, ◌<◌, ◌≤◌, ◌^◌, ◌++◌, length, vec_capacity};
-ghost use Rattle.bng_ppp.specs.LinkRelation.{earliest};
-ghost use Rattle.bng_shard.specs.Due.{due_of};
 ghost use Rattle.bng_shard.specs.Timed.{TickedOnce, EndedOnce, Ticked, Ended};
 ghost use Rattle.bng_shard.specs.Timers.{at_once};
 
-use crate::choice::{deadline, first_due, lowest};
+use crate::choice::{first_due, lowest};
 use crate::drive::{drive, send_padt};
 use crate::rules::Rules;
 use crate::sending::At;
@@ -15,27 +13,6 @@ use bng_ppp::Input;
 
 /// How many due deadlines a Tick handles, and how many sessions an End ends.
 const AT_ONCE: u8 = 64;
-
-// The earlier of two moments.
-fn earlier(a: Option<u64>, b: Option<u64>) -> Option<u64>
-    ensures { result ≡ earliest a b }
-{
-    match (a, b) {
-        (Some(a), Some(b)) => Some(a.min(b)),
-        (Some(a), None) => Some(a),
-        (None, b) => b,
-    }
-}
-
-/// The earliest deadline of the sessions, in milliseconds; none exactly where no session has one.
-pub(crate) fn due(slots: &Slots) -> Option<u64>
-    ensures { result ≡ due_of slots.now }
-{
-    slots
-        .sessions
-        .iter()
-        .fold(None, |first, session| earlier(first, deadline(session)))
-}
 
 // Handles the due deadline that comes first, and says whether one is due.
 fn tick_once(
@@ -56,6 +33,7 @@ fn tick_once(
     let Some(place) = first_due(slots.sessions.as_slice(), now) else {
         return false;
     };
+    slots.rest = None;
     let session = &mut slots.sessions[place];
     drive(session, rules, at, Input::Timer, now, random, outs);
     true
@@ -71,6 +49,7 @@ fn end_once(slots: &mut Slots, rules: &Rules, at: At, outs: &mut Vec<OutRecord>)
     let Some(place) = lowest(slots.sessions.as_slice()) else {
         return false;
     };
+    slots.rest = None;
     let session = &mut slots.sessions[place];
     send_padt(rules, at, session, outs);
     session.ended = true;

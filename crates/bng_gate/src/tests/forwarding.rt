@@ -49,6 +49,34 @@ const DOWN_THE_OTHER: [u8; 42] = [
     0x00, 0x21, 0x45, 0, 0, 0x14, 0, 2, 0, 0, 1, 0x11, 0xed, 0xd3, 0xc0, 0, 2, 1, 10, 0, 0, 3,
 ];
 
+/// Two circuits of one shard, the one with the higher session number first.
+const FALLING_NUMBERS: &str = r#"[gateway]
+name = "bng1"
+[core]
+local = "127.0.0.1:9000"
+peer = "127.0.0.1:9001"
+[control]
+local = "127.0.0.1:9002"
+[[access]]
+local = "127.0.0.1:9010"
+peer = "127.0.0.1:9011"
+mac = "02:00:00:00:00:fe"
+[[access]]
+local = "127.0.0.1:9020"
+peer = "127.0.0.1:9021"
+mac = "02:00:00:00:00:fd"
+[[static]]
+port = 1
+mac = "02:00:00:00:00:01"
+session = 1026
+address = "10.0.0.2"
+[[static]]
+port = 2
+mac = "02:00:00:00:00:02"
+session = 1025
+address = "10.0.0.3"
+"#;
+
 /// A PADT of the circuit's session.
 const PADT: [u8; 20] = [
     0x02, 0, 0, 0, 0, 0xfe, 0x02, 0, 0, 0, 0, 0x01, 0x88, 0x63, 0x11, 0xa7, 0x04, 0x01, 0, 0,
@@ -107,6 +135,29 @@ fn a_packet_that_does_not_go_is_counted_as_a_drop_alone(rt: HostRuntime) -> Resu
 }
 
 #[test]
+fn what_comes_after_a_failed_send_is_sent(rt: HostRuntime) -> Result<(), Fail> {
+    let alloc = rt.alloc();
+    let list: [(Role, u16, &[u8]); 2] = [
+        (Role::Access(1), 9011, &PADDED),
+        (Role::Access(1), 9011, &PADDED),
+    ];
+    let script = script_of(alloc, &list)?;
+    // Three binds, the receives of Control, three times of the access port and of the core, and then the first send.
+    let ended = run_over(&rt, alloc, &SERVE, CONFIGURATION, script, &[9], &[])?;
+    assert_eq!(rt; ended.status, 0);
+    assert_eq!(rt;
+        ended.out.text(),
+        b"total in=20 out=0\nstatic 10.0.0.2 in=20 out=0\ndrop Malformed 0\ndrop NoSession 0\ndrop NotOpen 0\ndrop Expired 0\ndrop Spoofed 0\ndrop TooBig 0\ndrop Exceeded 0\ndrop LinkFailed 1\ndrop WantOfMemory 0\n".as_slice()
+    );
+    let wanted: [(Role, u16, &[u8]); 2] = [
+        (Role::Core, 9001, &UP),
+        (Role::Control, 5, b"stopping\n"),
+    ];
+    sends(&rt, &ended, &wanted);
+    Ok(())
+}
+
+#[test]
 fn packets_pass_both_ways_without_their_padding(rt: HostRuntime) -> Result<(), Fail> {
     let alloc = rt.alloc();
     let list: [(Role, u16, &[u8]); 3] = [
@@ -155,6 +206,37 @@ fn each_circuit_gets_its_own_packets_on_its_own_port(rt: HostRuntime) -> Result<
     assert_eq!(rt; sent[1].octets.as_slice(), DOWN_THE_OTHER.as_slice());
     assert_eq!(rt; sent[2].role, Role::Access(1));
     assert_eq!(rt; sent[2].octets.as_slice(), DOWN.as_slice());
+    Ok(())
+}
+
+#[test]
+fn circuits_stand_in_any_order(rt: HostRuntime) -> Result<(), Fail> {
+    let alloc = rt.alloc();
+    let mut up = PADDED;
+    up[17] = 2;
+    let list: [(Role, u16, &[u8]); 3] = [
+        (Role::Access(1), 9011, &up),
+        (Role::Core, 9001, &FROM_CORE),
+        (Role::Core, 9001, &TO_THE_OTHER),
+    ];
+    let script = script_of(alloc, &list)?;
+    let ended = run_over(&rt, alloc, &SERVE, FALLING_NUMBERS, script, &[], &[])?;
+    assert_eq!(rt; ended.status, 0);
+    assert_eq!(rt;
+        ended.out.text(),
+        b"total in=20 out=40\nstatic 10.0.0.2 in=20 out=20\nstatic 10.0.0.3 in=0 out=20\ndrop Malformed 0\ndrop NoSession 0\ndrop NotOpen 0\ndrop Expired 0\ndrop Spoofed 0\ndrop TooBig 0\ndrop Exceeded 0\ndrop LinkFailed 0\ndrop WantOfMemory 0\n".as_slice()
+    );
+    let mut down = DOWN;
+    down[17] = 2;
+    let mut down_the_other = DOWN_THE_OTHER;
+    down_the_other[17] = 1;
+    let wanted: [(Role, u16, &[u8]); 4] = [
+        (Role::Core, 9001, &UP),
+        (Role::Access(1), 9011, &down),
+        (Role::Access(2), 9021, &down_the_other),
+        (Role::Control, 5, b"stopping\n"),
+    ];
+    sends(&rt, &ended, &wanted);
     Ok(())
 }
 

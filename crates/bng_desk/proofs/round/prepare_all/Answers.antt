@@ -1,4 +1,4 @@
-use Rattle.std.proofs.Common.{rules, get_or, ap, ◌∙◌, arith}
+use Rattle.std.proofs.Common.{rules, get_or, sym, subst, arith}
 use Rattle.bng_base.specs.declared.item.Entry.{Entry}
 use Rattle.bng_engine.specs.Progress.{Kept, IsReady}
 use Rattle.bng_engine.specs.Sight.{Sight}
@@ -8,35 +8,31 @@ use Rattle.bng_desk.specs.Taking.{IsEmpty, HasRows}
 use Rattle.bng_desk.proofs.Readying.{IsMadeReady, IsLeft, all_ready, some_ready, all_right, all_onward}
 use Rattle.bng_desk.proofs.round.prepare_all.Goals as goal
 
-pub prepare-requires-clause-journal : goal.prepare-requires-clause-journal
-prepare-requires-clause-journal c =
+pub prepare_one-requires : goal.prepare_one-requires
+prepare_one-requires c =
     let i = c.loop-shard.shard-index in let d = c.shard-item.result in
-    ap (λ (v : Sight State Entry). v.journal) (same_at c.args.shards.now c.loop-shard.shards i d c.loop-shard.invariant.rest) ∙ (c.requires.empty i d c.loop-shard-test.true).0
+    subst IsEmpty (sym (same_at c.args.shards.now c.loop-shard.shards i d c.loop-shard.invariant.rest)) (c.requires.empty i d c.loop-shard-test.true)
 
-pub prepare-requires-clause-outs : goal.prepare-requires-clause-outs
-prepare-requires-clause-outs c =
-    let i = c.loop-shard.shard-index in let d = c.shard-item.result in
-    ap (λ (v : Sight State Entry). v.outs) (same_at c.args.shards.now c.loop-shard.shards i d c.loop-shard.invariant.rest) ∙ (c.requires.empty i d c.loop-shard-test.true).1
-
-pub returns-then-is_err-clause-kept : goal.returns-then-is_err-clause-kept
-returns-then-is_err-clause-kept c =
-    let here : IsLeft (get_or c.loop-shard.shards c.loop-shard.shard-index c.shard-item.result) c.prepare.new.self = record { kept = c.prepare.ensures.kept; empty = λ _. c.prepare.ensures.empty } in
+pub returns-then-not-prepare_one-clause-kept : goal.returns-then-not-prepare_one-clause-kept
+returns-then-not-prepare_one-clause-kept c =
+    let here : IsLeft (get_or c.loop-shard.shards c.loop-shard.shard-index c.shard-item.result) c.prepare_one.new.shard = record { kept = c.prepare_one.ensures.kept; empty = λ _. c.prepare_one.ensures.empty } in
     zip_weaker IsLeft Kept (λ x y h. h.kept) c.args.shards.now _
-    (some_ready c.args.items c.args.shards.now c.loop-shard.shards c.loop-shard.shard-index c.shard-item.result c.prepare.new.self c.loop-shard-test.true c.loop-shard.invariant here)
+    (some_ready c.args.items c.args.shards.now c.loop-shard.shards c.loop-shard.shard-index c.shard-item.result c.prepare_one.new.shard c.loop-shard-test.true c.loop-shard.invariant here)
 
-pub returns-then-is_err-clause-empty : goal.returns-then-is_err-clause-empty
-returns-then-is_err-clause-empty c =
-    let here : IsLeft (get_or c.loop-shard.shards c.loop-shard.shard-index c.shard-item.result) c.prepare.new.self = record { kept = c.prepare.ensures.kept; empty = λ _. c.prepare.ensures.empty } in
+pub returns-then-not-prepare_one-clause-empty : goal.returns-then-not-prepare_one-clause-empty
+returns-then-not-prepare_one-clause-empty c =
+    let here : IsLeft (get_or c.loop-shard.shards c.loop-shard.shard-index c.shard-item.result) c.prepare_one.new.shard = record { kept = c.prepare_one.ensures.kept; empty = λ _. c.prepare_one.ensures.empty } in
     all_onward IsLeft IsEmpty (λ x y h e. h.empty e) c.args.shards.now _
-    (some_ready c.args.items c.args.shards.now c.loop-shard.shards c.loop-shard.shard-index c.shard-item.result c.prepare.new.self c.loop-shard-test.true c.loop-shard.invariant here)
+    (some_ready c.args.items c.args.shards.now c.loop-shard.shards c.loop-shard.shard-index c.shard-item.result c.prepare_one.new.shard c.loop-shard-test.true c.loop-shard.invariant here)
     c.requires.empty
 
 pub loop-shard-preserved : goal.loop-shard-preserved
 loop-shard-preserved c =
     let i = c.loop-shard.shard-index in
-    let ready : IsReady c.args.items c.prepare.new.self = search rules in
-    let here : IsMadeReady c.args.items (get_or c.loop-shard.shards i c.shard-item.result) c.prepare.new.self = record { kept = c.prepare.ensures.kept; ready = ready; rows = c.prepare.ensures.fit } in
-    walk_more (IsMadeReady c.args.items) c.args.shards.now c.loop-shard.shards i c.shard-item.result c.prepare.new.self c.loop-shard-test.true c.loop-shard.invariant here
+    let ready : IsReady c.args.items c.prepare_one.new.shard = search rules in
+    let rows : HasRows c.prepare_one.new.shard = search rules in
+    let here : IsMadeReady c.args.items (get_or c.loop-shard.shards i c.shard-item.result) c.prepare_one.new.shard = record { kept = c.prepare_one.ensures.kept; ready = ready; rows = rows } in
+    walk_more (IsMadeReady c.args.items) c.args.shards.now c.loop-shard.shards i c.shard-item.result c.prepare_one.new.shard c.loop-shard-test.true c.loop-shard.invariant here
 
 pub returns-clause-kept : goal.returns-clause-kept
 returns-clause-kept c =

@@ -18,7 +18,7 @@ use Rattle.bng_desk.proofs.round.settle_all.Goals as goal
 pub loop-shard-init : goal.loop-shard-init
 loop-shard-init g c = record {
   settles = settles_none c.args.shards.now (g.P.Plant.told c.args.plant.now) c.args.outs.now.items c.args.journals.now.items c.args.drops.now c.requires.outs c.requires.journals;
-  outs_room = refl;
+  outs_room = omega arith;
   journals_room = refl;
 }
 
@@ -67,7 +67,7 @@ loop-shard-preserved g c =
           c.loop-shard.outs.items c.settle-journal.new.outs.items c.loop-shard.journals.items c.push_reserved.new.self.items c.settle-journal.result.items c.args.drops.now c.loop-shard.drops c.settle-journal.new.drops
           c.loop-shard-test.true c.loop-shard.auto.shards c.settle-journal.new.shard c.loop-shard.invariant.settles c.settle-journal.ensures.sends
           c.of.result c.push_reserved.ensures.items c.of.ensures;
-      outs_room = c.settle-journal.ensures.capacity ∙ c.loop-shard.invariant.outs_room;
+      outs_room = omega (arith, c.settle-journal.ensures.capacity, c.loop-shard.invariant.outs_room);
       journals_room = omega (arith, c.push_reserved.ensures.capacity, c.loop-shard.invariant.journals_room);
     }
 

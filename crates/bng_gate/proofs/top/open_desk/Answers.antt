@@ -7,10 +7,13 @@ pub returns-in-Ok-clause-opened : goal.returns-in-Ok-clause-opened
 returns-in-Ok-clause-opened g c =
     let told = g.C.Clock.told in
     record {
-      binds = c.in_default.ensures.bound;
-      now = c.now-now.result;
-      wall = c.wall-wall.result;
-      read = grows_if_told_more (told c.args.clock.now).answers (told c.now-now.new.self).answers (told c.wall-wall.new.self).answers (Now c.now-now.result ∷ []) (Wall c.wall-wall.result ∷ []) c.now-now.ensures.answers c.wall-wall.ensures.answers;
-      last = c.wall-wall.ensures.last ∙ c.now-now.ensures.last;
+      bound = record {
+        binds = c.in_default.ensures.bound;
+        unfailed = c.in_default.ensures.unfailed;
+        now = c.now-now.result;
+        wall = c.wall-wall.result;
+        read = grows_if_told_more (told c.args.clock.now).answers (told c.now-now.new.self).answers (told c.wall-wall.new.self).answers (Now c.now-now.result ∷ []) (Wall c.wall-wall.result ∷ []) c.now-now.ensures.answers c.wall-wall.ensures.answers;
+        last = c.wall-wall.ensures.last ∙ c.now-now.ensures.last;
+      };
       is_opened = c.in-Ok.ensures;
     }

@@ -1,5 +1,5 @@
 use Rattle.bng_gate.proofs.Causes.{no_command, faulty, complete}
-use Rattle.bng_gate.proofs.Headlines.{headline}
+use Rattle.bng_gate.proofs.Headlines.{headline, safe}
 use Rattle.bng_gate.proofs.top.run.Goals as goal
 
 pub returns-clause-headline : goal.returns-clause-headline
@@ -7,6 +7,9 @@ returns-clause-headline g c = λ done.
     let served = c.run_to_end.ensures.served done in
     let prepares = served.ready.prepares in
     (served.config, prepares, headline prepares.text served.config served.seed _ _ prepares.read served.runs)
+
+pub returns-clause-safe : goal.returns-clause-safe
+returns-clause-safe g c = safe _ _ _ _ c.run_to_end.ensures
 
 pub returns-clause-no_command : goal.returns-clause-no_command
 returns-clause-no_command g c = no_command _ _ _ _ c.run_to_end.ensures

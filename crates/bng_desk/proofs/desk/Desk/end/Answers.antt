@@ -6,7 +6,7 @@ use Rattle.bng_base.specs.declared.item.Item.{Item}
 use Rattle.bng_base.specs.Stretch.{Outside}
 use Rattle.bng_desk.specs.declared.holding.Named.{Named}
 use Rattle.bng_desk.specs.Items.{drawn_from, ends_of}
-use Rattle.bng_desk.specs.Kept.{IsKept, rested, octets_most, drops_most}
+use Rattle.bng_desk.specs.Kept.{IsKept, all_turns, rested, octets_most, drops_most}
 use Rattle.bng_desk.specs.Model.{Desk, state_of}
 use Rattle.bng_desk.specs.Random.{Drawn}
 use Rattle.bng_desk.specs.Reading.{is_empty}
@@ -14,11 +14,11 @@ use Rattle.bng_desk.specs.Taking.{HoldsEnds, outs_of_items}
 use Rattle.bng_desk.specs.Turn.{MakesEnd, ending_items, ending_draws}
 use Rattle.bng_desk.proofs.Ending.{ended, kept_as, after_ending}
 use Rattle.bng_desk.proofs.Joining.{HasLow}
-use Rattle.bng_desk.proofs.Keeping.{IsLeft, AreEnds, kept_ended, endings_left, are_ends_of, no_ends, few_draws, few_unopened}
+use Rattle.bng_desk.proofs.Keeping.{IsLeft, AreEnds, kept_ended, few_told, endings_left, are_ends_of, no_ends, few_draws, few_unopened}
 use Rattle.bng_desk.proofs.Readying.{Shards}
 use Rattle.bng_desk.proofs.desk.Desk.end.Given.{Over}
 use Rattle.bng_desk.proofs.desk.Desk.end.Goals as goal
-use Rattle.bng_desk.proofs.desk.Desk.end.Goals.{After-to_end, After-drop-ending-5}
+use Rattle.bng_desk.proofs.desk.Desk.end.Goals.{After-to_end, After-answer}
 
 module _ (g : Over) (c : After-to_end g) where
   abbrev before : Shards → Desk
@@ -72,7 +72,7 @@ hold_ends-ending-requires-clause-few_outs g c =
 pub hold_ends-ending-requires-clause-outside : goal.hold_ends-ending-requires-clause-outside
 hold_ends-ending-requires-clause-outside g c = (are_ends g (goal.at.hold_ends-ending-requires-clause-outside g c).After-to_end).none
 
-module _ (g : Over) (c : After-drop-ending-5 g) (b : After-to_end g) where
+module _ (g : Over) (c : After-answer g) (b : After-to_end g) where
   same_length : length c.hold_ends-ending.new.shards ≡ c.self.inside.shards.len
   same_length = omega (arith, c.hold_ends-ending.auto.shards, c.as_mut_slice.ensures.len, c.self.inside.shards.ok.0)
 
@@ -92,14 +92,15 @@ invariant_of-self-2 g c =
       shards = same_length g c b ∙ c.self.inside.shards.ok.0;
       order = c.hold_ends-ending.ensures.numbers;
       empty = c.hold_ends-ending.ensures.empty;
-      low = c.hold_ends-ending.ensures.low (octets_most * c.self.inside.told) (subst (λ (xs : Shards). All (HasLow (octets_most * c.self.inside.told)) xs) (sym c.as_mut_slice.ensures.value) c.self.invariant.low);
-      counts = c.hold_ends-ending.ensures.within (drops_most * c.self.inside.told) c.self.invariant.counts;
+      low = c.hold_ends-ending.ensures.low (octets_most * all_turns d) (subst (λ (xs : Shards). All (HasLow (octets_most * all_turns d)) xs) (sym c.as_mut_slice.ensures.value) c.self.invariant.low);
+      counts = c.hold_ends-ending.ensures.within (drops_most * all_turns d) c.self.invariant.counts;
       drawn_is = omega (arith, ap (λ (x : Drawn). x.drawn) (draws_are g b), few_draws d c.self.invariant);
     } in
     let few : c.unopened_after-self-inside.result ≤ c.self.inside.unopened + 1 = subst (λ (n : ℕ). n ≤ c.self.inside.unopened + 1) (sym c.unopened_after-self-inside.ensures) (few_unopened c.hold_ends-ending.result.is_opened c.self.inside.unopened) in
-    subst (λ (xs : Shards). IsKept (after_ending d xs c.hold_ends-ending.new.drops c.to_end.new.draws c.unopened_after-self-inside.result c.either-self-inside.result c.hold_ends-ending.new.kept.items c.now-now.result)) (sym (shards_are g c b))
-    (kept_ended d ws c.hold_ends-ending.new.drops c.to_end.new.draws c.unopened_after-self-inside.result c.either-self-inside.result c.hold_ends-ending.new.kept.items c.now-now.result c.self.invariant
-    (endings_left (before g b (map rested vs)) (ap (λ (x : Desk). state_of x) c.self.view_is ∙ c.requires.state)) left few kept.items kept.outs kept.none)
+    subst (λ (xs : Shards). IsKept (after_ending d xs c.hold_ends-ending.new.drops c.to_end.new.draws c.unopened_after-self-inside.result c.either-self-inside.result c.hold_ends-ending.new.kept.items c.now-now.result c.told_after-self-inside.result)) (sym (shards_are g c b))
+    (kept_ended d ws c.hold_ends-ending.new.drops c.to_end.new.draws c.unopened_after-self-inside.result c.either-self-inside.result c.hold_ends-ending.new.kept.items c.now-now.result c.told_after-self-inside.result c.self.invariant
+    (endings_left (before g b (map rested vs)) (ap (λ (x : Desk). state_of x) c.self.view_is ∙ c.requires.state)) left few
+    (subst (λ (n : ℕ). n ≤ c.self.inside.told + 1) (sym c.told_after-self-inside.ensures) (few_told c.note-noted.result c.self.inside.told)) kept.items kept.outs kept.none)
 
 pub returns : goal.returns
 returns g c =
@@ -130,6 +131,6 @@ returns g c =
     let made = ended d vs ws named c.note-noted.result draws c.to_end.result.items drops c.hold_ends-ending.result.record c.hold_ends-ending.result.is_opened kept p₀ p₁ refl refl same drew
     (subst (λ (xs : Shards). HoldsEnds d.rules d.holders named c.to_end.result.items p₀ p₁ xs ws d.drops drops c.hold_ends-ending.result.record c.hold_ends-ending.result.is_opened kept) c.as_mut_slice.ensures.value c.hold_ends-ending.ensures.round)
     (omega (arith, ap (λ (x : Desk). x.moment) c.self.view_is, c.requires.later, c.now-now.ensures.later)) c₀ c₁ c₂ c.now-now.ensures.answers c.wall-wall.ensures.answers (c.wall-wall.ensures.last ∙ c.now-now.ensures.last)
-    t₀ t₁ c.note-noted.ensures.rounds c.note-noted.ensures.cause c.answer.result c.answer.ensures unopened c.unopened_after-self-inside.ensures closed c.either-self-inside.ensures in
-    subst (λ (x : Desk). MakesEnd x (after_ending d (map rested (with_items c.self.inside.shards ws).items) drops draws unopened closed kept named.moment) before_is behind_is c.answer.result) c.self.view_is
-    (subst (λ (xs : Shards). MakesEnd d (after_ending d (map rested xs) drops draws unopened closed kept named.moment) before_is behind_is c.answer.result) (sym (shards_are g c b)) made)
+    t₀ t₁ c.note-noted.ensures.rounds c.note-noted.ensures.cause c.note-noted.ensures.uncounted c.answer.result c.answer.ensures unopened c.unopened_after-self-inside.ensures closed c.either-self-inside.ensures c.told_after-self-inside.result c.told_after-self-inside.ensures in
+    subst (λ (x : Desk). MakesEnd x (after_ending d (map rested (with_items c.self.inside.shards ws).items) drops draws unopened closed kept named.moment c.told_after-self-inside.result) before_is behind_is c.answer.result) c.self.view_is
+    (subst (λ (xs : Shards). MakesEnd d (after_ending d (map rested xs) drops draws unopened closed kept named.moment c.told_after-self-inside.result) before_is behind_is c.answer.result) (sym (shards_are g c b)) made)

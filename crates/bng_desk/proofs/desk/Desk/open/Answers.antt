@@ -19,9 +19,9 @@ use Rattle.bng_desk.specs.Opening.{AreOffersOf, line_of, holder_of, shard_of}
 use Rattle.bng_desk.specs.Random.{Drawn, draw}
 use Rattle.bng_desk.proofs.Fresh.{fresh_rested, kept_fresh}
 use Rattle.bng_desk.proofs.desk.Desk.open.Goals as goal
-use Rattle.bng_desk.proofs.desk.Desk.open.Goals.{After-new}
+use Rattle.bng_desk.proofs.desk.Desk.open.Goals.{After-new-3}
 
-module _ (c : After-new) where
+module _ (c : After-new-3) where
   abbrev statics : ℕ → List Static
   statics n = filter (λ (s : Static). shard_of s == n) c.args.config.statics
 
@@ -88,7 +88,7 @@ returns c =
     let opens = map (λ n. opened n (statics c n)) ns in
     record {
       rules = r;
-      are_rules = record { shards = refl; core_peer = refl; access = refl; offers = offers_are c; auth = refl; echo = refl };
+      are_rules = record { shards = refl; core_peer = refl; access = refl; offers = offers_are c; name = refl; address = refl; dns = refl; auth = refl; echo = refl };
       desk =
           ap (λ (ls : List Line). desk ls (map rested c.in-Ok-shards.opens.items) c.of-2.result c.sixteen-key.new.self c.new.result.items) (lines_are c)
           ∙ ap (λ (xs : List (Sight State Entry)). desk (map line_of config.statics) xs c.of-2.result c.sixteen-key.new.self c.new.result.items) (ap (λ (xs : List (Sight State Entry)). map rested xs) (shards_are c) ∙ fresh_rested (statics c) ns)

@@ -1,23 +1,24 @@
-use Rattle.std.proofs.Common.{◌≡◌, ℕ, ◌+◌, ◌*◌, Bool, ◌&&◌, Option, map, length, refl, sym, ap, subst, arith, ◌∙◌}
+use Rattle.std.proofs.Common.{◌≡◌, ℕ, ◌+◌, ◌*◌, ◌<◌, ◌≤◌, Bool, ◌&&◌, Option, map, length, refl, sym, ap, subst, arith, ◌∙◌}
 use Rattle.std.specs.List.{All}
 use Rattle.std.specs.Vec.{with_items}
 use Rattle.std.proofs.lemmas.List.{with_items_is}
 use Rattle.bng_base.specs.Stretch.{Outside}
 use Rattle.bng_desk.specs.declared.holding.Named.{Named}
-use Rattle.bng_desk.specs.Kept.{IsKept, rested, octets_most, drops_most}
+use Rattle.bng_desk.specs.Kept.{IsKept, all_turns, rested, octets_most, drops_most}
 use Rattle.bng_desk.specs.Model.{Desk, state_of}
 use Rattle.bng_desk.specs.Random.{Drawn}
 use Rattle.bng_desk.specs.Taking.{Gathers, HoldsOne}
 use Rattle.bng_desk.specs.Turn.{MakesTurn, wait_for, deadline_in}
-use Rattle.bng_desk.proofs.Joining.{HasLow}
-use Rattle.bng_desk.proofs.Keeping.{IsLeft, kept_served, turns_left}
+use Rattle.bng_desk.proofs.DropLaws.{within_wider}
+use Rattle.bng_desk.proofs.Joining.{HasLow, low_wider}
+use Rattle.bng_desk.proofs.Keeping.{IsLeft, kept_served, few_told, turns_left}
 use Rattle.bng_desk.proofs.Readying.{Shards}
 use Rattle.bng_desk.proofs.Turning.{served, after_turn}
 use Rattle.bng_desk.proofs.desk.Desk.serve.Given.{Over}
 use Rattle.bng_desk.proofs.desk.Desk.serve.Goals as goal
-use Rattle.bng_desk.proofs.desk.Desk.serve.Goals.{After-drop-round-5}
+use Rattle.bng_desk.proofs.desk.Desk.serve.Goals.{After-answer}
 
-module _ (g : Over) (c : After-drop-round-5 g) where
+module _ (g : Over) (c : After-answer g) where
   abbrev before : Shards → Desk
   before shards = record {
     rules = c.self.inside.rules;
@@ -49,16 +50,45 @@ module _ (g : Over) (c : After-drop-round-5 g) where
     shards = same_length ∙ c.self.inside.shards.ok.0;
     order = c.hold-round.ensures.numbers;
     empty = c.hold-round.ensures.empty;
-    low = c.hold-round.ensures.low (octets_most * c.self.inside.told) (subst (λ (xs : Shards). All (HasLow (octets_most * c.self.inside.told)) xs) (sym c.as_mut_slice.ensures.value) c.self.invariant.low);
-    counts = c.hold-round.ensures.within (drops_most * c.self.inside.told) c.self.invariant.counts;
+    low = c.hold-round.ensures.low (octets_most * all_turns (before c.self.inside.shards.items)) (subst (λ (xs : Shards). All (HasLow (octets_most * all_turns (before c.self.inside.shards.items))) xs) (sym c.as_mut_slice.ensures.value) c.self.invariant.low);
+    counts = c.hold-round.ensures.within (drops_most * all_turns (before c.self.inside.shards.items)) c.self.invariant.counts;
     drawn_is = omega (arith, ap (λ (x : Drawn). x.drawn) c.gather-gathered.ensures.gathers.draws_are, c.gather-gathered.ensures.items.few);
   }
 
+pub invariant_of-self : goal.invariant_of-self
+invariant_of-self g c =
+    let was = c.self.invariant in
+    let made : c.args.self.now.turns ≤ c.args.self.now.rounds = subst (λ (x : Desk). x.turns ≤ x.rounds) c.self.view_is was.made in
+    let left : c.self.inside.turns < c.self.inside.rounds = subst (λ (x : Desk). x.turns < x.rounds) (sym c.self.view_is) (turns_left c.args.self.now c.requires.state made) in
+    record {
+      some_port = was.some_port;
+      few_ports = was.few_ports;
+      shards = was.shards;
+      some_shard = was.some_shard;
+      few_shards = was.few_shards;
+      order = was.order;
+      empty = was.empty;
+      auth = was.auth;
+      holders = was.holders;
+      most = was.most;
+      made = omega (arith, left);
+      endings = was.endings;
+      unopened = was.unopened;
+      told = omega (arith, was.told);
+      drawn = omega (arith, was.drawn);
+      low = low_wider (octets_most * (c.self.inside.turns + c.self.inside.endings)) (octets_most * (c.self.inside.turns + 1 + c.self.inside.endings)) c.self.inside.shards.items (omega arith) was.low;
+      counts = within_wider (drops_most * (c.self.inside.turns + c.self.inside.endings)) (drops_most * (c.self.inside.turns + 1 + c.self.inside.endings)) c.self.inside.drops (omega arith) was.counts;
+      kept = was.kept;
+      kept_outs = was.kept_outs;
+      none_refused = was.none_refused;
+    }
+
 pub invariant_of-self-2 : goal.invariant_of-self-2
 invariant_of-self-2 g c =
-    subst (λ (xs : Shards). IsKept (after_turn (before g c c.self.inside.shards.items) xs c.hold-round.new.drops c.gather-gathered.new.draws c.either-self-inside.result c.now-now.result)) (sym (shards_are g c))
-    (kept_served (before g c c.self.inside.shards.items) c.hold-round.new.shards c.hold-round.new.drops c.gather-gathered.new.draws c.either-self-inside.result c.now-now.result c.self.invariant
-    (turns_left (before g c (map rested c.self.inside.shards.items)) (ap (λ (x : Desk). state_of x) c.self.view_is ∙ c.requires.state) c.self.invariant.made) (is_left g c))
+    subst (λ (xs : Shards). IsKept (after_turn (before g c c.self.inside.shards.items) xs c.hold-round.new.drops c.gather-gathered.new.draws c.either-self-inside.result c.now-now.result c.told_after-self-inside.result)) (sym (shards_are g c))
+    (kept_served (before g c c.self.inside.shards.items) c.hold-round.new.shards c.hold-round.new.drops c.gather-gathered.new.draws c.either-self-inside.result c.now-now.result c.told_after-self-inside.result c.self.invariant
+    (turns_left (before g c (map rested c.self.inside.shards.items)) (ap (λ (x : Desk). state_of x) c.self.view_is ∙ c.requires.state) c.self.invariant.made) (is_left g c)
+    (subst (λ (n : ℕ). n ≤ c.self.inside.told + 1) (sym c.told_after-self-inside.ensures) (few_told c.note-noted.result c.self.inside.told)))
 
 pub returns : goal.returns
 returns g c =
@@ -88,6 +118,6 @@ returns g c =
     c.both-2.result c.wait_until-wait.result c.wait_if.ensures (c.both-2.ensures ∙ ap (λ (b : Bool). b && c.note-noted.result) c.both.ensures)
     (c.wait_until-wait.ensures ∙ ap (λ (x : Option ℕ). wait_for x named.moment) (c.deadline_of.ensures ∙ ap (λ (xs : Shards). deadline_in xs) (c.as_slice-2.ensures.value ∙ shards_are g c)))
     (omega (arith, ap (λ (x : Desk). x.moment) c.self.view_is, c.requires.later, c.now-now.ensures.later)) c₀ c₁ c₂ c.now-now.ensures.answers c.wall-wall.ensures.answers (c.wall-wall.ensures.last ∙ c.now-now.ensures.last)
-    t₀ t₁ c.note-noted.ensures.rounds c.note-noted.ensures.cause c.answer.result c.answer.ensures c.either-self-inside.result c.either-self-inside.ensures in
-    subst (λ (x : Desk). MakesTurn x (after_turn d (map rested (with_items c.self.inside.shards ws).items) c.hold-round.new.drops draws c.either-self-inside.result named.moment) before_is behind_is c.answer.result) c.self.view_is
-    (subst (λ (xs : Shards). MakesTurn d (after_turn d (map rested xs) c.hold-round.new.drops draws c.either-self-inside.result named.moment) before_is behind_is c.answer.result) (sym (shards_are g c)) made)
+    t₀ t₁ c.note-noted.ensures.rounds c.note-noted.ensures.cause c.note-noted.ensures.uncounted c.answer.result c.answer.ensures c.either-self-inside.result c.either-self-inside.ensures c.told_after-self-inside.result c.told_after-self-inside.ensures in
+    subst (λ (x : Desk). MakesTurn x (after_turn d (map rested (with_items c.self.inside.shards ws).items) c.hold-round.new.drops draws c.either-self-inside.result named.moment c.told_after-self-inside.result) before_is behind_is c.answer.result) c.self.view_is
+    (subst (λ (xs : Shards). MakesTurn d (after_turn d (map rested xs) c.hold-round.new.drops draws c.either-self-inside.result named.moment c.told_after-self-inside.result) before_is behind_is c.answer.result) (sym (shards_are g c)) made)
