@@ -1,5 +1,5 @@
 -- What the bits of places are after one is set or cleared, and where the lowest of them is.
-use Rattle.std.proofs.Common.{◌≡◌, ℕ, ◌+◌, not, position, cond, is_some, Some, None, ◌-◌, ◌*◌, ◌/◌, ◌%◌, ◌^◌, ◌<◌, ◌≤◌, ◌≢◌, Bool, true, false, List, [], ◌∷◌, length, get_or, set, if◌then◌else◌, ◌==◌, eqb, bit_and, bit_or, inl, inr, refl, sym, ap, subst, ◌∙◌, arith, w64}
+use Rattle.std.proofs.Common.{◌≡◌, ℕ, ◌+◌, not, position, cond, is_some, Some, None, ◌-◌, ◌*◌, ◌/◌, ◌%◌, ◌^◌, ◌<◌, ◌≢◌, Bool, true, false, List, [], ◌∷◌, length, get_or, set, if◌then◌else◌, ◌==◌, bit_and, bit_or, inl, inr, sym, ap, ◌∙◌, arith, w64}
 use Rattle.std.specs.Int.{bit_at, trailing_zeros}
 use Rattle.std.proofs.lemmas.Bool.{cases_eq, cases_lt, lt-ltb, false≢true}
 use Rattle.std.specs.List.{position_or_len}

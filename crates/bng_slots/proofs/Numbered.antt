@@ -1,12 +1,12 @@
 -- Places with numbers as a finite map.
-use Rattle.std.proofs.Common.{◌≡◌, ℕ, zero, suc, ◌+◌, ◌-◌, ◌*◌, ◌<◌, ◌≤◌, ◌≢◌, Bool, true, false, T, ◌&&◌, List, [], ◌∷◌, length, get_or, set, replicate, Option, Some, None, is_some, cond, count_by, eqb, inl, inr, refl, sym, ap, subst, ◌∙◌, arith}
-use Rattle.std.specs.Ordering.{nat_cmp, eq_by_cmp, is_lt, is_eq}
+use Rattle.std.proofs.Common.{◌≡◌, ℕ, zero, suc, ◌+◌, ◌-◌, ◌<◌, ◌≤◌, ◌≢◌, Bool, true, false, T, ◌&&◌, List, [], ◌∷◌, length, get_or, set, replicate, Option, Some, None, is_some, cond, count_by, inl, inr, refl, sym, ap, subst, ◌∙◌, arith}
+use Rattle.std.specs.Ordering.{nat_cmp, eq_by_cmp, is_lt}
 use Rattle.std.specs.Cmp.{nat_cmp_total}
 use Rattle.std.proofs.lemmas.Bool.{cases_eq, cases_lt}
 use Rattle.std.proofs.lemmas.Bool.Decides.{nat_tests}
 use Rattle.std.proofs.lemmas.List.{get_or-set_same, get_or-set_other, get_or_past}
 use Rattle.std.proofs.lemmas.List.Sums.{sum_by-cons}
-use Rattle.std.specs.FinMap.{FinMap, get, find, insert, remove, empty, entries, len, is_sorted, from_sorted, same_map, nat_cmp-IsAntisymmetric, get-from_sorted, get-insert, get-remove, get-empty, len-entries, entries-from_sorted}
+use Rattle.std.specs.FinMap.{FinMap, get, find, insert, remove, empty, len, is_sorted, from_sorted, same_map, nat_cmp-IsAntisymmetric, get-from_sorted, get-insert, get-remove, get-empty, len-entries, entries-from_sorted}
 use Rattle.std.specs.FinMap.Entries.{below_all}
 use Rattle.bng_slots.specs.Inside.{numbered}
 

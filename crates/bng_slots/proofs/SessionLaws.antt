@@ -1,16 +1,14 @@
 -- What a caller may use of a shard's sessions: what a number has after a change, and how the list of sessions changes.
-use Rattle.std.proofs.Common.{◌≡◌, ◌≢◌, ℕ, ◌+◌, true, false, List, [], ◌∷◌, map, length, Option, Some, None, is_some, cond, refl, sym, ap, subst, ◌∙◌, arith, add_comm}
-use Rattle.std.specs.List.{sum_by, All}
-use Rattle.std.specs.Option.{option_and_then}
-use Rattle.std.specs.Ordering.{nat_cmp, eq_by_cmp}
+use Rattle.std.proofs.Common.{◌≡◌, ◌≢◌, ℕ, ◌+◌, List, [], ◌∷◌, map, length, Option, Some, None, is_some, cond, refl, sym, ap, ◌∙◌, arith, add_comm}
+use Rattle.std.specs.List.{sum_by}
+use Rattle.std.specs.Ordering.{nat_cmp}
 use Rattle.std.specs.Cmp.{nat_cmp_total}
 use Rattle.std.proofs.lemmas.List.Sums.{sum_by-cons}
 use Rattle.std.specs.FinMap.{nat_cmp-IsAntisymmetric, get, entries, len, get-insert, get-remove, len-insert, len-entries}
-use Rattle.bng_slots.specs.Sessions.{Sessions, value_at, read_at, used, with_value, without}
-use Rattle.bng_slots.specs.Listed.{Same, values, numbers_and_values}
+use Rattle.bng_slots.specs.Sessions.{Sessions, value_at, used, with_value, without}
+use Rattle.bng_slots.specs.Listed.{Same, values}
 use Rattle.bng_slots.proofs.Numbered.{same_number, other_number}
 use Rattle.bng_slots.proofs.MapSums.{sum-insert, sum-remove}
-use Rattle.bng_slots.proofs.Agreeing.{none_some}
 
 sum-values : {V : Type 0} (f : V → ℕ) (es : List (ℕ × V)) → sum_by f (map (λ e. e.1) es) ≡ sum_by (λ e. f e.1) es
 sum-values f [] = refl

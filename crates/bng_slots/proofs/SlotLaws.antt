@@ -1,8 +1,7 @@
 -- What a shard's slots answer and become, from how they are laid out.
-use Rattle.std.proofs.Common.{◌≡◌, ℕ, zero, suc, ◌+◌, ◌-◌, ◌*◌, ◌<◌, ◌≤◌, ◌≢◌, ◌↔◌, ◌⊎◌, ◌==◌, Bool, true, false, true≢false, List, [], ◌∷◌, length, get_or, set, replicate, Option, Some, None, is_some, IsSome, cond, count_by, if◌then◌else◌, inl, inr, refl, sym, ap, subst, ◌∙◌, arith}
+use Rattle.std.proofs.Common.{◌≡◌, ℕ, zero, suc, ◌+◌, ◌-◌, ◌*◌, ◌<◌, ◌≤◌, ◌≢◌, ◌↔◌, ◌⊎◌, ◌==◌, true, false, true≢false, List, [], ◌∷◌, length, get_or, set, replicate, Option, Some, None, is_some, cond, count_by, if◌then◌else◌, inl, inr, refl, sym, ap, subst, ◌∙◌, arith}
 use Rattle.std.specs.Option.{option_and_then, option_map}
 use Rattle.std.specs.declared.cmp.Ordering.{Ordering}
-use Rattle.std.specs.declared.cmp.Ordering.TheVariants.{Less, Equal, Greater}
 use Rattle.std.specs.Ordering.{nat_cmp, is_gt, ordering_then}
 use Rattle.std.proofs.lemmas.Bool.{cases_eq, cases_lt, false≢true}
 use Rattle.std.proofs.lemmas.Bool.Decides.{nat_tests}
@@ -19,7 +18,7 @@ use Rattle.bng_slots.specs.OrderLaws.{circuit_order-total, address_order-total, 
 use Rattle.bng_slots.specs.Listing.{Listing}
 use Rattle.bng_slots.specs.Bits.{free_bit}
 use Rattle.bng_slots.specs.Inside.{Agrees, IsSlots, by_number, due_of}
-use Rattle.bng_slots.specs.Sessions.{Sessions, IsNumberOf, IsLowestVacant, IsEarliest, value_at, read_at}
+use Rattle.bng_slots.specs.Sessions.{Sessions, IsNumberOf, IsLowestVacant, IsEarliest}
 use Rattle.bng_slots.proofs.Numbered.{get_lower, get_place, get_past, places_put, places_take, places_none, len_places}
 use Rattle.bng_slots.proofs.ShelfLaws.{counts_more}
 use Rattle.std.specs.FinMap.{same_map, nat_cmp-IsAntisymmetric, get-remove}

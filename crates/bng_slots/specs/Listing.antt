@@ -1,5 +1,5 @@
 -- An index: its entries by rising key, each a key with the session that it leads to, and for how many there is room.
-use Rattle.std.specs.Prelude.{◌≡◌, ℕ, List, refl}
+use Rattle.std.specs.Prelude.{ℕ, List, refl}
 use Rattle.std.specs.Coded.{Coded, code_by, coded×, coded_ℕ, coded_list}
 use Rattle.bng_base.specs.declared.address.SessionNo.{SessionNo}
 

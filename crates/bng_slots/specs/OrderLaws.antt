@@ -1,17 +1,13 @@
 -- The orders of the keys are total, and only equal keys tie.
-use Rattle.std.specs.Prelude.{◌≡◌, ℕ, List, [], ◌∷◌, refl}
-use Rattle.std.proofs.Common.{ap, sym, ◌∙◌, subst, true≢false}
+use Rattle.std.specs.Prelude.{◌≡◌, refl}
 use Rattle.std.specs.declared.cmp.Ordering.{Ordering}
 use Rattle.std.specs.declared.cmp.Ordering.TheVariants.{Less, Equal, Greater}
-use Rattle.std.specs.Ordering.{nat_cmp, on, then_cmp, ordering_then, is_lt, is_gt}
+use Rattle.std.specs.Ordering.{ordering_then}
 use Rattle.std.specs.Cmp.{IsTotalOrder, nat_cmp_total}
 use Rattle.std.proofs.lemmas.Cmp.{on_total, then_total, nat_list_cmp_total}
 use Rattle.std.specs.FinMap.{IsAntisymmetric, nat_cmp-IsAntisymmetric, slice_cmp-IsAntisymmetric}
-use Rattle.bng_base.specs.declared.address.Ip4.{Ip4}
 use Rattle.bng_base.specs.declared.circuit.Circuit.{Circuit}
 use Rattle.bng_base.specs.declared.circuit.Circuit.TheVariants.{Pppoe, L2tp}
-use Rattle.bng_base.specs.declared.circuit.TermId.{TermId}
-use Rattle.bng_slots.specs.declared.key.Due.{Due}
 use Rattle.bng_slots.specs.Orders.{circuit_numbers, circuit_order, address_order, term_order, due_order}
 
 pub circuit_order-total : IsTotalOrder circuit_order

@@ -1,10 +1,9 @@
 -- The orders in which the indexes keep their keys. In each, only equal keys tie.
-use Rattle.std.specs.Prelude.{◌≡◌, ℕ, List, [], ◌∷◌}
+use Rattle.std.specs.Prelude.{ℕ, List, [], ◌∷◌}
 use Rattle.std.specs.declared.cmp.Ordering.{Ordering}
 use Rattle.std.specs.Ordering.{nat_cmp, on, then_cmp}
 use Rattle.std.specs.Cmp.Lexicographic.{slice_cmp}
 use Rattle.bng_base.specs.declared.address.Ip4.{Ip4}
-use Rattle.bng_base.specs.declared.address.SessionNo.{SessionNo}
 use Rattle.bng_base.specs.declared.circuit.Circuit.{Circuit}
 use Rattle.bng_base.specs.declared.circuit.Circuit.TheVariants.{Pppoe, L2tp}
 use Rattle.bng_base.specs.declared.circuit.TermId.{TermId}

@@ -1,6 +1,5 @@
 -- Values in a slab, each found by the key that stands at its place of a table.
 use Rattle.std.specs.Prelude.{◌≡◌, ℕ, ◌≤◌, List, length, map, Option, Some, None, is_some, count_by, slice_index_or}
-use Rattle.std.specs.Option.{option_and_then}
 use Rattle.slab.specs.Slab.{Slab, get, ContainsKey, slab_len}
 
 module _ {V : Type 0} where

@@ -1,5 +1,4 @@
-use Rattle.std.proofs.Common.{rules, sym, subst, ap, ◌∙◌, Some}
-use Rattle.std.proofs.lemmas.List.{get_or_default}
+use Rattle.std.proofs.Common.{sym, ap, ◌∙◌, Some}
 use Rattle.bng_slots.proofs.Entries.{found_here, not_here}
 use Rattle.bng_slots.proofs.index.Index.find.Goals as goal
 

@@ -1,5 +1,4 @@
-use Rattle.std.proofs.Common.{rules, sym, subst, ap, ◌∙◌, Some, None, is_ok, ◌≡◌, true, arith, if◌then◌else◌}
-use Rattle.std.specs.List.{insert}
+use Rattle.std.proofs.Common.{rules}
 use Rattle.bng_slots.proofs.Entries.{found_some, insert_leaves, Inserted}
 use Rattle.bng_slots.proofs.index.Index.insert.Given as given
 use Rattle.bng_slots.proofs.index.Index.insert.Goals as goal

@@ -1,4 +1,3 @@
-use Rattle.std.proofs.Common.{rules, sym, subst}
 use Rattle.bng_slots.proofs.Entries.{not_here, remove_leaves, nothing_leaves, Removed}
 use Rattle.bng_slots.proofs.index.Index.remove.Given as given
 use Rattle.bng_slots.proofs.index.Index.remove.Goals as goal

@@ -1,4 +1,3 @@
-use Rattle.std.proofs.Common.{rules, arith}
 use Rattle.bng_slots.proofs.ShelfLaws.{room_left, put_placed, put_shelf, within_keys}
 use Rattle.bng_slots.proofs.shelf.Shelf.put.Goals as goal
 

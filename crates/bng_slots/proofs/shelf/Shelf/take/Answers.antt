@@ -1,4 +1,4 @@
-use Rattle.std.proofs.Common.{rules, arith, sym, ◌∙◌, ◌≡◌, get_or, Some, None, is_some, true, ap, refl}
+use Rattle.std.proofs.Common.{sym, ◌∙◌, ◌≡◌, get_or, Some, None, is_some, true, ap, refl}
 use Rattle.std.proofs.lemmas.List.{get_or_default}
 use Rattle.bng_slots.proofs.ShelfLaws.{nothing_taken, take_placed, take_shelf, within_keys, where_some}
 use Rattle.bng_slots.proofs.shelf.Shelf.take.Given as given

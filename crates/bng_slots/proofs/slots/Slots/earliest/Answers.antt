@@ -1,5 +1,4 @@
-use Rattle.std.proofs.Common.{sym, ◌∙◌}
-use Rattle.bng_slots.specs.Sessions.{Sessions}
+use Rattle.std.proofs.Common.{sym}
 use Rattle.bng_slots.specs.Inside.{by_number}
 use Rattle.bng_slots.proofs.Agreeing.{none_some}
 use Rattle.bng_slots.proofs.SlotLaws.{earliest_is, none_due, some_due}

@@ -1,5 +1,4 @@
-use Rattle.std.proofs.Common.{sym, ◌∙◌, ap}
-use Rattle.std.specs.Option.{option_copied}
+use Rattle.std.proofs.Common.{sym, ◌∙◌}
 use Rattle.bng_slots.proofs.SlotLaws.{at_place, outside}
 use Rattle.bng_slots.proofs.slots.Slots.get.Goals as goal
 

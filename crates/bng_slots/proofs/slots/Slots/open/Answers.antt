@@ -1,4 +1,4 @@
-use Rattle.std.proofs.Common.{rules, ◌∙◌, ap, arith, ◌+◌, ◌*◌}
+use Rattle.std.proofs.Common.{◌∙◌, ap, arith, ◌+◌, ◌*◌}
 use Rattle.bng_slots.specs.Inside.{by_number}
 use Rattle.bng_slots.proofs.Numbered.{places_none}
 use Rattle.bng_slots.proofs.SlotLaws.{opened}

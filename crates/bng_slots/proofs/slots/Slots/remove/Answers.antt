@@ -1,9 +1,7 @@
-use Rattle.std.proofs.Common.{◌≡◌, ◌<◌, Some, None, refl, sym, ap, ◌∙◌}
-use Rattle.std.specs.FinMap.{get, len}
+use Rattle.std.proofs.Common.{sym, ap, ◌∙◌}
 use Rattle.bng_slots.specs.Orders.{circuit_order, address_order, term_order, due_order}
 use Rattle.bng_slots.specs.OrderLaws.{circuit_order-total, address_order-total, term_order-total, due_order-total, circuit_order-IsAntisymmetric, address_order-IsAntisymmetric, term_order-IsAntisymmetric, due_order-IsAntisymmetric}
 use Rattle.bng_slots.specs.Inside.{by_number, due_of}
-use Rattle.bng_slots.specs.Sessions.{Sessions, without, with_value}
 use Rattle.bng_slots.proofs.SlotLaws.{at_place, outside, forget_there, agrees_forgotten, take_map, take_slots, remove_absent}
 use Rattle.bng_slots.proofs.slots.Slots.remove.Goals as goal
 

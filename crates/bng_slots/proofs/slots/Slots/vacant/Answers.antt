@@ -1,4 +1,4 @@
-use Rattle.std.proofs.Common.{sym, ◌∙◌, refl}
+use Rattle.std.proofs.Common.{sym}
 use Rattle.bng_slots.proofs.SlotLaws.{lowest_vacant, not_full, is_full}
 use Rattle.bng_slots.proofs.Agreeing.{none_some}
 use Rattle.bng_slots.proofs.slots.Slots.vacant.Goals as goal

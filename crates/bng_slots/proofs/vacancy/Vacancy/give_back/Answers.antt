@@ -1,4 +1,4 @@
-use Rattle.std.proofs.Common.{rules, ◌≡◌, ◌/◌, ◌<◌, length, arith}
+use Rattle.std.proofs.Common.{rules, ◌/◌, ◌<◌, length}
 use Rattle.bng_slots.proofs.BitLaws.{given_back}
 use Rattle.bng_slots.proofs.vacancy.Vacancy.give_back.Goals as goal
 

@@ -1,5 +1,5 @@
-use Rattle.std.proofs.Common.{rules, sym, arith, ◌∙◌, ◌≡◌, ◌<◌, ◌^◌, not, position, Some, ◌==◌, get_or}
-use Rattle.bng_slots.proofs.BitLaws.{lowest, IsLowest, none_free}
+use Rattle.std.proofs.Common.{rules, sym, arith}
+use Rattle.bng_slots.proofs.BitLaws.{lowest, none_free}
 use Rattle.bng_slots.proofs.vacancy.Vacancy.lowest.Goals as goal
 
 pub returns-then-place-lt-PLACES-clause-free : goal.returns-then-place-lt-PLACES-clause-free

@@ -1,4 +1,4 @@
-use Rattle.std.proofs.Common.{rules, ◌≡◌, ◌/◌, ◌<◌, length, arith}
+use Rattle.std.proofs.Common.{rules, ◌/◌, ◌<◌, length}
 use Rattle.bng_slots.proofs.BitLaws.{taken}
 use Rattle.bng_slots.proofs.vacancy.Vacancy.take.Goals as goal
 
