@@ -1,0 +1,14 @@
+use Rattle.bng_slots.proofs.SessionLaws.{value_at-with_value, value_at-with_other, value_at-without, value_at-without_other}
+use Rattle.bng_slots.proofs.laws.numbers_keep_their_values.Goals as goal
+
+pub returns-clause-put : goal.returns-clause-put
+returns-clause-put g c = λ s n v. value_at-with_value s n v
+
+pub returns-clause-others_put : goal.returns-clause-others_put
+returns-clause-others_put g c = λ s n v m differ. value_at-with_other s n v m differ
+
+pub returns-clause-removed : goal.returns-clause-removed
+returns-clause-removed g c = λ s n. value_at-without s n
+
+pub returns-clause-others_removed : goal.returns-clause-others_removed
+returns-clause-others_removed g c = λ s n m differ. value_at-without_other s n m differ

@@ -1,0 +1,8 @@
+pub mod Orders
+pub mod OrderLaws
+pub mod Listing
+pub mod Bits
+pub mod Shelves
+pub mod Sessions
+pub mod Inside
+pub mod Listed
