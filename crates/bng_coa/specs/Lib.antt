@@ -1,0 +1,6 @@
+pub mod Kinds
+pub mod Requests
+pub mod Admission
+pub mod Refusals
+pub mod Replies
+pub mod State
