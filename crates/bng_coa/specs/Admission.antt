@@ -15,6 +15,7 @@ use Rattle.bng_coa.specs.declared.rules.Admitted.TheVariants.{New, Repeat, InHan
 use Rattle.bng_coa.specs.declared.rules.Ignored.{Ignored as Cause}
 use Rattle.bng_coa.specs.declared.rules.Ignored.TheVariants.{Stranger, Malformed, WrongDigest, Stale}
 use Rattle.bng_coa.specs.Requests.{key_of, is_numbered, standing, admitted}
+use Rattle.bng_coa.specs.Runs.{IsTakenIn}
 use Rattle.bng_coa.specs.State.{State}
 
 abbrev pub is_peer : Ip4 → List Ip4 → Bool
@@ -74,18 +75,9 @@ Admits s from bytes now wall (Repeat frame) = IsTrue (is_peer from.ip s.peers) �
 Admits s from bytes now wall StillInHand = IsTrue (is_peer from.ip s.peers) × Takes s from bytes now wall StillInHand
 Admits s from bytes now wall (New number) = IsTrue (is_peer from.ip s.peers) × Takes s from bytes now wall (New number)
 
--- a request of this key, as it is admitted
-abbrev pub request_of : Key → (bytes : List ℕ) → (now number : ℕ) → Request
-request_of key bytes now number = record { key = key; admitted_at = now; stage = InHand number (take (length_in bytes) bytes) }
-
--- the request is in hand from now on, under a number that no other in hand has
-pub record IsTakenIn (old new : List Request) (key : Key) (bytes : List ℕ) (now number : ℕ) : Type 0 where
-  pub free : IsFalse (list_any (is_numbered number) old)
-  pub requests : new ≡ admitted now (request_of key bytes now number) old
-
 -- only a new request changes what is in hand and kept
 abbrev pub TakesIn : (old new : List Request) → Key → (bytes : List ℕ) → ℕ → Admitted → Type 0
-TakesIn old new key bytes now (New number) = IsTakenIn old new key bytes now number
+TakesIn old new key bytes now (New number) = IsTakenIn old new key (take (length_in bytes) bytes) now number
 TakesIn old new key bytes now (Repeat frame) = new ≡ old
 TakesIn old new key bytes now StillInHand = new ≡ old
 TakesIn old new key bytes now (Ignored cause) = new ≡ old
@@ -94,7 +86,7 @@ TakesIn old new key bytes now (Ignored cause) = new ≡ old
 pub record IsNew (old new : State) (from : Peer) (bytes : List ℕ) (now number : ℕ) : Type 0 where
   pub packet : Packet
   pub reads : IsRequestIn packet bytes
-  pub taken : IsTakenIn old.requests new.requests (key_of from packet) bytes now number
+  pub taken : IsTakenIn old.requests new.requests (key_of from packet) (take (length_in bytes) bytes) now number
   pub peers : new.peers ≡ old.peers
   pub secret : new.secret ≡ old.secret
 
@@ -104,3 +96,16 @@ Keeps old new from bytes now (New number) = IsNew old new from bytes now number
 Keeps old new from bytes now (Repeat frame) = new ≡ old
 Keeps old new from bytes now StillInHand = new ≡ old
 Keeps old new from bytes now (Ignored cause) = new ≡ old
+
+abbrev pub WhenNew : Admitted → (ℕ → Type 0) → Type 0
+WhenNew (New number) P = P number
+WhenNew (Repeat frame) P = Unit {0}
+WhenNew StillInHand P = Unit {0}
+WhenNew (Ignored cause) P = Unit {0}
+
+-- how many more requests are in hand
+abbrev pub more_in_hand : Admitted → ℕ
+more_in_hand (New number) = 1
+more_in_hand (Repeat frame) = 0
+more_in_hand StillInHand = 0
+more_in_hand (Ignored cause) = 0

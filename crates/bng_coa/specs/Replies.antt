@@ -11,6 +11,7 @@ use Rattle.bng_coa.specs.declared.rules.ChangeVerdict.{ChangeVerdict}
 use Rattle.bng_coa.specs.declared.rules.ChangeVerdict.TheVariants.{Applied, Refused}
 use Rattle.bng_coa.specs.Kinds.{has_kind, has_some}
 use Rattle.bng_coa.specs.Requests.{is_numbered}
+use Rattle.bng_coa.specs.Runs.{IsSettled}
 use Rattle.bng_coa.specs.State.{State}
 
 -- the first State of a CoA-Request
@@ -87,11 +88,7 @@ pub record IsReplied (request : Request) (verdict : ChangeVerdict) (secret : Lis
 
 -- the request that was in hand under the number is answered, and the frame has its reply
 pub record IsAnswered (old new : State) (number : ℕ) (verdict : ChangeVerdict) (frame : Bytes) : Type 0 where
-  pub place : ℕ
-  pub request : Request
-  pub first : position (is_numbered number) old.requests ≡ Some place
-  pub stands : slice_get old.requests place ≡ Some request
-  pub replied : IsReplied request verdict old.secret frame
-  pub requests : new.requests ≡ slice_set old.requests place (record request { stage = Answered frame.payload })
+  pub settled : IsSettled old.requests new.requests number frame.payload
+  pub replied : IsReplied settled.request verdict old.secret frame
   pub peers : new.peers ≡ old.peers
   pub secret : new.secret ≡ old.secret

@@ -1,8 +1,8 @@
-ghost use Rattle.std.specs.Prelude.{◌≡◌, ◌≤◌, ◌<◌, length, IfOk, IsTrue, count_by, [], take};
+ghost use Rattle.std.specs.Prelude.{◌≡◌, ◌≤◌, ◌<◌, ◌+◌, length, IfOk, IsTrue, count_by, [], take};
 ghost use Rattle.std.specs.List.{list_any};
 ghost use Rattle.bng_radius_wire.specs.Grammar.{Packet, IsRadius, length_in};
 ghost use Rattle.bng_coa.specs.Requests.{is_in_hand, is_numbered, standing, IsAnswerable};
-ghost use Rattle.bng_coa.specs.Admission.{is_peer, Stands, TakesIn, Admits, Keeps};
+ghost use Rattle.bng_coa.specs.Admission.{is_peer, Stands, TakesIn, Admits, Keeps, WhenNew, more_in_hand};
 ghost use Rattle.bng_coa.specs.Replies.{IsAnswered};
 
 use crate::admission::admissible;
@@ -136,6 +136,8 @@ impl CoaDesk {
         requires { count_by is_in_hand self.old.requests < 256 }
         ensures answer { Admits self.old from bytes.now now wall result }
         ensures after { Keeps self.old self.new from bytes.now now result }
+        ensures number { WhenNew result (λ n. IsTrue (list_any (is_numbered n) self.new.requests)) }
+        ensures in_hand { count_by is_in_hand self.new.requests ≡ count_by is_in_hand self.old.requests + more_in_hand result }
     {
         if !is_peer(from.ip, self.peers.as_slice()) {
             return Admitted::Ignored(Ignored::Stranger);
@@ -151,7 +153,8 @@ impl CoaDesk {
     /// Message-Authenticator exactly where the request has one.
     pub fn answer(&mut self, number: u32, verdict: ChangeVerdict, into: &mut Frame)
         requires { IsTrue (list_any (is_numbered number) self.old.requests) }
-        ensures { IsAnswered self.old self.new number verdict into.new }
+        ensures answered { IsAnswered self.old self.new number verdict into.new }
+        ensures in_hand { count_by is_in_hand self.new.requests + 1 ≡ count_by is_in_hand self.old.requests }
     {
         match self.requests.place_of(number) {
             Some(place) => self

@@ -8,13 +8,17 @@ mod admission;
 mod attributes;
 mod desk;
 mod freshness;
+mod law;
 mod refusal;
 mod reply;
 mod request;
 mod requests;
 mod rules;
+#[cfg(test)]
+mod tests;
 
 pub use crate::desk::CoaDesk;
+pub use crate::law::{requests_are_apart, requests_stay_in_hand};
 pub use crate::refusal::first_refusal;
 pub use crate::request::{KEPT, Key, Request, Stage};
 pub use crate::requests::{MOST, Requests};
