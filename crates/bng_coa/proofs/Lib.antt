@@ -1,0 +1,12 @@
+pub mod Views
+pub mod Each
+pub mod Rooms
+pub mod Numbers
+pub mod Appending
+pub mod Weights
+pub mod Keeping
+pub mod Standing
+pub mod Staying
+pub mod Places
+pub mod Drafts
+pub mod Signing

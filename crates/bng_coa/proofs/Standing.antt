@@ -1,0 +1,186 @@
+-- What stands after any list of calls: never two equal requests, never two in hand under one number, at most 256, and each
+-- that is in hand until it is answered.
+use Rattle.std.proofs.Common.{◌≡◌, ◌≢◌, ℕ, zero, suc, ◌+◌, ◌-◌, ◌<◌, ◌≤◌, Bool, true, false, cond, not, ◌||◌, ◌&&◌, eqb, ltb, List, [], ◌∷◌, ◌++◌, length, Option, Some, None, refl, sym, ap, subst, ◌∙◌, arith, length-append}
+use Rattle.std.specs.Prelude.{slice_get, slice_set, filter, find, position, remove, count_by}
+use Rattle.std.specs.List.{list_any, AllByRecursion, IsDistinct, position_or_len, prefix_len}
+use Rattle.std.proofs.lemmas.List.Sums.{length-filter, count_by-le-length}
+use Rattle.std.proofs.lemmas.Bool.{ltb-true, ltb-false, lt-ltb, le-ltb}
+use Rattle.bng_coa.specs.declared.request.Key.{Key}
+use Rattle.bng_coa.specs.declared.request.Request.{Request}
+use Rattle.bng_coa.specs.declared.request.Stage.{Stage}
+use Rattle.bng_coa.specs.declared.request.Stage.TheVariants.{InHand, Answered}
+use Rattle.bng_coa.specs.Requests.{is_same, is_in_hand, is_answered, is_answered_at, is_numbered, is_numbered_at, is_held, is_held_at, is_standing, standing, without, with_room, admitted}
+use Rattle.bng_coa.specs.Runs.{IsTakenIn, IsSettled, Event, Takes, Settles, Follows, Run, are_equal, shares_at, share_number, settles}
+use Rattle.bng_coa.proofs.Each.{filtered, removed}
+use Rattle.bng_coa.proofs.Places.{PassesAt, passes_at}
+use Rattle.bng_coa.proofs.Rooms.{none_answered, fewer}
+
+-- ---- requests that differ from each other
+
+module _ (e : Request → Request → Bool) where
+  abbrev pub Apart : Request → List Request → Type 0
+  Apart x xs = AllByRecursion (λ y. e x y ≡ false) xs
+
+  filter_cons : (b : Bool) (x : Request) (xs kept : List Request) → Apart x kept → IsDistinct e kept → IsDistinct e (cond b (x ∷ kept) kept)
+  unfolding IsDistinct
+  filter_cons true x xs kept apart d = (apart, d)
+  filter_cons false x xs kept apart d = d
+
+  distinct_filter : (p : Request → Bool) (xs : List Request) → IsDistinct e xs → IsDistinct e (filter p xs)
+  unfolding IsDistinct
+  distinct_filter p [] d = d
+  distinct_filter p (x ∷ xs) d = filter_cons (p x) x xs (filter p xs) (filtered (λ y. e x y ≡ false) p xs d.0) (distinct_filter p xs d.1)
+
+  distinct_remove : (xs : List Request) (i : ℕ) → IsDistinct e xs → IsDistinct e (remove xs i)
+  unfolding IsDistinct
+  distinct_remove [] zero d = d
+  distinct_remove [] (suc i) d = d
+  distinct_remove (x ∷ xs) zero d = d.1
+  distinct_remove (x ∷ xs) (suc i) d = (removed (λ y. e x y ≡ false) xs i d.0, distinct_remove xs i d.1)
+
+  apart_more : (x y : Request) (xs : List Request) → Apart x xs → e x y ≡ false → Apart x (xs ++ y ∷ [])
+  apart_more x y [] all last = (last, tt)
+  apart_more x y (z ∷ xs) all last = (all.0, apart_more x y xs all.1 last)
+
+  distinct_more : (xs : List Request) (y : Request) → IsDistinct e xs → AllByRecursion (λ x. e x y ≡ false) xs → IsDistinct e (xs ++ y ∷ [])
+  unfolding IsDistinct
+  distinct_more [] y d all = (tt, tt)
+  distinct_more (x ∷ xs) y d all = (apart_more x y xs d.0 all.0, distinct_more xs y d.1 all.1)
+
+  module _ (x y : Request) (before : (z : Request) → e z x ≡ false → e z y ≡ false) (after : (z : Request) → e x z ≡ false → e y z ≡ false) where
+    apart_set : (z : Request) (xs : List Request) (i : ℕ) → slice_get xs i ≡ Some x → Apart z xs → Apart z (slice_set xs i y)
+    apart_set z [] i is all = absurd cc
+    apart_set z (w ∷ xs) zero is all = (before z (subst (λ (r : Request). e z r ≡ false) (let same : w ≡ x = cc in same) all.0), all.1)
+    apart_set z (w ∷ xs) (suc i) is all = (all.0, apart_set z xs i is all.1)
+
+    apart_from : (xs : List Request) → Apart x xs → Apart y xs
+    apart_from [] all = tt
+    apart_from (z ∷ xs) all = (after z all.0, apart_from xs all.1)
+
+    distinct_set : (xs : List Request) (i : ℕ) → slice_get xs i ≡ Some x → IsDistinct e xs → IsDistinct e (slice_set xs i y)
+    unfolding IsDistinct
+    distinct_set [] i is d = absurd cc
+    distinct_set (w ∷ xs) zero is d = (apart_from xs (subst (λ (r : Request). Apart r xs) (let same : w ≡ x = cc in same) d.0), d.1)
+    distinct_set (w ∷ xs) (suc i) is d = (apart_set w xs i is d.0, distinct_set xs i is d.1)
+
+  distinct_without : (o : Option ℕ) (xs : List Request) → IsDistinct e xs → IsDistinct e (without o xs)
+  distinct_without None xs d = d
+  distinct_without (Some i) xs d = distinct_remove xs i d
+
+  distinct_room : (b : Bool) (xs : List Request) → IsDistinct e xs → IsDistinct e (cond b xs (without (position is_answered xs) xs))
+  distinct_room true xs d = d
+  distinct_room false xs d = distinct_without (position is_answered xs) xs d
+
+all_without : (P : Request → Type 0) (o : Option ℕ) (xs : List Request) → AllByRecursion P xs → AllByRecursion P (without o xs)
+all_without P None xs all = all
+all_without P (Some i) xs all = removed P xs i all
+
+all_room : (P : Request → Type 0) (b : Bool) (xs : List Request) → AllByRecursion P xs → AllByRecursion P (cond b xs (without (position is_answered xs) xs))
+all_room P true xs all = all
+all_room P false xs all = all_without P (position is_answered xs) xs all
+
+-- one more that differs from all that are held
+distinct_admitted : (e : Request → Request → Bool) (now : ℕ) (r : Request) (rs : List Request) → IsDistinct e rs → AllByRecursion (λ x. e x r ≡ false) (filter (is_held now) rs) → IsDistinct e (admitted now r rs)
+distinct_admitted e now r rs d all =
+    distinct_more e (with_room (filter (is_held now) rs)) r
+    (distinct_room e (ltb (length (filter (is_held now) rs)) 256) (filter (is_held now) rs) (distinct_filter e (is_held now) rs d))
+    (all_room (λ x. e x r ≡ false) (ltb (length (filter (is_held now) rs)) 256) (filter (is_held now) rs) all)
+
+-- ---- equal requests
+
+anew_cons : (b c : Bool) (x : Request) (key : Key) (rest : Option Request) (kept : List Request) → is_same x.key key ≡ c → cond (b && c) (Some x) rest ≡ None
+    → AllByRecursion (λ y. is_same y.key key ≡ false) kept → AllByRecursion (λ y. is_same y.key key ≡ false) (cond b (x ∷ kept) kept)
+anew_cons true true x key rest kept e none all = absurd cc
+anew_cons true false x key rest kept e none all = (e, all)
+anew_cons false c x key rest kept e none all = all
+
+rest_none : (b : Bool) (x : Request) (rest : Option Request) → cond b (Some x) rest ≡ None → rest ≡ None
+rest_none true x rest none = absurd cc
+rest_none false x rest none = none
+
+anew_all : (now : ℕ) (key : Key) (rs : List Request) → standing now key rs ≡ None → AllByRecursion (λ x. is_same x.key key ≡ false) (filter (is_held now) rs)
+anew_all now key [] none = tt
+anew_all now key (x ∷ xs) none =
+    anew_cons (is_held now x) (is_same x.key key) x key (standing now key xs) (filter (is_held now) xs) refl none
+    (anew_all now key xs (rest_none (is_standing now key x) x (standing now key xs) none))
+
+-- ---- numbers
+
+free_cons : (b rest : Bool) → b || rest ≡ false → b ≡ false
+free_cons true rest e = e
+free_cons false rest e = refl
+
+free_rest : (b rest : Bool) → b || rest ≡ false → rest ≡ false
+free_rest true rest e = absurd (let no : true ≡ false = e in cc)
+free_rest false rest e = e
+
+free_all : (number : ℕ) (rs : List Request) → list_any (is_numbered number) rs ≡ false → AllByRecursion (λ x. is_numbered number x ≡ false) rs
+free_all number [] free = tt
+free_all number (x ∷ xs) free =
+    (free_cons (is_numbered number x) (list_any (is_numbered number) xs) free, free_all number xs (free_rest (is_numbered number x) (list_any (is_numbered number) xs) free))
+
+answered_shares : (reply : List ℕ) (s : Stage) → shares_at (Answered reply) s ≡ false
+answered_shares reply (InHand number packet) = refl
+answered_shares reply (Answered other) = refl
+
+-- ---- each step, and each run
+
+pub record IsApart (rs : List Request) : Type 0 where
+  pub few : length rs ≤ 256
+  pub keys : IsDistinct are_equal rs
+  pub numbers : IsDistinct share_number rs
+
+length-without : (o : Option ℕ) (rs : List Request) → position is_answered rs ≡ o → count_by is_in_hand rs < length rs → length (without o rs) + 1 ≤ length rs
+length-without None rs is less = absurd (omega (arith, less, none_answered rs is))
+length-without (Some i) rs is less = shorter rs i (passes_at is_answered rs i is).element (passes_at is_answered rs i is).is
+  where
+    shorter : (xs : List Request) (k : ℕ) (x : Request) → slice_get xs k ≡ Some x → length (remove xs k) + 1 ≤ length xs
+    shorter [] k x is = absurd cc
+    shorter (y ∷ xs) zero x is = omega arith
+    shorter (y ∷ xs) (suc k) x is = omega (arith, shorter xs k x is)
+
+room_length : (b : Bool) (rs : List Request) → ltb (length rs) 256 ≡ b → length rs ≤ 256 → count_by is_in_hand rs < 256 → length (cond b rs (without (position is_answered rs) rs)) < 256
+room_length true rs e few less = ltb-true (length rs) 256 e
+room_length false rs e few less =
+    omega (arith, few, less, ltb-false (length rs) 256 e, length-without (position is_answered rs) rs refl (omega (arith, less, ltb-false (length rs) 256 e)))
+
+length-admitted : (now : ℕ) (r : Request) (rs : List Request) → length rs ≤ 256 → count_by is_in_hand rs < 256 → length (admitted now r rs) ≤ 256
+length-admitted now r rs few less =
+    let held = filter (is_held now) rs in
+    omega (
+      arith,
+      length-append (with_room held) (r ∷ []),
+      room_length (ltb (length held) 256) held refl (omega (arith, few, length-filter (is_held now) rs, count_by-le-length (is_held now) rs)) (omega (arith, less, fewer is_in_hand (is_held now) rs)),
+    )
+
+length-set : (rs : List Request) (i : ℕ) (r : Request) → length (slice_set rs i r) ≡ length rs
+length-set [] zero r = refl
+length-set [] (suc i) r = refl
+length-set (x ∷ rs) zero r = refl
+length-set (x ∷ rs) (suc i) r = ap suc (length-set rs i r)
+
+step_apart : (event : Event) (old new : List Request) → Follows old event new → IsApart old → IsApart new
+step_apart (Takes key packet now number) old new h apart =
+    let r : Request = record { key = key; admitted_at = now; stage = InHand number packet } in
+    subst IsApart (sym h.list)
+    (record {
+      few = length-admitted now r old apart.few h.few;
+      keys = distinct_admitted are_equal now r old apart.keys (anew_all now key old h.anew);
+      numbers = distinct_admitted share_number now r old apart.numbers (filtered (λ x. is_numbered number x ≡ false) (is_held now) old (free_all number old h.free));
+    })
+step_apart (Settles number reply) old new h apart =
+    let r : Request = record { key = h.request.key; admitted_at = h.request.admitted_at; stage = Answered reply } in
+    subst IsApart (sym h.list)
+    (record {
+      few = omega (arith, apart.few, length-set old h.place r);
+      keys = distinct_set are_equal h.request r (λ z is. is) (λ z is. is) old h.place h.stands apart.keys;
+      numbers = distinct_set share_number h.request r (λ z is. refl) (λ z is. answered_shares reply z.stage) old h.place h.stands apart.numbers;
+    })
+
+pub run_apart : (events : List Event) (old new : List Request) → Run old events new → IsApart old → IsApart new
+run_apart [] old new h apart = subst IsApart (sym h) apart
+run_apart (event ∷ events) old new h apart = run_apart events h.0 new h.2 (step_apart event old h.0 h.1 apart)
+
+pub none_apart : IsApart []
+unfolding IsDistinct
+none_apart = record { few = omega arith; keys = tt; numbers = tt }

@@ -1,0 +1,15 @@
+use Rattle.std.proofs.Common.{rules, Bool, sym, ◌∙◌}
+use Rattle.std.proofs.Common.{tests}
+use Rattle.std.proofs.lemmas.Iterator.{YieldsList-from_slice}
+use Rattle.std.proofs.lemmas.Iterator.Search.{any_from_yields_List}
+use Rattle.bng_radius_wire.specs.declared.views.Attribute.{Attribute}
+use Rattle.bng_radius_wire.specs.Attributes.{field}
+use Rattle.bng_coa.specs.Kinds.{has_kind}
+use Rattle.bng_coa.proofs.Views.{list_any-map}
+use Rattle.bng_coa.proofs.attributes.has.Goals as goal
+
+pub returns : goal.returns
+returns c =
+    let test : Attribute → Bool = λ a. has_kind c.args.kind (field a) in
+    any_from_yields_List test _ _ _ c.any.ensures.ran (YieldsList-from_slice c.args.attributes.now cc) (λ x b q k. search (rules, tests))
+    ∙ sym (list_any-map field (has_kind c.args.kind) c.args.attributes.now)
