@@ -1,14 +1,14 @@
 -- A line is read in one way.
-use Rattle.std.proofs.Common.{◌≡◌, ◌≢◌, ℕ, ◌<◌, List, [], ◌∷◌, ◌++◌, length, slice_index, drop, refl, sym, ap, ap₂, subst, ◌∙◌, inl, inr, arith, length-append}
+use Rattle.std.proofs.Common.{◌≡◌, ℕ, ◌<◌, List, [], ◌∷◌, ◌++◌, length, slice_index, drop, refl, sym, ap, ap₂, subst, ◌∙◌, inl, inr, arith, length-append}
 use Rattle.std.specs.Prelude.{MatchOption, Option, None, Some, IfSome, IfNone, String}
 use Rattle.std.specs.declared.alloc.Global.{Global}
 use Rattle.bng_words.specs.declared.option.OptionName.{OptionName}
 use Rattle.bng_words.specs.declared.option.OptionName.TheVariants.{Trace, Rounds, Workers}
-use Rattle.bng_words.specs.Words.{Text, texts, IsValue, dashed}
+use Rattle.bng_words.specs.Words.{Text, texts, IsName, IsValue, dashed}
 use Rattle.bng_words.specs.Line.{LinePiece, name, option, Begins, ArePieces, Values, no_values, with_piece, with_pieces, IsSingle}
 use Rattle.bng_words.specs.declared.order.Order.{Order}
 use Rattle.bng_words.specs.Meaning.{Meaning, Means, Says}
-use Rattle.bng_words.specs.Seen.{said_by}
+use Rattle.bng_words.specs.View.{said_by}
 
 single_before : (v : Values) (p : LinePiece) → IsSingle (with_piece v p) → IsSingle v
 single_before v (name t) s = record { names = omega (arith, s.names, length-append v.names (t ∷ [])); trace = s.trace; rounds = s.rounds; workers = s.workers }
@@ -67,14 +67,14 @@ same_joined Workers Trace t u e = let bad = octets_same 2 _ _ e in absurd (omega
 same_joined Workers Rounds t u e = let bad = octets_same 2 _ _ e in absurd (omega arith)
 same_joined Workers Workers t u e = (refl, ap (λ (s : Text). drop 10 s) e)
 
-not_dashed : (x : OptionName) (t : Text) → IsValue t → t ≡ dashed x → ⊥
-not_dashed x t is e = is.plain (ap (λ (s : Text). slice_index s 0) e ∙ first_octet x)
+not_dashed : (x : OptionName) (t : Text) → IsName t → t ≡ dashed x → ⊥
+not_dashed x t is e = is (ap (λ (s : Text). slice_index s 0) e ∙ first_octet x)
 
-not_joined : (x : OptionName) (t u : Text) → IsValue t → t ≡ dashed x ++ 61 ∷ u → ⊥
-not_joined x t u is e = is.plain (ap (λ (s : Text). slice_index s 0) e ∙ first_joined_octet x u)
+not_joined : (x : OptionName) (t u : Text) → IsName t → t ≡ dashed x ++ 61 ∷ u → ⊥
+not_joined x t u is e = is (ap (λ (s : Text). slice_index s 0) e ∙ first_joined_octet x u)
 
 -- what words begin with, by what their first word is
-value_begins : (w : Text) (after rest : List Text) (p : LinePiece) → IsValue w → Begins p (w ∷ after) rest → (p ≡ name w) × (rest ≡ after)
+value_begins : (w : Text) (after rest : List Text) (p : LinePiece) → IsName w → Begins p (w ∷ after) rest → (p ≡ name w) × (rest ≡ after)
 value_begins w after rest (name v) is b =
     let e : w ∷ after ≡ v ∷ rest = b.0 in
     let same : v ≡ w = cc in
@@ -155,22 +155,6 @@ not_single_after v p words rest b none ps h =
     let next = next_pieces p words rest ps b h in
     let P : List LinePiece → Type 0 = λ qs. IsSingle (with_pieces v qs) in
     λ s. none next.0 next.2 (subst P next.1 s)
-
--- no words begin with an option whose value is missing
-pub no_value : (x : OptionName) (after : List Text) → ((v : Text) (rest : List Text) → after ≡ v ∷ rest → ¬ (IsValue v)) → (p : LinePiece) (rest : List Text) → ¬ (Begins p (dashed x ∷ after) rest)
-no_value x after none p rest = λ b. let f = flag_begins x after rest p b in none f.0 rest f.2 f.3
-
--- no words begin with a word that is neither a value nor an option
-pub nothing_begins : (w : Text) (after : List Text) → ¬ (IsValue w) → ((x : OptionName) → w ≢ dashed x) → ((x : OptionName) (t : Text) → w ≡ dashed x ++ 61 ∷ t → ¬ (IsValue t))
-    → (p : LinePiece) (rest : List Text) → ¬ (Begins p (w ∷ after) rest)
-nothing_begins w after value flag joined (name v) rest = λ b.
-    let e : w ∷ after ≡ v ∷ rest = b.0 in
-    let word : v ≡ w = cc in
-    value (subst IsValue word b.1)
-nothing_begins w after value flag joined (option x v) rest = λ b. elim b.0 [
-  | inl e ↦ let word : w ≡ dashed x = cc in flag x word
-  | inr e ↦ let word : w ≡ dashed x ++ 61 ∷ v = cc in joined x v word b.1
-]
 
 module _ {X : Type 0} where
   pub if_none : (r : Option X) (P Q : Type 0) → (P → Q) → IfNone r P → IfNone r Q

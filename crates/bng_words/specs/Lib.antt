@@ -2,4 +2,4 @@ pub mod Words
 pub mod Line
 pub mod Meaning
 pub mod Word
-pub mod Seen
+pub mod View

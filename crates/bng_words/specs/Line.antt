@@ -2,7 +2,7 @@
 use Rattle.std.specs.Prelude.{◌≡◌, ◌≤◌, ◌⊎◌, List, [], ◌∷◌, ◌++◌, length}
 use Rattle.bng_words.specs.declared.option.OptionName.{OptionName}
 use Rattle.bng_words.specs.declared.option.OptionName.TheVariants.{Trace, Rounds, Workers}
-use Rattle.bng_words.specs.Words.{Text, IsValue, dashed}
+use Rattle.bng_words.specs.Words.{Text, IsName, IsValue, dashed}
 
 -- a word that is no option, or an option with its value
 pub data LinePiece : Type 0 where
@@ -12,7 +12,7 @@ pub data LinePiece : Type 0 where
 -- The words begin with the piece, and these stand after it. An option's value is the next word, or it stands in the
 -- option's word behind `=` (61).
 abbrev pub Begins : LinePiece → List Text → List Text → Type 0
-Begins (name value) words rest = (words ≡ value ∷ rest) × IsValue value
+Begins (name value) words rest = (words ≡ value ∷ rest) × IsName value
 Begins (option x value) words rest =
     ((words ≡ dashed x ∷ value ∷ rest) ⊎ (words ≡ (dashed x ++ 61 ∷ value) ∷ rest)) × IsValue value
 

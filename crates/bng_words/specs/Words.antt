@@ -10,10 +10,14 @@ Text = List ℕ
 abbrev pub texts : List (String Global) → List Text
 texts words = map (λ w. string_bytes w) words
 
--- A word that gives a value: it is not empty and begins with no `-` (45).
+-- a word that is no option: it begins with no `-` (45)
+abbrev pub IsName : Text → Type 0
+IsName word = slice_index word 0 ≢ 45
+
+-- the value of an option: it is not empty either
 pub record IsValue (word : Text) : Type 0 where
   pub some : 0 < length word
-  pub plain : slice_index word 0 ≢ 45
+  pub plain : IsName word
 
 -- an option as it is written
 abbrev pub dashed : OptionName → Text

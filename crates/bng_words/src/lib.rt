@@ -5,16 +5,16 @@
 #![tactic(auto)]
 
 mod command;
+mod grammar;
 pub mod law;
 mod line;
 mod number;
 mod option;
 mod order;
 mod piece;
-mod reading;
 #[cfg(test)]
 mod tests;
 mod word;
 
 pub use crate::command::{Command, WordsError};
-pub use crate::reading::read;
+pub use crate::grammar::read;

@@ -1,7 +1,7 @@
 ghost use Rattle.std.specs.Prelude.{◌≡◌, IfSome, IfNone, List};
 ghost use Rattle.bng_words.specs.Words.{texts};
 ghost use Rattle.bng_words.specs.Line.{LinePiece, ArePieces, with_piece, with_pieces, IsSingle, no_values};
-ghost use Rattle.bng_words.specs.Seen.{piece_of, values_of};
+ghost use Rattle.bng_words.specs.View.{piece_of, values_of};
 
 use crate::option::OptionName;
 use crate::piece::{Piece, front};

@@ -1,6 +1,6 @@
 ghost use Rattle.std.specs.Prelude.{◌≢◌, ◌<◌, ℕ, MatchOption};
 ghost use Rattle.bng_words.specs.Meaning.{IsNumber, IsNumberOr};
-ghost use Rattle.bng_words.specs.Seen.{listed};
+ghost use Rattle.bng_words.specs.View.{listed};
 
 /// The number from 1 to this most that the text writes in at most 13 decimal digits, without a sign.
 pub(crate) fn number(text: &str, most: u64) -> Option<u64>

@@ -1,6 +1,6 @@
 ghost use Rattle.std.specs.Prelude.{◌≡◌, codes, string_bytes, MatchOption, IfOk, IfErr};
 ghost use Rattle.bng_words.specs.Meaning.{Meaning, Means, meaning_of};
-ghost use Rattle.bng_words.specs.Seen.{values_of, said_by};
+ghost use Rattle.bng_words.specs.View.{values_of, said_by};
 
 use crate::command::{Command, WordsError};
 use crate::line::Line;

@@ -2,7 +2,7 @@ ghost use Rattle.std.specs.Prelude.{◌∷◌, ℕ, List, IfSome, IfNone};
 ghost use Rattle.bng_words.specs.declared.option.OptionName.{OptionName};
 ghost use Rattle.bng_words.specs.Words.{Text, texts, dashed};
 ghost use Rattle.bng_words.specs.Line.{LinePiece, Begins};
-ghost use Rattle.bng_words.specs.Seen.{piece_of};
+ghost use Rattle.bng_words.specs.View.{piece_of};
 
 use crate::option::OptionName;
 use crate::word::{Word, is_value, word_of};
@@ -23,7 +23,7 @@ pub(crate) fn front(words: &[String]) -> Option<(Piece<'_>, &[String])>
         return None;
     };
     match word_of(word.as_str()) {
-        Word::Value(value) => Some((Piece::Name(value), after)),
+        Word::Name(name) => Some((Piece::Name(name), after)),
         Word::Joined(x, value) => Some((Piece::Option(x, value), after)),
         Word::Flag(x) => valued(x, after),
         Word::Other => None,

@@ -20,7 +20,7 @@ fn told(alloc: Global, texts: &[&str]) -> Result<String, AllocError> {
 #[test]
 fn reads_each_command(rt: HostRuntime) -> Result<(), Fail> {
     let alloc = rt.alloc();
-    let rows: [(&[&str], &str); 10] = [
+    let rows: [(&[&str], &str); 11] = [
         (
             &["serve", "a.toml"],
             "Ok(Serve { configuration: \"a.toml\", trace: None, rounds: 1099511627776 })",
@@ -65,6 +65,7 @@ fn reads_each_command(rt: HostRuntime) -> Result<(), Fail> {
             &["exercise", "--workers=1", "2000"],
             "Ok(Exercise { subscribers: 2000, workers: 1 })",
         ),
+        (&["check", ""], "Ok(Check { configuration: \"\" })"),
         (&["audit", "t"], "Ok(Audit { trace: \"t\" })"),
         (
             &["serve", "serve"],
@@ -80,7 +81,7 @@ fn reads_each_command(rt: HostRuntime) -> Result<(), Fail> {
 #[test]
 fn refuses_other_words(rt: HostRuntime) -> Result<(), Fail> {
     let alloc = rt.alloc();
-    let rows: [&[&str]; 22] = [
+    let rows: [&[&str]; 21] = [
         &[],
         &["serve"],
         &["serve", "a.toml", "--rounds=0"],
@@ -95,7 +96,6 @@ fn refuses_other_words(rt: HostRuntime) -> Result<(), Fail> {
         &["serve", "a.toml", "--trace=-t"],
         &["serve", "--", "a.toml"],
         &["serve", "-"],
-        &["serve", ""],
         &["serve", "a.toml", "b.toml"],
         &["serve", "a.toml", "--workers", "1"],
         &["check", "a.toml", "--help"],

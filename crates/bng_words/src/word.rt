@@ -1,5 +1,5 @@
 ghost use Rattle.std.specs.Prelude.{◌≢◌, ◌↔◌, IsTrue};
-ghost use Rattle.bng_words.specs.Words.{IsValue, dashed};
+ghost use Rattle.bng_words.specs.Words.{IsName, IsValue, dashed};
 ghost use Rattle.bng_words.specs.Word.{IsWord};
 ghost use Rattle.bng_words.specs.declared.option.OptionName.{OptionName};
 
@@ -9,7 +9,7 @@ use crate::option::{OptionName, option_of};
 #[derive(Clone, Copy)]
 pub(crate) enum Word<'a> {
     /// No option.
-    Value(&'a str),
+    Name(&'a str),
     /// An option whose value is the next word.
     Flag(OptionName),
     /// An option with its value.
@@ -18,22 +18,29 @@ pub(crate) enum Word<'a> {
     Other,
 }
 
-/// Whether the word gives a value: it is not empty and begins with no `-`.
+/// Whether the word is no option: it begins with no `-`.
+pub(crate) fn is_name(word: &str) -> bool
+    ensures { IsTrue result ↔ IsName word.now }
+{
+    match word.as_bytes() {
+        [] => true,
+        [first, ..] => *first != b'-',
+    }
+}
+
+/// Whether the word can be the value of an option: it is not empty and begins with no `-`.
 pub(crate) fn is_value(word: &str) -> bool
     ensures { IsTrue result ↔ IsValue word.now }
 {
-    match word.as_bytes() {
-        [] => false,
-        [first, ..] => *first != b'-',
-    }
+    !word.is_empty() && is_name(word)
 }
 
 /// What the word is.
 pub(crate) fn word_of(word: &str) -> Word<'_>
     ensures { IsWord result word.now }
 {
-    if is_value(word) {
-        return Word::Value(word);
+    if is_name(word) {
+        return Word::Name(word);
     }
     if let Some(option) = option_of(word) {
         return Word::Flag(option);
@@ -41,9 +48,9 @@ pub(crate) fn word_of(word: &str) -> Word<'_>
     joined_of(word)
 }
 
-// An option with its value, in one word that is no value and no option alone.
+// An option with its value, in one word that begins with `-` and is no option alone.
 fn joined_of(word: &str) -> Word<'_>
-    requires value { ¬ IsValue word.now }
+    requires name { ¬ IsName word.now }
     requires flag { (x : OptionName) → word.now ≢ dashed x }
     ensures { IsWord result word.now }
 {

@@ -1,7 +1,7 @@
 use Rattle.std.proofs.Common.{rules, ◌≡◌, ◌∷◌, ◌<◌, length, ap, subst, ◌∙◌}
 use Rattle.bng_words.specs.Words.{texts}
 use Rattle.bng_words.specs.Line.{Values, with_piece, with_pieces, IsSingle}
-use Rattle.bng_words.specs.Seen.{piece_of, values_of}
+use Rattle.bng_words.specs.View.{piece_of, values_of}
 use Rattle.bng_words.proofs.LineLaws.{no_pieces, some_texts, never_single, not_single_after, if_none, if_some}
 use Rattle.bng_words.proofs.line.+line_of.Goals as goal
 

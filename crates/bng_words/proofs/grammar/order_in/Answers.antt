@@ -1,9 +1,9 @@
 use Rattle.std.proofs.Common.{rules, ◌≡◌, ◌∷◌, ap, ◌∙◌}
 use Rattle.bng_words.specs.Words.{texts}
 use Rattle.bng_words.specs.Line.{Values, with_pieces}
-use Rattle.bng_words.specs.Seen.{values_of}
+use Rattle.bng_words.specs.View.{values_of}
 use Rattle.bng_words.proofs.LineLaws.{says_by}
-use Rattle.bng_words.proofs.reading.order_in.Goals as goal
+use Rattle.bng_words.proofs.grammar.order_in.Goals as goal
 
 pub returns : goal.returns
 returns c =

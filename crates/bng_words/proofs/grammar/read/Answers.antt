@@ -3,7 +3,7 @@ use Rattle.std.specs.Prelude.{String}
 use Rattle.std.specs.declared.alloc.Global.{Global}
 use Rattle.bng_words.specs.Words.{texts}
 use Rattle.bng_words.specs.Meaning.{Says}
-use Rattle.bng_words.proofs.reading.read.Goals as goal
+use Rattle.bng_words.proofs.grammar.read.Goals as goal
 
 pub returns-in-None-clause-refused : goal.returns-in-None-clause-refused
 returns-in-None-clause-refused c = (

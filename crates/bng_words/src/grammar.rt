@@ -1,7 +1,7 @@
 ghost use Rattle.std.specs.Prelude.{◌≡◌, ◌↔◌, IfOk, MatchOption};
 ghost use Rattle.bng_words.specs.Words.{texts};
 ghost use Rattle.bng_words.specs.Meaning.{Meaning, Says, meaning_of};
-ghost use Rattle.bng_words.specs.Seen.{said_by};
+ghost use Rattle.bng_words.specs.View.{said_by};
 
 use crate::command::{Command, WordsError};
 use crate::line::{empty_line, line_of};
