@@ -1,0 +1,20 @@
+//! The words of the command line: the grammar of the program's commands, and what each says.
+//!
+//! [`read`] answers the command that the words are, or that they are none. The first word is the command. After it stand
+//! one other word and the command's options, in any order, each option at most once, as `--x V` or as `--x=V`.
+#![tactic(auto)]
+
+mod command;
+mod grammar;
+pub mod law;
+mod line;
+mod number;
+mod option;
+mod order;
+mod piece;
+#[cfg(test)]
+mod tests;
+mod word;
+
+pub use crate::command::{Command, WordsError};
+pub use crate::grammar::read;
