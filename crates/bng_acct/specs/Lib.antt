@@ -1,0 +1,3 @@
+pub mod Texts
+pub mod Attributes
+pub mod Request
