@@ -1,3 +1,6 @@
 pub mod GoingOn
 pub mod StationId
 pub mod Requests
+pub mod Rosters
+pub mod RosterEdits
+pub mod Queues

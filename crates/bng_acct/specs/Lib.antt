@@ -1,3 +1,5 @@
 pub mod Texts
 pub mod Attributes
 pub mod Request
+pub mod Roster
+pub mod Queue

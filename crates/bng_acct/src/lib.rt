@@ -8,9 +8,14 @@
 
 mod attributes;
 mod facts;
+mod held;
+mod queue;
 mod record;
+mod roster;
 mod rules;
+mod sheet;
 mod texts;
 
 pub use crate::facts::{Moment, Record, RecordNo, StatusType, TermFacts};
+pub use crate::held::Held;
 pub use crate::rules::{AcctRules, SpoolError};
