@@ -4,3 +4,9 @@ pub mod Requests
 pub mod Rosters
 pub mod RosterEdits
 pub mod Queues
+pub mod Marks
+pub mod Agreeing
+pub mod Releasing
+pub mod Listing
+pub mod Forgetting
+pub mod Worlds

@@ -4,9 +4,9 @@ use Rattle.std.specs.Prelude.{filter, count_by, is_some}
 use Rattle.std.specs.List.{AllByRecursion}
 use Rattle.std.proofs.lemmas.List.{get_or-set_other, get_or-set_same}
 use Rattle.std.proofs.lemmas.List.Sums.{sum_by-set}
-use Rattle.std.proofs.lemmas.Bool.{ne_eqb, cases_Bool, eqb-false}
+use Rattle.std.proofs.lemmas.Bool.{ne_eqb, cases_Bool, cases_eq, eqb-false}
 use Rattle.bng_acct.specs.declared.sheet.Sheet.{Sheet}
-use Rattle.bng_acct.specs.Queue.{sheet_at, count, is_waiting, Apart, AreWaiting, Sets, without}
+use Rattle.bng_acct.specs.Queue.{sheet_at, count, is_waiting, Apart, AreWaiting, Sets, without, AllBelow}
 
 within : (sheets : List (Option Sheet)) (n : ℕ) → is_some (sheet_at sheets n) ≡ true → n < length sheets
 within [] n h = absurd cc
@@ -82,21 +82,21 @@ unhanded-without sheets ns n h p = without-others ns n (others sheets n p ns h.e
 apart-of : (ns : List ℕ) (n : ℕ) → AllByRecursion (λ m. m ≢ n) (without n ns)
 apart-of [] n = tt
 apart-of (m ∷ ns) n = elim (cases_Bool (eqb m n)) [
-  inl is ↦ rw is (apart-of ns n)
+  | inl is ↦ rw is (apart-of ns n)
   | inr other ↦ rw other (eqb-false m n other, apart-of ns n)
 ]
 
 part : (P : ℕ → Type 0) (ns : List ℕ) (n : ℕ) → AllByRecursion P ns → AllByRecursion P (without n ns)
 part P [] n h = tt
 part P (m ∷ ns) n h = elim (cases_Bool (eqb m n)) [
-  inl is ↦ rw is (part P ns n h.1)
+  | inl is ↦ rw is (part P ns n h.1)
   | inr other ↦ rw other (h.0, part P ns n h.1)
 ]
 
 apart-part : (ns : List ℕ) (n : ℕ) → Apart ns → Apart (without n ns)
 apart-part [] n h = tt
 apart-part (m ∷ ns) n h = elim (cases_Bool (eqb m n)) [
-  inl is ↦ rw is (apart-part ns n h.1)
+  | inl is ↦ rw is (apart-part ns n h.1)
   | inr other ↦ rw other (part (λ k. k ≢ m) ns n h.0, apart-part ns n h.1)
 ]
 
@@ -113,3 +113,18 @@ waiting_sheet (Some x) h = (x, refl)
 
 pub handed_not_waiting : (o : Option Sheet) (x : Sheet) → o ≡ Some x → x.handed ≡ true → is_waiting o ≡ false
 handed_not_waiting o x e h = ap is_waiting e ∙ ap not h
+
+some_not_none : (x : Sheet) → Some x ≡ None → ⊥
+some_not_none x e = cc
+
+pub below_more : (old new : List (Option Sheet)) (n most : ℕ) (x : Option Sheet) → AllBelow old most → Sets old new n x → n < most → AllBelow new most
+below_more old new n most x below sets h = λ k y e. elim (cases_eq k n) [
+  | inl is ↦ omega (arith, is, h)
+  | inr apart ↦ below k y (sym (sets.others k apart) ∙ e)
+]
+
+pub below_less : (old new : List (Option Sheet)) (n most : ℕ) → AllBelow old most → Sets old new n None → AllBelow new most
+below_less old new n most below sets = λ k y e. elim (cases_eq k n) [
+  | inl is ↦ absurd (some_not_none y (sym e ∙ ap (sheet_at new) is ∙ sets.changed))
+  | inr apart ↦ below k y (sym (sets.others k apart) ∙ e)
+]

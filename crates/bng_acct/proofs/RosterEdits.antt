@@ -73,7 +73,7 @@ pub put_in : (h : Held) (a b : List Held) → Rises (a ++ b) → Before h.term a
 put_in h a b r fa fb = record {
   rises = join_with h a b (rises_front a b r) (rises_behind a b r) fa fb;
   finds = λ u. elim (cases_Bool (same h.term u)) [
-    inl is ↦ rw is (subst (λ (v : TermId). of_term v (a ++ h ∷ b) ≡ Some h) (same_is h.term u is) (of_here h a b fa))
+    | inl is ↦ rw is (subst (λ (v : TermId). of_term v (a ++ h ∷ b) ≡ Some h) (same_is h.term u is) (of_here h a b fa))
     | inr other ↦ rw other (pass_over h a b u other)
   ];
   sums = λ f. rw (of_none h.term a b fa fb) (omega (arith, sum-mid f a b h));
@@ -84,7 +84,7 @@ pub take_out : (h : Held) (a b : List Held) → Rises (a ++ h ∷ b) → Before 
 take_out h a b r fa fb = record {
   rises = join h.term a b (rises_front a (h ∷ b) r) (rises_behind a (h ∷ b) r).1 fa fb;
   finds = λ u. elim (cases_Bool (same h.term u)) [
-    inl is ↦ rw is (subst (λ (v : TermId). of_term v (a ++ b) ≡ None) (same_is h.term u is) (of_none h.term a b fa fb))
+    | inl is ↦ rw is (subst (λ (v : TermId). of_term v (a ++ b) ≡ None) (same_is h.term u is) (of_none h.term a b fa fb))
     | inr other ↦ rw other (sym (pass_over h a b u other))
   ];
   sums = λ f. rw (of_here h a b fa) (sym (sum-mid f a b h));
@@ -98,7 +98,7 @@ put_over g h a b e r fa fb =
     record {
       rises = join_with h a b (rises_front a (g ∷ b) r) (rises_behind a (g ∷ b) r).1 fa fb;
       finds = λ u. elim (cases_Bool (same h.term u)) [
-        inl is ↦ rw is (subst (λ (v : TermId). of_term v (a ++ h ∷ b) ≡ Some h) (same_is h.term u is) (of_here h a b fa))
+        | inl is ↦ rw is (subst (λ (v : TermId). of_term v (a ++ h ∷ b) ≡ Some h) (same_is h.term u is) (of_here h a b fa))
         | inr other ↦ rw other (pass_over h a b u other ∙ sym (pass_over g a b u (ap (λ (t : TermId). same t u) e ∙ other)))
       ];
       sums = λ f. rw was (omega (arith, sum-mid f a b h, sum-mid f a b g));
@@ -166,7 +166,7 @@ takes_none xs t i r m =
     record {
       rises = r;
       finds = λ u. elim (cases_Bool (same t u)) [
-        inl is ↦ rw is (subst (λ (v : TermId). of_term v xs ≡ None) (same_is t u is) none)
+        | inl is ↦ rw is (subst (λ (v : TermId). of_term v xs ≡ None) (same_is t u is) none)
         | inr other ↦ rw other refl
       ];
       sums = λ f. rw none (add-zero (sum_by f xs));

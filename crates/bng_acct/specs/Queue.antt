@@ -1,5 +1,5 @@
 -- The records that are open.
-use Rattle.std.specs.Prelude.{◌≡◌, ◌≢◌, ◌==◌, ℕ, ◌+◌, Bool, true, false, not, List, [], ◌∷◌, filter, slice_index_or, count_by, Option, Some, None, is_some}
+use Rattle.std.specs.Prelude.{◌≡◌, ◌≢◌, ◌==◌, ℕ, ◌+◌, ◌<◌, Bool, true, false, not, List, [], ◌∷◌, filter, slice_index_or, count_by, Option, Some, None, is_some}
 use Rattle.std.specs.List.{AllByRecursion}
 use Rattle.bng_acct.specs.declared.sheet.Sheet.{Sheet}
 
@@ -29,6 +29,10 @@ Apart (n ∷ ns) = AllByRecursion (λ m. m ≢ n) ns × Apart ns
 pub record AreWaiting (sheets : List (Option Sheet)) (numbers : List ℕ) : Type 0 where
   pub each : AllByRecursion (λ n. is_waiting (sheet_at sheets n) ≡ true) numbers
   pub apart : Apart numbers
+
+-- the numbers of all records are below this one
+abbrev pub AllBelow : List (Option Sheet) → ℕ → Type 0
+AllBelow sheets most = (n : ℕ) (x : Sheet) → sheet_at sheets n ≡ Some x → n < most
 
 -- the number has this, and each other number has what it had
 pub record Sets (old new : List (Option Sheet)) (n : ℕ) (x : Option Sheet) : Type 0 where

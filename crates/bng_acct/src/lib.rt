@@ -9,13 +9,20 @@
 mod attributes;
 mod facts;
 mod held;
+pub mod law;
 mod queue;
 mod record;
 mod roster;
 mod rules;
 mod sheet;
+mod spool;
 mod texts;
 
 pub use crate::facts::{Moment, Record, RecordNo, StatusType, TermFacts};
 pub use crate::held::Held;
 pub use crate::rules::{AcctRules, SpoolError};
+pub use crate::sheet::Sheet;
+pub use crate::spool::Spool;
+
+#[cfg(test)]
+mod tests;

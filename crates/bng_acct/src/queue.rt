@@ -3,7 +3,7 @@ ghost use Rattle.std.specs.Prelude.{◌≡◌, ◌<◌, ◌≤◌, ◌+◌, ◌*
 ghost use Rattle.std.specs.Option.{option_copied};
 ghost use Rattle.slab.specs.Slab.{get, slab_len};
 ghost use Rattle.bng_acct.specs.declared.sheet.Sheet.{Sheet};
-ghost use Rattle.bng_acct.specs.Queue.{sheet_at, count, without, Sets, HandsOut};
+ghost use Rattle.bng_acct.specs.Queue.{sheet_at, count, without, Sets, HandsOut, AreWaiting, AllBelow};
 
 use crate::rules::SpoolError;
 use crate::sheet::Sheet;
@@ -23,13 +23,13 @@ pub(crate) struct Queue {
 impl Model for Queue {
     ghost use Rattle.std.specs.Prelude.{◌≤◌, ◌^◌, ◌<◌};
     ghost use Rattle.std.specs.VecDeque.{deque_capacity};
-    ghost use Rattle.bng_acct.specs.Queue.{Open, AreWaiting};
+    ghost use Rattle.bng_acct.specs.Queue.{Open, AreWaiting, AllBelow};
 
     ghost Value = { Open };
 
     ghost view = { λ q. record { sheets = q.sheets.slots; waiting = q.waiting.items; most = q.most } };
 
-    ghost invariant = { λ q. (q.most ≤ q.sheets.capacity) × (q.sheets.capacity < 2 ^ 32) × (q.most ≤ deque_capacity q.waiting) × AreWaiting q.sheets.slots q.waiting.items };
+    ghost invariant = { λ q. (q.most ≤ q.sheets.capacity) × (q.sheets.capacity < 2 ^ 32) × (q.most ≤ deque_capacity q.waiting) × AreWaiting q.sheets.slots q.waiting.items × AllBelow q.sheets.slots q.sheets.capacity };
 }
 
 // Marks a record as handed out.
@@ -71,6 +71,14 @@ impl Queue {
         self.sheets.get(number as usize)
     }
 
+    /// A number above those of all records.
+    pub(crate) fn bound(&self) -> u32
+        ensures below { AllBelow self.now.sheets result }
+        ensures waiting { AreWaiting self.now.sheets self.now.waiting }
+    {
+        self.sheets.capacity() as u32
+    }
+
     /// Adds a record, which waits from then on, and answers its number.
     pub(crate) fn add(&mut self, sheet: Sheet) -> u32
         requires room { count self.old.sheets < self.old.most }
@@ -104,6 +112,7 @@ impl Queue {
         ensures counts { count self.new.sheets + (if is_some result then 1 else 0) ≡ count self.old.sheets }
         ensures waiting { self.new.waiting ≡ without number self.old.waiting }
         ensures most { self.new.most ≡ self.old.most }
+        ensures kept { IfNone result (self.new ≡ self.old) }
     {
         let sheet = self.sheets.try_remove(number as usize)?;
         if sheet.handed {

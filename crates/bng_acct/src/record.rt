@@ -15,6 +15,7 @@ use bng_radius_wire::kinds;
 
 // Framed, and PPP (RFC 2865 sections 5.6 and 5.7).
 const FRAMED: u32 = 2;
+
 const PPP: u32 = 1;
 
 // Virtual (RFC 2865 section 5.41).
@@ -123,8 +124,16 @@ fn put_usage(status: StatusType, facts: &TermFacts, moment: Moment, into: &mut F
         StatusType::Interim | StatusType::Stop => {
             let carried = &facts.carried;
             put_number(into, kinds::ACCT_SESSION_TIME, seconds_of(facts, moment));
-            put_number(into, kinds::ACCT_INPUT_PACKETS, halves(carried.input_packets).0);
-            put_number(into, kinds::ACCT_OUTPUT_PACKETS, halves(carried.output_packets).0);
+            put_number(
+                into,
+                kinds::ACCT_INPUT_PACKETS,
+                halves(carried.input_packets).0,
+            );
+            put_number(
+                into,
+                kinds::ACCT_OUTPUT_PACKETS,
+                halves(carried.output_packets).0,
+            );
         }
     }
 }
@@ -197,7 +206,11 @@ fn put_rest(rules: &AcctRules, report: &Record, into: &mut Frame)
     let status = report.status;
     let carried = &report.facts.carried;
     put_low_octets(status, carried, into);
-    put(into, kinds::ACCT_SESSION_ID, &session_id(rules.wall, report.facts.term));
+    put(
+        into,
+        kinds::ACCT_SESSION_ID,
+        &session_id(rules.wall, report.facts.term),
+    );
     put_usage(status, &report.facts, report.moment, into);
     put_cause(status, report.moment, into);
     put_gigawords(status, carried, into);

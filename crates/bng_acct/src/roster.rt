@@ -86,7 +86,8 @@ impl Roster {
 
     /// What is held of a term.
     pub(crate) fn get(&self, term: TermId) -> Option<Held>
-        ensures { result ≡ of_term term self.now.held }
+        ensures held { result ≡ of_term term self.now.held }
+        ensures room { length self.now.held ≤ self.now.room }
     {
         match seek(self.list.as_slice(), term) {
             Ok(place) => Some(self.list[place]),

@@ -32,8 +32,7 @@ lodge-requires-clause-room c =
 pub invariant_of-self-in-Err : goal.invariant_of-self-in-Err
 invariant_of-self-in-Err c =
     let m = rw c.as_slice.ensures.value at c.in-Err.ensures in
-    let none = ap (λ (v : Terms). of_term c.args.held.term v.held) (sym c.self.view_is) ∙ missed c.self.inside.list.items c.args.held.term c.in-Err.place m in
-    (
+    let none = ap (λ (v : Terms). of_term c.args.held.term v.held) (sym c.self.view_is) ∙ missed c.self.inside.list.items c.args.held.term c.in-Err.place m in (
       omega (arith, c.lodge.ensures.size, c.requires none, ap (λ (v : Terms). v.room) c.self.view_is, ap (λ (v : Terms). length v.held) c.self.view_is),
       omega (arith, c.self.invariant.1, c.lodge.ensures.capacity),
       rw c.lodge.ensures.items (puts_in c.self.inside.list.items c.args.held c.in-Err.place c.self.invariant.2 m).rises,
