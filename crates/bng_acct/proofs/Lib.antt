@@ -1,0 +1,12 @@
+pub mod GoingOn
+pub mod StationId
+pub mod Requests
+pub mod Rosters
+pub mod RosterEdits
+pub mod Queues
+pub mod Marks
+pub mod Agreeing
+pub mod Releasing
+pub mod Listing
+pub mod Forgetting
+pub mod Worlds
