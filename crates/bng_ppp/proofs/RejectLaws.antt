@@ -8,7 +8,6 @@ use Rattle.bng_lcp.specs.declared.judgement.LcpRules.{LcpRules}
 use Rattle.bng_lcp.specs.declared.judgement.Judged.{Judged}
 use Rattle.bng_lcp.specs.declared.judgement.Judged.TheVariants as judged
 use Rattle.bng_lcp.specs.Judgement.{IsJudgement, rejected, is_reject, class_of}
-use Rattle.bng_ppp.specs.declared.send.TheConstants.{BODY_MOST}
 use Rattle.bng_ppp.specs.Packets.{IsSpellable}
 
 kept_fit : (p : PppOption → Bool) (xs : List PppOption) → AllByRecursion OptionFits xs → AllByRecursion OptionFits (filter p xs)
@@ -35,7 +34,7 @@ each_fits (o ∷ os) h = at_place (each_fits os h.1)
     at_place rest zero d lt = h.0
     at_place rest (suc k) d lt = rest k d (omega (arith, lt))
 
-pub spellable : (r : LcpRules) (request : List PppOption) (body : List ℕ) (j : Judged) → AreOptions request body → length body ≤ BODY_MOST → IsJudgement r request j → IsSpellable j
+pub spellable : (r : LcpRules) (request : List PppOption) (body : List ℕ) (j : Judged) → AreOptions request body → length body ≤ 4090 → IsJudgement r request j → IsSpellable j
 spellable r request body judged.Ack lists long is = tt
 spellable r request body (judged.Nak made) lists long is = tt
 spellable r request body (judged.Reject options) lists long is =

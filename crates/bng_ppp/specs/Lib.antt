@@ -1,6 +1,7 @@
 pub mod LinkState
 pub mod Said
 pub mod Sending
+pub mod Room
 pub mod Causes
 pub mod Acts
 pub mod Moves

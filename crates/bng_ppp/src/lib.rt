@@ -13,6 +13,7 @@ mod hear;
 mod heard;
 mod kept;
 mod kind;
+mod laws;
 mod link;
 mod remind;
 mod request;
@@ -23,6 +24,7 @@ mod step;
 mod tests;
 
 pub use crate::kept::{ECHOES_UNANSWERED_MOST, Kept, NAKS_MOST};
+pub use crate::laws::lcp_has_one_outcome;
 pub use crate::link::Link;
 pub use crate::rules::{Input, LinkKind, LinkRules};
 pub use crate::step::Steps;

@@ -1,0 +1,14 @@
+//! The laws that the steps of a link meet.
+ghost use Rattle.std.specs.Prelude.{◌≡◌, ℕ, List};
+ghost use Rattle.bng_ppp.specs.declared.rules.Input.{Input};
+ghost use Rattle.bng_ppp.specs.declared.rules.LinkRules.{LinkRules};
+ghost use Rattle.bng_ppp.specs.LinkState.{LinkState};
+ghost use Rattle.bng_ppp.specs.Said.{Said};
+ghost use Rattle.bng_ppp.specs.LinkRelation.{LinkSteps};
+
+/// From one state of LCP one input leads to one state, and one list of frames is sent (RFC 1661 section 4): no two cases
+/// of the relation hold at once.
+pub fn lcp_has_one_outcome()
+    ensures { (r : LinkRules) (told : Input) (now : ℕ) (random : List ℕ) (old : LinkState) (says other : Said) (new next : LinkState)
+        → LinkSteps r told now random old says new → LinkSteps r told now random old other next → (says ≡ other) × (new ≡ next) }
+{}
