@@ -8,12 +8,19 @@
 #![tactic(auto)]
 
 mod act;
+mod authentication;
 mod cause;
 mod hear;
 mod heard;
+mod ipcp;
+mod ipcp_cause;
+mod ipcp_frame;
+mod ipcp_kept;
+mod ipcp_kind;
 mod kept;
 mod kind;
 mod laws;
+mod layers;
 mod link;
 mod remind;
 mod request;
@@ -22,9 +29,22 @@ mod send;
 mod step;
 #[cfg(test)]
 mod tests;
+mod verdict;
+mod way;
+mod whole;
+mod whole_frame;
+mod whole_input;
+#[cfg(test)]
+mod whole_tests;
+mod whole_timer;
+mod work;
 
+pub use crate::authentication::Authentication;
+pub use crate::ipcp_kept::IpcpKept;
 pub use crate::kept::{ECHOES_UNANSWERED_MOST, Kept, NAKS_MOST};
 pub use crate::laws::lcp_has_one_outcome;
 pub use crate::link::Link;
 pub use crate::rules::{Input, LinkKind, LinkRules};
 pub use crate::step::Steps;
+pub use crate::whole::WholeLink;
+pub use crate::whole_input::{WholeInput, WholeSteps};

@@ -5,7 +5,7 @@ ghost use Rattle.bng_ppp.specs.LinkState.{IsFirstAsk};
 ghost use Rattle.bng_ppp.specs.Causes.{why, plain, AnswerFits};
 ghost use Rattle.bng_ppp.specs.Room.{most_of};
 ghost use Rattle.bng_ppp.specs.Moves.{Follows, Moves};
-ghost use Rattle.bng_ppp.specs.LinkRelation.{LinkSteps, Starts, Asks, is_down as down_in, EchoIsDue, earliest as first_of};
+ghost use Rattle.bng_ppp.specs.LinkRelation.{LinkSteps, Starts, Asks, is_down as down_in, is_opened as opened_in, EchoIsDue, earliest as first_of};
 
 use crate::cause::Cause;
 use crate::kept::{Kept, NAKS_MOST};
@@ -70,7 +70,7 @@ fn is_down(state: State) -> bool
 }
 
 // The earlier of two moments.
-fn earliest(a: Option<u64>, b: Option<u64>) -> Option<u64>
+pub(crate) fn earliest(a: Option<u64>, b: Option<u64>) -> Option<u64>
     ensures { result ≡ first_of a b }
 {
     match (a, b) {
@@ -162,10 +162,28 @@ impl Link {
         self.kept.was_opened
     }
 
+    /// Whether LCP is Opened.
+    pub fn is_opened(&self) -> bool
+        ensures { result ≡ opened_in self.now.lcp.state }
+    {
+        match self.lcp.state() {
+            State::Opened => true,
+            _ => false,
+        }
+    }
+
+    /// The protocol by which the peer is asked to authenticate itself.
+    pub(crate) fn auth(&self) -> AuthKind
+        ensures { result ≡ self.now.ask.wanted.auth }
+    {
+        self.ask.wanted().auth
+    }
+
     /// The peer's Maximum-Receive-Unit, in octets: that of its last Configure-Request that was acknowledged, and the
     /// limit where that has none or where there was none.
     pub fn mru(&self) -> u16
-        ensures { result ≡ self.now.kept.mru }
+        ensures mru { result ≡ self.now.kept.mru }
+        ensures most { result ≤ 1500 }
     {
         self.kept.mru
     }

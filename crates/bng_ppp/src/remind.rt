@@ -19,7 +19,7 @@ impl Link {
         requires moment { now < 2 ^ 60 }
         requires quiet { said steps.old ≡ says_nothing }
         ensures reminds { Reminds echo now self.old (said steps.new) self.new }
-        ensures few { length steps.new.outs.items ≤ 2 }
+        ensures few { length steps.new.outs.items ≤ 1 }
     {
         if let Some(event) = self.lcp.due(now) {
             let cause = Cause {

@@ -57,7 +57,7 @@ fn put_made(made: &[MadeOpt], into: &mut Frame)
 }
 
 // The options of a Configure-Reject, as the body of a packet has them.
-fn listed(options: &[Opt<'_>]) -> Frame
+pub(crate) fn listed(options: &[Opt<'_>]) -> Frame
     requires fit { All (λ o. OptionFits (option_of o)) options.now }
     requires short { length (options_text (options_of options.now)) ≤ 4090 }
     ensures { result.payload ≡ options_text (options_of options.now) }

@@ -3,7 +3,7 @@ ghost use Rattle.std.specs.Prelude.{◌≡◌, ◌+◌, ◌-◌, ◌<◌, ◌≤
 ghost use Rattle.bng_ppp_wire.specs.View.{packet_of};
 ghost use Rattle.bng_ppp.specs.Said.{said};
 ghost use Rattle.bng_ppp.specs.Causes.{AnswerFits};
-ghost use Rattle.bng_ppp.specs.Sending.{sent_text, sent, sent_some};
+ghost use Rattle.bng_ppp.specs.Sending.{sent_on, sent_text, sent, sent_some};
 
 use crate::step::Steps;
 use bng_base::{Frame, HEADROOM};
@@ -12,15 +12,25 @@ use bng_ppp_wire::{Packet, protocol};
 /// The most octets that a packet's body has: with its header and its protocol it fits a frame of 4,096 octets.
 pub(crate) const BODY_MOST: usize = 4090;
 
+/// Sends the packet of a protocol that a frame holds.
+pub(crate) fn send_on(number: u16, mut packet: Frame, steps: &mut Steps)
+    requires headroom { packet.headroom ≡ HEADROOM }
+    requires room { length steps.old.outs.items < 4 }
+    ensures said { said steps.new ≡ record (said steps.old) { outs = sent_on number packet.payload (said steps.old).outs } }
+    ensures few { length steps.new.outs.items ≤ length steps.old.outs.items + 1 }
+{
+    packet.put_front(&number.to_be_bytes());
+    steps.outs.push(packet);
+}
+
 /// Sends the LCP packet that a frame holds.
-pub(crate) fn send_text(mut packet: Frame, steps: &mut Steps)
+pub(crate) fn send_text(packet: Frame, steps: &mut Steps)
     requires headroom { packet.headroom ≡ HEADROOM }
     requires room { length steps.old.outs.items < 4 }
     ensures said { said steps.new ≡ record (said steps.old) { outs = sent_text packet.payload (said steps.old).outs } }
     ensures few { length steps.new.outs.items ≤ length steps.old.outs.items + 1 }
 {
-    packet.put_front(&protocol::LCP.to_be_bytes());
-    steps.outs.push(packet);
+    send_on(protocol::LCP, packet, steps);
 }
 
 /// Sends an LCP packet.
