@@ -7,3 +7,7 @@ pub mod OneOutcome
 pub mod IpcpRejectLaws
 pub mod IpcpReplyLaws
 pub mod WholeLaws
+pub mod IpcpOutcome
+pub mod AuthOutcome
+pub mod WholeOutcome
+pub mod DueLaws

@@ -1,10 +1,11 @@
 //! A whole link: LCP, the peer's authentication and IPCP.
-ghost use Rattle.std.specs.Prelude.{◌≡◌, ◌<◌, ◌≤◌, ◌^◌, ◌∷◌, [], None, false, length, option_map, ◌+◌};
+ghost use Rattle.std.specs.Prelude.{◌≡◌, ◌<◌, ◌≤◌, ◌^◌, ◌∷◌, ◌↔◌, ◌⊎◌, ℕ, [], None, false, length, option_map, ◌+◌, IsSomeAnd};
 ghost use Rattle.bng_ppp.specs.declared.authentication.Authentication.TheVariants as auth;
 ghost use Rattle.bng_ppp.specs.IpcpState.{ipcp_unused};
-ghost use Rattle.bng_ppp.specs.LinkRelation.{earliest as first_of};
+ghost use Rattle.bng_automaton.specs.Timer.{TimerIsOut};
+ghost use Rattle.bng_ppp.specs.LinkRelation.{earliest as first_of, EchoIsDue};
 ghost use Rattle.bng_ppp.specs.LinkState.{IsFirstAsk, unused, kept_first, limit_of};
-ghost use Rattle.bng_ppp.specs.PppRelation.{PppSteps, PppGoes, lcp_told};
+ghost use Rattle.bng_ppp.specs.PppRelation.{AuthIsDue, PppSteps, PppGoes, lcp_told};
 ghost use Rattle.bng_ppp.specs.PppState.{passes as passes_in};
 ghost use Rattle.bng_ppp.specs.Working.{turn_of, IsFresh, ppp_said};
 
@@ -143,7 +144,9 @@ impl WholeLink {
 
     /// The first moment, in milliseconds, at which Timer does something; none exactly where no timer runs.
     pub fn deadline(&self) -> Option<u64>
-        ensures { result ≡ first_of (first_of (first_of (option_map (λ t. t + 3000) self.now.lcp.lcp.started) self.now.lcp.kept.next_echo) self.now.auth_due) (option_map (λ t. t + 3000) self.now.ipcp.machine.started) }
+        ensures answer { result ≡ first_of (first_of (first_of (option_map (λ t. t + 3000) self.now.lcp.lcp.started) self.now.lcp.kept.next_echo) self.now.auth_due) (option_map (λ t. t + 3000) self.now.ipcp.machine.started) }
+        ensures due { (moment : ℕ) → IsSomeAnd result (λ end. end ≤ moment)
+            ↔ (TimerIsOut self.now.lcp.lcp moment ⊎ (EchoIsDue self.now.lcp moment ⊎ (AuthIsDue self.now moment ⊎ TimerIsOut self.now.ipcp.machine moment))) }
     {
         let lcp = earliest(self.lcp.deadline(), self.auth_due);
         earliest(lcp, self.ipcp.deadline())
