@@ -11,7 +11,8 @@ ghost use Rattle.bng_ppp.specs.Said.{said};
 
 use crate::ipcp_cause::IpcpCause;
 use crate::ipcp_kept::{IpcpKept, ending, requested};
-use crate::kept::next_id;
+use crate::kept::{NAKS_MOST, next_id};
+use crate::link::{MAX_CONFIGURE, MAX_TERMINATE};
 use crate::send::send_on;
 use crate::step::Steps;
 use bng_automaton::{Action, Automaton, Event, State};
@@ -81,7 +82,7 @@ impl Ipcp {
         ensures { result ≡ ipcp_unused (record { 0 = 0 }) }
     {
         Ipcp {
-            machine: Automaton::new(10, 2, 5),
+            machine: Automaton::new(MAX_CONFIGURE, MAX_TERMINATE, NAKS_MOST),
             ask: IpcpAsk::new(Ip4(0)),
             kept: IpcpKept {
                 next_id: 1,

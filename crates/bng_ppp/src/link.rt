@@ -18,9 +18,9 @@ use bng_lcp::LcpAsk;
 use std::marker::Model;
 
 /// How often a Configure-Request and a Terminate-Request go out without an answer (RFC 1661 section 4.6).
-const MAX_CONFIGURE: u8 = 10;
+pub(crate) const MAX_CONFIGURE: u8 = 10;
 
-const MAX_TERMINATE: u8 = 2;
+pub(crate) const MAX_TERMINATE: u8 = 2;
 
 /// One PPP link, as far as LCP goes (RFC 1661).
 ///
