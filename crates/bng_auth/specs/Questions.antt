@@ -1,5 +1,5 @@
 -- One question of a peer, one reply to it, repeated.
-use Rattle.std.specs.Prelude.{◌≡◌, ℕ, ◌<◌, ◌≤◌, Bool, true, false, List, Option, Some, None, IsSome, length}
+use Rattle.std.specs.Prelude.{◌≡◌, ℕ, ◌<◌, ◌≤◌, Bool, true, false, List, Option, Some, None, IsSome, is_some, ◌&&◌, not, length}
 use Rattle.bng_base.specs.declared.settings.AuthKind.TheVariants.{Chap, Pap}
 use Rattle.bng_base.specs.PppGrammar.{ControlPacket}
 use Rattle.bng_auth.specs.declared.credentials.Proof.{Proof}
@@ -30,6 +30,18 @@ pub record ChapQuestion : Type 0 where
   pub challenge : List ℕ
   pub asked : Bool
   pub verdict : Option Finding
+
+-- a question is open: it was asked, and the verdict is not there yet
+abbrev pub pap_is_open : PapQuestion → Bool
+pap_is_open q = is_some q.asked && not (is_some q.verdict)
+
+abbrev pub chap_is_open : ChapQuestion → Bool
+chap_is_open q = q.asked && not (is_some q.verdict)
+
+-- the verdict is there, and is yes
+abbrev pub is_yes : Option Finding → Bool
+is_yes None = false
+is_yes (Some v) = v.yes
 
 -- a name that is asked about
 abbrev pub IsNamed : List ℕ → Type 0

@@ -7,7 +7,7 @@ ghost use Rattle.bng_auth.specs.Questions.{IsProof};
 ghost use Rattle.bng_auth.specs.Replying.{reply_of};
 
 use crate::credentials::{Credentials, NAME_MOST, Proof, listed};
-use crate::reply::{Reply, TEXT_MOST, Verdict, replied, text_of};
+use crate::reply::{Reply, TEXT_MOST, Verdict, accepts, replied, text_of};
 use crate::step::AuthStep;
 use bng_base::{AuthKind, Frame, HEADROOM};
 use bng_ppp_wire::Packet;
@@ -68,7 +68,7 @@ fn claimed(id: u8, challenge: &[u8; 16], value: &[u8], name: &[u8]) -> Credentia
 }
 
 impl Chap {
-    ghost use Rattle.bng_auth.specs.Questions.{ChapTakes, ChapSettles};
+    ghost use Rattle.bng_auth.specs.Questions.{ChapTakes, ChapSettles, chap_is_open, is_yes};
 
     /// A peer that is challenged with these octets, under this Identifier.
     pub fn ask(random: &[u8; 16], id: u8) -> Chap
@@ -92,6 +92,20 @@ impl Chap {
         into.set(&[CHALLENGE, self.id, high, low, VALUE]);
         into.put_back(&self.challenge);
         into.put_back(name);
+    }
+
+    /// Whether a question was asked whose verdict is not there yet.
+    pub fn is_open(&self) -> bool
+        ensures { result ≡ chap_is_open self.now }
+    {
+        self.asked && self.verdict.is_none()
+    }
+
+    /// Whether the verdict is there and is yes.
+    pub fn is_accepted(&self) -> bool
+        ensures { result ≡ is_yes self.now.verdict }
+    {
+        accepts(&self.verdict)
     }
 
     /// Takes a packet of the peer. A Response counts if its Identifier is the Challenge's and its Value has 16 octets.

@@ -5,7 +5,7 @@ ghost use Rattle.bng_auth.specs.Requests.{IsPapRequest};
 ghost use Rattle.bng_auth.specs.Replying.{reply_of};
 
 use crate::credentials::{Credentials, NAME_MOST, PASSWORD_MOST, Proof, listed};
-use crate::reply::{Reply, TEXT_MOST, Verdict, replied, text_of};
+use crate::reply::{Reply, TEXT_MOST, Verdict, accepts, replied, text_of};
 use crate::step::AuthStep;
 use bng_base::AuthKind;
 use bng_ppp_wire::Packet;
@@ -49,7 +49,7 @@ fn request_of<'a>(packet: &Packet<'a>) -> Option<(&'a [u8], &'a [u8])>
 }
 
 impl Pap {
-    ghost use Rattle.bng_auth.specs.Questions.{PapTakes, PapSettles};
+    ghost use Rattle.bng_auth.specs.Questions.{PapTakes, PapSettles, pap_is_open, is_yes};
 
     /// A peer that has sent nothing yet.
     pub fn new() -> Pap
@@ -59,6 +59,20 @@ impl Pap {
             asked: None,
             verdict: None,
         }
+    }
+
+    /// Whether a question was asked whose verdict is not there yet.
+    pub fn is_open(&self) -> bool
+        ensures { result ≡ pap_is_open self.now }
+    {
+        self.asked.is_some() && self.verdict.is_none()
+    }
+
+    /// Whether the verdict is there and is yes.
+    pub fn is_accepted(&self) -> bool
+        ensures { result ≡ is_yes self.now.verdict }
+    {
+        accepts(&self.verdict)
     }
 
     /// Takes a packet of the peer. Its first Authenticate-Request is asked about; while that question is open others are

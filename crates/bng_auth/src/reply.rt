@@ -2,6 +2,7 @@
 ghost use Rattle.std.specs.Prelude.{◌≡◌, ◌≤◌, length};
 ghost use Rattle.bng_base.specs.PppGrammar.{packet_text};
 ghost use Rattle.bng_auth.specs.Replying.{reply_of, code_of, reply_packet};
+ghost use Rattle.bng_auth.specs.Questions.{verdict_of, is_yes};
 
 use arrayvec::ArrayVec;
 use bng_base::{AuthKind, Frame, HEADROOM};
@@ -48,6 +49,16 @@ pub(crate) fn replied(kind: AuthKind, verdict: &Verdict, id: u8) -> Reply
         yes: verdict.yes,
         id,
         text: text_of(verdict.text.as_slice()),
+    }
+}
+
+/// Whether a verdict is there and is yes.
+pub(crate) fn accepts(verdict: &Option<Verdict>) -> bool
+    ensures { result ≡ is_yes (verdict_of verdict.now) }
+{
+    match verdict {
+        Some(verdict) => verdict.yes,
+        None => false,
     }
 }
 

@@ -1,5 +1,5 @@
 -- Each frame that a step of a link sends is one of LCP.
-use Rattle.std.proofs.Common.{◌≡◌, inl, inr, ℕ, Bool, true, false, List, [], ◌∷◌, ◌++◌, Option, Some, None, length, if◌then◌else◌, nat_le, nat_lt, refl, sym, subst}
+use Rattle.std.proofs.Common.{◌≡◌, inl, inr, ℕ, Bool, true, false, List, [], ◌∷◌, ◌++◌, Option, Some, None, length, refl, sym, subst}
 use Rattle.std.specs.List.{AllByRecursion}
 use Rattle.byteorder.specs.Endian.{big_bytes}
 use Rattle.bng_automaton.specs.declared.action.Action.{Action}
@@ -12,7 +12,6 @@ use Rattle.bng_lcp.specs.Ask.{Ask}
 use Rattle.bng_ppp_wire.specs.View.{packet_of}
 use Rattle.bng_ppp_wire.specs.declared.code.TheConstants.{TERMINATE_REQUEST, TERMINATE_ACK, ECHO_REQUEST}
 use Rattle.bng_ppp_wire.specs.declared.protocol.TheConstants as protocol
-use Rattle.bng_ppp.specs.declared.send.TheConstants.{BODY_MOST, OUTS_MOST}
 use Rattle.bng_ppp.specs.declared.kind.Kind.{Kind}
 use Rattle.bng_ppp.specs.declared.kind.Kind.TheVariants.{Request, Reply, Plain, Echo, Mute, EchoReply, Unknown}
 use Rattle.bng_ppp.specs.declared.heard.Heard.{Heard}
@@ -46,19 +45,11 @@ all_append (x ∷ xs) ys h i = (h.0, all_append xs ys h.1 i)
 
 -- Sending ---------------------------------------------------------------------------------------------------------------
 
-one_more : (b : Bool) (text : List ℕ) (outs : List (List ℕ)) → AreLcp outs → AreLcp (if b then outs ++ ppp_text (record { protocol = protocol.LCP; info = text }) ∷ [] else outs)
-one_more true text outs h = all_append outs (ppp_text (record { protocol = protocol.LCP; info = text }) ∷ []) h (record { info = text; spelled = refl }, tt)
-one_more false text outs h = h
-
 text_sent : (text : List ℕ) (outs : List (List ℕ)) → AreLcp outs → AreLcp (sent_text text outs)
-text_sent text outs h = one_more (nat_lt (length outs) OUTS_MOST) text outs h
-
-either : (b : Bool) (xs ys : List (List ℕ)) → AreLcp xs → AreLcp ys → AreLcp (if b then xs else ys)
-either true xs ys h i = h
-either false xs ys h i = i
+text_sent text outs h = all_append outs (ppp_text (record { protocol = protocol.LCP; info = text }) ∷ []) h (record { info = text; spelled = refl }, tt)
 
 packet_sent : (p : ControlPacket) (outs : List (List ℕ)) → AreLcp outs → AreLcp (sent p outs)
-packet_sent p outs h = either (nat_le (length p.body) BODY_MOST) (sent_text (packet_text p) outs) outs (text_sent (packet_text p) outs h) h
+packet_sent p outs h = text_sent (packet_text p) outs h
 
 some_sent : (p : Option ControlPacket) (outs : List (List ℕ)) → AreLcp outs → AreLcp (sent_some p outs)
 some_sent None outs h = h
@@ -104,7 +95,7 @@ module _ (echo now : ℕ) (old : LinkState) (says : Said) (new : LinkState) wher
       subst (λ (d : Doing). SaysLcp d) (sym h.done) down
 
   judges_lcp : (p : ControlPacket) (random : List ℕ) → Judges p echo now random old says new → AreLcp says.outs
-  judges_lcp p random (inl (options, judged, are, is, m)) = moves_lcp _ _ old m
+  judges_lcp p random (inl (options, judged, are, few, is, m)) = moves_lcp _ _ old m
   judges_lcp p random (inr (long, h)) = rests_lcp h
 
   reply_lcp : (answer : Taken) (p : ControlPacket) (ask : Ask) → AfterReply answer p echo now old ask says new → AreLcp says.outs

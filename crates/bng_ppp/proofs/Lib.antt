@@ -1,3 +1,13 @@
 pub mod RejectLaws
 pub mod ReplyLaws
+pub mod RoomLaws
+pub mod MruLaws
 pub mod LcpOuts
+pub mod OneOutcome
+pub mod IpcpRejectLaws
+pub mod IpcpReplyLaws
+pub mod WholeLaws
+pub mod IpcpOutcome
+pub mod AuthOutcome
+pub mod WholeOutcome
+pub mod DueLaws

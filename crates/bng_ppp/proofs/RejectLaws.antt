@@ -8,10 +8,9 @@ use Rattle.bng_lcp.specs.declared.judgement.LcpRules.{LcpRules}
 use Rattle.bng_lcp.specs.declared.judgement.Judged.{Judged}
 use Rattle.bng_lcp.specs.declared.judgement.Judged.TheVariants as judged
 use Rattle.bng_lcp.specs.Judgement.{IsJudgement, rejected, is_reject, class_of}
-use Rattle.bng_ppp.specs.declared.send.TheConstants.{BODY_MOST}
 use Rattle.bng_ppp.specs.Packets.{IsSpellable}
 
-kept_fit : (p : PppOption → Bool) (xs : List PppOption) → AllByRecursion OptionFits xs → AllByRecursion OptionFits (filter p xs)
+pub kept_fit : (p : PppOption → Bool) (xs : List PppOption) → AllByRecursion OptionFits xs → AllByRecursion OptionFits (filter p xs)
 kept_fit p [] h = tt
 kept_fit p (x ∷ xs) h = by_test (p x) (kept_fit p xs h.1)
   where
@@ -19,7 +18,7 @@ kept_fit p (x ∷ xs) h = by_test (p x) (kept_fit p xs h.1)
     by_test true rest = (h.0, rest)
     by_test false rest = rest
 
-kept_short : (p : PppOption → Bool) (xs : List PppOption) → length (options_text (filter p xs)) ≤ length (options_text xs)
+pub kept_short : (p : PppOption → Bool) (xs : List PppOption) → length (options_text (filter p xs)) ≤ length (options_text xs)
 kept_short p [] = omega arith
 kept_short p (x ∷ xs) = by_test (p x) (kept_short p xs)
   where
@@ -27,7 +26,7 @@ kept_short p (x ∷ xs) = by_test (p x) (kept_short p xs)
     by_test true rest = omega (arith, rest, length-append (option_text x) (options_text (filter p xs)), length-append (option_text x) (options_text xs))
     by_test false rest = omega (arith, rest, length-append (option_text x) (options_text xs))
 
-each_fits : (os : List Opt) → AllByRecursion OptionFits (options_of os) → All (λ (o : Opt). OptionFits (option_of o)) os
+pub each_fits : (os : List Opt) → AllByRecursion OptionFits (options_of os) → All (λ (o : Opt). OptionFits (option_of o)) os
 each_fits [] h = λ k d lt. absurd (omega (arith, lt))
 each_fits (o ∷ os) h = at_place (each_fits os h.1)
   where
@@ -35,7 +34,7 @@ each_fits (o ∷ os) h = at_place (each_fits os h.1)
     at_place rest zero d lt = h.0
     at_place rest (suc k) d lt = rest k d (omega (arith, lt))
 
-pub spellable : (r : LcpRules) (request : List PppOption) (body : List ℕ) (j : Judged) → AreOptions request body → length body ≤ BODY_MOST → IsJudgement r request j → IsSpellable j
+pub spellable : (r : LcpRules) (request : List PppOption) (body : List ℕ) (j : Judged) → AreOptions request body → length body ≤ 4090 → IsJudgement r request j → IsSpellable j
 spellable r request body judged.Ack lists long is = tt
 spellable r request body (judged.Nak made) lists long is = tt
 spellable r request body (judged.Reject options) lists long is =

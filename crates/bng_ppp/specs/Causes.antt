@@ -1,6 +1,7 @@
 -- What the actions of an event send and keep.
-use Rattle.std.specs.Prelude.{ℕ, Bool, true, false, Option, Some, None, option_map}
+use Rattle.std.specs.Prelude.{ℕ, ◌≤◌, length, Bool, true, false, Option, Some, None, option_map}
 use Rattle.bng_base.specs.PppGrammar.{ControlPacket}
+use Rattle.bng_ppp_wire.specs.declared.view.Packet.{Packet}
 use Rattle.bng_ppp_wire.specs.View.{packet_of}
 use Rattle.bng_ppp.specs.declared.cause.Cause.{Cause}
 use Rattle.bng_ppp.specs.declared.kept.Kept.{Kept}
@@ -30,3 +31,8 @@ answering kept id p = record (plain kept id) { answer = Some p }
 -- the restart timer ran out
 abbrev pub by_timer : Kept → Why
 by_timer kept = record (plain kept 0) { timed = true }
+
+-- an answer with its header and its protocol fits 4,096 octets
+abbrev pub AnswerFits : Option Packet → Type 0
+AnswerFits None = Unit {0}
+AnswerFits (Some p) = length p.body.now ≤ 4090

@@ -1,8 +1,17 @@
 pub mod LinkState
 pub mod Said
 pub mod Sending
+pub mod Room
 pub mod Causes
 pub mod Acts
 pub mod Moves
 pub mod Packets
 pub mod LinkRelation
+pub mod IpcpState
+pub mod IpcpActs
+pub mod IpcpRelation
+pub mod PppState
+pub mod Claims
+pub mod AuthRelation
+pub mod PppRelation
+pub mod Working

@@ -17,7 +17,6 @@ use Rattle.bng_lcp.specs.declared.taken.Taken.TheVariants.{Accepted, Changed, Ig
 use Rattle.bng_lcp.specs.Judgement.{IsJudgement}
 use Rattle.bng_lcp.specs.Reply.{Takes}
 use Rattle.bng_lcp.specs.Ask.{Ask}
-use Rattle.bng_ppp.specs.declared.kept.TheConstants.{ECHOES_UNANSWERED_MOST}
 use Rattle.bng_ppp.specs.declared.kind.Kind.{Kind}
 use Rattle.bng_ppp.specs.declared.kind.Kind.TheVariants.{Request, Reply, Plain, Echo, Mute, EchoReply, Unknown}
 use Rattle.bng_ppp.specs.declared.heard.Heard.{Heard}
@@ -66,7 +65,7 @@ pub record Starts (auth : List AuthKind) (random : List ℕ) (echo now : ℕ) (o
 -- A Configure-Request is judged. One whose options are malformed, or more than 64, is ignored.
 abbrev pub Judges : ControlPacket → ℕ → ℕ → List ℕ → LinkState → Said → LinkState → Type 0
 Judges p echo now random old says new =
-    ((options : List PppOption) × (judged : Judged) × AreOptions options p.body × IsJudgement (rules_of old random) options judged
+    ((options : List PppOption) × (judged : Judged) × AreOptions options p.body × (length options ≤ 64) × IsJudgement (rules_of old random) options judged
     × Moves (event_of judged) (answer_of old.kept p options judged) echo now old says new)
     ⊎ (((options : List PppOption) → AreOptions options p.body → 64 < length options) × Rests old says new)
 
@@ -155,8 +154,8 @@ abbrev pub Reminds : ℕ → ℕ → LinkState → Said → LinkState → Type 0
 Reminds echo now old says new =
     (TimerIsOut old.lcp now × (0 < old.lcp.counter) × Moves ToPlus (by_timer old.kept) echo now old says new)
     ⊎ ((TimerIsOut old.lcp now × (old.lcp.counter ≡ 0) × Moves ToMinus (by_timer old.kept) echo now old says new)
-    ⊎ (((¬ (TimerIsOut old.lcp now)) × EchoIsDue old now × (ECHOES_UNANSWERED_MOST ≤ old.kept.unanswered) × Loses echo now old says new)
-    ⊎ (((¬ (TimerIsOut old.lcp now)) × EchoIsDue old now × (old.kept.unanswered < ECHOES_UNANSWERED_MOST) × (says ≡ (echoes echo now old).said) × (new ≡ (echoes echo now old).link))
+    ⊎ (((¬ (TimerIsOut old.lcp now)) × EchoIsDue old now × (3 ≤ old.kept.unanswered) × Loses echo now old says new)
+    ⊎ (((¬ (TimerIsOut old.lcp now)) × EchoIsDue old now × (old.kept.unanswered < 3) × (says ≡ (echoes echo now old).said) × (new ≡ (echoes echo now old).link))
     ⊎ ((¬ (TimerIsOut old.lcp now)) × (¬ (EchoIsDue old now)) × Rests old says new))))
 
 -- the earliest of two moments that may be there

@@ -5,7 +5,6 @@ use Rattle.bng_automaton.specs.Machine.{Machine}
 use Rattle.bng_base.specs.declared.settings.AuthKind.{AuthKind}
 use Rattle.bng_lcp.specs.Ask.{Ask}
 use Rattle.bng_lcp.specs.Judgement.{magic_from}
-use Rattle.bng_ppp.specs.declared.kept.TheConstants.{NAKS_MOST}
 use Rattle.bng_ppp.specs.declared.kept.Kept.{Kept}
 use Rattle.bng_ppp.specs.declared.rules.LinkKind.{LinkKind}
 use Rattle.bng_ppp.specs.declared.rules.LinkKind.TheVariants.{Pppoe, L2tp}
@@ -31,13 +30,13 @@ next_of id = (id + 1) % 256
 abbrev pub echo_after : ℕ → ℕ → Option ℕ
 echo_after echo now = if echo == 0 then None else Some (now + 1000 * echo)
 
--- one Configure-Nak more without a Configure-Ack between
+-- one Configure-Nak more without a Configure-Ack between: after the fifth (Max-Failure, RFC 1661 section 4.6) none is counted
 abbrev pub more_naks : ℕ → ℕ
-more_naks naks = if nat_lt naks NAKS_MOST then naks + 1 else naks
+more_naks naks = if nat_lt naks 5 then naks + 1 else naks
 
 -- the automaton of a link that was told nothing: Max-Configure 10, Max-Terminate 2 and Max-Failure 5
 abbrev pub unused : Machine
-unused = record { state = Initial; counter = 0; started = None; max_configure = 10; max_terminate = 2; max_failure = NAKS_MOST }
+unused = record { state = Initial; counter = 0; started = None; max_configure = 10; max_terminate = 2; max_failure = 5 }
 
 -- what such a link keeps
 abbrev pub kept_first : ℕ → Kept

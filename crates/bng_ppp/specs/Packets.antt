@@ -5,7 +5,6 @@ use Rattle.bng_automaton.specs.declared.event.Event.{Event}
 use Rattle.bng_automaton.specs.declared.event.Event.TheVariants.{RcrPlus, RcrMinus, Rtr, Rta, RxjPlus, RxjMinus, Rxr}
 use Rattle.bng_base.specs.PppGrammar.{PppFrame, PppOption, ControlPacket, OptionFits, IsPpp, IsControlPacket, packet_text, options_text}
 use Rattle.std.specs.List.{All}
-use Rattle.bng_base.specs.declared.frame.TheConstants.{LONGEST}
 use Rattle.bng_ppp_wire.specs.declared.view.Opt.{Opt}
 use Rattle.bng_ppp_wire.specs.View.{packet_of, option_of, options_of}
 use Rattle.bng_ppp_wire.specs.declared.code.TheConstants.{CONFIGURE_REQUEST, CONFIGURE_ACK, CONFIGURE_NAK, CONFIGURE_REJECT, TERMINATE_REQUEST, TERMINATE_ACK, CODE_REJECT, PROTOCOL_REJECT, ECHO_REQUEST, ECHO_REPLY, DISCARD_REQUEST}
@@ -15,8 +14,6 @@ use Rattle.bng_lcp.specs.declared.judgement.Judged.{Judged}
 use Rattle.bng_lcp.specs.declared.judgement.Judged.TheVariants as judged
 use Rattle.bng_lcp.specs.Made.{all_made_of}
 use Rattle.bng_lcp.specs.Judgement.{is_mru}
-use Rattle.bng_ppp.specs.declared.send.TheConstants.{BODY_MOST}
-use Rattle.bng_ppp.specs.declared.kept.TheConstants.{NAKS_MOST}
 use Rattle.bng_ppp.specs.declared.kept.Kept.{Kept}
 use Rattle.bng_ppp.specs.declared.kind.Kind.{Kind}
 use Rattle.bng_ppp.specs.declared.kind.Kind.TheVariants.{Request, Reply, Plain, Echo, Mute, EchoReply, Unknown}
@@ -25,13 +22,21 @@ use Rattle.bng_ppp.specs.declared.heard.Heard.TheVariants.{NoFrame, NoPacket, Lo
 use Rattle.bng_ppp.specs.LinkState.{LinkState, more_naks}
 use Rattle.bng_ppp.specs.Causes.{Why}
 
--- what octets are to the link
+-- What octets are to the link. No datagram has more than 4,096; octets beyond that are passed over.
 abbrev pub IsHeard : List ℕ → Heard → Type 0
-IsHeard octets NoFrame = (f : PppFrame) → ¬ (IsPpp f octets)
-IsHeard octets NoPacket = (f : PppFrame) × IsPpp f octets × (f.protocol ≡ protocol.LCP) × ((p : ControlPacket) → ¬ (IsControlPacket p f.info))
-IsHeard octets Long = (f : PppFrame) × (p : ControlPacket) × IsPpp f octets × (f.protocol ≡ protocol.LCP) × IsControlPacket p f.info × (BODY_MOST < length p.body)
-IsHeard octets (Lcp p) = (f : PppFrame) × IsPpp f octets × (f.protocol ≡ protocol.LCP) × IsControlPacket (packet_of p) f.info × (length p.body.now ≤ BODY_MOST)
-IsHeard octets (Other n) = (f : PppFrame) × IsPpp f octets × (f.protocol ≡ n) × (n ≢ protocol.LCP)
+IsHeard octets Long = 4096 < length octets
+IsHeard octets NoFrame = (length octets ≤ 4096) × ((f : PppFrame) → ¬ (IsPpp f octets))
+IsHeard octets NoPacket = (length octets ≤ 4096) × ((f : PppFrame) × IsPpp f octets × (f.protocol ≡ protocol.LCP) × ((p : ControlPacket) → ¬ (IsControlPacket p f.info)))
+IsHeard octets (Lcp p) = (length octets ≤ 4096) × ((f : PppFrame) × IsPpp f octets × (f.protocol ≡ protocol.LCP) × IsControlPacket (packet_of p) f.info)
+IsHeard octets (Other n) = (length octets ≤ 4096) × ((f : PppFrame) × IsPpp f octets × (f.protocol ≡ n) × (n ≢ protocol.LCP))
+
+-- the body of a packet of a frame of at most 4,096 octets: the protocol has two, and the header four
+abbrev pub IsShort : Heard → Type 0
+IsShort Long = ⊤
+IsShort NoFrame = ⊤
+IsShort NoPacket = ⊤
+IsShort (Lcp p) = length p.body.now ≤ 4090
+IsShort (Other n) = ⊤
 
 -- a Code-Reject of a packet of the codes 1 to 7, without which no link is
 abbrev pub rejects_code : List ℕ → Bool
@@ -78,13 +83,14 @@ protocol_reject s octets = record { code = PROTOCOL_REJECT; id = s.kept.next_id;
 abbrev pub echo_reply : LinkState → ControlPacket → ControlPacket
 echo_reply s p = record { code = ECHO_REPLY; id = p.id; body = take (body_most s.kept) (big_bytes 4 (own_magic s) ++ drop 4 p.body) }
 
--- by what a Configure-Request is judged
+-- By what a Configure-Request is judged. After five Configure-Naks without a Configure-Ack between there are no more
+-- (Max-Failure, RFC 1661 section 4.6).
 abbrev pub rules_of : LinkState → List ℕ → LcpRules
 rules_of s random = record {
   limit = s.kept.limit;
   own_magic = own_magic s;
   fresh_magic = big_number 4 random;
-  no_more_naks = nat_le NAKS_MOST s.kept.naks;
+  no_more_naks = nat_le 5 s.kept.naks;
 }
 
 -- a request's MRU is the one that it lists, else the limit
@@ -109,8 +115,8 @@ answer_of k p options judged.Ack = answer_with k p CONFIGURE_ACK p.body (mru_of 
 answer_of k p options (judged.Nak made) = answer_with k p CONFIGURE_NAK (options_text (all_made_of made.items)) k.mru (more_naks k.naks)
 answer_of k p options (judged.Reject rejected) = answer_with k p CONFIGURE_REJECT (options_text (options_of rejected.items)) k.mru k.naks
 
--- the options of a Configure-Reject can be written
+-- the options of a Configure-Reject can be written, and fit a packet
 abbrev pub IsSpellable : Judged → Type 0
 IsSpellable judged.Ack = ⊤
 IsSpellable (judged.Nak made) = ⊤
-IsSpellable (judged.Reject rejected) = All (λ (o : Opt). OptionFits (option_of o)) rejected.items × (length (options_text (options_of rejected.items)) ≤ LONGEST)
+IsSpellable (judged.Reject rejected) = All (λ (o : Opt). OptionFits (option_of o)) rejected.items × (length (options_text (options_of rejected.items)) ≤ 4090)

@@ -1,7 +1,9 @@
 //! The actions of the automaton.
-ghost use Rattle.std.specs.Prelude.{◌≡◌, ◌<◌, ◌^◌, []};
+ghost use Rattle.std.specs.Prelude.{◌≡◌, ◌+◌, ◌<◌, ◌≤◌, ◌^◌, [], length};
+ghost use Rattle.std.specs.List.{sum_by};
 ghost use Rattle.bng_ppp.specs.Said.{said};
-ghost use Rattle.bng_ppp.specs.Causes.{why};
+ghost use Rattle.bng_ppp.specs.Causes.{why, AnswerFits};
+ghost use Rattle.bng_ppp.specs.Room.{sends};
 ghost use Rattle.bng_ppp.specs.Acts.{acted, all_acted, configured, terminated, kept_up, requested as kept_requested, ending as kept_ending};
 ghost use Rattle.bng_ppp.specs.Sending.{sent};
 
@@ -62,7 +64,9 @@ fn ending(kept: Kept, timed: bool) -> Kept
 
 // A packet without a body.
 fn bare(code: u8, id: u8, steps: &mut Steps)
-    ensures { said steps.new ≡ record (said steps.old) { outs = sent (record { code = code; id = id; body = [] }) (said steps.old).outs } }
+    requires room { length steps.old.outs.items < 4 }
+    ensures few { length steps.new.outs.items ≤ length steps.old.outs.items + 1 }
+    ensures said { said steps.new ≡ record (said steps.old) { outs = sent (record { code = code; id = id; body = [] }) (said steps.old).outs } }
 {
     let packet = Packet {
         code,
@@ -82,7 +86,11 @@ impl Link {
         now: u64,
         steps: &mut Steps,
     )
-        requires { now < 2 ^ 60 }
+        requires moment { now < 2 ^ 60 }
+        requires answer { AnswerFits cause.now.answer }
+        requires mru { cause.now.mru ≤ 1500 }
+        requires room { length steps.old.outs.items + sum_by sends actions.now ≤ 4 }
+        ensures few { length steps.new.outs.items ≤ length steps.old.outs.items + sum_by sends actions.now }
         ensures after { self.new ≡ (all_acted (why cause.now) echo now (record { link = self.old; said = said steps.old }) actions.now).link }
         ensures said { said steps.new ≡ (all_acted (why cause.now) echo now (record { link = self.old; said = said steps.old }) actions.now).said }
     {
@@ -93,7 +101,11 @@ impl Link {
 
     // Does one action.
     fn act(&mut self, action: Action, cause: &Cause<'_>, echo: u16, now: u64, steps: &mut Steps)
-        requires { now < 2 ^ 60 }
+        requires moment { now < 2 ^ 60 }
+        requires answer { AnswerFits cause.now.answer }
+        requires mru { cause.now.mru ≤ 1500 }
+        requires room { length steps.old.outs.items + sends action ≤ 4 }
+        ensures few { length steps.new.outs.items ≤ length steps.old.outs.items + sends action }
         ensures after { self.new ≡ (acted (why cause.now) echo now (record { link = self.old; said = said steps.old }) action).link }
         ensures said { said steps.new ≡ (acted (why cause.now) echo now (record { link = self.old; said = said steps.old }) action).said }
     {
@@ -127,6 +139,8 @@ impl Link {
 
     // Sends a Configure-Request.
     fn configure(&mut self, cause: &Cause<'_>, steps: &mut Steps)
+        requires room { length steps.old.outs.items < 4 }
+        ensures few { length steps.new.outs.items ≤ length steps.old.outs.items + 1 }
         ensures after { self.new ≡ (configured (why cause.now) (record { link = self.old; said = said steps.old })).link }
         ensures said { said steps.new ≡ (configured (why cause.now) (record { link = self.old; said = said steps.old })).said }
     {
@@ -138,6 +152,8 @@ impl Link {
 
     // Sends a Terminate-Request.
     fn terminate(&mut self, cause: &Cause<'_>, steps: &mut Steps)
+        requires room { length steps.old.outs.items < 4 }
+        ensures few { length steps.new.outs.items ≤ length steps.old.outs.items + 1 }
         ensures after { self.new ≡ (terminated (why cause.now) (record { link = self.old; said = said steps.old })).link }
         ensures said { said steps.new ≡ (terminated (why cause.now) (record { link = self.old; said = said steps.old })).said }
     {

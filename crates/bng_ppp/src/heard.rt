@@ -1,17 +1,17 @@
-ghost use Rattle.bng_ppp.specs.Packets.{IsHeard};
+ghost use Rattle.bng_ppp.specs.Packets.{IsHeard, IsShort};
 
-use crate::send::BODY_MOST;
+use bng_base::LONGEST;
 use bng_ppp_wire::{Packet, Ppp, protocol};
 
 /// What the octets of a frame are to the link.
 #[derive(Clone, Copy, Debug)]
 pub(crate) enum Heard<'a> {
+    /// They are more than the 4,096 of the longest datagram.
+    Long,
     /// They are no frame.
     NoFrame,
     /// They are a frame of LCP that holds no packet.
     NoPacket,
-    /// A packet of LCP that no frame of 4,096 octets holds.
-    Long,
     /// A packet of LCP.
     Lcp(Packet<'a>),
     /// A frame of another protocol.
@@ -20,8 +20,12 @@ pub(crate) enum Heard<'a> {
 
 /// What the octets of a frame are to the link.
 pub(crate) fn frame_at(octets: &[u8]) -> Heard<'_>
-    ensures { IsHeard octets.now result }
+    ensures heard { IsHeard octets.now result }
+    ensures short { IsShort result }
 {
+    if octets.len() > LONGEST {
+        return Heard::Long;
+    }
     let Ok(frame) = Ppp::read(octets) else {
         return Heard::NoFrame;
     };
@@ -31,8 +35,5 @@ pub(crate) fn frame_at(octets: &[u8]) -> Heard<'_>
     let Ok(packet) = Packet::read(frame.info) else {
         return Heard::NoPacket;
     };
-    if packet.body.len() > BODY_MOST {
-        return Heard::Long;
-    }
     Heard::Lcp(packet)
 }

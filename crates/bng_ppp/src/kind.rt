@@ -58,7 +58,7 @@ fn echo(body: &[u8]) -> Kind
 }
 
 // The event of a reject that the link cannot do without, or can.
-fn rejected(catastrophic: bool) -> Event
+pub(crate) fn rejected(catastrophic: bool) -> Event
     ensures { result ≡ (if catastrophic then Event.RxjMinus else Event.RxjPlus) }
 {
     if catastrophic {
@@ -69,7 +69,7 @@ fn rejected(catastrophic: bool) -> Event
 }
 
 // Whether a Code-Reject has a packet of a code that the link needs.
-fn rejects_code(body: &[u8]) -> bool
+pub(crate) fn rejects_code(body: &[u8]) -> bool
     ensures { result ≡ does_reject_code body.now }
 {
     match body {

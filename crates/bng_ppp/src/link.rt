@@ -1,10 +1,11 @@
 ghost use Rattle.std.specs.Prelude.{◌≡◌, ◌<◌, ◌≤◌, ◌^◌, ◌↔◌, ◌⊎◌, ℕ, IfSome, IsTrue, IsNone, length, option_map, ◌+◌, ◌∷◌, []};
 ghost use Rattle.bng_automaton.specs.Timer.{TimerIsOut};
-ghost use Rattle.bng_ppp.specs.Said.{said};
+ghost use Rattle.bng_ppp.specs.Said.{said, quiet as says_nothing};
 ghost use Rattle.bng_ppp.specs.LinkState.{IsFirstAsk};
-ghost use Rattle.bng_ppp.specs.Causes.{why, plain};
+ghost use Rattle.bng_ppp.specs.Causes.{why, plain, AnswerFits};
+ghost use Rattle.bng_ppp.specs.Room.{most_of};
 ghost use Rattle.bng_ppp.specs.Moves.{Follows, Moves};
-ghost use Rattle.bng_ppp.specs.LinkRelation.{LinkSteps, Starts, Asks, is_down as down_in, EchoIsDue, earliest as first_of};
+ghost use Rattle.bng_ppp.specs.LinkRelation.{LinkSteps, Starts, Asks, is_down as down_in, is_opened as opened_in, EchoIsDue, earliest as first_of};
 
 use crate::cause::Cause;
 use crate::kept::{Kept, NAKS_MOST};
@@ -17,9 +18,9 @@ use bng_lcp::LcpAsk;
 use std::marker::Model;
 
 /// How often a Configure-Request and a Terminate-Request go out without an answer (RFC 1661 section 4.6).
-const MAX_CONFIGURE: u8 = 10;
+pub(crate) const MAX_CONFIGURE: u8 = 10;
 
-const MAX_TERMINATE: u8 = 2;
+pub(crate) const MAX_TERMINATE: u8 = 2;
 
 /// One PPP link, as far as LCP goes (RFC 1661).
 ///
@@ -32,11 +33,14 @@ pub struct Link {
 }
 
 impl Model for Link {
+    ghost use Rattle.std.specs.Prelude.{◌≤◌};
     ghost use Rattle.bng_ppp.specs.LinkState.{LinkState};
 
     ghost Value = { LinkState };
 
     ghost view = { λ l. record { lcp = l.lcp; ask = l.ask; kept = l.kept } };
+
+    ghost invariant = { λ l. (l.kept.limit ≤ 1500) × (l.kept.mru ≤ 1500) };
 }
 
 // The gateway's own side of LCP, which has asked for nothing yet.
@@ -66,7 +70,7 @@ fn is_down(state: State) -> bool
 }
 
 // The earlier of two moments.
-fn earliest(a: Option<u64>, b: Option<u64>) -> Option<u64>
+pub(crate) fn earliest(a: Option<u64>, b: Option<u64>) -> Option<u64>
     ensures { result ≡ first_of a b }
 {
     match (a, b) {
@@ -122,12 +126,32 @@ impl Link {
         requires auth { 0 < length rules.now.auth.items }
         ensures { LinkSteps rules.now input.entry now random.now self.old (said result) self.new }
     {
+        let mut steps = quiet();
+        self.take_input(rules, input, now, random, &mut steps);
+        steps
+    }
+
+    // Takes an input, and writes what is to be sent where nothing stands yet.
+    pub(crate) fn take_input(
+        &mut self,
+        rules: &LinkRules,
+        input: Input<'_>,
+        now: u64,
+        random: &[u8; 16],
+        steps: &mut Steps,
+    )
+        requires moment { now < 2 ^ 60 }
+        requires auth { 0 < length rules.now.auth.items }
+        requires quiet { said steps.old ≡ says_nothing }
+        ensures steps { LinkSteps rules.now input.entry now random.now self.old (said steps.new) self.new }
+        ensures few { length steps.new.outs.items ≤ 2 }
+    {
         match input {
-            Input::Start => self.start(rules.auth.as_slice(), rules.echo, now, random),
-            Input::Frame(octets) => self.hear(octets, rules.echo, now, random),
-            Input::Timer => self.remind(rules.echo, now),
-            Input::Close => self.plainly(Event::Close, 0, rules.echo, now),
-            Input::Lost => self.lose(rules.echo, now),
+            Input::Start => self.start(rules.auth.as_slice(), rules.echo, now, random, steps),
+            Input::Frame(octets) => self.hear(octets, rules.echo, now, random, steps),
+            Input::Timer => self.remind(rules.echo, now, steps),
+            Input::Close => self.plainly(Event::Close, 0, rules.echo, now, steps),
+            Input::Lost => self.lose(rules.echo, now, steps),
         }
     }
 
@@ -138,10 +162,28 @@ impl Link {
         self.kept.was_opened
     }
 
+    /// Whether LCP is Opened.
+    pub fn is_opened(&self) -> bool
+        ensures { result ≡ opened_in self.now.lcp.state }
+    {
+        match self.lcp.state() {
+            State::Opened => true,
+            _ => false,
+        }
+    }
+
+    /// The protocol by which the peer is asked to authenticate itself.
+    pub(crate) fn auth(&self) -> AuthKind
+        ensures { result ≡ self.now.ask.wanted.auth }
+    {
+        self.ask.wanted().auth
+    }
+
     /// The peer's Maximum-Receive-Unit, in octets: that of its last Configure-Request that was acknowledged, and the
     /// limit where that has none or where there was none.
     pub fn mru(&self) -> u16
-        ensures { result ≡ self.now.kept.mru }
+        ensures mru { result ≡ self.now.kept.mru }
+        ensures most { result ≤ 1500 }
     {
         self.kept.mru
     }
@@ -156,19 +198,26 @@ impl Link {
     }
 
     // Open, and then Up.
-    fn start(&mut self, auth: &[AuthKind], echo: u16, now: u64, random: &[u8; 16]) -> Steps
+    fn start(
+        &mut self,
+        auth: &[AuthKind],
+        echo: u16,
+        now: u64,
+        random: &[u8; 16],
+        steps: &mut Steps,
+    )
         requires moment { now < 2 ^ 60 }
         requires some { 0 < length auth.now }
-        requires few { length auth.now ≤ 2 }
-        ensures { Starts auth.now random.now echo now self.old (said result) self.new }
+        requires two { length auth.now ≤ 2 }
+        requires quiet { said steps.old ≡ says_nothing }
+        ensures starts { Starts auth.now random.now echo now self.old (said steps.new) self.new }
+        ensures few { length steps.new.outs.items ≤ 2 }
     {
         self.begin(auth, random);
-        let mut steps = quiet();
         let open = self.plain_cause(0);
-        self.follow(Event::Open, &open, echo, now, &mut steps);
+        self.follow(Event::Open, &open, echo, now, steps);
         let up = self.plain_cause(0);
-        self.follow(Event::Up, &up, echo, now, &mut steps);
-        steps
+        self.follow(Event::Up, &up, echo, now, steps);
     }
 
     // The gateway's own side begins anew where the lower layer is down.
@@ -184,8 +233,10 @@ impl Link {
     }
 
     // What an event without an answer causes.
-    fn plain_cause(&self, id: u8) -> Cause<'static>
-        ensures { why result ≡ plain self.now.kept id }
+    pub(crate) fn plain_cause(&self, id: u8) -> Cause<'static>
+        ensures why { why result ≡ plain self.now.kept id }
+        ensures answer { AnswerFits result.answer }
+        ensures mru { result.mru ≤ 1500 }
     {
         Cause {
             timed: false,
@@ -197,30 +248,52 @@ impl Link {
     }
 
     // One event and its actions, after what the step did before.
-    fn follow(&mut self, event: Event, cause: &Cause<'_>, echo: u16, now: u64, steps: &mut Steps)
-        requires { now < 2 ^ 60 }
-        ensures { Follows event (why cause.now) echo now (record { link = self.old; said = said steps.old }) (record { link = self.new; said = said steps.new }) }
+    pub(crate) fn follow(
+        &mut self,
+        event: Event,
+        cause: &Cause<'_>,
+        echo: u16,
+        now: u64,
+        steps: &mut Steps,
+    )
+        requires moment { now < 2 ^ 60 }
+        requires answer { AnswerFits cause.now.answer }
+        requires mru { cause.now.mru ≤ 1500 }
+        requires room { length steps.old.outs.items + most_of event ≤ 4 }
+        ensures few { length steps.new.outs.items ≤ length steps.old.outs.items + most_of event }
+        ensures follows { Follows event (why cause.now) echo now (record { link = self.old; said = said steps.old }) (record { link = self.new; said = said steps.new }) }
     {
         let actions = self.lcp.step(event, now);
         self.perform(actions.as_slice(), cause, echo, now, steps);
     }
 
     // An event whose actions answer a packet at most by a Terminate-Ack.
-    pub(crate) fn plainly(&mut self, event: Event, id: u8, echo: u16, now: u64) -> Steps
-        requires { now < 2 ^ 60 }
-        ensures { Moves event (plain self.old.kept id) echo now self.old (said result) self.new }
+    pub(crate) fn plainly(&mut self, event: Event, id: u8, echo: u16, now: u64, steps: &mut Steps)
+        requires moment { now < 2 ^ 60 }
+        requires quiet { said steps.old ≡ says_nothing }
+        ensures moves { Moves event (plain self.old.kept id) echo now self.old (said steps.new) self.new }
+        ensures few { length steps.new.outs.items ≤ most_of event }
     {
         let cause = self.plain_cause(id);
-        self.react(event, &cause, echo, now)
+        self.react(event, &cause, echo, now, steps)
     }
 
     // An event alone.
-    pub(crate) fn react(&mut self, event: Event, cause: &Cause<'_>, echo: u16, now: u64) -> Steps
-        requires { now < 2 ^ 60 }
-        ensures { Moves event (why cause.now) echo now self.old (said result) self.new }
+    pub(crate) fn react(
+        &mut self,
+        event: Event,
+        cause: &Cause<'_>,
+        echo: u16,
+        now: u64,
+        steps: &mut Steps,
+    )
+        requires moment { now < 2 ^ 60 }
+        requires answer { AnswerFits cause.now.answer }
+        requires mru { cause.now.mru ≤ 1500 }
+        requires quiet { said steps.old ≡ says_nothing }
+        ensures moves { Moves event (why cause.now) echo now self.old (said steps.new) self.new }
+        ensures few { length steps.new.outs.items ≤ most_of event }
     {
-        let mut steps = quiet();
-        self.follow(event, cause, echo, now, &mut steps);
-        steps
+        self.follow(event, cause, echo, now, steps);
     }
 }

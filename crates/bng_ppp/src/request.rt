@@ -3,17 +3,16 @@ ghost use Rattle.std.specs.Prelude.{◌≡◌, ◌≤◌, ◌<◌, ◌^◌, leng
 ghost use Rattle.bng_base.specs.PppGrammar.{OptionFits, options_text};
 ghost use Rattle.bng_ppp_wire.specs.View.{option_of, options_of, packet_of};
 ghost use Rattle.bng_lcp.specs.Made.{all_made_of};
-ghost use Rattle.bng_ppp.specs.Said.{said};
+ghost use Rattle.bng_ppp.specs.Said.{said, quiet as says_nothing};
 ghost use Rattle.bng_ppp.specs.Moves.{Moves};
 ghost use Rattle.bng_ppp.specs.Packets.{rules_of, own_magic as own_magic_of, mru_with, mru_of as mru_listed, event_of, answer_of, IsSpellable};
-ghost use Rattle.bng_ppp.specs.Causes.{why};
+ghost use Rattle.bng_ppp.specs.Causes.{why, AnswerFits};
 ghost use Rattle.bng_ppp.specs.LinkRelation.{Judges};
 
 use crate::cause::Cause;
 use crate::kept::{NAKS_MOST, more_naks};
 use crate::link::Link;
-use crate::send::BODY_MOST;
-use crate::step::{Steps, quiet};
+use crate::step::Steps;
 use bng_automaton::Event;
 use bng_base::Frame;
 use bng_lcp::option::MAXIMUM_RECEIVE_UNIT;
@@ -47,7 +46,8 @@ fn put_made(made: &[MadeOpt], into: &mut Frame)
     requires many { length made.now ≤ 65 }
     requires empty { length into.old.payload ≡ 0 }
     requires headroom { into.old.headroom ≡ 64 }
-    ensures { into.new.payload ≡ options_text (all_made_of made.now) }
+    ensures text { into.new.payload ≡ options_text (all_made_of made.now) }
+    ensures short { length into.new.payload ≤ 390 }
 {
     for option in made {
         let value = option.value.as_slice();
@@ -57,9 +57,9 @@ fn put_made(made: &[MadeOpt], into: &mut Frame)
 }
 
 // The options of a Configure-Reject, as the body of a packet has them.
-fn listed(options: &[Opt<'_>]) -> Frame
+pub(crate) fn listed(options: &[Opt<'_>]) -> Frame
     requires fit { All (λ o. OptionFits (option_of o)) options.now }
-    requires short { length (options_text (options_of options.now)) ≤ 4096 }
+    requires short { length (options_text (options_of options.now)) ≤ 4090 }
     ensures { result.payload ≡ options_text (options_of options.now) }
 {
     let mut body = Frame::new();
@@ -69,7 +69,10 @@ fn listed(options: &[Opt<'_>]) -> Frame
 
 // A cause that answers a Configure-Request by a packet with this code and body.
 fn answering<'a>(packet: &Packet<'_>, code: u8, body: &'a [u8], mru: u16, naks: u8) -> Cause<'a>
-    ensures { why result ≡ record { timed = false; id = packet.now.id; answer = Some (record { code = code; id = packet.now.id; body = body.now }); mru = mru; naks = naks } }
+    requires { length body.now ≤ 4090 }
+    ensures fits { AnswerFits result.answer }
+    ensures mru { result.mru ≡ mru }
+    ensures why { why result ≡ record { timed = false; id = packet.now.id; answer = Some (record { code = code; id = packet.now.id; body = body.now }); mru = mru; naks = naks } }
 {
     Cause {
         timed: false,
@@ -94,7 +97,8 @@ impl Link {
 
     // By what a Configure-Request is judged.
     fn rules(&self, random: &[u8; 16]) -> LcpRules
-        ensures { result ≡ rules_of self.now random.now }
+        ensures rules { result ≡ rules_of self.now random.now }
+        ensures limit { result.limit ≤ 1500 }
     {
         LcpRules {
             limit: self.kept.limit,
@@ -111,17 +115,20 @@ impl Link {
         echo: u16,
         now: u64,
         random: &[u8; 16],
-    ) -> Steps
+        steps: &mut Steps,
+    )
         requires moment { now < 2 ^ 60 }
-        requires body { length packet.now.body.now ≤ BODY_MOST }
-        ensures { Judges (packet_of packet.now) echo now random.now self.old (said result) self.new }
+        requires body { length packet.now.body.now ≤ 4090 }
+        requires quiet { said steps.old ≡ says_nothing }
+        ensures judges { Judges (packet_of packet.now) echo now random.now self.old (said steps.new) self.new }
+        ensures few { length steps.new.outs.items ≤ 2 }
     {
         let Ok(found) = options(packet) else {
-            return quiet();
+            return;
         };
         let rules = self.rules(random);
         let judged = judge(found.as_slice(), &rules);
-        self.answer(packet, found.as_slice(), &judged, echo, now)
+        self.answer(packet, found.as_slice(), &judged, echo, now, steps)
     }
 
     // Answers a Configure-Request that was judged.
@@ -132,10 +139,15 @@ impl Link {
         judged: &Judged<'_>,
         echo: u16,
         now: u64,
-    ) -> Steps
+        steps: &mut Steps,
+    )
         requires moment { now < 2 ^ 60 }
+        requires body { length packet.now.body.now ≤ 4090 }
         requires fits { IsSpellable judged.now }
-        ensures { Moves (event_of judged.now) (answer_of self.old.kept (packet_of packet.now) (options_of options.now) judged.now) echo now self.old (said result) self.new }
+        requires mru { judged.now ≡ Judged.Ack → mru_listed self.old.kept.limit (options_of options.now) ≤ 1500 }
+        requires quiet { said steps.old ≡ says_nothing }
+        ensures moves { Moves (event_of judged.now) (answer_of self.old.kept (packet_of packet.now) (options_of options.now) judged.now) echo now self.old (said steps.new) self.new }
+        ensures few { length steps.new.outs.items ≤ 2 }
     {
         let mru = self.kept.mru;
         let naks = self.kept.naks;
@@ -148,18 +160,18 @@ impl Link {
                     mru_of(self.kept.limit, options),
                     0,
                 );
-                self.react(Event::RcrPlus, &cause, echo, now)
+                self.react(Event::RcrPlus, &cause, echo, now, steps)
             }
             Judged::Nak(made) => {
                 let mut body = Frame::new();
                 put_made(made.as_slice(), &mut body);
                 let cause = answering(packet, CONFIGURE_NAK, body.payload(), mru, more_naks(naks));
-                self.react(Event::RcrMinus, &cause, echo, now)
+                self.react(Event::RcrMinus, &cause, echo, now, steps)
             }
             Judged::Reject(rejected) => {
                 let body = listed(rejected.as_slice());
                 let cause = answering(packet, CONFIGURE_REJECT, body.payload(), mru, naks);
-                self.react(Event::RcrMinus, &cause, echo, now)
+                self.react(Event::RcrMinus, &cause, echo, now, steps)
             }
         }
     }

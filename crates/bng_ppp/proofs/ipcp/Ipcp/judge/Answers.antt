@@ -1,0 +1,7 @@
+use Rattle.std.proofs.Common.{rules}
+use Rattle.bng_ppp_wire.specs.View.{options_of}
+use Rattle.bng_ppp.proofs.IpcpRejectLaws.{ipcp_spellable}
+use Rattle.bng_ppp.proofs.ipcp.Ipcp.judge.Goals as goal
+
+pub answer-requires-clause-fits : goal.answer-requires-clause-fits
+answer-requires-clause-fits c = ipcp_spellable c.rules-rules.result (options_of c.in-Ok.found.items) c.args.packet.now.body.now c.judge-judged.result (search rules) (search rules) (search rules)

@@ -1,0 +1,220 @@
+//! Frames of the peer: which layer each one is for.
+ghost use Rattle.std.specs.Prelude.{◌≡◌, ◌+◌, ◌<◌, ◌≤◌, ◌^◌, ◌↔◌, ◌||◌, length, IsTrue};
+ghost use Rattle.bng_ppp_wire.specs.View.{packet_of};
+ghost use Rattle.bng_ppp.specs.PppRelation.{IsWay, IsWayShort, HearsOctets, HearsAuth, HearsIpcp, HearsIpcpWithin, HearsLcp, LcpSteps, RejectsIpcp, lcp_hears, ended_by, begun};
+ghost use Rattle.bng_ppp.specs.PppState.{is_for_auth as for_auth, is_for_ipcp as for_ipcp};
+ghost use Rattle.bng_ppp.specs.Working.{turn_of, IsFresh};
+
+use crate::heard::{Heard, frame_at};
+use crate::layers::send_reply;
+use crate::rules::LinkRules;
+use crate::way::Way;
+use crate::whole::WholeLink;
+use crate::work::{Work, cause_of};
+use bng_auth::AuthStep;
+use bng_automaton::Event;
+use bng_base::LONGEST;
+use bng_ppp_wire::code::PROTOCOL_REJECT;
+use bng_ppp_wire::{Packet, Ppp, protocol};
+
+/// The text of the reply to a peer without a name, or with a name or a password of more than 128 octets.
+const NO_NAME: &[u8; 7] = b"no name";
+
+// Whether octets are a Protocol-Reject of IPCP.
+fn rejects_ipcp(octets: &[u8]) -> bool
+    ensures { IsTrue result ↔ RejectsIpcp octets.now }
+{
+    let Heard::Lcp(packet) = frame_at(octets) else {
+        return false;
+    };
+    match (packet.code, packet.body) {
+        (PROTOCOL_REJECT, [high, low, ..]) => {
+            u16::from_be_bytes([*high, *low]) == protocol::IPCP
+        }
+        _ => false,
+    }
+}
+
+impl WholeLink {
+    /// Takes the octets of a frame, and answers the cause with which that ended a live term.
+    pub(crate) fn hear_counted(
+        &mut self,
+        rules: &LinkRules,
+        octets: &[u8],
+        now: u64,
+        random: &[u8; 16],
+        work: &mut Work,
+    ) -> Option<u8>
+        requires moment { now < 2 ^ 60 }
+        requires fresh { IsFresh self.old work.old }
+        ensures hears { HearsOctets rules.now octets.now now random.now self.old (turn_of self.new work.new) }
+        ensures cause { result ≡ ended_by self.new.live work.new.left work.new.ended 1 }
+    {
+        self.hear(rules, octets, now, random, work);
+        cause_of(self.live, work.left, work.ended, 1)
+    }
+
+    // Takes the octets of a frame.
+    fn hear(
+        &mut self,
+        rules: &LinkRules,
+        octets: &[u8],
+        now: u64,
+        random: &[u8; 16],
+        work: &mut Work,
+    )
+        requires moment { now < 2 ^ 60 }
+        requires fresh { IsFresh self.old work.old }
+        ensures { HearsOctets rules.now octets.now now random.now self.old (turn_of self.new work.new) }
+    {
+        match self.way(octets) {
+            Way::Auth(packet) => self.hear_auth(rules, &packet, now, random, work),
+            Way::Ipcp(packet) => self.hear_ipcp(rules, &packet, now, work),
+            Way::NoPacket => {}
+            Way::Lcp => self.hear_lcp(rules, octets, now, random, work),
+        }
+    }
+
+    // Whether a protocol's frames are for authentication.
+    fn is_for_auth(&self, number: u16) -> bool
+        ensures { result ≡ for_auth self.now number }
+    {
+        self.lcp.is_opened() && self.auth.takes_protocol(number)
+    }
+
+    // Whether a protocol's frames are for IPCP.
+    fn is_for_ipcp(&self, number: u16) -> bool
+        ensures { result ≡ for_ipcp self.now number }
+    {
+        self.lcp.is_opened() && self.auth.is_accepted() && number == protocol::IPCP
+    }
+
+    // Whether a protocol's frames are for a layer above LCP.
+    fn is_for_upper(&self, number: u16) -> bool
+        ensures { result ≡ (for_auth self.now number || for_ipcp self.now number) }
+    {
+        self.is_for_auth(number) || self.is_for_ipcp(number)
+    }
+
+    // Whose octets are, and what they are there.
+    fn way<'a>(&self, octets: &'a [u8]) -> Way<'a>
+        ensures way { IsWay self.now octets.now result }
+        ensures short { IsWayShort result }
+    {
+        if octets.len() > LONGEST {
+            return Way::Lcp;
+        }
+        let Ok(frame) = Ppp::read(octets) else {
+            return Way::Lcp;
+        };
+        if !self.is_for_upper(frame.protocol) {
+            return Way::Lcp;
+        }
+        let Ok(packet) = Packet::read(frame.info) else {
+            return Way::NoPacket;
+        };
+        if self.is_for_auth(frame.protocol) {
+            Way::Auth(packet)
+        } else {
+            Way::Ipcp(packet)
+        }
+    }
+
+    // A packet of authentication.
+    fn hear_auth(
+        &mut self,
+        rules: &LinkRules,
+        packet: &Packet<'_>,
+        now: u64,
+        random: &[u8; 16],
+        work: &mut Work,
+    )
+        requires moment { now < 2 ^ 60 }
+        requires room { length work.old.steps.outs.items ≤ 0 }
+        ensures { HearsAuth rules.now (packet_of packet.now) now random.now (turn_of self.old work.old) (turn_of self.new work.new) }
+    {
+        match self.auth.take(packet) {
+            AuthStep::Ask(credentials) => {
+                work.asked = Some(credentials);
+                self.auth_due = None;
+            }
+            AuthStep::Again(reply) => send_reply(&Some(reply), &mut work.steps),
+            AuthStep::Refuse => self.refuse(rules, NO_NAME, now, random, work),
+            AuthStep::Ignore => {}
+        }
+    }
+
+    // A packet of IPCP.
+    fn hear_ipcp(&mut self, rules: &LinkRules, packet: &Packet<'_>, now: u64, work: &mut Work)
+        requires moment { now < 2 ^ 60 }
+        requires body { length packet.now.body.now ≤ 4090 }
+        requires room { length work.old.steps.outs.items ≤ 0 }
+        ensures { HearsIpcp rules.now (packet_of packet.now) now (turn_of self.old work.old) (turn_of self.new work.new) }
+    {
+        let mru = self.lcp.mru();
+        self.hear_ipcp_within(mru, rules, packet, now, work);
+    }
+
+    // A packet of IPCP, to a peer with this Maximum-Receive-Unit.
+    fn hear_ipcp_within(
+        &mut self,
+        mru: u16,
+        rules: &LinkRules,
+        packet: &Packet<'_>,
+        now: u64,
+        work: &mut Work,
+    )
+        requires moment { now < 2 ^ 60 }
+        requires body { length packet.now.body.now ≤ 4090 }
+        requires mru { mru ≤ 1500 }
+        requires room { length work.old.steps.outs.items ≤ 0 }
+        ensures { HearsIpcpWithin mru rules.now (packet_of packet.now) now (turn_of self.old work.old) (turn_of self.new work.new) }
+    {
+        work.steps.opened = false;
+        work.steps.finished = false;
+        self.ipcp
+            .hear(packet, &rules.dns, mru, now, &mut work.steps);
+        work.opened = work.opened || work.steps.opened;
+        work.ended = work.ended || work.steps.finished;
+    }
+
+    // A frame that is LCP's. A Protocol-Reject of IPCP is IPCP's event as well.
+    fn hear_lcp(
+        &mut self,
+        rules: &LinkRules,
+        octets: &[u8],
+        now: u64,
+        random: &[u8; 16],
+        work: &mut Work,
+    )
+        requires moment { now < 2 ^ 60 }
+        requires fresh { IsFresh self.old work.old }
+        ensures { HearsLcp rules.now octets.now now random.now self.old (turn_of self.new work.new) }
+    {
+        let rejected = rejects_ipcp(octets);
+        self.hear_lcp_alone(rules, octets, now, random, work);
+        if rejected {
+            self.tell_ipcp(Event::RxjMinus, now, work);
+        }
+    }
+
+    // A frame that is LCP's, and what it is to the layers above.
+    fn hear_lcp_alone(
+        &mut self,
+        rules: &LinkRules,
+        octets: &[u8],
+        now: u64,
+        random: &[u8; 16],
+        work: &mut Work,
+    )
+        requires moment { now < 2 ^ 60 }
+        requires fresh { IsFresh self.old work.old }
+        ensures steps { LcpSteps rules.now (lcp_hears rules.now octets.now now random.now) now random.now self.old (turn_of self.new work.new) }
+        ensures few { length work.new.steps.outs.items ≤ 3 }
+    {
+        let was = self.lcp.is_opened();
+        self.lcp
+            .hear(octets, rules.echo, now, random, &mut work.steps);
+        self.after_lcp(was, rules, now, random, work);
+    }
+}

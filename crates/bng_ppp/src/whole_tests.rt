@@ -1,0 +1,337 @@
+ghost use Rattle.std.specs.Prelude.{◌<◌, ◌^◌, length};
+
+use crate::{LinkKind, LinkRules, WholeInput, WholeLink, WholeSteps};
+use arrayvec::ArrayVec;
+use bng_base::{AuthKind, Ip4};
+
+// The gateway's magic number is a1b2c3d4, and these octets are its Challenge.
+const RANDOM: [u8; 16] = [
+    0xa1, 0xb2, 0xc3, 0xd4, 4, 5, 6, 7, 8, 9, 10, 11, 12, 13, 14, 15,
+];
+
+// pppd over PPPoE asks for its Maximum-Receive-Unit and a magic number, and takes what the gateway asks for.
+const REQUEST: &[u8] = b"\xc0\x21\x01\x02\x00\x0e\x01\x04\x05\xd4\x05\x06\x11\x22\x33\x44";
+
+const CHAP_ACK: &[u8] =
+    b"\xc0\x21\x02\x01\x00\x13\x01\x04\x05\xd4\x03\x05\xc2\x23\x05\x05\x06\xa1\xb2\xc3\xd4";
+
+const PAP_ACK: &[u8] =
+    b"\xc0\x21\x02\x01\x00\x12\x01\x04\x05\xd4\x03\x04\xc0\x23\x05\x06\xa1\xb2\xc3\xd4";
+
+const CHALLENGE: &[u8] =
+    b"\xc2\x23\x01\x01\x00\x19\x10\xa1\xb2\xc3\xd4\x04\x05\x06\x07\x08\x09\x0a\x0b\x0c\x0d\x0e\x0fbng1";
+
+const RESPONSE: &[u8] =
+    b"\xc2\x23\x02\x01\x00\x17\x10\x01\x02\x03\x04\x05\x06\x07\x08\x09\x0a\x0b\x0c\x0d\x0e\x0f\x10u0";
+
+const PAP_REQUEST: &[u8] = b"\xc0\x23\x01\x07\x00\x0c\x02u0\x04pass";
+
+fn rules(auth: AuthKind, echo: u16) -> LinkRules
+    ensures { 0 < length result.auth.items }
+{
+    let mut only = ArrayVec::new();
+    only.push(auth);
+    let mut name = ArrayVec::new();
+    name.push(b'b');
+    name.push(b'n');
+    name.push(b'g');
+    name.push(b'1');
+    LinkRules {
+        name,
+        address: Ip4(0x0a00_0001),
+        dns: [Some(Ip4(0xc000_0235)), Some(Ip4(0xc000_0236))],
+        auth: only,
+        echo,
+    }
+}
+
+// The octets of a frame that a step sends, none where it sends fewer.
+fn sent(steps: &WholeSteps, place: usize) -> &[u8] {
+    match steps.outs.as_slice().get(place) {
+        Some(frame) => frame.payload(),
+        None => &[],
+    }
+}
+
+fn tell(link: &mut WholeLink, rules: &LinkRules, input: WholeInput<'_>, now: u64) -> WholeSteps
+    requires moment { now < 2 ^ 60 }
+    requires some { 0 < length rules.now.auth.items }
+{
+    link.step(rules, input, now, &RANDOM)
+}
+
+fn hear(link: &mut WholeLink, rules: &LinkRules, octets: &[u8]) -> WholeSteps
+    requires { 0 < length rules.now.auth.items }
+{
+    link.step(rules, WholeInput::Frame(octets), 0, &RANDOM)
+}
+
+fn verdict(yes: bool, octets: &[u8]) -> WholeInput<'static> {
+    let mut text = ArrayVec::new();
+    for octet in octets {
+        if !text.is_full() {
+            text.push(*octet);
+        }
+    }
+    WholeInput::Verdict {
+        yes,
+        lease: Ip4(0x0a00_0002),
+        text,
+    }
+}
+
+// A link whose LCP is Opened.
+fn opened(rules: &LinkRules, ack: &[u8]) -> WholeLink
+    requires { 0 < length rules.now.auth.items }
+{
+    let mut link = WholeLink::new(LinkKind::Pppoe, &RANDOM, 0);
+    let _asked = tell(&mut link, rules, WholeInput::Start, 0);
+    let _answered = hear(&mut link, rules, REQUEST);
+    let _opened = hear(&mut link, rules, ack);
+    link
+}
+
+// A link whose peer was accepted by CHAP and has its address.
+fn served(rules: &LinkRules) -> WholeLink
+    requires { 0 < length rules.now.auth.items }
+{
+    let mut link = opened(rules, CHAP_ACK);
+    let _asked = hear(&mut link, rules, RESPONSE);
+    let _accepted = tell(&mut link, rules, verdict(true, b""), 0);
+    let _acked = hear(
+        &mut link,
+        rules,
+        b"\x80\x21\x02\x01\x00\x0a\x03\x06\x0a\x00\x00\x01",
+    );
+    let _served = hear(
+        &mut link,
+        rules,
+        b"\x80\x21\x01\x01\x00\x0a\x03\x06\x0a\x00\x00\x02",
+    );
+    link
+}
+
+#[test]
+fn a_pppd_is_accepted_by_chap_and_gets_its_address(rt: HostRuntime) {
+    let rules = rules(AuthKind::Chap, 0);
+    let mut link = WholeLink::new(LinkKind::Pppoe, &RANDOM, 0);
+    let _asked = tell(&mut link, &rules, WholeInput::Start, 0);
+    let _answered = hear(&mut link, &rules, REQUEST);
+    let up = hear(&mut link, &rules, CHAP_ACK);
+    assert_eq!(rt; sent(&up, 0), CHALLENGE);
+    assert!(rt; link.was_opened() && !up.opened && link.deadline() == Some(3000));
+    // Before it authenticates itself it asks for an echo, and offers IPCP and CCP.
+    let echo = hear(
+        &mut link,
+        &rules,
+        b"\xc0\x21\x09\x00\x00\x08\x11\x22\x33\x44",
+    );
+    assert_eq!(rt;
+        sent(&echo, 0),
+        b"\xc0\x21\x0a\x00\x00\x08\xa1\xb2\xc3\xd4".as_slice()
+    );
+    let early = hear(
+        &mut link,
+        &rules,
+        b"\x80\x21\x01\x01\x00\x0a\x03\x06\x00\x00\x00\x00",
+    );
+    assert!(rt; early.outs.is_empty());
+    let ccp = hear(&mut link, &rules, b"\x80\xfd\x01\x01\x00\x04");
+    assert_eq!(rt;
+        sent(&ccp, 0),
+        b"\xc0\x21\x08\x02\x00\x0a\x80\xfd\x01\x01\x00\x04".as_slice()
+    );
+    let again = tell(&mut link, &rules, WholeInput::Timer, 3000);
+    assert_eq!(rt; sent(&again, 0), CHALLENGE);
+    let question = hear(&mut link, &rules, RESPONSE);
+    assert!(rt; question.outs.is_empty() && link.deadline().is_none());
+    match &question.asked {
+        Some(claim) => assert_eq!(rt; claim.name.as_slice(), b"u0".as_slice()),
+        None => assert!(rt; false),
+    }
+    let repeated = hear(&mut link, &rules, RESPONSE);
+    assert!(rt; repeated.outs.is_empty() && repeated.asked.is_none());
+    let yes = tell(&mut link, &rules, verdict(true, b"hi"), 3000);
+    assert_eq!(rt; sent(&yes, 0), b"\xc2\x23\x03\x01\x00\x06hi".as_slice());
+    assert_eq!(rt;
+        sent(&yes, 1),
+        b"\x80\x21\x01\x01\x00\x0a\x03\x06\x0a\x00\x00\x01".as_slice()
+    );
+    let second = tell(&mut link, &rules, verdict(false, b"no"), 3000);
+    assert!(rt; second.outs.is_empty());
+    let after = hear(&mut link, &rules, RESPONSE);
+    assert_eq!(rt; sent(&after, 0), b"\xc2\x23\x03\x01\x00\x06hi".as_slice());
+    let wants =
+        b"\x80\x21\x01\x01\x00\x16\x03\x06\x00\x00\x00\x00\x81\x06\x00\x00\x00\x00\x83\x06\x00\x00\x00\x00";
+    let nak =
+        b"\x80\x21\x03\x01\x00\x16\x03\x06\x0a\x00\x00\x02\x81\x06\xc0\x00\x02\x35\x83\x06\xc0\x00\x02\x36";
+    assert_eq!(rt; sent(&hear(&mut link, &rules, wants), 0), nak.as_slice());
+    let _acked = hear(
+        &mut link,
+        &rules,
+        b"\x80\x21\x02\x01\x00\x0a\x03\x06\x0a\x00\x00\x01",
+    );
+    assert!(rt; !link.passes());
+    let takes =
+        b"\x80\x21\x01\x02\x00\x16\x03\x06\x0a\x00\x00\x02\x81\x06\xc0\x00\x02\x35\x83\x06\xc0\x00\x02\x36";
+    let done = hear(&mut link, &rules, takes);
+    let ack =
+        b"\x80\x21\x02\x02\x00\x16\x03\x06\x0a\x00\x00\x02\x81\x06\xc0\x00\x02\x35\x83\x06\xc0\x00\x02\x36";
+    assert_eq!(rt; sent(&done, 0), ack.as_slice());
+    assert!(rt; done.opened && link.passes());
+}
+
+#[test]
+fn a_request_in_opened_ends_the_term_and_begins_anew(rt: HostRuntime) {
+    let rules = rules(AuthKind::Chap, 0);
+    let mut link = served(&rules);
+    let unknown = hear(
+        &mut link,
+        &rules,
+        b"\x80\x21\x09\x05\x00\x08\x00\x00\x00\x00",
+    );
+    assert_eq!(rt;
+        sent(&unknown, 0),
+        b"\x80\x21\x07\x02\x00\x0c\x09\x05\x00\x08\x00\x00\x00\x00".as_slice()
+    );
+    let smaller = b"\xc0\x21\x01\x03\x00\x0e\x01\x04\x05\x78\x05\x06\x11\x22\x33\x44";
+    let anew = hear(&mut link, &rules, smaller);
+    assert_eq!(rt;
+        sent(&anew, 0),
+        b"\xc0\x21\x01\x02\x00\x13\x01\x04\x05\xd4\x03\x05\xc2\x23\x05\x05\x06\xa1\xb2\xc3\xd4".as_slice()
+    );
+    assert_eq!(rt;
+        sent(&anew, 1),
+        b"\xc0\x21\x02\x03\x00\x0e\x01\x04\x05\x78\x05\x06\x11\x22\x33\x44".as_slice()
+    );
+    assert!(rt; anew.term_ended == Some(1) && !link.passes() && link.mru() == 1400);
+    let up = hear(
+        &mut link,
+        &rules,
+        b"\xc0\x21\x02\x02\x00\x13\x01\x04\x05\xd4\x03\x05\xc2\x23\x05\x05\x06\xa1\xb2\xc3\xd4",
+    );
+    assert_eq!(rt;
+        sent(&up, 0),
+        b"\xc2\x23\x01\x02\x00\x19\x10\xa1\xb2\xc3\xd4\x04\x05\x06\x07\x08\x09\x0a\x0b\x0c\x0d\x0e\x0fbng1".as_slice()
+    );
+    // The next request names no Maximum-Receive-Unit: it is the limit again.
+    let none = hear(
+        &mut link,
+        &rules,
+        b"\xc0\x21\x01\x04\x00\x0a\x05\x06\x11\x22\x33\x44",
+    );
+    assert!(rt; none.term_ended.is_none() && link.mru() == 1492);
+}
+
+#[test]
+fn a_refused_peer_gets_each_text_and_the_link_closes(rt: HostRuntime) {
+    let rules = rules(AuthKind::Pap, 0);
+    let texts: [(&[u8], &[u8]); 5] = [
+        (b"no profile", b"\xc0\x23\x03\x07\x00\x0f\x0ano profile"),
+        (b"no pool", b"\xc0\x23\x03\x07\x00\x0c\x07no pool"),
+        (b"no record", b"\xc0\x23\x03\x07\x00\x0e\x09no record"),
+        (b"no address", b"\xc0\x23\x03\x07\x00\x0f\x0ano address"),
+        (b"timeout", b"\xc0\x23\x03\x07\x00\x0c\x07timeout"),
+    ];
+    for (text, nak) in texts {
+        let mut link = opened(&rules, PAP_ACK);
+        assert!(rt; hear(&mut link, &rules, PAP_REQUEST).asked.is_some());
+        let no = tell(&mut link, &rules, verdict(false, text), 0);
+        assert_eq!(rt; sent(&no, 0), nak);
+        assert_eq!(rt; sent(&no, 1), b"\xc0\x21\x05\x02\x00\x04".as_slice());
+        assert!(rt; hear(&mut link, &rules, b"\xc0\x21\x06\x02\x00\x04").finished);
+    }
+    let mut nameless = opened(&rules, PAP_ACK);
+    let no = hear(&mut nameless, &rules, b"\xc0\x23\x01\x08\x00\x06\x00\x00");
+    assert_eq!(rt;
+        sent(&no, 0),
+        b"\xc0\x23\x03\x08\x00\x0c\x07no name".as_slice()
+    );
+    assert_eq!(rt; sent(&no, 1), b"\xc0\x21\x05\x02\x00\x04".as_slice());
+    assert!(rt; no.asked.is_none());
+}
+
+#[test]
+fn a_silent_peer_is_given_up(rt: HostRuntime) {
+    let chap = rules(AuthKind::Chap, 0);
+    let mut link = opened(&chap, CHAP_ACK);
+    for count in 1..10 {
+        let again = tell(&mut link, &chap, WholeInput::Timer, 3000 * count);
+        assert_eq!(rt; sent(&again, 0), CHALLENGE);
+    }
+    let closed = tell(&mut link, &chap, WholeInput::Timer, 30_000);
+    assert_eq!(rt; sent(&closed, 0), b"\xc0\x21\x05\x02\x00\x04".as_slice());
+    let pap = rules(AuthKind::Pap, 0);
+    let mut waited = opened(&pap, PAP_ACK);
+    assert!(rt;
+        tell(&mut waited, &pap, WholeInput::Timer, 29_999)
+            .outs
+            .is_empty()
+    );
+    let closed = tell(&mut waited, &pap, WholeInput::Timer, 30_000);
+    assert_eq!(rt; sent(&closed, 0), b"\xc0\x21\x05\x02\x00\x04".as_slice());
+}
+
+#[test]
+fn each_end_of_a_term_has_its_cause(rt: HostRuntime) {
+    let rules = rules(AuthKind::Chap, 30);
+    let mut asked = served(&rules);
+    let ack = hear(&mut asked, &rules, b"\xc0\x21\x05\x09\x00\x04");
+    assert!(rt; ack.term_ended == Some(1) && !ack.finished);
+    assert_eq!(rt; sent(&ack, 0), b"\xc0\x21\x06\x09\x00\x04".as_slice());
+    let mut layer = served(&rules);
+    let down = hear(&mut layer, &rules, b"\x80\x21\x05\x04\x00\x04");
+    assert_eq!(rt; sent(&down, 0), b"\x80\x21\x06\x04\x00\x04".as_slice());
+    assert!(rt; down.term_ended.is_none() && !layer.passes());
+    assert!(rt; tell(&mut layer, &rules, WholeInput::Timer, 3000).term_ended == Some(1));
+    let mut rejected = served(&rules);
+    let end = hear(
+        &mut rejected,
+        &rules,
+        b"\xc0\x21\x08\x05\x00\x0a\x80\x21\x01\x01\x00\x04",
+    );
+    assert_eq!(rt; sent(&end, 0), b"\x80\x21\x05\x02\x00\x04".as_slice());
+    let mut silent = served(&rules);
+    for count in 1..4 {
+        assert!(rt;
+            tell(&mut silent, &rules, WholeInput::Timer, 30_000 * count)
+                .term_ended
+                .is_none()
+        );
+    }
+    let lost = tell(&mut silent, &rules, WholeInput::Timer, 120_000);
+    assert!(rt; lost.term_ended == Some(2) && lost.finished);
+    let mut gone = served(&rules);
+    let end = tell(&mut gone, &rules, WholeInput::Lost, 0);
+    assert!(rt; end.finished && end.term_ended.is_none() && !gone.passes());
+    let mut closed = served(&rules);
+    let close = tell(&mut closed, &rules, WholeInput::Close, 0);
+    assert_eq!(rt; sent(&close, 0), b"\xc0\x21\x05\x02\x00\x04".as_slice());
+    assert!(rt; close.term_ended.is_none() && !closed.passes());
+}
+
+#[test]
+fn an_xl2tpd_asks_for_asyncmap_and_no_mru(rt: HostRuntime) {
+    let rules = rules(AuthKind::Chap, 0);
+    let mut link = WholeLink::new(LinkKind::L2tp, &RANDOM, 0);
+    let _asked = tell(&mut link, &rules, WholeInput::Start, 0);
+    let first = hear(
+        &mut link,
+        &rules,
+        b"\xc0\x21\x01\x01\x00\x14\x02\x06\x00\x00\x00\x00\x05\x06\x11\x22\x33\x44\x07\x02\x08\x02",
+    );
+    assert_eq!(rt;
+        sent(&first, 0),
+        b"\xc0\x21\x04\x01\x00\x0e\x02\x06\x00\x00\x00\x00\x07\x02\x08\x02".as_slice()
+    );
+    let second = hear(
+        &mut link,
+        &rules,
+        b"\xc0\x21\x01\x02\x00\x0a\x05\x06\x11\x22\x33\x44",
+    );
+    assert_eq!(rt;
+        sent(&second, 0),
+        b"\xc0\x21\x02\x02\x00\x0a\x05\x06\x11\x22\x33\x44".as_slice()
+    );
+    assert_eq!(rt; link.mru(), 1500);
+}
