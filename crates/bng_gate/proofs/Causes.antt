@@ -3,7 +3,7 @@ use Rattle.std.proofs.Common.{◌≡◌, ℕ, ◌≤◌, ◌⊎◌, ⊎_elim, in
 use Rattle.std.proofs.lemmas.Bool.{false≢true}
 use Rattle.std.proofs.lemmas.Bool.Decides.{eqb_tells}
 use Rattle.std.proofs.lemmas.Option.{same_Some}
-use Rattle.bng_base.specs.Told.{FilesTold, Grows}
+use Rattle.bng_base.specs.Told.{FilesTold, EntropyTold, TraceTold, Grows}
 use Rattle.bng_config.specs.declared.config.Config.{Config}
 use Rattle.bng_config.specs.declared.fault.Fault.{Fault}
 use Rattle.bng_gate.specs.declared.texts.Opening.{Opening}
@@ -11,7 +11,7 @@ use Rattle.bng_gate.specs.declared.texts.Opening.TheVariants.{Configuration, See
 use Rattle.bng_config.proofs.Exclusive.{no_fault}
 use Rattle.bng_gate.specs.Words.{Serves}
 use Rattle.bng_config.specs.Configuration.{HasFault}
-use Rattle.bng_gate.specs.Run.{World, Prepares, Fails, WantsConfiguration, WantsService, IsUnwritten, RunEnds, IsFaultless}
+use Rattle.bng_gate.specs.Run.{World, outside, Prepares, Fails, WantsToServe, WantsConfiguration, WantsService, IsUnwritten, RunEnds, IsUnfailed, IsFaultless}
 
 -- the statuses, one by one
 by_status : (status : ℕ) (Q : Type 0) → status ≤ 5 → (status ≡ 0 → Q) → (status ≡ 1 → Q) → (status ≡ 2 → Q) → (status ≡ 3 → Q) → (status ≡ 4 → Q) → (status ≡ 5 → Q) → Q
@@ -110,3 +110,14 @@ complete words old new status r name serves sound none =
     (λ s. let x = r.unopened s in absurd (fails_rose words old new x.0 x.1.why.fails none))
     (λ s. inr s)
     (λ s. absurd (unwritten_rose words old new (r.unwritten s) none))
+
+serve_unfailed : (config : Config) (seed : List ℕ) (old new : World) → WantsToServe config seed (outside old) (outside new) → new.trace.faults ≡ old.trace.faults
+serve_unfailed config seed old new (inl w) = ap (λ (t : TraceTold). t.faults) w.1
+serve_unfailed config seed old new (inr c) = c.course.told.uncounted c.whole.noted ∙ ap (λ (t : TraceTold). t.faults) c.course.untraced
+
+wants_unfailed : (words : List (List ℕ)) (old new : World) → WantsConfiguration words old new ⊎ WantsService words old new → IsUnfailed old new
+wants_unfailed words old new (inl w) = record { files = w.wants.unfailed; entropy = ap (λ (e : EntropyTold). e.faults) w.unseeded; trace = ap (λ (t : TraceTold). t.faults) w.untouched.trace }
+wants_unfailed words old new (inr w) = record { files = w.ready.prepares.opens.unfailed; entropy = w.ready.seeds.unfailed; trace = serve_unfailed w.config w.seed old new w.wants }
+
+pub unfailed : (words : List (List ℕ)) (old new : World) (status : ℕ) → RunEnds words old new status → status ≡ 4 → IsUnfailed old new
+unfailed words old new status r s = wants_unfailed words old new (r.starved s).why

@@ -1,16 +1,17 @@
 -- A run is its opening, its turns and its report.
 use Rattle.std.proofs.Common.{◌≡◌, ◌<◌, inl, inr, ℕ, Bool, false, ◌||◌, List, [], ◌∷◌, ◌++◌, length, refl, sym, ap, subst}
 use Rattle.bng_base.specs.Causes.{Rose}
-use Rattle.bng_base.specs.Told.{PlantTold, ClockTold, TraceTold, SinkTold}
+use Rattle.bng_base.specs.Told.{TraceTold, SinkTold}
 use Rattle.bng_base.specs.Stretch.{Outside, Stretch, Extends}
 use Rattle.bng_base.proofs.StretchLaws.{joined_none, extends_more}
 use Rattle.bng_base.proofs.ToldLaws.{rose_late}
 use Rattle.bng_config.specs.declared.config.Config.{Config}
-use Rattle.bng_desk.specs.Model.{Desk}
+use Rattle.bng_desk.specs.Model.{Desk, state_of}
 use Rattle.bng_gate.specs.declared.texts.Refusal.{Refusal}
 use Rattle.bng_gate.specs.declared.texts.Refusal.TheVariants.{Usage, Refused, CannotOpen, OutOfMemory, TraceFailed, OutputFailed}
-use Rattle.bng_gate.specs.Run.{turns_most, Begins, IsUnbegun, Completes, FailsToNote, Reports, IsUnreported, Runs, IsUnserved}
+use Rattle.bng_gate.specs.Run.{turns_most, Begins, Completes, FailsToNote, Reports, IsUnreported, Runs, IsUnserved}
 use Rattle.bng_gate.specs.Serving.{Made, run_stretch, ending_stretch, EndsServing, MakesTurns, FailsTurning}
+use Rattle.bng_gate.proofs.States.{ended_of}
 
 pub both_noted : (a b : Bool) → a ≡ false → b ≡ false → (a || b) ≡ false
 both_noted a b x y = cc
@@ -46,7 +47,7 @@ module _ (config : Config) (seed : List ℕ) (old between new : Outside) (openin
   }
 
   pub runs_of : (out out' : SinkTold) → MakesTurns opening last between new → Reports last out out' → Runs config seed old new out out'
-  runs_of out out' made reports = record { completes = completes_of made; reports = reports }
+  runs_of out out' made reports = record { completes = completes_of made; ended = ended_of (state_of last) made.finishes.over reports.unstarved; reports = reports }
 
   -- the report was not written
   pub unprinted_of : (out out' : SinkTold) → MakesTurns opening last between new → (refusal : Refusal) → IsUnreported last out out' refusal → IsUnserved config seed old new out out' refusal
@@ -55,7 +56,7 @@ module _ (config : Config) (seed : List ℕ) (old between new : Outside) (openin
   unprinted_of out out' made (CannotOpen what) w = absurd w
   unprinted_of out out' made OutOfMemory w = (inr (completes_of made), w)
   unprinted_of out out' made TraceFailed w = absurd w
-  unprinted_of out out' made OutputFailed w = record { completes = completes_of made; fails = w }
+  unprinted_of out out' made OutputFailed w = record { completes = completes_of made; ended = ended_of (state_of last) made.finishes.over w.unstarved; fails = w }
 
   rose_here : Rose between.trace.faults new.trace.faults → Rose old.trace.faults new.trace.faults
   rose_here rose = subst (λ (t : TraceTold). Rose t.faults new.trace.faults) untraced rose
@@ -117,13 +118,3 @@ module _ (config : Config) (seed : List ℕ) (old between new : Outside) (openin
         });
         rose = rose_here (rose_late between.trace.faults f.between.trace.faults new.trace.faults f.serves.told.cause.later f.fails.rose);
       }
-
--- no desk was opened
-pub unbegun : (config : Config) (seed : List ℕ) (p p' : PlantTold) (k k' : ClockTold) (t : TraceTold) (out : SinkTold) (refusal : Refusal) → IsUnbegun config p p' k k' refusal
-    → IsUnserved config seed (record { plant = p; clock = k; trace = t }) (record { plant = p'; clock = k'; trace = t }) out out refusal
-unbegun config seed p p' k k' t out Usage w = absurd w
-unbegun config seed p p' k k' t out (Refused fault) w = absurd w
-unbegun config seed p p' k k' t out (CannotOpen what) w = (w.0, w.1, refl, refl)
-unbegun config seed p p' k k' t out OutOfMemory w = (inl (w, refl), refl)
-unbegun config seed p p' k k' t out TraceFailed w = absurd w
-unbegun config seed p p' k k' t out OutputFailed w = absurd w

@@ -267,11 +267,13 @@ IsUnreported last out out' OutputFailed = FailsToReport last out out'
 -- The run came to its end with no session left, and the report of the last desk was written.
 pub record Runs (config : Config) (seed : List ℕ) (old new : Outside) (out out' : SinkTold) : Type 0 where
   pub completes : Completes config seed old new
+  pub ended : state_of completes.course.last ≡ Ended
   pub reports : Reports completes.course.last out out'
 
 -- The run came to its end with no session left, and a front of the report was written.
 pub record FailsToPrint (config : Config) (seed : List ℕ) (old new : Outside) (out out' : SinkTold) : Type 0 where
   pub completes : Completes config seed old new
+  pub ended : state_of completes.course.last ≡ Ended
   pub fails : FailsToReport completes.course.last out out'
 
 -- Memory was wanted: for the desk, before any turn; or once the turns had come to their end, for the report or since the desk
@@ -435,6 +437,12 @@ pub record RunEnds (words : List (List ℕ)) (old new : World) (status : ℕ) : 
   pub unwritten : status ≡ 5 → IsUnwritten words old new
   pub no_other : status ≤ 5
   pub seeds : SeedsOnce old.entropy new.entropy
+
+-- no read, no seed and no note failed
+pub record IsUnfailed (old new : World) : Type 0 where
+  pub files : new.files.faults ≡ old.files.faults
+  pub entropy : new.entropy.faults ≡ old.entropy.faults
+  pub trace : new.trace.faults ≡ old.trace.faults
 
 -- no count of what a run uses rose
 pub record IsFaultless (old new : World) : Type 0 where

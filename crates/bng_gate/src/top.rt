@@ -8,7 +8,7 @@ ghost use Rattle.bng_config.specs.Rules.{KeepsRules};
 ghost use Rattle.bng_gate.specs.Headline.{Headline, IsQuiet, WasSafe};
 ghost use Rattle.bng_gate.specs.Words.{Serves};
 ghost use Rattle.bng_gate.specs.Words.{texts as words_of};
-ghost use Rattle.bng_gate.specs.Run.{Prepares, IsUnprepared, Binds, binds_most, BindsPorts, FailsAtPort, FailsAt, Seeds, FailsToSeed, Runs, IsUnserved, Told, RunEnds, IsFaultless};
+ghost use Rattle.bng_gate.specs.Run.{Prepares, IsUnprepared, Binds, binds_most, BindsPorts, FailsAtPort, FailsAt, Seeds, FailsToSeed, Runs, IsUnserved, Told, RunEnds, IsUnfailed, IsFaultless};
 ghost use Rattle.bng_gate.specs.Run.{Begins, IsUnbegun, Reports, IsUnreported};
 ghost use Rattle.bng_gate.specs.Serving.{MakesTurns, FailsTurning};
 
@@ -298,6 +298,11 @@ where
         (record { files = F.told files.old; plant = P.told plant.old; clock = C.told clock.old; entropy = E.told entropy.old; trace = T.told trace.old; out = O.told out.old; err = X.told err.old })
         (record { files = F.told files.new; plant = P.told plant.new; clock = C.told clock.new; entropy = E.told entropy.new; trace = T.told trace.new; out = O.told out.new; err = X.told err.new })
         ⊎ WasSafe (words_of words.now.items)
+        (record { files = F.told files.old; plant = P.told plant.old; clock = C.told clock.old; entropy = E.told entropy.old; trace = T.told trace.old; out = O.told out.old; err = X.told err.old })
+        (record { files = F.told files.new; plant = P.told plant.new; clock = C.told clock.new; entropy = E.told entropy.new; trace = T.told trace.new; out = O.told out.new; err = X.told err.new }) }
+
+    // Status 4 comes where no read, seed or note failed.
+    ensures unfailed { result ≡ 4 → IsUnfailed
         (record { files = F.told files.old; plant = P.told plant.old; clock = C.told clock.old; entropy = E.told entropy.old; trace = T.told trace.old; out = O.told out.old; err = X.told err.old })
         (record { files = F.told files.new; plant = P.told plant.new; clock = C.told clock.new; entropy = E.told entropy.new; trace = T.told trace.new; out = O.told out.new; err = X.told err.new }) }
 

@@ -1,5 +1,8 @@
 //! How a run ends that does not come to its report.
-use super::{CONFIGURATION, PACKET, SERVE, TWO_PORTS, frame_and_stop, run_over, run_told, seed};
+use super::{
+    CONFIGURATION, PACKET, SERVE, TWO_PORTS, frame_and_stop, loopback, run_over, run_told, seed,
+};
+use bng_base::Role;
 use bng_plant::{MemoryPlant, MemoryTrace, NoTrace};
 use std::test::Fail;
 
@@ -120,7 +123,10 @@ fn a_round_that_the_trace_does_not_take_is_the_last(rt: HostRuntime) -> Result<(
         assert_eq!(rt; ended.status, 5);
         assert_eq!(rt; ended.err.text(), b"bng: trace failed\n".as_slice());
         assert!(rt; ended.out.text().is_empty());
+        // The packet went to the core before that.
         assert_eq!(rt; ended.plant.sent().len(), sent);
+        assert_eq!(rt; ended.plant.sent()[0].role, Role::Core);
+        assert_eq!(rt; ended.plant.sent()[0].peer, loopback(9001));
     }
     Ok(())
 }

@@ -1,4 +1,4 @@
-use Rattle.bng_gate.proofs.Causes.{no_command, faulty, complete}
+use Rattle.bng_gate.proofs.Causes.{no_command, faulty, complete, unfailed}
 use Rattle.bng_gate.proofs.Headlines.{headline, safe}
 use Rattle.bng_gate.proofs.top.run.Goals as goal
 
@@ -10,6 +10,9 @@ returns-clause-headline g c = λ done.
 
 pub returns-clause-safe : goal.returns-clause-safe
 returns-clause-safe g c = safe _ _ _ _ c.run_to_end.ensures
+
+pub returns-clause-unfailed : goal.returns-clause-unfailed
+returns-clause-unfailed g c = unfailed _ _ _ _ c.run_to_end.ensures
 
 pub returns-clause-no_command : goal.returns-clause-no_command
 returns-clause-no_command g c = no_command _ _ _ _ c.run_to_end.ensures
