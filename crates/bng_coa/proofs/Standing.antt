@@ -10,8 +10,8 @@ use Rattle.bng_coa.specs.declared.request.Request.{Request}
 use Rattle.bng_coa.specs.declared.request.Stage.{Stage}
 use Rattle.bng_coa.specs.declared.request.Stage.TheVariants.{InHand, Answered}
 use Rattle.bng_coa.specs.Requests.{is_same, is_in_hand, is_answered, is_answered_at, is_numbered, is_numbered_at, is_held, is_held_at, is_standing, standing, without, with_room, admitted}
-use Rattle.bng_coa.specs.Runs.{IsTakenIn, IsSettled, Event, Takes, Settles, Follows, Run, are_equal, shares_at, share_number, settles}
-use Rattle.bng_coa.proofs.Each.{filtered, removed}
+use Rattle.bng_coa.specs.Runs.{IsTakenIn, IsSettled, Event, Takes, Settles, Follows, Run, are_equal, shares_at, share_number, settles, Rises, was_before}
+use Rattle.bng_coa.proofs.Each.{filtered, removed, appended, replaced}
 use Rattle.bng_coa.proofs.Places.{PassesAt, passes_at}
 use Rattle.bng_coa.proofs.Rooms.{none_answered, fewer}
 
@@ -184,3 +184,52 @@ run_apart (event ∷ events) old new h apart = run_apart events h.0 new h.2 (ste
 pub none_apart : IsApart []
 unfolding IsDistinct
 none_apart = record { few = omega arith; keys = tt; numbers = tt }
+
+-- ---- the order of admission
+
+pub record IsInOrder (floor : ℕ) (rs : List Request) : Type 0 where
+  pub order : IsDistinct was_before rs
+  pub below : AllByRecursion (λ x. x.admitted_at ≤ floor) rs
+
+no_later : (floor now : ℕ) (rs : List Request) → floor ≤ now → AllByRecursion (λ x. x.admitted_at ≤ floor) rs → AllByRecursion (λ x. ltb now x.admitted_at ≡ false) rs
+no_later floor now [] le all = tt
+no_later floor now (x ∷ xs) le all = (le-ltb now x.admitted_at (omega (arith, le, all.0)), no_later floor now xs le all.1)
+
+raised : (floor now : ℕ) (rs : List Request) → floor ≤ now → AllByRecursion (λ x. x.admitted_at ≤ floor) rs → AllByRecursion (λ x. x.admitted_at ≤ now) rs
+raised floor now [] le all = tt
+raised floor now (x ∷ xs) le all = (omega (arith, le, all.0), raised floor now xs le all.1)
+
+taken_in_order : (floor now : ℕ) (r : Request) (rs : List Request) → r.admitted_at ≡ now → floor ≤ now → IsInOrder floor rs → IsInOrder now (admitted now r rs)
+taken_in_order floor now r rs is le h =
+    let held = filter (is_held now) rs in
+    record {
+      order = distinct_admitted was_before now r rs h.order
+          (filtered (λ x. was_before x r ≡ false) (is_held now) rs (subst (λ (n : ℕ). AllByRecursion (λ x. ltb n x.admitted_at ≡ false) rs) (sym is) (no_later floor now rs le h.below)));
+      below = appended (λ x. x.admitted_at ≤ now) (with_room held) (r ∷ [])
+          (all_room (λ x. x.admitted_at ≤ now) (ltb (length held) 256) held (filtered (λ x. x.admitted_at ≤ now) (is_held now) rs (raised floor now rs le h.below)))
+          (omega (arith, is), tt);
+    }
+
+bounded_at : (floor : ℕ) (xs : List Request) (i : ℕ) (x : Request) → slice_get xs i ≡ Some x → AllByRecursion (λ y. y.admitted_at ≤ floor) xs → x.admitted_at ≤ floor
+bounded_at floor [] i x is all = absurd cc
+bounded_at floor (y ∷ xs) zero x is all = subst (λ (r : Request). r.admitted_at ≤ floor) (let e : y ≡ x = cc in e) all.0
+bounded_at floor (y ∷ xs) (suc i) x is all = bounded_at floor xs i x is all.1
+
+pub run_in_order : (events : List Event) (floor : ℕ) (old new : List Request) → Rises floor events → Run old events new → IsInOrder floor old → IsDistinct was_before new
+run_in_order [] floor old new rises run h = subst (IsDistinct was_before) (sym run) h.order
+run_in_order (Takes key packet now number ∷ events) floor old new rises run h =
+    let r : Request = record { key = key; admitted_at = now; stage = InHand number packet } in
+    run_in_order events now run.0 new rises.1 run.2 (subst (IsInOrder now) (sym run.1.list) (taken_in_order floor now r old refl rises.0 h))
+run_in_order (Settles number reply ∷ events) floor old new rises run h =
+    let x = run.1.request in
+    let r : Request = record { key = x.key; admitted_at = x.admitted_at; stage = Answered reply } in
+    run_in_order events floor run.0 new rises run.2
+    (subst (IsInOrder floor) (sym run.1.list)
+    (record {
+      order = distinct_set was_before x r (λ z is. is) (λ z is. is) old run.1.place run.1.stands h.order;
+      below = replaced (λ z. z.admitted_at ≤ floor) old run.1.place r h.below (bounded_at floor old run.1.place x run.1.stands h.below);
+    }))
+
+pub none_in_order : IsInOrder 0 []
+unfolding IsDistinct
+none_in_order = record { order = tt; below = tt }

@@ -1,5 +1,5 @@
 -- What is in hand and kept after a list of calls.
-use Rattle.std.specs.Prelude.{◌≡◌, ◌≢◌, ◌==◌, ℕ, ◌<◌, Bool, true, false, List, [], ◌∷◌, Some, None, count_by, slice_get, slice_set, IsTrue, IsFalse}
+use Rattle.std.specs.Prelude.{◌≡◌, ◌≢◌, ◌==◌, ℕ, ◌<◌, ◌≤◌, Bool, nat_lt, true, false, List, [], ◌∷◌, Some, None, count_by, slice_get, slice_set, IsTrue, IsFalse}
 use Rattle.std.specs.List.{list_any}
 use Rattle.bng_coa.specs.declared.request.Key.{Key}
 use Rattle.bng_coa.specs.declared.request.Request.{Request}
@@ -52,3 +52,13 @@ share_number a b = shares_at a.stage b.stage
 abbrev pub settles : ℕ → Event → Bool
 settles number (Takes key packet now n) = false
 settles number (Settles n reply) = n == number
+
+-- the second was admitted before the first
+abbrev pub was_before : Request → Request → Bool
+was_before a b = nat_lt b.admitted_at a.admitted_at
+
+-- the moments of admission are never below this one, nor below an earlier one
+abbrev pub Rises : ℕ → List Event → Type 0
+Rises floor [] = Unit {0}
+Rises floor (Takes key packet now number ∷ events) = (floor ≤ now) × Rises now events
+Rises floor (Settles number reply ∷ events) = Rises floor events

@@ -18,7 +18,7 @@ mod rules;
 mod tests;
 
 pub use crate::desk::CoaDesk;
-pub use crate::law::{requests_are_apart, requests_stay_in_hand};
+pub use crate::law::{requests_are_apart, requests_stand_in_order, requests_stay_in_hand};
 pub use crate::refusal::first_refusal;
 pub use crate::request::{KEPT, Key, Request, Stage};
 pub use crate::requests::{MOST, Requests};
