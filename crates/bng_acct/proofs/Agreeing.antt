@@ -1,5 +1,5 @@
 -- Records and what is held of their terms agree.
-use Rattle.std.proofs.Common.{◌≡◌, ◌≢◌, ℕ, ◌+◌, ◌*◌, ◌≤◌, ◌<◌, ◌⊎◌, Bool, true, false, List, Option, Some, None, length, sym, ap, subst, ◌∙◌, refl, arith, inl, inr}
+use Rattle.std.proofs.Common.{◌≡◌, ◌≢◌, ℕ, ◌+◌, ◌*◌, ◌≤◌, ◌<◌, ◌⊎◌, true, false, List, Option, Some, None, length, sym, ap, subst, ◌∙◌, refl, arith, inl, inr}
 use Rattle.std.specs.Prelude.{sum_by, IsSome}
 use Rattle.std.proofs.lemmas.Bool.{cases_Bool, cases_eq}
 use Rattle.bng_base.specs.declared.circuit.TermId.{TermId}
@@ -10,7 +10,7 @@ use Rattle.bng_acct.specs.Roster.{same, of_term, weight, Rises, Puts, Removes}
 use Rattle.bng_acct.specs.Queue.{sheet_at, Sets}
 use Rattle.bng_acct.specs.Spool.{number_of, open_of, with_number, is_kept, or_unknown, ended_by, counted, open_count, stop_count, stops_in, Agree, IsReady}
 use Rattle.bng_acct.proofs.Rosters.{same_is, is_same}
-use Rattle.bng_acct.proofs.Marks.{SameKind, equal, other as differs, same_kind, Marks, number_in, forms_marks, formed, term-formed, kept-with, open_count-with, open_count-ended_by, stop_count-with, number_of-ended_by, number_of-or_unknown, open_count_le, stop_count_le, sum_le, sum_with_le}
+use Rattle.bng_acct.proofs.Marks.{equal, other as differs, same_kind, Marks, number_in, formed, term-formed, open_count-with, open_count-ended_by, stop_count-with, number_of-ended_by, number_of-or_unknown, open_count_le, sum_le, sum_with_le}
 
 some_sheet : (a b : Sheet) → Some a ≡ Some b → a ≡ b
 some_sheet a b e = cc

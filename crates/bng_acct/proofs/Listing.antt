@@ -1,5 +1,5 @@
 -- The Stops that are open, listed.
-use Rattle.std.proofs.Common.{◌≡◌, ℕ, zero, suc, ◌+◌, Bool, true, false, List, [], ◌∷◌, Option, Some, None, length, sym, ap, subst, ◌∙◌, refl, arith}
+use Rattle.std.proofs.Common.{◌≡◌, ℕ, zero, suc, ◌+◌, true, List, [], ◌∷◌, Option, Some, None, length, sym, ap, ◌∙◌, refl, arith}
 use Rattle.std.specs.Prelude.{sum_by, filter_map, slice_get, option_and_then}
 use Rattle.std.specs.List.{AllByRecursion, cons_option}
 use Rattle.std.specs.Option.{option_map}
@@ -8,8 +8,7 @@ use Rattle.bng_acct.specs.declared.facts.TermFacts.{TermFacts}
 use Rattle.bng_acct.specs.declared.facts.StatusType.TheVariants.{Stop}
 use Rattle.bng_acct.specs.declared.held.Held.{Held}
 use Rattle.bng_acct.specs.declared.sheet.Sheet.{Sheet}
-use Rattle.bng_acct.specs.Roster.{before, same, of_term, Rises}
-use Rattle.bng_acct.specs.Queue.{sheet_at}
+use Rattle.bng_acct.specs.Roster.{before, of_term, Rises}
 use Rattle.bng_acct.specs.Spool.{Agree, counted, stop_count, facts_at}
 use Rattle.bng_acct.proofs.Rosters.{before_is_other, is_same}
 use Rattle.bng_acct.proofs.Marks.{number_in}

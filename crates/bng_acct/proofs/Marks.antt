@@ -1,6 +1,6 @@
 -- The numbers of a term's open records.
-use Rattle.std.proofs.Common.{◌≡◌, ◌≢◌, ℕ, ◌+◌, ◌*◌, ◌≤◌, ◌<◌, Bool, true, false, cond, List, [], ◌∷◌, length, Option, Some, None, sym, ap, subst, ◌∙◌, refl, arith, inl, inr}
-use Rattle.std.specs.Prelude.{sum_by, is_some, option_and_then, find, ◌||◌}
+use Rattle.std.proofs.Common.{◌≡◌, ℕ, ◌+◌, ◌*◌, ◌≤◌, true, List, [], ◌∷◌, length, Option, Some, None, sym, ap, subst, ◌∙◌, refl, arith, inl, inr}
+use Rattle.std.specs.Prelude.{sum_by, option_and_then}
 use Rattle.std.proofs.lemmas.Bool.{cases_Bool}
 use Rattle.std.proofs.Math.Bool.{or-true, true-or}
 use Rattle.std.proofs.lemmas.List.Sums.{sum_by-cons}
@@ -8,10 +8,8 @@ use Rattle.bng_base.specs.declared.circuit.TermId.{TermId}
 use Rattle.bng_acct.specs.declared.facts.StatusType.{StatusType}
 use Rattle.bng_acct.specs.declared.facts.StatusType.TheVariants.{Start, Interim, Stop}
 use Rattle.bng_acct.specs.declared.held.Held.{Held}
-use Rattle.bng_acct.specs.declared.sheet.Sheet.{Sheet}
-use Rattle.bng_acct.specs.Roster.{same, of_term, weight, Rises, Puts, Removes}
-use Rattle.bng_acct.specs.Queue.{sheet_at, Sets}
-use Rattle.bng_acct.specs.Spool.{number_of, open_of, with_number, is_kept, is_stop, stops_in, unknown, or_unknown, ended_by, counted, open_count, stop_count, Agree}
+use Rattle.bng_acct.specs.Roster.{same, of_term, Puts, Removes}
+use Rattle.bng_acct.specs.Spool.{number_of, open_of, with_number, is_kept, stops_in, or_unknown, ended_by, counted, open_count, stop_count}
 use Rattle.bng_acct.proofs.Rosters.{same_is, is_same}
 
 -- one kind or another

@@ -1,5 +1,5 @@
 -- What is held where a record is open no longer.
-use Rattle.std.proofs.Common.{◌≡◌, ℕ, ◌+◌, ◌*◌, ◌≤◌, Bool, true, false, List, [], ◌∷◌, Option, Some, None, length, sym, ap, subst, ◌∙◌, refl, arith, inl, inr}
+use Rattle.std.proofs.Common.{◌≡◌, ℕ, ◌+◌, ◌≤◌, Bool, true, false, List, [], ◌∷◌, Option, Some, None, length, sym, ap, subst, ◌∙◌, refl, arith, inl, inr}
 use Rattle.std.specs.Prelude.{sum_by, is_some, ◌||◌, MatchBool}
 use Rattle.std.proofs.lemmas.Bool.{cases_Bool}
 use Rattle.std.proofs.lemmas.List.Sums.{sum_by-cons}
@@ -8,8 +8,8 @@ use Rattle.bng_acct.specs.declared.facts.StatusType.{StatusType}
 use Rattle.bng_acct.specs.declared.facts.StatusType.TheVariants.{Start, Interim, Stop}
 use Rattle.bng_acct.specs.declared.held.Held.{Held}
 use Rattle.bng_acct.specs.Roster.{same, of_term, weight, Rises, Puts, Removes}
-use Rattle.bng_acct.specs.Spool.{number_of, open_of, with_number, is_kept, is_live, counted, open_count, stop_count, stops_in, Leaves, Releases}
-use Rattle.bng_acct.proofs.Rosters.{same_is, is_same}
+use Rattle.bng_acct.specs.Spool.{number_of, open_of, with_number, is_kept, is_live, counted, open_count, stop_count, stops_in, Releases}
+use Rattle.bng_acct.proofs.Rosters.{same_is}
 use Rattle.bng_acct.proofs.Marks.{Marks, number_in, number_of-with, number_of-with_other, term-with, term_of, puts_marks, removes_marks, open_count-with, stop_count-without}
 use Rattle.bng_acct.proofs.Agreeing.{puts_kept, removes_kept}
 

@@ -1,5 +1,5 @@
 -- The packet of a record.
-use Rattle.std.proofs.Common.{◌≡◌, ◌≢◌, ℕ, ◌+◌, ◌≤◌, ◌<◌, Bool, false, cond, List, [], ◌∷◌, ◌++◌, length, take, drop, eqb, sym, ap, subst, ◌∙◌, refl, arith, length-append}
+use Rattle.std.proofs.Common.{◌≡◌, ℕ, ◌+◌, ◌≤◌, Bool, false, cond, List, [], ◌∷◌, ◌++◌, length, take, drop, eqb, sym, ap, subst, ◌∙◌, refl, arith, length-append}
 use Rattle.std.specs.Prelude.{replicate, count_by}
 use Rattle.std.specs.List.{AllByRecursion}
 use Rattle.std.proofs.lemmas.List.{append-nil}
@@ -11,14 +11,14 @@ use Rattle.bng_base.specs.declared.circuit.Circuit.{Circuit}
 use Rattle.bng_base.specs.declared.circuit.Circuit.TheVariants.{Pppoe, L2tp}
 use Rattle.bng_radius_wire.specs.Attributes.{Field, Fits}
 use Rattle.bng_radius_wire.specs.Grammar.{Packet, IsRadius, attributes_text, spelling}
-use Rattle.bng_radius_wire.specs.Digests.{is_message_authenticator, HasRoom, CanBeSigned}
+use Rattle.bng_radius_wire.specs.Digests.{is_message_authenticator, HasRoom}
 use Rattle.bng_radius_wire.proofs.Spelled.{spelling_reads, length-spelling}
 use Rattle.bng_acct.specs.declared.facts.StatusType.{StatusType}
 use Rattle.bng_acct.specs.declared.facts.StatusType.TheVariants.{Start, Interim, Stop}
 use Rattle.bng_acct.specs.declared.facts.Record.{Record}
 use Rattle.bng_acct.specs.declared.rules.AcctRules.{AcctRules}
 use Rattle.bng_acct.specs.Attributes.{attributes, front, rest, station, unless_start, in_stop, IsPlain, GoesOn}
-use Rattle.bng_acct.specs.Request.{AreClasses, IsRequest, HoldsRequest}
+use Rattle.bng_acct.specs.Request.{AreClasses, HoldsRequest}
 use Rattle.bng_acct.proofs.GoingOn.{both}
 
 fit : (fs : List Field) → AllByRecursion IsPlain fs → AllByRecursion Fits fs

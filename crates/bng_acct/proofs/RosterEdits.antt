@@ -1,6 +1,6 @@
 -- A list of terms in their order, with one put in or taken out.
-use Rattle.std.proofs.Common.{◌≡◌, ℕ, ◌+◌, ◌≤◌, ◌<◌, Bool, true, false, cond, List, [], ◌∷◌, ◌++◌, length, get_or, set, take, drop, suc, Option, Some, None, sym, ap, subst, ◌∙◌, refl, arith, inl, inr, length-append, add-zero}
-use Rattle.std.specs.Prelude.{find, sum_by, insert, remove}
+use Rattle.std.proofs.Common.{◌≡◌, ℕ, ◌+◌, ◌≤◌, ◌<◌, true, false, cond, List, [], ◌∷◌, ◌++◌, length, get_or, set, drop, suc, Option, Some, None, sym, ap, subst, ◌∙◌, refl, arith, inl, inr, length-append, add-zero}
+use Rattle.std.specs.Prelude.{sum_by, insert, remove}
 use Rattle.std.specs.List.{AllByRecursion}
 use Rattle.std.specs.Option.{option_or}
 use Rattle.std.proofs.lemmas.List.{take_at, drop_at}
@@ -9,7 +9,7 @@ use Rattle.std.proofs.lemmas.List.Sums.{sum_by-append, sum_by-cons}
 use Rattle.std.proofs.lemmas.Bool.{cases_Bool}
 use Rattle.bng_base.specs.declared.circuit.TermId.{TermId}
 use Rattle.bng_acct.specs.declared.held.Held.{Held}
-use Rattle.bng_acct.specs.Roster.{before, same, of_term, Rises, weight, Puts, Removes, StandsAt, Misses}
+use Rattle.bng_acct.specs.Roster.{before, same, of_term, Rises, Puts, Removes, StandsAt, Misses}
 use Rattle.bng_acct.proofs.GoingOn.{all_both}
 use Rattle.bng_acct.proofs.Rosters.{before_trans, before_is_other, after_is_other, same_is, is_same}
 

@@ -1,13 +1,12 @@
 -- Terms in their order.
-use Rattle.std.proofs.Common.{◌≡◌, ℕ, zero, suc, ◌+◌, ◌≤◌, ◌<◌, Bool, true, false, cond, List, [], ◌∷◌, ◌++◌, length, get_or, take, drop, Option, Some, None, Result, Ok, Err, sym, ap, subst, ◌∙◌, refl, arith, nat_eq, nat_lt}
-use Rattle.std.specs.Prelude.{MatchResult, find, sum_by}
-use Rattle.std.specs.List.{AllByRecursion, AllWithin}
+use Rattle.std.proofs.Common.{◌≡◌, ℕ, zero, suc, ◌≤◌, ◌<◌, true, false, List, [], ◌∷◌, ◌++◌, length, get_or, take, drop, sym, ap, subst, ◌∙◌, refl, arith}
+use Rattle.std.specs.List.{AllByRecursion}
 use Rattle.std.specs.List.Sorted.{IsPartitionedBy, IsPartitionPoint}
 use Rattle.std.proofs.lemmas.List.{take-append-drop, length-take-le, take_all, append-nil}
 use Rattle.std.proofs.lemmas.Bool.Decides.{nat_tests}
 use Rattle.bng_base.specs.declared.circuit.TermId.{TermId}
 use Rattle.bng_acct.specs.declared.held.Held.{Held}
-use Rattle.bng_acct.specs.Roster.{before, same, of_term, Rises, Terms, weight, Puts, Removes, StandsAt, Misses}
+use Rattle.bng_acct.specs.Roster.{before, same, Rises, StandsAt, Misses}
 
 pub before_trans : (a b c : TermId) → before a b ≡ true → before b c ≡ true → before a c ≡ true
 before_trans a b c p q = grind (arith, nat_tests)

@@ -1,15 +1,13 @@
 -- Laws over runs of a spool.
-use Rattle.std.proofs.Common.{◌≡◌, ◌≢◌, ℕ, Bool, true, false, cond, List, [], ◌∷◌, ◌++◌, Option, Some, None, sym, ap, subst, ◌∙◌, refl, append_assoc, inl, inr}
+use Rattle.std.proofs.Common.{◌≡◌, ◌≢◌, ℕ, Bool, true, List, [], ◌∷◌, ◌++◌, Some, None, sym, ap, subst, ◌∙◌, refl, append_assoc, inl, inr}
 use Rattle.std.specs.Prelude.{filter}
 use Rattle.std.proofs.lemmas.Bool.{cases_Bool, cases_eq}
 use Rattle.std.proofs.lemmas.List.{append-nil}
-use Rattle.bng_base.specs.Packet.{Packet as Bytes}
-use Rattle.bng_acct.specs.declared.facts.StatusType.{StatusType}
 use Rattle.bng_acct.specs.declared.facts.Record.{Record}
 use Rattle.bng_acct.specs.declared.sheet.Sheet.{Sheet}
-use Rattle.bng_acct.specs.Queue.{sheet_at, without}
-use Rattle.bng_acct.specs.Spool.{State, is_stop, is_stop_sheet, only_stop}
-use Rattle.bng_acct.specs.World.{Event, Formed, Handed, Acked, Forgot, Step, Run, formed, handed, IsPart, Spares, IsOpen}
+use Rattle.bng_acct.specs.Queue.{sheet_at}
+use Rattle.bng_acct.specs.Spool.{State, is_stop_sheet, only_stop}
+use Rattle.bng_acct.specs.World.{Event, Formed, Handed, Acked, Forgot, Run, formed, handed, IsPart, Spares, IsOpen}
 
 part_same : (xs : List ℕ) → IsPart xs xs
 part_same [] = tt

@@ -1,5 +1,5 @@
 -- The records that are open.
-use Rattle.std.specs.Prelude.{◌≡◌, ◌≢◌, ◌==◌, ℕ, ◌+◌, ◌<◌, Bool, true, false, not, List, [], ◌∷◌, filter, slice_index_or, count_by, Option, Some, None, is_some}
+use Rattle.std.specs.Prelude.{◌≡◌, ◌≢◌, ◌==◌, ℕ, ◌<◌, Bool, true, false, not, List, [], ◌∷◌, filter, slice_index_or, count_by, Option, Some, None, is_some}
 use Rattle.std.specs.List.{AllByRecursion}
 use Rattle.bng_acct.specs.declared.sheet.Sheet.{Sheet}
 

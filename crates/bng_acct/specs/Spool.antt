@@ -1,5 +1,5 @@
 -- What a contract sees of the spool.
-use Rattle.std.specs.Prelude.{◌≡◌, ◌≢◌, ◌==◌, ℕ, ◌+◌, ◌*◌, ◌≤◌, ◌<◌, ◌||◌, Bool, true, false, IsTrue, MatchBool, MatchOption, if◌then◌else◌, List, [], ◌∷◌, ◌++◌, length, sum_by, filter, filter_map, Option, Some, None, is_some, option_and_then, ◌⊎◌, IsSome}
+use Rattle.std.specs.Prelude.{◌≡◌, ℕ, ◌+◌, ◌≤◌, ◌<◌, ◌||◌, Bool, true, false, MatchBool, if◌then◌else◌, List, [], ◌∷◌, ◌++◌, length, filter_map, Option, Some, None, is_some, option_and_then, ◌⊎◌, IsSome}
 use Rattle.std.specs.Option.{option_map}
 use Rattle.bng_base.specs.declared.circuit.TermId.{TermId}
 use Rattle.bng_base.specs.Packet.{Packet as Bytes}
@@ -13,8 +13,8 @@ use Rattle.bng_acct.specs.declared.rules.AcctRules.{AcctRules}
 use Rattle.bng_acct.specs.declared.sheet.Sheet.{Sheet}
 use Rattle.bng_acct.specs.declared.held.Held.{Held}
 use Rattle.bng_acct.specs.Request.{AreClasses, HoldsRequest}
-use Rattle.bng_acct.specs.Roster.{of_term, Rises, Terms, Puts, Removes}
-use Rattle.bng_acct.specs.Queue.{Open, sheet_at, count, Sets, without}
+use Rattle.bng_acct.specs.Roster.{of_term, Rises, Puts, Removes}
+use Rattle.bng_acct.specs.Queue.{sheet_at, Sets}
 
 -- The open records are those that were formed and are neither acknowledged nor forgotten. The spool knows each by its
 -- number, the numbers of those that were not handed out in the order in which the records were formed, and by session and

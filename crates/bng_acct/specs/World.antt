@@ -1,5 +1,5 @@
 -- Whole runs of a spool: what its calls promise beside each other.
-use Rattle.std.specs.Prelude.{◌≡◌, ◌≢◌, ℕ, ◌≤◌, Bool, true, List, [], ◌∷◌, ◌++◌, length, filter, Some, ◌⊎◌, None}
+use Rattle.std.specs.Prelude.{◌≡◌, ◌≢◌, ℕ, true, List, [], ◌∷◌, filter, Some, ◌⊎◌, None}
 use Rattle.bng_base.specs.Packet.{Packet as Bytes}
 use Rattle.bng_acct.specs.declared.facts.StatusType.{StatusType}
 use Rattle.bng_acct.specs.declared.facts.TermFacts.{TermFacts}

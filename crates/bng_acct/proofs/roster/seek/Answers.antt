@@ -1,8 +1,6 @@
-use Rattle.std.proofs.Common.{arith, rules, of_calls, ◌≡◌, ◌<◌, ◌≤◌, sym, ◌∙◌, length, get_or, List, ℕ, Bool, true, false}
-use Rattle.std.specs.List.Sorted.{IsPartitionPoint}
+use Rattle.std.proofs.Common.{arith, rules, of_calls, sym}
 use Rattle.std.proofs.lemmas.Fn.{always_returns_same}
-use Rattle.bng_acct.specs.declared.held.Held.{Held}
-use Rattle.bng_acct.specs.Roster.{before, same}
+use Rattle.bng_acct.specs.Roster.{before}
 use Rattle.bng_acct.proofs.Rosters.{parted, at_end, misses, stands}
 use Rattle.bng_acct.proofs.roster.seek.Goals as goal
 

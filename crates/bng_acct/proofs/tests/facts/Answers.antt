@@ -1,4 +1,4 @@
-use Rattle.std.proofs.Common.{◌≡◌, ℕ, List, [], ◌∷◌, sym, subst, refl, arith}
+use Rattle.std.proofs.Common.{[], ◌∷◌, sym, subst, refl, arith}
 use Rattle.bng_radius_wire.specs.Attributes.{Field}
 use Rattle.bng_acct.specs.Request.{AreClasses}
 use Rattle.bng_acct.proofs.tests.facts.Goals as goal

@@ -1,4 +1,4 @@
-use Rattle.std.proofs.Common.{ap, ◌≡◌, ◌∙◌, List, ℕ, length, arith}
+use Rattle.std.proofs.Common.{◌≡◌, length, arith}
 use Rattle.bng_acct.proofs.StationId.{pairs_parted}
 use Rattle.bng_acct.proofs.texts.station_id.Goals as goal
 

@@ -1,6 +1,5 @@
-use Rattle.std.proofs.Common.{◌≡◌, ◌<◌, ◌≤◌, ◌++◌, ◌∷◌, [], List, ℕ, Option, Some, length, sym, ap, subst, ◌∙◌, arith, deque_len}
-use Rattle.bng_acct.specs.declared.sheet.Sheet.{Sheet}
-use Rattle.bng_acct.specs.Queue.{Open, AreWaiting, Sets, count, AllBelow}
+use Rattle.std.proofs.Common.{Some, sym, ap, subst, arith}
+use Rattle.bng_acct.specs.Queue.{Open, count, AllBelow}
 use Rattle.bng_acct.proofs.Queues.{waiting_le_count, waits_more, below_more}
 use Rattle.bng_acct.proofs.queue.Queue.add.Goals as goal
 

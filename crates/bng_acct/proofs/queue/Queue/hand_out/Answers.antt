@@ -1,6 +1,5 @@
-use Rattle.std.proofs.Common.{◌≡◌, ◌<◌, ◌≤◌, ◌++◌, ◌∷◌, [], List, ℕ, Option, Some, length, sym, ap, subst, ◌∙◌, arith, refl}
-use Rattle.bng_acct.specs.declared.sheet.Sheet.{Sheet}
-use Rattle.bng_acct.specs.Queue.{Open, AreWaiting, Sets, HandsOut, sheet_at, count, AllBelow}
+use Rattle.std.proofs.Common.{sym, subst, arith, refl}
+use Rattle.bng_acct.specs.Queue.{Open, HandsOut, sheet_at, AllBelow}
 use Rattle.bng_acct.proofs.Queues.{waiting_sheet, waits_less, below_more}
 use Rattle.bng_acct.proofs.queue.Queue.hand_out.Goals as goal
 

@@ -1,7 +1,6 @@
-use Rattle.std.proofs.Common.{rules, of_calls, ◌≡◌, ◌<◌, ◌≤◌, ◌++◌, ◌∷◌, [], List, ℕ, Option, Some, Bool, not, eqb, length, sym, ap, subst, ◌∙◌, arith, refl}
+use Rattle.std.proofs.Common.{rules, of_calls, ℕ, not, eqb, sym, ap, subst, ◌∙◌, arith}
 use Rattle.std.proofs.lemmas.Fn.{filter_same}
-use Rattle.bng_acct.specs.declared.sheet.Sheet.{Sheet}
-use Rattle.bng_acct.specs.Queue.{Open, AreWaiting, Sets, sheet_at, count, is_waiting, without, AllBelow}
+use Rattle.bng_acct.specs.Queue.{Open, AreWaiting, sheet_at, is_waiting, without, AllBelow}
 use Rattle.bng_acct.proofs.Queues.{waits_without, unhanded-without, handed_not_waiting, below_less}
 use Rattle.bng_acct.proofs.queue.Queue.remove.Goals as goal
 

@@ -1,4 +1,4 @@
-use Rattle.std.proofs.Common.{◌≡◌, ◌<◌, ◌≤◌, Bool, true, cond, List, None, length, set, sym, ap, subst, ◌∙◌, arith}
+use Rattle.std.proofs.Common.{length, set, sym, ap, subst, ◌∙◌, arith}
 use Rattle.std.specs.Prelude.{insert}
 use Rattle.std.proofs.Math.ListN.{length-set}
 use Rattle.bng_acct.specs.declared.held.Held.{Held}

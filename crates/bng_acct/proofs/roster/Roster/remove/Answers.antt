@@ -1,7 +1,6 @@
-use Rattle.std.proofs.Common.{◌≡◌, ◌≤◌, List, length, sym, ap, subst, ◌∙◌, arith}
+use Rattle.std.proofs.Common.{subst, arith}
 use Rattle.std.specs.Prelude.{remove}
-use Rattle.bng_acct.specs.declared.held.Held.{Held}
-use Rattle.bng_acct.specs.Roster.{Terms, Removes, Rises}
+use Rattle.bng_acct.specs.Roster.{Terms, Removes}
 use Rattle.bng_acct.proofs.RosterEdits.{takes_out, takes_none}
 use Rattle.bng_acct.proofs.roster.Roster.remove.Goals as goal
 

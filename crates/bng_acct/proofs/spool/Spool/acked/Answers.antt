@@ -1,7 +1,5 @@
-use Rattle.std.proofs.Common.{◌≡◌, ℕ, ◌+◌, ◌≤◌, None, Some, List, sym, ap, subst, ◌∙◌, arith, refl}
-use Rattle.std.specs.Prelude.{sum_by}
-use Rattle.bng_acct.specs.Queue.{Open, sheet_at, count}
-use Rattle.bng_acct.specs.Spool.{stops_in}
+use Rattle.std.proofs.Common.{sym, subst, ◌∙◌, arith}
+use Rattle.bng_acct.specs.Queue.{Open}
 use Rattle.bng_acct.specs.Consistent.{IsConsistent}
 use Rattle.bng_acct.proofs.Agreeing.{agree_less, ready_less}
 use Rattle.bng_acct.proofs.Releasing.{released}

@@ -1,13 +1,11 @@
-use Rattle.std.proofs.Common.{◌≡◌, ℕ, ◌<◌, ◌≤◌, ◌⊎◌, None, Some, List, length, sym, ap, subst, ◌∙◌, arith, refl, inl, inr, false}
-use Rattle.std.specs.Prelude.{IsSome, sum_by}
-use Rattle.std.proofs.lemmas.Bool.{cases_eq}
+use Rattle.std.proofs.Common.{◌≡◌, ℕ, ◌<◌, ◌≤◌, ◌⊎◌, None, Some, List, length, sym, ap, subst, ◌∙◌, arith, inl, inr, false}
+use Rattle.std.specs.Prelude.{IsSome}
 use Rattle.bng_base.specs.declared.circuit.TermId.{TermId}
 use Rattle.bng_acct.specs.declared.held.Held.{Held}
 use Rattle.bng_acct.specs.declared.sheet.Sheet.{Sheet}
 use Rattle.bng_acct.specs.Roster.{of_term, Puts}
-use Rattle.bng_acct.specs.Queue.{sheet_at}
 use Rattle.bng_acct.specs.Request.{AreClasses}
-use Rattle.bng_acct.specs.Spool.{State, open_of, IsAdmitted, IsReady, stops_in, stop_count, or_unknown}
+use Rattle.bng_acct.specs.Spool.{State, open_of, IsAdmitted, IsReady, stops_in, stop_count}
 use Rattle.bng_acct.specs.declared.facts.StatusType.{StatusType}
 use Rattle.bng_acct.specs.declared.facts.StatusType.TheVariants.{Start, Interim, Stop}
 use Rattle.bng_acct.proofs.Marks.{Marks, formed, term-formed, kept-with, forms_marks, sum_le, stop_count_le}

@@ -1,7 +1,4 @@
-use Rattle.std.proofs.Common.{◌≡◌, Option, Some, List, sym, ap, subst, ◌∙◌, arith, ℕ}
-use Rattle.bng_radius_wire.specs.Attributes.{Field}
-use Rattle.bng_acct.specs.declared.sheet.Sheet.{Sheet}
-use Rattle.bng_acct.specs.Queue.{Open, sheet_at, count}
+use Rattle.std.proofs.Common.{sym, ◌∙◌}
 use Rattle.bng_acct.specs.Spool.{IsReady}
 use Rattle.bng_acct.proofs.Agreeing.{agree_same, ready_more}
 use Rattle.bng_acct.proofs.spool.Spool.next.Goals as goal

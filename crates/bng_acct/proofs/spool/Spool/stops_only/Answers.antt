@@ -1,7 +1,6 @@
-use Rattle.std.proofs.Common.{◌≡◌, ◌≤◌, ◌+◌, ℕ, Bool, true, false, not, List, Option, sym, ap, subst, ◌∙◌, arith}
-use Rattle.std.specs.Prelude.{filter}
-use Rattle.bng_acct.specs.Queue.{Open, AreWaiting, AllBelow, sheet_at}
-use Rattle.bng_acct.specs.Spool.{State, Agree, is_stop_sheet}
+use Rattle.std.proofs.Common.{◌+◌, sym, ap, subst, ◌∙◌, arith}
+use Rattle.bng_acct.specs.Queue.{AreWaiting, AllBelow, sheet_at}
+use Rattle.bng_acct.specs.Spool.{State, Agree}
 use Rattle.bng_acct.proofs.Forgetting.{Forgets, forgets_none, forgets_stop, forgets_other, forgets_waiting}
 use Rattle.bng_acct.proofs.spool.Spool.stops_only.Goals as goal
 use Rattle.bng_acct.proofs.spool.Spool.stops_only.Goals.{then-not-is_stop, else-not-is_stop}

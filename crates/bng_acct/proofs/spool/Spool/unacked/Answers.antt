@@ -1,6 +1,5 @@
-use Rattle.std.proofs.Common.{◌≡◌, ℕ, List, Option, ap, sym, ◌∙◌}
-use Rattle.std.specs.Prelude.{slice_get, filter_map, option_and_then}
-use Rattle.bng_acct.specs.declared.held.Held.{Held}
+use Rattle.std.proofs.Common.{ℕ, Option, ap, sym, ◌∙◌}
+use Rattle.std.specs.Prelude.{slice_get, option_and_then}
 use Rattle.bng_acct.specs.Spool.{State, unacked_stops, facts_at}
 use Rattle.bng_acct.proofs.Listing.{stop_listed}
 use Rattle.bng_acct.proofs.spool.Spool.unacked.Goals as goal
