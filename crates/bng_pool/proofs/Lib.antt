@@ -5,3 +5,5 @@ pub mod Kept
 pub mod Seated
 pub mod Scanning
 pub mod Dealing
+pub mod Telling
+pub mod OneHand

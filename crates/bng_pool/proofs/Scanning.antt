@@ -1,6 +1,7 @@
 -- A scan, one address at a time.
 use Rattle.std.proofs.Common.{◌≡◌, ℕ, zero, suc, ◌+◌, ◌<◌, ◌⊎◌, ⊎_elim, inl, inr, Bool, true, false, List, [], ◌∷◌, ◌++◌, length, length-append, slice_get, Some, sym, refl, ap, ◌∙◌, subst, arith}
 use Rattle.bng_base.specs.declared.book.Range.{Range}
+use Rattle.bng_base.specs.declared.item.Claim.{Claim}
 use Rattle.bng_base.specs.declared.item.Claim.TheVariants.{Claimed, Exhausted}
 use Rattle.bng_pool.specs.Ranges.{size_of}
 use Rattle.bng_pool.specs.Seats.{SeatView, Note, Notes, notes_after, AgreesWith, looked_at, claimed_at, passed_over, Scans}
@@ -73,3 +74,9 @@ module _ (seat : SeatView) (first : ℕ) where
     taken = subst (λ f. (i w : ℕ) → slice_get s.0 i ≡ Some w → (0 < w) × AgreesWith seat (f + i) w) (sym is) s.2;
     ended = inl (s.1 ∙ all, refl, s.3 ∙ ap (λ z. passed_over seat z s.0) (sym is));
   }
+
+-- a scan leaves a seat its pool and its number
+pub scan_keeps : (r : Range) (number : ℕ) (answer : Claim) (before after : SeatView) → Scans r number answer before after → (after.pool ≡ before.pool) × (after.number ≡ before.number)
+scan_keeps r number answer before after s = let ws : List ℕ = s.words in ⊎_elim
+    (λ h. (ap (λ (z : SeatView). z.pool) h.2 ∙ passed_pool before r.first.0 ws, ap (λ (z : SeatView). z.number) h.2 ∙ passed_number before r.first.0 ws))
+    (λ h. (ap (λ (z : SeatView). z.pool) h.2 ∙ passed_pool before r.first.0 ws, ap (λ (z : SeatView). z.number) h.2 ∙ passed_number before r.first.0 ws)) s.ended

@@ -1,5 +1,7 @@
 -- A seat's view after its steps.
-use Rattle.std.proofs.Common.{◌≡◌, ℕ, zero, suc, ◌^◌, ◌<◌, List, sym, ap, ◌∙◌, subst, arith}
+use Rattle.std.proofs.Common.{◌≡◌, ℕ, zero, suc, ◌^◌, ◌<◌, ◌≤◌, List, true, sym, ap, ◌∙◌, subst, arith}
+use mathlib.Core.Logic.{dite}
+use native.Mathlib.Decide.{dec_le}
 use Rattle.atomic_table.specs.Table.{Me}
 use Rattle.atomic_table.specs.Seated.{TableId}
 use Rattle.bng_base.specs.declared.book.Range.{Range}
@@ -36,3 +38,7 @@ module _ {S : Type 0} where
 
   pub heard_seat : (m m' : Me S Hold) (w : Hold) → IsSeat m → m' ≡ (hold_heard m.0 w, m.1) → IsSeat m'
   heard_seat m m' w s e = subst (λ (z : Me S Hold). IsSeat z) (sym e) record { bare = s.bare; counted = s.counted; numbered = s.numbered; few = s.few; low = s.low; within = s.within }
+
+  -- a full seat that looks at the phases has what it had
+  pub reviewed : (m m' : Me S Hold) (n found : ℕ) → m.0.full ≡ true → (n ≤ found → m' ≡ (hold_met m.0, m.1)) → (¬ (n ≤ found) → m' ≡ m) → m' ≡ m
+  reviewed m m' n found full more less = dite (dec_le n found) (λ enough. more enough ∙ (λ i. let v : Hold = record m.0 { full = sym full i } in (v, m.1))) less

@@ -124,7 +124,7 @@ module _ {S : Type 0} where
 
   -- the word shows as many counted seats at the phase or past it
   abbrev pub met : Step S → Me S Hold → ℕ → Me S Hold → Type 0
-  met st m found m' = ((m.0.shards + m.0.workers) * m.0.phase ≤ found → m' ≡ (hold_met m.0, m.1)) × (¬ ((m.0.shards + m.0.workers) * m.0.phase ≤ found) → m' ≡ m)
+  met st m found m' = ((m.0.shards + m.0.workers) * m.0.phase ≤ found → m' ≡ (hold_met m.0, m.1)) × (¬ ((m.0.shards + m.0.workers) * m.0.phase ≤ found) → m' ≡ m) × HoldLearned m.0
 
   -- a seat that code can hold
   pub record IsSeat (me : Me S Hold) : Type 0 where

@@ -145,3 +145,14 @@ notes_of k p (x ∷ xs) = (x, k, p) ∷ notes_of k p xs
 
 abbrev pub told_by : SeatView → List Note
 told_by seat = notes_of seat.number seat.phase seat.held ++ seat.notes
+
+-- the seat after another told it
+abbrev pub told : SeatView → SeatView → SeatView
+told to from = record to { notes = to.notes ++ told_by from }
+
+-- What two seats of one phase know agrees: no address has both as holders, what the one noted of the other the other holds, and both name one holder of an address
+pub record AreAgreed (one other : SeatView) : Type 0 where
+  pub apart : (a : ℕ) → Holds one.held a → Holds other.held a → ⊥
+  pub of_other : (a : ℕ) → Notes one.notes a other.number one.phase → Holds other.held a
+  pub of_one : (a : ℕ) → Notes other.notes a one.number other.phase → Holds one.held a
+  pub one_holder : (a k l : ℕ) → Notes one.notes a k one.phase → Notes other.notes a l other.phase → k ≡ l

@@ -19,7 +19,10 @@ mod plays;
 mod pool;
 mod scan;
 mod seat;
+#[cfg(test)]
+mod tests;
 
+pub use laws::seats_in_one_hand_are_a_table;
 pub use opening::PoolError;
 pub use pool::Pool;
 pub use seat::PoolSeat;
