@@ -1,0 +1,9 @@
+pub mod Places
+pub mod RowLists
+pub mod HeldLists
+pub mod Kept
+pub mod Seated
+pub mod Scanning
+pub mod Dealing
+pub mod Telling
+pub mod OneHand

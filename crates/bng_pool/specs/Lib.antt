@@ -1,0 +1,5 @@
+pub mod Ranges
+pub mod Rows
+pub mod Seats
+pub mod Rule
+pub mod Tables
