@@ -1,86 +1,61 @@
--- Where no term begins and none ends, shards that were stepped and settled made one turn.
-use Rattle.std.proofs.Common.{◌≡◌, ℕ, ◌||◌, Bool, true, false, cond, List, [], ◌∷◌, ◌++◌, map, length, eqb, refl, sym, ap, ◌∙◌, arith}
-use Rattle.std.specs.List.{AllZip, AllByRecursion, count_by}
-use Rattle.std.proofs.lemmas.List.{nil_from_length}
-use Rattle.std.proofs.lemmas.List.Sums.{sum_by-cons}
-use Rattle.bng_base.specs.declared.address.Ip4.{Ip4}
-use Rattle.bng_engine.specs.Protocol.{Protocol, StepLaws, StillLaws}
-use Rattle.bng_engine.specs.Progress.{InRound, Settles}
-use Rattle.bng_engine.specs.Round.{AreSteps, after, claims_of, refusals_of}
-use Rattle.bng_engine.specs.Run.{Part}
-use Rattle.bng_engine.specs.Sight.{Row, Sight, Moves, part_of, plus, resumed, rows_left, stop_from, stops_from}
-use Rattle.bng_engine.specs.Terms.{Stop, Term, keys}
-use Rattle.bng_engine.specs.Turn.{TurnOf}
-use Rattle.bng_engine.specs.World.{is_held, claimed_at, refused_at, returned_at}
-use Rattle.bng_engine.proofs.Progressing.{round_settles}
-use Rattle.bng_engine.proofs.Walks.{zip_both, zip_right}
+-- A settlement where no term begins and none ends.
+use Rattle.std.proofs.Common.{◌≡◌, ℕ, ◌+◌, Bool, true, false, not, cond, List, [], ◌∷◌, ◌++◌, map, filter, refl, sym, ap, subst, ◌∙◌, arith}
+use Rattle.std.specs.List.{AllByRecursion, sum_by}
+use Rattle.std.proofs.lemmas.List.Sums.{sum_by-append}
+use Rattle.bng_engine.specs.Lists.{Same}
+use Rattle.bng_engine.specs.Quantities.{Quantity}
+use Rattle.bng_engine.specs.Sums.{stopped_where}
+use Rattle.bng_engine.specs.Terms.{Key, Term, Stop, is_live, is_ended, keys, stopped_keys, AreInOrder}
+use Rattle.bng_engine.specs.Protocol.{Protocol, StepLaws, StillLaws, Begins}
+use Rattle.bng_engine.specs.Journals.{after, AreSteps, claims_of}
+use Rattle.bng_engine.specs.Settlements.{OneEach, AreStarts}
+use Rattle.bng_engine.specs.Views.{ShardView, row_keys}
+use Rattle.bng_engine.specs.Calls.{RowsFit, Reaps, InTurn}
+use Rattle.bng_engine.proofs.Journals.{run_begins}
+use Rattle.bng_engine.proofs.Joining.{none_ended}
+use Rattle.bng_engine.proofs.SameLists.{same_on, same_map}
 
-abbrev pub IsLive : Term → Type 0
-IsLive t = t.ended ≡ false
+none_left : (t : Term) (ts : List Term) (b : Bool) → b ≡ false → filter is_live ts ≡ ts → cond (not b) (t ∷ filter is_live ts) (filter is_live ts) ≡ t ∷ ts
+none_left t ts true e rest = cc
+none_left t ts false e rest = ap (λ (us : List Term). t ∷ us) rest
 
--- where no term ended no Stop is formed, and each row stays
-stops_none : (ts : List Term) (rows : List Row) → AllByRecursion IsLive ts → stops_from ts rows ≡ []
-stops_none [] rows live = refl
-stops_none (t ∷ ts) [] live = refl
-stops_none (t ∷ ts) (r ∷ rows) live = ap (λ (b : Bool). cond b (stop_from t r ∷ stops_from ts rows) (stops_from ts rows)) live.0 ∙ stops_none ts rows live.1
+-- where none has ended, all stay
+all_stay : (ts : List Term) → AllByRecursion (λ t. t.ended ≡ false) ts → filter is_live ts ≡ ts
+all_stay [] h = refl
+all_stay (t ∷ ts) h = none_left t ts t.ended h.0 (all_stay ts h.1)
 
-pub rows_whole : (ts : List Term) (rows : List Row) → AllByRecursion IsLive ts → length rows ≡ length ts → rows_left ts rows ≡ rows
-rows_whole [] rows live e = sym (nil_from_length rows e)
-rows_whole (t ∷ ts) [] live e = refl
-rows_whole (t ∷ ts) (r ∷ rows) live e = ap (λ (b : Bool). cond b (rows_left ts rows) (r ∷ rows_left ts rows)) live.0 ∙ ap (λ (xs : List Row). r ∷ xs) (rows_whole ts rows live.1 (omega (arith, e)))
+none_began : (ks : List Key) (xs : List ℕ) → map (λ k. k.lease.0) ks ≡ xs → xs ≡ [] → ks ≡ []
+none_began [] xs e none = refl
+none_began (k ∷ ks) xs e none = cc
 
-or_false : (b : Bool) → b ≡ (b || false)
-or_false true = refl
-or_false false = refl
+module _ {S E : Type 0} (p : Protocol S E) (laws : StepLaws p) (still : StillLaws p) where
+  no_claims : (s : S) (es : List E) → AreSteps p s es → claims_of p es ≡ []
+  no_claims s [] h = refl
+  no_claims s (e ∷ es) h = ap (λ (xs : List ℕ). xs ++ claims_of p es) (still.claims s e h.0) ∙ no_claims (p.next s e) es h.1
 
-module _ {S E : Type 0} (p : Protocol S E) (still : StillLaws p) where
-  pub no_claims : (s : S) (es : List E) → AreSteps p s es → claims_of p es ≡ []
-  no_claims s [] steps = refl
-  no_claims s (e ∷ es) steps = ap (λ (xs : List ℕ). xs ++ claims_of p es) (still.claims s e steps.0) ∙ no_claims (p.next s e) es steps.1
+  -- a journal leaves the terms
+  pub keys_stay : (s : S) (es : List E) → AreSteps p s es → Same (keys (p.terms (after p s es))) (keys (p.terms s) ++ [])
+  keys_stay s es h f =
+      let all = run_begins p laws s es h in
+      all.keys f ∙ ap (λ (ks : List Key). sum_by f (keys (p.terms s) ++ ks)) (none_began all.began (claims_of p es) all.leases (no_claims s es h))
 
-  no_refusals : (s : S) (es : List E) → AreSteps p s es → refusals_of p es ≡ []
-  no_refusals s [] steps = refl
-  no_refusals s (e ∷ es) steps = ap (λ (xs : List ℕ). xs ++ refusals_of p es) (still.refusals s e steps.0) ∙ no_refusals (p.next s e) es steps.1
-
-  pub no_stops : (v v' : Sight S E) → Moves p v v' → v'.stops ≡ []
-  no_stops v v' m =
-      let mid = after p v.state v'.journal in
-      m.stops ∙ stops_none (p.terms mid) (map (plus v'.records) (resumed (keys (p.terms mid)) v.rows)) (still.live mid)
-
-  -- a shard's part of a round: nothing is claimed or refused, and no Stop is formed
-  record IsQuiet (v : Sight S E) : Type 0 where
-    claims : claims_of p v.journal ≡ []
-    refusals : refusals_of p v.journal ≡ []
-    stops : v.stops ≡ []
-
-  is_quiet : (v v' : Sight S E) → Moves p v v' → IsQuiet v'
-  is_quiet v v' m = record { claims = no_claims v.state v'.journal m.steps; refusals = no_refusals v.state v'.journal m.steps; stops = no_stops v v' m }
-
-  claimed_none : (a : ℕ) (vs : List (Sight S E)) → AllByRecursion IsQuiet vs → claimed_at p a (map (part_of p) vs) ≡ 0
-  claimed_none a [] h = refl
-  claimed_none a (v ∷ vs) h =
-      omega (arith, sum_by-cons (λ (t : Part E). count_by (λ x. eqb x a) (claims_of p t.journal)) (part_of p v) (map (part_of p) vs), ap (λ (cs : List ℕ). count_by (λ x. eqb x a) cs) h.0.claims, claimed_none a vs h.1)
-
-  refused_none : (a : ℕ) (vs : List (Sight S E)) → AllByRecursion IsQuiet vs → refused_at p a (map (part_of p) vs) ≡ 0
-  refused_none a [] h = refl
-  refused_none a (v ∷ vs) h =
-      omega (arith, sum_by-cons (λ (t : Part E). count_by (λ x. eqb x a) (refusals_of p t.journal)) (part_of p v) (map (part_of p) vs), ap (λ (cs : List ℕ). count_by (λ x. eqb x a) cs) h.0.refusals, refused_none a vs h.1)
-
-  returned_none : (a : ℕ) (vs : List (Sight S E)) → AllByRecursion IsQuiet vs → returned_at p a (map (part_of p) vs) ≡ 0
-  returned_none a [] h = refl
-  returned_none a (v ∷ vs) h =
-      omega (arith, sum_by-cons (λ (t : Part E). count_by (λ s. eqb s.key.lease.0 a) t.stops) (part_of p v) (map (part_of p) vs), ap (λ (ss : List Stop). count_by (λ s. eqb s.key.lease.0 a) ss) h.0.stops, returned_none a vs h.1)
-
-  -- shards that were stepped and settled made one turn, and the addresses that are held stay
-  pub still_turn : StepLaws p → (vs sights settled : List (Sight S E)) (held : List Ip4) → AllZip (InRound p) vs sights → AllZip (Settles p) sights settled → TurnOf p (record { shards = vs; held = held }) (record { shards = settled; held = held })
-  still_turn laws vs sights settled held rounds settles =
-      let moves = zip_both (InRound p) (Settles p) (Moves p) (round_settles p laws) vs sights settled rounds settles in
-      let quiet = zip_right (Moves p) IsQuiet is_quiet vs settled moves in
+  pub still_reaps : (v₀ v : ShardView S E) → InTurn p v₀ v → v.stops ≡ [] → v.starts ≡ [] → Reaps p (p.terms v₀.state) v (record v { state = p.settled v.state })
+  still_reaps v₀ v turn none_stopped none_begun =
+      let left : Same (p.terms (p.settled v.state)) (p.terms v.state) = λ f. laws.settles v.state f ∙ ap (sum_by f) (all_stay (p.terms v.state) (still.live v.state)) in
+      let kept : Same (keys (p.terms v.state)) (keys (p.terms v₀.state) ++ []) = subst (λ (s : S). Same (keys (p.terms s)) (keys (p.terms v₀.state) ++ [])) (sym turn.state) (keys_stay v₀.state v.journal turn.steps) in
       record {
-        shards = moves;
-        different = λ a. omega (arith, claimed_none a settled quiet);
-        free = λ a some. absurd (omega (arith, some, claimed_none a settled quiet));
-        refused = λ a some. absurd (omega (arith, some, refused_none a settled quiet));
-        grew = λ a none. or_false (is_held a held) ∙ ap (λ (n : ℕ). is_held a held || eqb 1 n) (sym (claimed_none a settled quiet));
-        shrank = λ a some. absurd (omega (arith, some, returned_none a settled quiet));
+        number = refl;
+        allowance = refl;
+        state = refl;
+        fit = λ f. turn.fit f ∙ sym (same_map (λ (t : Term). t.key) (p.terms (p.settled v.state)) (p.terms v.state) left f);
+        order = subst (λ (ss : List Stop). AreInOrder (stopped_keys ss)) (sym none_stopped) tt;
+        each = λ f. ap (sum_by (λ (s : Stop). f s.key s.cause)) none_stopped ∙ sym (ap (sum_by (λ (t : Term). f t.key t.cause)) (none_ended p still (p.terms v.state) (still.live v.state)));
+        rows = λ q pick input. omega (arith, ap (stopped_where q pick input) none_stopped);
+        begun = record {
+          order = subst AreInOrder (sym none_begun) tt;
+          each = λ f. kept f ∙ ap (λ (ks : List Key). sum_by f (keys (p.terms v₀.state) ++ ks)) (sym none_begun);
+        };
+        books = refl;
+        journal = refl;
+        sends = refl;
       }

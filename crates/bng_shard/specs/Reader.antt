@@ -1,20 +1,50 @@
--- What the octets of an out say of its charge: whose packet they are, on which circuit, and how long it is.
-use Rattle.std.specs.Prelude.{◌≡◌, ℕ, ◌==◌, Bool, true, false, ◌&&◌, List, length, take, drop, MatchOption}
+-- How octets on PPPoE access ports and to the core are read, and when they are what a charge says.
+use Rattle.std.specs.Prelude.{◌≡◌, ℕ, ◌==◌, Bool, true, false, ◌&&◌, List, Option, Some, None, length, take, drop, cond, MatchOption}
 use Rattle.byteorder.specs.Endian.{big_from}
 use Rattle.bng_base.specs.declared.address.Mac.{Mac}
 use Rattle.bng_base.specs.declared.address.SessionNo.{SessionNo}
-use Rattle.bng_base.specs.declared.circuit.Circuit.TheVariants.{Pppoe}
+use Rattle.bng_base.specs.declared.circuit.Circuit.{Circuit}
+use Rattle.bng_base.specs.declared.circuit.Circuit.TheVariants.{Pppoe, L2tp}
 use Rattle.bng_base.specs.declared.ipv4.Ipv4.{Ipv4}
 use Rattle.bng_base.specs.declared.item.Charge.{Charge}
 use Rattle.bng_base.specs.declared.item.OutRecord.{OutRecord}
 use Rattle.bng_base.specs.declared.outside.Role.{Role}
-use Rattle.bng_base.specs.declared.outside.Role.TheVariants.{Access, Core}
+use Rattle.bng_base.specs.declared.outside.Role.TheVariants.{Access, Core, Tunnel, Auth, Acct, Coa, Control}
 use Rattle.bng_base.specs.Ipv4Grammar.{IsIpv4}
 use Rattle.bng_base.specs.Roles.{is_core, is_access}
+use Rattle.bng_engine.specs.Wire.{WirePacket}
 
 -- a PPPoE session frame (RFC 2516, ETHER_TYPE 8864) whose PPP protocol is IPv4's, 0021 (RFC 1332)
 abbrev pub is_session_data : List ℕ → Bool
 is_session_data octets = (big_from 12 2 octets == 34916) && (big_from 20 2 octets == 33)
+
+-- a datagram to the core is a packet, with its source in octets 12 to 15
+abbrev pub core_packet : List ℕ → WirePacket
+core_packet octets = record { input = true; circuit = None; address = record { 0 = big_from 12 4 octets }; octets = length octets }
+
+-- a session frame names its MAC in octets 0 to 5 and its session in octets 16 and 17, and has a packet after 22 octets, with its
+-- destination in octets 38 to 41 of the frame
+abbrev pub frame_packet : ℕ → List ℕ → WirePacket
+frame_packet port octets = record {
+  input = false;
+  circuit = Some (Pppoe port (record { 0 = take 6 octets }) (record { 0 = big_from 16 2 octets }));
+  address = record { 0 = big_from 38 4 octets };
+  octets = length (drop 22 octets);
+}
+
+abbrev pub pppoe_reader : Role → List ℕ → Option WirePacket
+pppoe_reader (Access port) octets = cond (is_session_data octets) (Some (frame_packet port octets)) None
+pppoe_reader Core octets = Some (core_packet octets)
+pppoe_reader Tunnel octets = None
+pppoe_reader Auth octets = None
+pppoe_reader Acct octets = None
+pppoe_reader Coa octets = None
+pppoe_reader Control octets = None
+
+-- a frame tells its circuit; of a call octets tell only the numbers that the other end chose
+abbrev pub tells_pppoe : Circuit → Bool
+tells_pppoe (Pppoe port mac session) = true
+tells_pppoe (L2tp peer tunnel session) = false
 
 -- from the subscriber: it goes to the core, and is a whole IPv4 packet whose source is the term's address
 pub record IsInputOf (c : Charge) (role : Role) (octets : List ℕ) : Type 0 where
@@ -53,6 +83,6 @@ pub record IsNoPacket (role : Role) (octets : List ℕ) : Type 0 where
   pub not_core : is_core role ≡ false
   pub not_data : is_access role ≡ true → is_session_data octets ≡ false
 
--- the octets are what the charge says, and no packet of a subscriber where there is no charge
-abbrev pub IsSpelled : OutRecord → Type 0
-IsSpelled o = MatchOption o.charge (IsNoPacket o.role o.frame) (λ c. IsInDirection c.input c o.role o.frame)
+-- the octets are a whole packet as the charge says, and no packet of a subscriber where there is no charge
+abbrev pub IsWhole : OutRecord → Type 0
+IsWhole o = MatchOption o.charge (IsNoPacket o.role o.frame) (λ c. IsInDirection c.input c o.role o.frame)
