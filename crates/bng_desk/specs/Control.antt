@@ -7,7 +7,7 @@ use Rattle.bng_base.specs.declared.outside.Role.TheVariants.{Control}
 use Rattle.bng_base.specs.FateOf.{Arrival}
 use Rattle.bng_base.specs.Told.{PlantTold}
 use Rattle.bng_base.specs.Stretch.{PlantStretch, plant_joined, ExtendsPlant}
-use Rattle.bng_engine.specs.Sums.{one_if}
+use Rattle.bng_engine.specs.Lists.{one_if}
 use Rattle.bng_desk.specs.declared.reading.Ended.{Ended}
 use Rattle.bng_desk.specs.declared.control.Heeding.{Heeding}
 use Rattle.bng_desk.specs.Reading.{receives, taken_in, ending_stretch, EndsRight, is_empty}

@@ -10,12 +10,10 @@ use Rattle.bng_base.specs.declared.item.Loose.{Loose}
 use Rattle.bng_base.specs.declared.outside.Role.{Role}
 use Rattle.bng_base.specs.declared.outside.Role.TheVariants.{Access, Core, Tunnel, Auth, Acct, Coa, Control}
 use Rattle.bng_base.specs.FateOf.{Arrival}
-use Rattle.bng_engine.specs.Sight.{Sight}
+use Rattle.bng_engine.specs.Views.{ShardView}
 use Rattle.bng_shard.specs.declared.whose.Whose.{Whose}
 use Rattle.bng_shard.specs.declared.whose.Whose.TheVariants.{Loose as IsLoose, Stands}
-use Rattle.bng_shard.specs.Due.{due_of}
-use Rattle.bng_shard.specs.Protocol.{entry_of}
-use Rattle.bng_shard.specs.State.{State}
+use Rattle.bng_shard.specs.Protocol.{ShardState, deadline_of, entry_of}
 use Rattle.bng_desk.specs.declared.reading.Ended.{Ended}
 use Rattle.bng_desk.specs.Random.{draw}
 
@@ -67,11 +65,11 @@ is_reached None moment = false
 is_reached (Some deadline) moment = nat_le deadline moment
 
 -- a deadline of the shard is due
-abbrev pub is_due : ℕ → Sight State Entry → Bool
-is_due moment v = is_reached (due_of v.state) moment
+abbrev pub is_due : ℕ → ShardView ShardState Entry → Bool
+is_due moment v = is_reached (deadline_of v.state) moment
 
 -- one Tick for each shard that has a due deadline, in the order of their numbers
-abbrev pub ticks_of : ℕ → List (Sight State Entry) → List Item
+abbrev pub ticks_of : ℕ → List (ShardView ShardState Entry) → List Item
 ticks_of moment shards = map (λ v. for_shard kind.Tick v.number) (filter (is_due moment) shards)
 
 -- one End for each shard
@@ -101,18 +99,25 @@ abbrev pub stands_in : ℕ → Whose → Bool
 stands_in shard (IsLoose fate) = false
 stands_in shard (Stands n) = n == shard
 
--- The entries of a shard: of the items, from this place on, those that stand in it, each with its place, at the round's moment.
-abbrev pub entries_in : ℕ → ℕ → ℕ → List Item → List Whose → List Entry
-entries_in shard place moment [] whose = []
-entries_in shard place moment (i ∷ is) [] = []
-entries_in shard place moment (i ∷ is) (w ∷ ws) = (if stands_in shard w then entry_of 0 place moment i ∷ [] else []) ++ entries_in shard (place + 1) moment is ws
+-- The entries of a shard from a seat's list: of its items, from this place on, those that stand in the shard, each with its place, at
+-- the round's moment.
+abbrev pub entries_in : ℕ → ℕ → ℕ → ℕ → List Item → List Whose → List Entry
+entries_in seat shard place moment [] whose = []
+entries_in seat shard place moment (i ∷ is) [] = []
+entries_in seat shard place moment (i ∷ is) (w ∷ ws) = (if stands_in shard w then entry_of seat place moment i ∷ [] else []) ++ entries_in seat shard (place + 1) moment is ws
 
-abbrev pub loose_item : ℕ → Item → Whose → List Loose
-loose_item place i (IsLoose fate) = record { seat = 0; place = place; item = i; fate = fate } ∷ []
-loose_item place i (Stands n) = []
+abbrev pub loose_item : ℕ → ℕ → Item → Whose → List Loose
+loose_item seat place i (IsLoose fate) = record { seat = seat; place = place; item = i; fate = fate } ∷ []
+loose_item seat place i (Stands n) = []
 
--- the items that stand in no shard
-abbrev pub loose_in : ℕ → List Item → List Whose → List Loose
-loose_in place [] whose = []
-loose_in place (i ∷ is) [] = []
-loose_in place (i ∷ is) (w ∷ ws) = loose_item place i w ++ loose_in (place + 1) is ws
+-- the items of a seat's list that stand in no shard
+abbrev pub loose_in : ℕ → ℕ → List Item → List Whose → List Loose
+loose_in seat place [] whose = []
+loose_in seat place (i ∷ is) [] = []
+loose_in seat place (i ∷ is) (w ∷ ws) = loose_item seat place i w ++ loose_in seat (place + 1) is ws
+
+-- those of all lists, from this seat on
+abbrev pub all_loose : ℕ → List (List Item) → List (List Whose) → List Loose
+all_loose seat [] whose = []
+all_loose seat (items ∷ lists) [] = []
+all_loose seat (items ∷ lists) (ws ∷ whose) = loose_in seat 0 items ws ++ all_loose (seat + 1) lists whose

@@ -2,20 +2,20 @@
 use Rattle.std.specs.Prelude.{◌≡◌, ℕ, ◌+◌, ◌*◌, ◌^◌, ◌≤◌, ◌<◌, [], length}
 use Rattle.std.specs.List.{All}
 use Rattle.bng_base.specs.declared.item.Entry.{Entry}
-use Rattle.bng_engine.specs.Sight.{Sight}
+use Rattle.bng_engine.specs.Views.{ShardView}
 use Rattle.bng_shard.specs.declared.pool.Holder.{Holder}
-use Rattle.bng_shard.specs.State.{State}
-use Rattle.bng_shard.specs.Sums.{IsLow}
+use Rattle.bng_shard.specs.Protocol.{ShardState}
+use Rattle.bng_shard.specs.Sums.{AreLow, RowsAreLow}
 use Rattle.bng_desk.specs.Counting.{Within}
 use Rattle.bng_desk.specs.Model.{Desk}
 use Rattle.bng_desk.specs.Taking.{IsEmpty, AreInOrder, AreItems, outs_of_items}
 use Rattle.bng_desk.specs.Round.{refused_of}
 
 -- a shard between two rounds, as the desk's contracts see it: nothing of a round, and no room for one
-abbrev pub rested : Sight State Entry → Sight State Entry
-rested v = record v { journal = []; outs = []; records = []; stops = []; room = 0 }
+abbrev pub rested : ShardView ShardState Entry → ShardView ShardState Entry
+rested v = record v { allowance = 0; journal = []; outs = []; sends = []; stops = []; starts = []; room = 0 }
 
--- what a round adds at most to a row: 512 packets of at most 4,160 octets
+-- what a round adds at most to all rows of a shard, to a book and to a tally: 512 packets of at most 4,160 octets
 abbrev pub octets_most : ℕ
 octets_most = 2129920
 
@@ -27,7 +27,7 @@ drops_most = 32768
 abbrev pub all_turns : Desk → ℕ
 all_turns d = d.turns + d.endings
 
--- One port to sixteen, one shard to 64 in their order with nothing of a round in them, a way to authenticate. No sum is above what
+-- One port to sixteen, one shard to 64 in their order with nothing of a round in them, one seat. No sum is above what
 -- the turns so far could add, and none wraps before the last.
 pub record IsKept (d : Desk) : Type 0 where
   pub some_port : 1 ≤ length d.rules.access
@@ -37,7 +37,6 @@ pub record IsKept (d : Desk) : Type 0 where
   pub few_shards : d.rules.shards ≤ 64
   pub order : AreInOrder d.shards
   pub empty : All IsEmpty d.shards
-  pub auth : 0 < length d.rules.link.auth.items
   pub holders : All (λ (h : Holder). h.shard < d.rules.shards) d.holders
   pub most : d.rounds ≤ 2 ^ 40
   pub made : d.turns ≤ d.rounds
@@ -45,7 +44,10 @@ pub record IsKept (d : Desk) : Type 0 where
   pub unopened : d.unopened ≤ d.endings
   pub told : d.told ≤ all_turns d
   pub drawn : d.drawn ≤ 1 + 512 * all_turns d
-  pub low : All (λ v. All (IsLow (octets_most * all_turns d)) v.rows) d.shards
+  pub one_seat : length d.tallies ≡ 1
+  pub low : All (λ v. RowsAreLow (octets_most * all_turns d) v.rows) d.shards
+  pub books : All (λ v. AreLow (octets_most * all_turns d) v.books) d.shards
+  pub tallies : AreLow (octets_most * all_turns d) d.tallies
   pub counts : Within (drops_most * all_turns d) d.drops
   pub kept : AreItems d.kept
   pub kept_outs : outs_of_items d.kept ≤ 4480 + 320 * length d.shards

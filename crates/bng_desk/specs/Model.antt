@@ -1,13 +1,13 @@
 -- The desk as contracts see it.
 use Rattle.std.specs.Prelude.{ℕ, ◌/◌, ◌^◌, Bool, ◌==◌, ◌||◌, ◌&&◌, not, List, Option, Some, None, length, map, sum_by, slice_get, nat_le, if◌then◌else◌}
+use Rattle.bng_base.specs.declared.book.Book.{Book}
 use Rattle.bng_base.specs.declared.item.Entry.{Entry}
 use Rattle.bng_base.specs.declared.item.Item.{Item}
-use Rattle.bng_engine.specs.Sight.{Sight, Row}
+use Rattle.bng_engine.specs.Views.{ShardView, Row}
 use Rattle.bng_shard.specs.declared.pool.Holder.{Holder}
 use Rattle.bng_shard.specs.declared.rules.Rules.{Rules}
 use Rattle.bng_shard.specs.declared.sums.Traffic.{Traffic}
-use Rattle.bng_shard.specs.State.{State}
-use Rattle.bng_shard.specs.Protocol.{row_at}
+use Rattle.bng_shard.specs.Protocol.{ShardState, row_at, sessions_of}
 use Rattle.bng_shard.specs.Sums.{traffic_in}
 use Rattle.bng_desk.specs.declared.desk.DeskState.{DeskState}
 use Rattle.bng_desk.specs.declared.desk.DeskState.TheVariants.{Serving, Ending, Ended, Starved}
@@ -15,7 +15,7 @@ use Rattle.bng_desk.specs.declared.drops.Drops.{Drops}
 use Rattle.bng_desk.specs.declared.line.Line.{Line}
 
 -- By what it serves, the provisioned circuits in the order of the configuration, after how many turns it ends serving by
--- itself, how many it made, whether it was told to stop, the shards in the order of their numbers, who holds an address, the
+-- itself, how many it made, whether it was told to stop, the shards in the order of their numbers, who holds an address, what each seat passed, the
 -- seed and how many times sixteen octets were drawn from it, the drops, the last moment that it was given, and the number of the
 -- last round that the trace took, 0 before the first. Of the ending: how many of its turns were made, how many in a row opened no round, whether one opened a round, and
 -- the items of the last round that was not opened.
@@ -25,8 +25,9 @@ pub record Desk : Type 0 where
   pub rounds : ℕ
   pub turns : ℕ
   pub stopped : Bool
-  pub shards : List (Sight State Entry)
+  pub shards : List (ShardView ShardState Entry)
   pub holders : List Holder
+  pub tallies : List Book
   pub seed : List ℕ
   pub drawn : ℕ
   pub drops : Drops
@@ -42,8 +43,8 @@ abbrev pub is_over : Desk → Bool
 is_over d = d.stopped || (d.turns == d.rounds)
 
 -- how many sessions there are in all shards
-abbrev pub sessions_in : List (Sight State Entry) → ℕ
-sessions_in shards = sum_by (λ v. length v.state.sessions) shards
+abbrev pub sessions_in : List (ShardView ShardState Entry) → ℕ
+sessions_in shards = sum_by (λ v. sessions_of v.state) shards
 
 -- so many turns in a row in which no round of Ends is opened, or so many turns of ending, are the end
 abbrev pub unopened_most : ℕ
@@ -70,12 +71,12 @@ abbrev pub traffic_or : Option Row → Traffic
 traffic_or None = no_traffic
 traffic_or (Some row) = traffic_in row
 
-abbrev pub traffic_at : Option (Sight State Entry) → ℕ → Traffic
+abbrev pub traffic_at : Option (ShardView ShardState Entry) → ℕ → Traffic
 traffic_at None session = no_traffic
 traffic_at (Some v) session = traffic_or (row_at v.rows session)
 
 -- what a provisioned circuit carried, as the shard of its number keeps it
-abbrev pub carried_on : List (Sight State Entry) → Line → Traffic
+abbrev pub carried_on : List (ShardView ShardState Entry) → Line → Traffic
 carried_on shards l = traffic_at (slice_get shards (l.session.0 / 1024)) l.session.0
 
 abbrev pub all_carried : Desk → List Traffic

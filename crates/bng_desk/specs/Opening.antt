@@ -8,11 +8,11 @@ use Rattle.bng_base.specs.declared.settings.AccessPort.{AccessPort}
 use Rattle.bng_base.specs.declared.settings.Static.{Static}
 use Rattle.bng_config.specs.declared.config.Config.{Config}
 use Rattle.bng_discovery.specs.declared.port.PortRules.{PortRules}
-use Rattle.bng_engine.specs.Sight.{Sight}
+use Rattle.bng_engine.specs.Quantities.{empty_book}
+use Rattle.bng_engine.specs.Views.{ShardView}
 use Rattle.bng_shard.specs.declared.pool.Holder.{Holder}
 use Rattle.bng_shard.specs.declared.rules.Rules.{Rules}
-use Rattle.bng_shard.specs.Protocol.{opened}
-use Rattle.bng_shard.specs.State.{State}
+use Rattle.bng_shard.specs.Protocol.{ShardState, opened}
 use Rattle.bng_desk.specs.declared.line.Line.{Line}
 use Rattle.bng_desk.specs.Counting.{no_drops}
 use Rattle.bng_desk.specs.Model.{Desk}
@@ -69,10 +69,11 @@ holder_of c = record { address = c.address; shard = shard_of c }
 abbrev pub statics_of : Config → ℕ → List Static
 statics_of config shard = filter (λ c. shard_of c == shard) config.statics
 
-abbrev pub opened_shards : Config → List (Sight State Entry)
-opened_shards config = map (λ n. opened n (statics_of config n)) (range_with_len 0 config.shards)
+abbrev pub opened_shards : Config → Rules → List (ShardView ShardState Entry)
+opened_shards config rules = map (λ n. opened n rules (statics_of config n)) (range_with_len 0 config.shards)
 
--- Each provisioned circuit has its term in the shard of its number and holds its address; there is no session.
+-- Each shard works by the same rules. Each provisioned circuit has its term in the shard of its number and holds its address; there is
+-- no session, and nothing has passed.
 pub record IsOpened (config : Config) (rounds : ℕ) (seed : List ℕ) (now : ℕ) (d : Desk) : Type 0 where
   pub rules : Rules
   pub are_rules : AreRules config seed rules
@@ -82,8 +83,9 @@ pub record IsOpened (config : Config) (rounds : ℕ) (seed : List ℕ) (now : �
     rounds = rounds;
     turns = 0;
     stopped = false;
-    shards = opened_shards config;
+    shards = opened_shards config rules;
     holders = map holder_of config.statics;
+    tallies = empty_book ∷ [];
     seed = seed;
     drawn = 1;
     drops = no_drops;

@@ -10,7 +10,7 @@ use Rattle.bng_base.specs.declared.outside.Received.TheVariants.{Got, Empty, Fai
 use Rattle.bng_base.specs.Told.{taken_by}
 use Rattle.bng_base.specs.FateOf.{Arrival}
 use Rattle.bng_base.specs.Stretch.{PlantStretch}
-use Rattle.bng_engine.specs.Sums.{one_if}
+use Rattle.bng_engine.specs.Lists.{one_if}
 use Rattle.bng_desk.specs.declared.reading.Ended.{Ended}
 use Rattle.bng_desk.specs.declared.reading.Ended.TheVariants.{Full, Dry, Broken}
 

@@ -1,64 +1,98 @@
 -- A round and its settlement.
-use Rattle.std.specs.Prelude.{◌≡◌, ℕ, ◌+◌, Bool, not, ◌&&◌, List, [], ◌∷◌, ◌++◌, map, filter, length, replicate, is_some, count_by}
-use Rattle.std.specs.List.{AllZip, flat_map}
+use Rattle.std.specs.Prelude.{◌≡◌, ℕ, ◌+◌, ◌<◌, ◌==◌, Bool, not, ◌&&◌, List, [], ◌∷◌, ◌++◌, map, filter, length, replicate, is_some, count_by, slice_index_or}
+use Rattle.std.specs.List.{All, AllZip, flat_map}
 use Rattle.bng_base.specs.declared.address.Ip4.{Ip4}
+use Rattle.bng_base.specs.declared.book.Book.{Book}
 use Rattle.bng_base.specs.declared.fate.Fate.{Fate}
 use Rattle.bng_base.specs.declared.item.Entry.{Entry}
 use Rattle.bng_base.specs.declared.item.Item.{Item}
 use Rattle.bng_base.specs.declared.item.OutRecord.{OutRecord}
 use Rattle.bng_base.specs.declared.round.RoundRecord.{RoundRecord}
 use Rattle.bng_base.specs.Stretch.{PlantStretch}
-use Rattle.bng_engine.specs.Progress.{all_records}
-use Rattle.bng_engine.specs.Sight.{Sight}
-use Rattle.bng_engine.specs.Turn.{DeskSight, TurnOf}
+use Rattle.bng_engine.specs.Calls.{all_sends}
+use Rattle.bng_engine.specs.Showing.{with_journal}
+use Rattle.bng_engine.specs.Turns.{TurnOf}
+use Rattle.bng_engine.specs.Views.{ShardView, DeskView}
 use Rattle.bng_engine.specs.Wire.{went}
 use Rattle.bng_shard.specs.declared.pool.Holder.{Holder}
 use Rattle.bng_shard.specs.declared.rules.Rules.{Rules}
 use Rattle.bng_shard.specs.declared.whose.Whose.{Whose}
-use Rattle.bng_shard.specs.Deed.{Deed}
-use Rattle.bng_shard.specs.Protocol.{pppoe, with_deeds}
-use Rattle.bng_shard.specs.State.{State}
+use Rattle.bng_shard.specs.Protocol.{ShardState, Handled, pppoe}
 use Rattle.bng_shard.specs.Whose.{IsWhose}
 use Rattle.bng_desk.specs.declared.drops.Drops.{Drops}
 use Rattle.bng_desk.specs.Counting.{no_drops, drops_of, plus}
-use Rattle.bng_desk.specs.Items.{entries_in, loose_in, is_from_outside}
+use Rattle.bng_desk.specs.Items.{entries_in, all_loose, is_from_outside}
 
--- where each item was handled, and each shard as the engine sees it once the round is settled: with the deeds of its entries, and
--- with each of their outs and the answer to its send
+-- Whose each item of each seat's list was; each shard as the engine sees it once the round is settled: with what its entries did, what
+-- they had to send and the answers to these sends; and the tally of each seat.
 pub record Round : Type 0 where
-  pub whose : List Whose
-  pub shards : List (Sight State Deed)
+  pub whose : List (List Whose)
+  pub shards : List (ShardView ShardState Handled)
+  pub tallies : List Book
 
 -- the shards before a round
-abbrev pub sights_of : List (Sight State Entry) → List (Sight State Deed)
-sights_of shards = map (λ v. with_deeds v []) shards
+abbrev pub views_of : List (ShardView ShardState Entry) → List (ShardView ShardState Handled)
+views_of shards = map (λ v. with_journal v []) shards
 
 abbrev pub held_by : List Holder → List Ip4
 held_by holders = map (λ (h : Holder). h.address) holders
 
--- the desk as the engine sees it
-abbrev pub sight_of : List (Sight State Entry) → List Holder → DeskSight State Deed
-sight_of shards holders = record { shards = sights_of shards; held = held_by holders }
+-- the desk as the engine sees it, before a round and once one is settled
+abbrev pub view_of : List (ShardView ShardState Entry) → List Holder → List Book → DeskView ShardState Handled
+view_of shards holders tallies = record { shards = views_of shards; held = held_by holders; tallies = tallies }
 
--- the entries of a shard, from the first shard on
-abbrev pub AreDealt : ℕ → ℕ → List Item → List Whose → List (Sight State Deed) → Type 0
-AreDealt shard moment items whose [] = Unit {0}
-AreDealt shard moment items whose (v ∷ vs) = (map (λ (d : Deed). d.entry) v.journal ≡ entries_in shard 0 moment items whose) × AreDealt (shard + 1) moment items whose vs
+abbrev pub view_after : List Holder → Round → DeskView ShardState Handled
+view_after holders round = record { shards = round.shards; held = held_by holders; tallies = round.tallies }
 
--- Each item is handled where it is to be, each shard's entries are its items in their order, and the shards made one turn of the
--- engine: each journal is a run of steps, each of its outs was sent once, and what was sent was charged.
-pub record IsRound (r : Rules) (shards : List (Sight State Entry)) (holders : List Holder) (moment : ℕ) (items : List Item) (round : Round) : Type 0 where
-  pub whose : AllZip (IsWhose r holders) items round.whose
-  pub dealt : AreDealt 0 moment items round.whose round.shards
-  pub turn : TurnOf (pppoe r) (sight_of shards holders) (record { shards = round.shards; held = held_by holders })
+-- the entries of a shard, and those of a seat among some
+abbrev pub entries_of : ShardView ShardState Handled → List Entry
+entries_of v = map (λ (h : Handled). h.deed.entry) v.journal
+
+abbrev pub of_seat : ℕ → List Entry → List Entry
+of_seat seat entries = filter (λ (e : Entry). e.seat == seat) entries
+
+-- In a shard's journal the entries of each seat are the items of that seat's list that stand in this shard, each once, in their order and
+-- with its place. There are no others. Nothing is said of the order of the seats among each other.
+pub record IsPart (lists : List (List Item)) (whose : List (List Whose)) (shard moment : ℕ) (journal : List Entry) : Type 0 where
+  pub each : (seat : ℕ) → seat < length lists → of_seat seat journal ≡ entries_in seat shard 0 moment (slice_index_or lists seat []) (slice_index_or whose seat [])
+  pub seats : All (λ (e : Entry). e.seat < length lists) journal
+
+-- so in each shard, from the first shard on
+abbrev pub AreParts : List (List Item) → List (List Whose) → ℕ → ℕ → List (ShardView ShardState Handled) → Type 0
+AreParts lists whose shard moment [] = Unit {0}
+AreParts lists whose shard moment (v ∷ vs) = IsPart lists whose shard moment (entries_of v) × AreParts lists whose (shard + 1) moment vs
+
+-- Each item of each seat's list is handled in the shard that it is for, or loose, and no term may begin yet.
+pub record IsDealt (r : Rules) (holders : List Holder) (moment : ℕ) (lists : List (List Item)) (round : Round) : Type 0 where
+  pub whose : AllZip (AllZip (IsWhose r holders)) lists round.whose
+  pub parts : AreParts lists round.whose 0 moment round.shards
+  pub allowances : All (λ (v : ShardView ShardState Handled). v.allowance ≡ 0) round.shards
+
+-- A round with its settlement: its items were dealt, and the shards made one turn of the engine, in which each journal is a run of steps,
+-- each of its outs was sent once, and what was sent was charged.
+pub record IsRound (r : Rules) (shards : List (ShardView ShardState Entry)) (holders : List Holder) (tallies : List Book) (moment : ℕ) (lists : List (List Item)) (round : Round) : Type 0 where
+  pub dealt : IsDealt r holders moment lists round
+  pub turn : TurnOf pppoe (view_of shards holders tallies) (view_after holders round)
 
 -- a shard once its round is over
-abbrev pub left_by : Sight State Deed → Sight State Entry
-left_by v = record { number = v.number; state = v.state; rows = v.rows; journal = []; outs = []; records = []; stops = []; room = 0 }
+abbrev pub left_by : ShardView ShardState Handled → ShardView ShardState Entry
+left_by v = record {
+  number = v.number;
+  state = v.state;
+  rows = v.rows;
+  books = v.books;
+  allowance = 0;
+  journal = [];
+  outs = [];
+  sends = [];
+  stops = [];
+  starts = [];
+  room = 0;
+}
 
 -- the fates of the items before their sends: of the loose ones, and of the entries
-abbrev pub fates_in : List Item → Round → List Fate
-fates_in items round = map (λ l. l.fate) (loose_in 0 items round.whose) ++ flat_map (λ v. map (λ (d : Deed). d.fate) v.journal) round.shards
+abbrev pub fates_in : List (List Item) → Round → List Fate
+fates_in lists round = map (λ l. l.fate) (all_loose 0 lists round.whose) ++ flat_map (λ v. map (λ (h : Handled). h.deed.fate) v.journal) round.shards
 
 -- a packet whose send failed
 abbrev pub is_failed : OutRecord → Bool
@@ -68,8 +102,8 @@ abbrev pub with_failed : ℕ → Drops
 with_failed n = record no_drops { link_failed = n }
 
 -- what a round drops: by the fates, and the packets whose own send failed
-abbrev pub drops_in : List Item → Round → Drops
-drops_in items round = plus (drops_of (fates_in items round)) (with_failed (count_by is_failed (all_records round.shards)))
+abbrev pub drops_in : List (List Item) → Round → Drops
+drops_in lists round = plus (drops_of (fates_in lists round)) (with_failed (count_by is_failed (all_sends round.shards)))
 
 -- a send that the plant did not take
 abbrev pub not_sent : OutRecord → Bool
@@ -77,18 +111,18 @@ not_sent o = not o.sent
 
 -- what its sends add to what the plant tells; each that was not sent had failed
 abbrev pub sends_stretch : List OutRecord → PlantStretch
-sends_stretch records = record { heard = []; taken = []; sent = went records; failed = count_by not_sent records }
+sends_stretch sends = record { heard = []; taken = []; sent = went sends; failed = count_by not_sent sends }
 
--- what the trace is told of it; no term may begin
-abbrev pub record_of : ℕ → ℕ → ℕ → List Item → Round → RoundRecord
-record_of number moment wall items round = record {
+-- what the trace is told of it
+abbrev pub record_of : ℕ → ℕ → ℕ → List (List Item) → Round → RoundRecord
+record_of number moment wall lists round = record {
   number = number;
   moment = moment;
   wall = wall;
-  allowances = replicate (length round.shards) 0;
-  journals = map (λ v. map (λ (d : Deed). d.entry) v.journal) round.shards;
-  loose = loose_in 0 items round.whose;
-  outs = all_records round.shards;
+  allowances = map (λ (v : ShardView ShardState Handled). v.allowance) round.shards;
+  journals = map entries_of round.shards;
+  loose = all_loose 0 lists round.whose;
+  outs = all_sends round.shards;
   refused = [];
 }
 

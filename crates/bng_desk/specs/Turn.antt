@@ -11,12 +11,11 @@ use Rattle.bng_base.specs.declared.outside.Role.TheVariants.{Access, Core, Tunne
 use Rattle.bng_base.specs.declared.round.RoundRecord.{RoundRecord}
 use Rattle.bng_base.specs.FateOf.{Arrival}
 use Rattle.bng_base.specs.Stretch.{Outside, PlantStretch, plant_none, plant_joined, Stretch, Extends, no_stretch}
-use Rattle.bng_engine.specs.Progress.{all_records}
-use Rattle.bng_engine.specs.Sight.{Sight}
+use Rattle.bng_engine.specs.Calls.{all_sends}
+use Rattle.bng_engine.specs.Views.{ShardView}
 use Rattle.bng_ppp.specs.LinkRelation.{earliest}
 use Rattle.bng_shard.specs.declared.rules.Rules.{Rules}
-use Rattle.bng_shard.specs.Due.{due_of}
-use Rattle.bng_shard.specs.State.{State}
+use Rattle.bng_shard.specs.Protocol.{ShardState, deadline_of}
 use Rattle.bng_desk.specs.declared.desk.Turned.{Turned}
 use Rattle.bng_desk.specs.declared.desk.Turned.TheVariants.{Ok, TraceFault, WantOfMemory}
 use Rattle.bng_desk.specs.declared.reading.Ended.{Ended}
@@ -78,12 +77,12 @@ ending_draws d = if is_empty d.kept then length d.shards else 0
 -- the round, where it was opened
 abbrev pub RoundOf : Desk → ℕ → List Item → Option Round → Type 0
 RoundOf d moment items None = Unit {0}
-RoundOf d moment items (Some round) = IsRound d.rules d.shards d.holders moment items round
+RoundOf d moment items (Some round) = IsRound d.rules d.shards d.holders d.tallies moment (items ∷ []) round
 
 -- the desk after a round, or after one that was not opened, whose items of the outside are dropped
 abbrev pub after_round : Desk → List Item → Option Round → Desk
 after_round d items None = record d { drops = plus d.drops (with_refused (length (refused_of items))) }
-after_round d items (Some round) = record d { shards = map left_by round.shards; drops = plus d.drops (drops_in items round) }
+after_round d items (Some round) = record d { shards = map left_by round.shards; tallies = round.tallies; drops = plus d.drops (drops_in (items ∷ []) round) }
 
 -- the number of the last round that the trace took, after one more; one that it did not take leaves it
 abbrev pub told_after : Bool → ℕ → ℕ
@@ -111,8 +110,8 @@ wait_for None moment = 100
 wait_for (Some deadline) moment = min (deadline - moment) 100
 
 -- the earliest deadline of all shards
-abbrev pub deadline_in : List (Sight State Entry) → Option ℕ
-deadline_in shards = fold (λ a (v : Sight State Entry). earliest a (due_of v.state)) None shards
+abbrev pub deadline_in : List (ShardView ShardState Entry) → Option ℕ
+deadline_in shards = fold (λ a (v : ShardView ShardState Entry). earliest a (deadline_of v.state)) None shards
 
 abbrev pub arrivals_in : List DataReading → List Arrival
 arrivals_in readings = flat_map (λ r. r.arrivals) readings
@@ -141,12 +140,12 @@ data_stretch (r ∷ rs) = plant_joined (reading_stretch r) (data_stretch rs)
 -- what the sends of the round add
 abbrev pub round_stretch : Option Round → PlantStretch
 round_stretch None = plant_none
-round_stretch (Some round) = sends_stretch (all_records round.shards)
+round_stretch (Some round) = sends_stretch (all_sends round.shards)
 
 -- what the trace is told: its number is one more than that of the last round that it took
 abbrev pub round_told : Desk → ℕ → ℕ → List Item → Option Round → RoundRecord
 round_told d moment wall items None = refused_record (d.told + 1) moment wall (length d.shards) items
-round_told d moment wall items (Some round) = record_of (d.told + 1) moment wall items round
+round_told d moment wall items (Some round) = record_of (d.told + 1) moment wall (items ∷ []) round
 
 abbrev pub told_if : Bool → RoundRecord → List RoundRecord
 told_if true r = r ∷ []

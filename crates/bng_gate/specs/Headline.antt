@@ -2,6 +2,7 @@
 use Rattle.std.specs.Prelude.{◌≡◌, ℕ, true, List, [], Some, length, map, take, drop, slice_get, count_by}
 use Rattle.std.specs.List.{All, flat_map, range_with_len}
 use Rattle.byteorder.specs.Endian.{big_from}
+use Rattle.bng_base.specs.declared.circuit.Circuit.TheVariants.{Pppoe}
 use Rattle.bng_base.specs.declared.ipv4.Ipv4.{Ipv4}
 use Rattle.bng_base.specs.declared.outside.Datagram.{Datagram}
 use Rattle.bng_base.specs.declared.outside.Heard.{Heard}
@@ -14,20 +15,22 @@ use Rattle.bng_base.specs.Ipv4Grammar.{IsIpv4}
 use Rattle.bng_base.specs.Roles.{is_core, is_access}
 use Rattle.bng_base.specs.Told.{Grows, GrowsIfTold}
 use Rattle.bng_config.specs.declared.config.Config.{Config}
+use Rattle.bng_engine.specs.Accounted.{Balanced}
+use Rattle.bng_engine.specs.Exact.{ConservedAt}
+use Rattle.bng_engine.specs.Histories.{History}
 use Rattle.bng_engine.specs.Laws.{RightRound, sends_of, stops_of}
-use Rattle.bng_engine.specs.Spelled.{is_session_data}
+use Rattle.bng_engine.specs.Quantities.Quantity.TheVariants.{Octets}
 use Rattle.bng_engine.specs.Terms.{Key, keys}
-use Rattle.bng_engine.specs.Wire.{is_input, is_from, is_output, is_on, input_told, output_told, went}
-use Rattle.bng_engine.specs.World.{World as Gateway, ConservedIn}
+use Rattle.bng_engine.specs.Wire.{is_input, is_from, is_output, is_on, told_of, went}
 use Rattle.bng_shard.specs.declared.sums.Traffic.{Traffic}
-use Rattle.bng_shard.specs.Protocol.{terms_of, terms_after, pppoe}
-use Rattle.bng_shard.specs.State.{State}
+use Rattle.bng_shard.specs.Protocol.{ShardState, terms_of, terms_after, pppoe}
+use Rattle.bng_shard.specs.Reader.{is_session_data, pppoe_reader}
 use Rattle.bng_desk.specs.Model.{input_of, output_of}
 use Rattle.bng_desk.specs.Opening.{line_of, statics_of}
 use Rattle.bng_desk.specs.Reading.{taken_in}
 use Rattle.bng_desk.specs.Report.{report_text, by_number}
-use Rattle.bng_desk.specs.Round.{not_sent}
-use Rattle.bng_gate.specs.Rounds.{rounds_of, world_of, plant_of, on_data, readings_of, drops_of_run}
+use Rattle.bng_desk.specs.Round.{not_sent, view_of}
+use Rattle.bng_gate.specs.Rounds.{rounds_of, history_of, plant_of, on_data, readings_of, drops_of_run}
 use Rattle.bng_gate.specs.Run.{World, outside, Prepares, Course, Runs}
 
 -- the octets are an IPv4 packet of which this holds, and nothing else
@@ -61,13 +64,13 @@ pub record IsAddressed (config : Config) (d : Datagram) : Type 0 where
   pub to_core : is_core d.role ≡ true → IsFromCircuit config d.octets
   pub to_circuit : is_access d.role ≡ true → is_session_data d.octets ≡ true → IsToCircuit config d.role d.octets
 
--- Over the octets alone of what was sent. Input: the lengths of the datagrams to the core whose source (octets 12 to 15) is the
--- circuit's address. Output: the lengths, without their first 22 octets, of the session data of IPv4 that went out on its port, to
--- its MAC and in its session.
+-- Over the octets alone of what was sent, as anyone reads them. Input: the lengths of the datagrams to the core whose source (octets 12
+-- to 15) is the circuit's address. Output: the lengths, without their first 22 octets, of the session data of IPv4 that went out on its
+-- port, to its MAC and in its session.
 abbrev pub traffic_of : List Datagram → Static → Traffic
 traffic_of sent c = record {
-  input = input_told (is_from c.address) sent;
-  output = output_told (is_on c.port c.mac c.session) sent;
+  input = told_of pppoe_reader Octets (is_from c.address) sent;
+  output = told_of pppoe_reader Octets (is_on (Pppoe c.port c.mac c.session)) sent;
 }
 
 -- of each circuit, in the order of the configuration
@@ -97,12 +100,14 @@ pub record IsSafe (config : Config) (seed : List ℕ) (old new : World) (course 
   pub sends : on_data sent ≡ on_data (went (sends_of (rounds_of course.turns course.endings)))
   -- The rounds that were opened are a run from the opening. In none of them had two live terms one address, and each packet was of
   -- a live term, on its circuit and with its address.
-  pub world : Gateway State
-  pub rounds : Chain (RightRound (pppoe course.opening.rules)) (world_of course.opening) (rounds_of course.turns course.endings) world
-  -- No term ended: those of the circuits are live in the end. For each circuit, address and direction what was sent is theirs.
-  pub terms : map (λ s. keys (terms_of s.state)) world.shards ≡ keys_of_circuits config
+  pub history : History ShardState
+  pub rounds : Chain (RightRound pppoe) (history_of course.opening) (rounds_of course.turns course.endings) history
+  -- No term ended: those of the circuits are live in the end. For each circuit, address and direction what was sent is theirs, in octets
+  -- and in packets; and the books of the profiles, the tallies of the seats and what the terms carried have one total, all that was sent.
+  pub terms : map (λ h. keys (terms_of h.state)) history.shards ≡ keys_of_circuits config
   pub no_stops : stops_of (rounds_of course.turns course.endings) ≡ []
-  pub conserved : ConservedIn (pppoe course.opening.rules) world.shards
+  pub conserved : ConservedAt pppoe history.shards
+  pub balanced : Balanced (view_of course.last.shards course.last.holders course.last.tallies) history
   -- Each datagram to the core was a packet from the address of a circuit, and each packet on an access port was on a circuit, to its
   -- address.
   pub addressed : All (IsAddressed config) sent
@@ -118,8 +123,8 @@ pub record Headline (config : Config) (old new : World) : Type 0 where
   -- The octets printed for a circuit are those of the packets that were sent for it, and all together are those of all packets that
   -- were sent. The drops printed are those of the rounds, and of those that could not be opened.
   pub printed : Grows old.out.bytes new.out.bytes (report_text (map line_of config.statics) (all_traffic config safe.sent) (by_number (drops_of_run run.completes.course.turns run.completes.course.endings)))
-  pub all_input : input_of (all_traffic config safe.sent) ≡ input_told is_input safe.sent
-  pub all_output : output_of (all_traffic config safe.sent) ≡ output_told is_output safe.sent
+  pub all_input : input_of (all_traffic config safe.sent) ≡ told_of pppoe_reader Octets is_input safe.sent
+  pub all_output : output_of (all_traffic config safe.sent) ≡ told_of pppoe_reader Octets is_output safe.sent
 
 -- nothing was heard or sent
 pub record IsQuiet (old new : World) : Type 0 where

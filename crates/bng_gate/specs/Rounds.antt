@@ -6,16 +6,14 @@ use Rattle.bng_base.specs.declared.outside.Datagram.{Datagram}
 use Rattle.bng_base.specs.Roles.{is_data}
 use Rattle.bng_base.specs.Stretch.{PlantStretch, plant_joined}
 use Rattle.bng_engine.specs.Accounted.{opening}
-use Rattle.bng_engine.specs.Run.{Part}
-use Rattle.bng_engine.specs.Sight.{Sight}
-use Rattle.bng_engine.specs.World.{World}
-use Rattle.bng_shard.specs.Deed.{Deed}
-use Rattle.bng_shard.specs.State.{State}
+use Rattle.bng_engine.specs.Histories.{History, ShardTurn}
+use Rattle.bng_engine.specs.Views.{turn_in}
+use Rattle.bng_shard.specs.Protocol.{ShardState, Handled}
 use Rattle.bng_desk.specs.declared.drops.Drops.{Drops}
 use Rattle.bng_desk.specs.Counting.{no_drops, plus}
 use Rattle.bng_desk.specs.Model.{Desk}
 use Rattle.bng_desk.specs.Items.{DataReading}
-use Rattle.bng_desk.specs.Round.{Round, sight_of, drops_in, refused_of, with_refused}
+use Rattle.bng_desk.specs.Round.{Round, view_of, drops_in, refused_of, with_refused}
 use Rattle.bng_desk.specs.Turn.{Turn, EndTurn, items_of, ending_items}
 use Rattle.bng_gate.specs.Serving.{Made, MadeEnd, run_stretch, ending_stretch}
 
@@ -32,22 +30,18 @@ end_round_in (Some t) = t.round
 abbrev pub rounds_in : List Made → List MadeEnd → List (Option Round)
 rounds_in turns endings = map (λ m. round_in m.turn) turns ++ map (λ m. end_round_in m.turn) endings
 
--- what a round added to a shard
-abbrev pub part_in : Sight State Deed → Part Deed
-part_in v = record { journal = v.journal; records = v.records; stops = v.stops }
-
--- what it added to each shard, in the order of their numbers; nothing where it was not opened
-abbrev pub parts_in : Option Round → List (List (Part Deed))
-parts_in None = []
-parts_in (Some round) = map part_in round.shards ∷ []
+-- what a round and its settlement added to each shard, in the order of their numbers; nothing where it was not opened
+abbrev pub turns_of : Option Round → List (List (ShardTurn Handled))
+turns_of None = []
+turns_of (Some round) = map turn_in round.shards ∷ []
 
 -- the rounds that were opened, by what each added to each shard
-abbrev pub rounds_of : List Made → List MadeEnd → List (List (Part Deed))
-rounds_of turns endings = flat_map parts_in (rounds_in turns endings)
+abbrev pub rounds_of : List Made → List MadeEnd → List (List (ShardTurn Handled))
+rounds_of turns endings = flat_map turns_of (rounds_in turns endings)
 
 -- the shards of a desk, in which nothing has happened yet
-abbrev pub world_of : Desk → World State
-world_of d = opening (sight_of d.shards d.holders)
+abbrev pub history_of : Desk → History ShardState
+history_of d = opening (view_of d.shards d.holders d.tallies)
 
 -- what the turns add to what the plant tells, one after another
 abbrev pub plant_of : List Made → List MadeEnd → PlantStretch
@@ -69,7 +63,7 @@ readings_of turns = flat_map (λ m. readings_in m.turn) turns
 -- was not opened
 abbrev pub round_drops : List Item → Option Round → Drops
 round_drops items None = with_refused (length (refused_of items))
-round_drops items (Some round) = drops_in items round
+round_drops items (Some round) = drops_in (items ∷ []) round
 
 -- a turn that wanted memory took nothing, and drops nothing
 abbrev pub drops_made : Desk → Option Turn → Drops

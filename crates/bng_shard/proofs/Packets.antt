@@ -10,7 +10,7 @@ use Rattle.bng_base.specs.declared.settings.Static.{Static}
 use Rattle.bng_base.specs.FateOf.{Arrival}
 use Rattle.bng_base.specs.Ipv4Grammar.{IsIpv4}
 use Rattle.bng_base.specs.PppoeGrammar.{pppoe_text}
-use Rattle.bng_engine.specs.Spelled.{IsInputOf, IsOutputOf}
+use Rattle.bng_shard.specs.Reader.{IsInputOf, IsOutputOf}
 use Rattle.bng_forward.specs.Framed.{session_frame, circuit_frame, IsFrameTo}
 use Rattle.bng_forward.specs.Opened.{PassesUp, PassesDown}
 use Rattle.bng_pppoe_wire.proofs.Spelled.{six}

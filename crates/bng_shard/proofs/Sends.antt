@@ -18,7 +18,7 @@ use Rattle.bng_discovery.specs.declared.answers.Answer.TheVariants.{Offer, Make,
 use Rattle.bng_discovery.specs.declared.port.PortRules.{PortRules}
 use Rattle.bng_discovery.specs.Reply.{pado_of, pads_of, refusal_of}
 use Rattle.bng_discovery.specs.Table.{table, first_row}
-use Rattle.bng_engine.specs.Spelled.{IsInDirection}
+use Rattle.bng_shard.specs.Reader.{IsInDirection}
 use Rattle.bng_engine.proofs.Everywhere.{all_append}
 use Rattle.bng_forward.specs.Fates.{AccessFate, CoreFate}
 use Rattle.bng_forward.specs.Framed.{circuit_frame}

@@ -11,7 +11,7 @@ use Rattle.bng_base.specs.PppGrammar.{ppp_text}
 use Rattle.bng_base.specs.PppoeGrammar.{PppoeFrame, pppoe_text}
 use Rattle.bng_discovery.specs.declared.port.PortRules.{PortRules}
 use Rattle.bng_discovery.specs.Reply.{padt_of}
-use Rattle.bng_engine.specs.Spelled.{is_session_data, IsNoPacket}
+use Rattle.bng_shard.specs.Reader.{is_session_data, IsNoPacket}
 use Rattle.bng_engine.proofs.Everywhere.{all_append}
 use Rattle.bng_forward.specs.Framed.{session_frame}
 use Rattle.bng_ppp_wire.specs.declared.protocol.TheConstants as protocol

@@ -7,7 +7,7 @@ use Rattle.bng_base.specs.declared.item.Charge.{Charge}
 use Rattle.bng_base.specs.declared.item.OutRecord.{OutRecord}
 use Rattle.bng_base.specs.declared.settings.Static.{Static}
 use Rattle.bng_engine.specs.Protocol.{StepLaws, StillLaws, Begins, AnyOf, IsFor, IsAddressed, IsUnsent}
-use Rattle.bng_engine.specs.Spelled.{IsSpelled, IsNoPacket, IsInDirection}
+use Rattle.bng_shard.specs.Reader.{IsWhole, IsNoPacket, IsInDirection}
 use Rattle.bng_engine.specs.Sums.{octets_if, one_if}
 use Rattle.bng_engine.specs.Terms.{Term, is_live, keys}
 use Rattle.bng_engine.proofs.Everywhere.{all_weaker}

@@ -6,11 +6,12 @@ pub mod Frames
 pub mod Timers
 pub mod Step
 pub mod Whose
-pub mod Protocol
-pub mod Due
-pub mod Room
 pub mod Sums
+pub mod Reader
+pub mod Due
 pub mod Hearing
+pub mod Protocol
+pub mod Room
 pub mod Running
 pub mod Fits
 pub mod Doing

@@ -1,5 +1,6 @@
 -- The protocol of a shard, as the engine reads it.
-use Rattle.std.specs.Prelude.{◌≡◌, ℕ, ◌+◌, ◌≤◌, ◌==◌, true, false, List, [], ◌∷◌, ◌++◌, Option, length, map, sum_by, find}
+use Rattle.std.specs.Prelude.{◌≡◌, ℕ, ◌+◌, ◌≤◌, ◌==◌, Bool, true, false, List, [], ◌∷◌, Option, length, map, find}
+use Rattle.bng_base.specs.declared.book.Book.{Book}
 use Rattle.bng_base.specs.declared.circuit.Circuit.TheVariants.{Pppoe}
 use Rattle.bng_base.specs.declared.fate.Fate.{Fate}
 use Rattle.bng_base.specs.declared.item.Claim.{Claim}
@@ -9,19 +10,35 @@ use Rattle.bng_base.specs.declared.item.Item.{Item}
 use Rattle.bng_base.specs.declared.item.OutRecord.{OutRecord}
 use Rattle.bng_base.specs.declared.settings.Static.{Static}
 use Rattle.bng_engine.specs.Protocol.{Protocol}
-use Rattle.bng_engine.specs.Sight.{Sight, Row, stepped, new_row}
-use Rattle.bng_engine.specs.Sums.{octets_if}
+use Rattle.bng_engine.specs.Quantities.{empty_book}
+use Rattle.bng_engine.specs.Showing.{HandlesEntry}
+use Rattle.bng_engine.specs.Sums.{passed_sum}
 use Rattle.bng_engine.specs.Terms.{Term, keys}
+use Rattle.bng_engine.specs.Views.{ShardView, Row, new_row}
 use Rattle.bng_shard.specs.declared.rules.Rules.{Rules}
 use Rattle.bng_shard.specs.State.{State, settled}
 use Rattle.bng_shard.specs.Deed.{Deed}
+use Rattle.bng_shard.specs.Due.{due_of}
 use Rattle.bng_shard.specs.Hearing.{outs_most}
+use Rattle.bng_shard.specs.Reader.{pppoe_reader, tells_pppoe}
 use Rattle.bng_shard.specs.Step.{Step}
+use Rattle.bng_shard.specs.Sums.{Rises}
+
+-- a shard's rules, and what it serves by them
+pub record ShardState : Type 0 where
+  pub rules : Rules
+  pub slots : State
+
+-- an entry as it was handled: what it did, and whether it found the shard's allowance of new terms used up
+pub record Handled : Type 0 where
+  pub deed : Deed
+  pub limited : Bool
 
 -- the term of a provisioned circuit, with this number in its shard
 abbrev pub term_of : Static → ℕ → Term
 term_of c serial = record {
   key = record { term = record { session = c.session; serial = serial }; circuit = Pppoe c.port c.mac c.session; lease = c.address };
+  profile = c.profile;
   ended = false;
   cause = 0;
 }
@@ -32,66 +49,80 @@ terms_after n [] = []
 terms_after n (c ∷ cs) = term_of c (n + 1) ∷ terms_after (n + 1) cs
 
 -- Each provisioned circuit has a term from the opening on, which does not end. No session has one.
-abbrev pub terms_of : State → List Term
-terms_of s = terms_after 0 s.statics
+abbrev pub terms_of : ShardState → List Term
+terms_of s = terms_after 0 s.slots.statics
+
+-- the earliest deadline of its sessions, if one has a deadline, and how many sessions discovery made that are still there
+abbrev pub deadline_of : ShardState → Option ℕ
+deadline_of s = due_of s.slots
+
+abbrev pub sessions_of : ShardState → ℕ
+sessions_of s = length s.slots.sessions
 
 abbrev pub claimed_by : Claim → List ℕ
 claimed_by NoClaim = []
 claimed_by (Claimed a) = a.0 ∷ []
 claimed_by (Held a) = []
-claimed_by (Exhausted range) = []
+claimed_by (Exhausted pool) = []
 
+-- there is no pool yet that could be exhausted
 abbrev pub refused_by : Claim → List ℕ
 refused_by NoClaim = []
 refused_by (Claimed a) = []
 refused_by (Held a) = a.0 ∷ []
-refused_by (Exhausted range) = []
+refused_by (Exhausted pool) = []
 
-abbrev pub pppoe : Rules → Protocol State Deed
-pppoe r = record {
+-- how many profiles there are: as long as none is configured, one that meters nothing
+abbrev pub profiles_there : ℕ
+profiles_there = 1
+
+abbrev pub pppoe : Protocol ShardState Handled
+pppoe = record {
   terms = terms_of;
-  begun = λ s. length s.statics;
-  claimed = λ d. claimed_by d.entry.claim;
-  refused = λ d. refused_by d.entry.claim;
-  is_step = Step r;
-  outs = λ s d. d.outs;
-  next = λ s d. d.next;
-  settled = settled;
+  begun = λ s. length s.slots.statics;
+  settled = λ s. record s { slots = settled s.slots };
+  entry = λ h. h.deed.entry;
+  limited = λ h. h.limited;
+  claimed = λ h. claimed_by h.deed.entry.claim;
+  refused = λ h. refused_by h.deed.entry.claim;
+  is_step = λ s h. Step s.rules s.slots h.deed;
+  outs = λ s h. h.deed.outs;
+  next = λ s h. record s { slots = h.deed.next };
+  packet_in = pppoe_reader;
+  tells_circuit = tells_pppoe;
+  profiles = profiles_there;
 }
-
--- a shard whose journal is that of these deeds
-abbrev pub with_deeds : Sight State Entry → List Deed → Sight State Deed
-with_deeds v deeds = record { number = v.number; state = v.state; rows = v.rows; journal = deeds; outs = v.outs; records = v.records; stops = v.stops; room = v.room }
 
 -- the octets of the packets among these
 abbrev pub packet_octets : List OutRecord → ℕ
-packet_octets outs = sum_by (λ o. octets_if (λ c. true) o.charge) outs
+packet_octets outs = passed_sum (λ c. c.octets) outs
 
 -- the entry of an item that stood at this place of a seat's list; it asks for no address
 abbrev pub entry_of : ℕ → ℕ → ℕ → Item → Entry
 entry_of seat place moment item = record { seat = seat; place = place; moment = moment; item = item; claim = NoClaim }
 
--- a shard handled one entry: what it did is a step, of at most 4,160 octets of packets and of few outs
-pub record Handles (r : Rules) (v v' : Sight State Entry) (e : Entry) (fate : Fate) : Type 0 where
-  pub deed : Deed
-  pub entry : deed.entry ≡ e
-  pub fate_is : deed.fate ≡ fate
-  pub is_step : Step r v.state deed
-  pub light : packet_octets deed.outs ≤ 4160
-  pub few : length deed.outs ≤ outs_most e.item.kind
-  pub journal : v'.journal ≡ v.journal ++ e ∷ []
-  pub after : (deeds : List Deed) → with_deeds v' (deeds ++ deed ∷ []) ≡ stepped (pppoe r) (with_deeds v deeds) deed
+-- A shard handled one entry: what it did is a step, of at most 4,160 octets of packets and of few outs. What passed is in the
+-- tally of the entry's seat.
+pub record Handles (v v' : ShardView ShardState Entry) (e : Entry) (fate : Fate) (tally tally' : Book) : Type 0 where
+  pub shown : HandlesEntry pppoe v e v'
+  pub fate_is : shown.effect.deed.fate ≡ fate
+  pub light : packet_octets shown.effect.deed.outs ≤ 4160
+  pub few : length shown.effect.deed.outs ≤ outs_most e.item.kind
+  pub tallied : Rises tally shown.effect.deed.outs tally'
 
 -- a shard with these circuits, in which nothing has happened
-abbrev pub opened : ℕ → List Static → Sight State Entry
-opened number statics = record {
+abbrev pub opened : ℕ → Rules → List Static → ShardView ShardState Entry
+opened number rules statics = record {
   number = number;
-  state = record { number = number; statics = statics; sessions = [] };
+  state = record { rules = rules; slots = record { number = number; statics = statics; sessions = [] } };
   rows = map new_row (keys (terms_after 0 statics));
+  books = empty_book ∷ [];
+  allowance = 0;
   journal = [];
   outs = [];
-  records = [];
+  sends = [];
   stops = [];
+  starts = [];
   room = 0;
 }
 

@@ -4,8 +4,8 @@ use Rattle.std.specs.List.{list_any}
 use Rattle.bng_base.specs.declared.item.Entry.{Entry}
 use Rattle.bng_base.specs.declared.item.ItemKind.{ItemKind}
 use Rattle.bng_base.specs.declared.item.ItemKind.TheVariants.{Access, Core, Tunnel, Verdict, Change, Tick, End}
-use Rattle.bng_engine.specs.Sight.{Sight}
-use Rattle.bng_shard.specs.State.{State}
+use Rattle.bng_engine.specs.Views.{ShardView}
+use Rattle.bng_shard.specs.Protocol.{ShardState}
 
 abbrev pub is_tick : ItemKind → Bool
 is_tick (Access number) = false
@@ -32,6 +32,6 @@ abbrev pub has_end : List Entry → Bool
 has_end journal = list_any (λ e. is_end e.item.kind) journal
 
 -- a Tick and an End may come once in a round
-pub record Admits (v : Sight State Entry) (kind : ItemKind) : Type 0 where
+pub record Admits (v : ShardView ShardState Entry) (kind : ItemKind) : Type 0 where
   pub tick : is_tick kind ≡ true → has_tick v.journal ≡ false
   pub end : is_end kind ≡ true → has_end v.journal ≡ false

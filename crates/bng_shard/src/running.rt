@@ -1,27 +1,36 @@
 // The sums that a shard keeps for its terms.
-ghost use Rattle.std.specs.Prelude.{◌≡◌, ◌+◌, ◌==◌, ◌&&◌, ◌^◌, ◌<◌, ◌≤◌, ◌∷◌, [], cond, find, length, map, option_map, IfOk, IfSome};
-ghost use Rattle.std.specs.List.{All};
-ghost use Rattle.bng_engine.specs.Protocol.{AreNumbered};
-ghost use Rattle.bng_engine.specs.Sight.{new_row};
-ghost use Rattle.bng_engine.specs.Sums.{carried, octets_if, same};
+ghost use Rattle.std.specs.Prelude.{◌≡◌, ◌+◌, ◌==◌, ◌^◌, ◌≤◌, ◌∷◌, [], Some, true, find, length, map, option_map, IfOk};
+ghost use Rattle.bng_base.specs.declared.item.OutRecord.{OutRecord as Out};
+ghost use Rattle.bng_engine.specs.Books.{BooksFall, BooksRise};
+ghost use Rattle.bng_engine.specs.Calls.{SayMore};
+ghost use Rattle.bng_engine.specs.Lists.{AnyOf};
+ghost use Rattle.bng_engine.specs.Protocol.{AreNumbered, HasKey, IsOwned};
 ghost use Rattle.bng_engine.specs.Terms.{keys};
+ghost use Rattle.bng_engine.specs.Views.{new_row, row_keys};
 ghost use Rattle.bng_shard.specs.Protocol.{row_at, terms_after};
-ghost use Rattle.bng_shard.specs.Running.{begun, carries, row_from, rows_in};
-ghost use Rattle.bng_shard.specs.Sums.{charged_as, traffic_in, IsLow};
+ghost use Rattle.bng_shard.specs.Running.{begun, row_from, rows_in};
+ghost use Rattle.bng_shard.specs.Sums.{charged_as, traffic_in, AreCovered, Has, IsLow, IsMore, RowsAreLow, Rises};
 
 use crate::sums::{Charged, Traffic};
-use bng_base::{Charge, Circuit, Ip4, OutRecord, SessionNo, Static, TermId};
+use bng_base::{Book, Charge, Circuit, Ip4, OutRecord, SessionNo, Static, TermId};
 use std::alloc::{AllocError, Global};
 
-/// A term, its circuit and its address, with the octets of its packets from the subscriber and towards it.
+/// A term, its circuit and its address, with what its packets from the subscriber and towards it carried.
 #[derive(Clone, Copy)]
 pub(crate) struct Running {
     pub(crate) term: TermId,
     pub(crate) circuit: Circuit,
     pub(crate) lease: Ip4,
-    pub(crate) up: u64,
-    pub(crate) down: u64,
+    pub(crate) carried: Book,
 }
+
+/// A book in which nothing stands.
+pub(crate) const EMPTY: Book = Book {
+    input: 0,
+    output: 0,
+    input_packets: 0,
+    output_packets: 0,
+};
 
 // The row of the term of a circuit that begins.
 fn begun(circuit: &Static, serial: u64) -> Running
@@ -38,8 +47,7 @@ fn begun(circuit: &Static, serial: u64) -> Running
             session: circuit.session,
         },
         lease: circuit.address,
-        up: 0,
-        down: 0,
+        carried: EMPTY,
     }
 }
 
@@ -68,8 +76,8 @@ pub(crate) fn carried_by(rows: &[Running], session: SessionNo) -> Option<Traffic
 {
     match row_at(rows, session) {
         Some(row) => Some(Traffic {
-            input: row.up,
-            output: row.down,
+            input: row.carried.input,
+            output: row.carried.output,
         }),
         None => None,
     }
@@ -88,61 +96,93 @@ pub(crate) fn charged_as(charge: Option<Charge>) -> Charged
     }
 }
 
-// The octets that a send carried for the term with this number in one direction.
-fn octets_for(out: &OutRecord, serial: u64, input: bool) -> u64
-    ensures octets { result ≡ carried serial input (out.now ∷ []) }
-    ensures few { result < 2 ^ 16 }
+// Enters one packet more in a book, of so many octets in this direction.
+fn enter(book: &mut Book, input: bool, octets: u16)
+    requires low { IsLow (2 ^ 63 + 2 ^ 62) book.old }
+    ensures { IsMore book.old input octets book.new }
 {
-    match out.charge {
-        Some(charge) => octets_of(out.sent, charge, serial, input),
-        None => 0,
-    }
-}
-
-fn octets_of(sent: bool, charge: Charge, serial: u64, input: bool) -> u64
-    ensures octets { result ≡ cond sent (octets_if (λ c. (c.term.serial == serial) && same input c.input) (Some charge)) 0 }
-    ensures few { result < 2 ^ 16 }
-{
-    if sent && charge.term.serial == serial && charge.input == input {
-        u64::from(charge.octets)
+    let octets = u64::from(octets);
+    if input {
+        book.input += octets;
+        book.input_packets += 1;
     } else {
-        0
+        book.output += octets;
+        book.output_packets += 1;
     }
 }
 
-// Adds what a send carried for a term to its row.
-fn carry(row: &mut Running, out: &OutRecord)
-    requires low { IsLow (2 ^ 63) (row_from row.old) }
-    ensures { row.new ≡ carries out.now row.old }
+// Takes one off.
+fn take_off(book: &mut Book, input: bool, octets: u16)
+    requires there { Has book.old input octets }
+    ensures { IsMore book.new input octets book.old }
 {
-    let serial = row.term.serial;
-    row.up += octets_for(out, serial, true);
-    row.down += octets_for(out, serial, false);
+    let octets = u64::from(octets);
+    if input {
+        book.input -= octets;
+        book.input_packets -= 1;
+    } else {
+        book.output -= octets;
+        book.output_packets -= 1;
+    }
 }
 
-// Adds it to the row of the term with this charge, which stands at the number before its serial.
-fn carry_at(rows: &mut [Running], out: &OutRecord, charge: Charge)
-    requires low { All (λ r. IsLow (2 ^ 63) (row_from r)) rows.old }
-    requires numbered { AreNumbered 0 (map (λ r. r.key) (rows_in rows.old)) (length rows.old) }
-    requires its { out.now.charge ≡ Some charge }
-    ensures { rows.new ≡ map (carries out.now) rows.old }
+/// Enters the packets among these outs in a tally.
+pub(crate) fn tally(tally: &mut Book, outs: &[OutRecord])
+    requires few { length outs.now ≤ 2 ^ 16 }
+    requires low { IsLow (2 ^ 63) tally.old }
+    ensures { Rises tally.old outs.now tally.new }
 {
-    let serial = charge.term.serial;
-    if serial == 0 || serial > rows.len() as u64 {
+    for out in outs {
+        if let Some(charge) = out.charge {
+            enter(tally, charge.input, charge.octets);
+        }
+    }
+}
+
+/// Enters those of the first profile in its book.
+pub(crate) fn book(book: &mut Book, outs: &[OutRecord])
+    requires few { length outs.now ≤ 2 ^ 16 }
+    requires low { IsLow (2 ^ 63) book.old }
+    ensures { BooksRise (book.old ∷ []) outs.now (book.new ∷ []) }
+{
+    for out in outs {
+        if let Some(charge) = out.charge {
+            if charge.profile == 0 {
+                enter(book, charge.input, charge.octets);
+            }
+        }
+    }
+}
+
+// Adds a packet that was sent to the row of its term, which stands at the number before its serial.
+fn carry(rows: &mut [Running], charge: Charge)
+    requires low { RowsAreLow (2 ^ 63) (rows_in rows.old) }
+    requires numbered { AreNumbered 0 (row_keys (rows_in rows.old)) (length rows.old) }
+    requires own { AnyOf (HasKey charge) (row_keys (rows_in rows.old)) }
+    ensures rows { (out : Out) → out.charge ≡ Some charge → out.sent ≡ true → SayMore (rows_in rows.old) (out ∷ []) (rows_in rows.new) }
+    ensures keys { row_keys (rows_in rows.new) ≡ row_keys (rows_in rows.old) }
+{
+    let place = (charge.term.serial - 1) as usize;
+    enter(&mut rows[place].carried, charge.input, charge.octets);
+}
+
+/// Takes the answer to a send: a packet that was sent is added to the row of its term, and one that was not is taken off the book of
+/// the first profile, if it has that.
+pub(crate) fn settle(rows: &mut Vec<Running>, book: &mut Book, out: &OutRecord)
+    requires low { RowsAreLow (2 ^ 63) (rows_in rows.old.items) }
+    requires numbered { AreNumbered 0 (row_keys (rows_in rows.old.items)) (length rows.old.items) }
+    requires own { IsOwned (row_keys (rows_in rows.old.items)) out.now }
+    requires covered { AreCovered (book.old ∷ []) out.now }
+    ensures rows { SayMore (rows_in rows.old.items) (out.now ∷ []) (rows_in rows.new.items) }
+    ensures keys { row_keys (rows_in rows.new.items) ≡ row_keys (rows_in rows.old.items) }
+    ensures book { BooksFall (book.old ∷ []) (out.now ∷ []) (book.new ∷ []) }
+{
+    let Some(charge) = out.charge else {
         return;
-    }
-    let place = (serial - 1) as usize;
-    carry(&mut rows[place], out);
-}
-
-/// Adds what a send carried to the row of its term.
-pub(crate) fn carry_out(rows: &mut Vec<Running>, out: &OutRecord)
-    requires low { All (λ r. IsLow (2 ^ 63) (row_from r)) rows.old.items }
-    requires numbered { AreNumbered 0 (map (λ r. r.key) (rows_in rows.old.items)) (length rows.old.items) }
-    ensures { rows.new.items ≡ map (carries out.now) rows.old.items }
-{
-    match out.charge {
-        Some(charge) => carry_at(rows, out, charge),
-        None => {}
+    };
+    if out.sent {
+        carry(rows, charge);
+    } else if charge.profile == 0 {
+        take_off(book, charge.input, charge.octets);
     }
 }

@@ -1,24 +1,24 @@
 //! One shard.
-ghost use Rattle.std.specs.Prelude.{◌≡◌, ◌≤◌, ◌<◌, ◌+◌, ◌*◌, ◌^◌, ◌++◌, ◌∷◌, [], ℕ, true, IfOk, OnOk, length, map, option_map, vec_capacity};
-ghost use Rattle.std.specs.List.{All};
-ghost use Rattle.bng_engine.specs.Progress.{Kept, IsReady};
-ghost use Rattle.bng_engine.specs.Sight.{new_row, plus};
+ghost use Rattle.std.specs.Prelude.{◌≡◌, ◌≤◌, ◌<◌, ◌+◌, ◌*◌, ◌^◌, ◌++◌, ◌∷◌, [], true, IfOk, OnOk, length, map, option_map, vec_capacity};
+ghost use Rattle.bng_engine.specs.Calls.{Kept, IsReady};
+ghost use Rattle.bng_engine.specs.Protocol.{IsOwned};
+ghost use Rattle.bng_engine.specs.Showing.{ChargesShown};
 ghost use Rattle.bng_engine.specs.Terms.{keys};
-ghost use Rattle.bng_shard.specs.Due.{due_of};
-ghost use Rattle.bng_shard.specs.Protocol.{Handles, entry_of, opened, row_at, terms_after, terms_of};
+ghost use Rattle.bng_engine.specs.Views.{new_row, row_keys};
+ghost use Rattle.bng_shard.specs.Protocol.{Handles, deadline_of, entry_of, opened, pppoe, row_at, sessions_of, terms_after, terms_of};
 ghost use Rattle.bng_shard.specs.Room.{Admits};
 ghost use Rattle.bng_shard.specs.Running.{rows_in};
-ghost use Rattle.bng_shard.specs.Sums.{charged_as, traffic_in, IsLow};
 ghost use Rattle.bng_shard.specs.State.{sessions_most, settled};
+ghost use Rattle.bng_shard.specs.Sums.{charged_as, traffic_in, AreCovered, AreLow, IsLow, RowsAreLow};
 
 use crate::hear::hear;
 use crate::rules::Rules;
-use crate::running::{Running, carried_by, carry_out, charged_as, rows_of};
+use crate::running::{EMPTY, Running, book, carried_by, charged_as, rows_of, settle, tally};
 use crate::sending::At;
 use crate::session::Session;
 use crate::slots::Slots;
 use crate::sums::{Charged, Traffic};
-use bng_base::{Claim, Entry, Fate, Item, LONGEST, OutRecord, SessionNo, Static};
+use bng_base::{Book, Claim, Entry, Fate, Item, LONGEST, OutRecord, SessionNo, Static};
 use std::alloc::{AllocError, Global};
 use std::marker::Model;
 use std::mem;
@@ -30,29 +30,32 @@ pub enum ShardError {
 }
 
 /// The sessions of one shard, with the provisioned circuits whose numbers are the shard's. Contracts see it as the engine does:
-/// its state, a row of octets for each term, and of a round that is going on the journal, what is to be sent, and for how many
-/// items more there is room.
+/// its rules and what it serves by them, a row for each term with what it carried, a book for each profile, and of a round that is
+/// going on its allowance of new terms, the journal, what is to be sent, and for how many items more there is room.
 #[derive(Drop)]
 pub struct Shard {
+    rules: Rules,
     slots: Slots,
     rows: Vec<Running>,
+    passed: Book,
+    allowance: u32,
     journal: Vec<Entry>,
     outs: Vec<OutRecord>,
     room: usize,
 }
 
 impl Model for Shard {
-    ghost use Rattle.std.specs.Prelude.{[]};
+    ghost use Rattle.std.specs.Prelude.{[], ◌∷◌};
     ghost use Rattle.bng_base.specs.declared.item.Entry.{Entry};
-    ghost use Rattle.bng_engine.specs.Sight.{Sight};
-    ghost use Rattle.bng_shard.specs.State.{State};
+    ghost use Rattle.bng_engine.specs.Views.{ShardView};
+    ghost use Rattle.bng_shard.specs.Protocol.{ShardState};
 
-    ghost Value = { Sight State Entry };
+    ghost Value = { ShardView ShardState Entry };
 
     ghost use Rattle.bng_shard.specs.Running.{rows_in};
     ghost use Rattle.bng_shard.specs.Fits.{Fits};
 
-    ghost view = { λ a. record { number = a.slots.number; state = a.slots; rows = rows_in a.rows.items; journal = a.journal.items; outs = a.outs.items; records = []; stops = []; room = a.room } };
+    ghost view = { λ a. record { number = a.slots.number; state = record { rules = a.rules; slots = a.slots }; rows = rows_in a.rows.items; books = a.passed ∷ []; allowance = a.allowance; journal = a.journal.items; outs = a.outs.items; sends = []; stops = []; starts = []; room = a.room } };
 
     ghost invariant = { Fits };
 }
@@ -111,16 +114,24 @@ fn reserve_amply(journal: &mut Vec<Entry>, outs: &mut Vec<OutRecord>, items: usi
 }
 
 impl Shard {
-    /// A shard with this number, at most 63, and these circuits, whose session numbers are the shard's. It has no session.
-    pub fn open(alloc: Global, number: u16, statics: Vec<Static>) -> Result<Shard, ShardError>
+    /// A shard with this number, at most 63, that works by these rules, and these circuits, whose session numbers are the shard's. It
+    /// has no session. The rules name a way to authenticate.
+    pub fn open(
+        alloc: Global,
+        number: u16,
+        rules: Rules,
+        statics: Vec<Static>,
+    ) -> Result<Shard, ShardError>
         requires number { number < 64 }
         requires few { length statics.items ≤ 1024 }
-        ensures { IfOk result (λ s. s ≡ opened number statics.items) }
+        requires auth { 0 < length rules.link.auth.items }
+        ensures { IfOk result (λ s. s ≡ opened number rules statics.items) }
     {
         let Ok((sessions, rows)) = memory_for(alloc, &statics) else {
             return Err(ShardError::OutOfMemory);
         };
         Ok(Shard {
+            rules,
             slots: Slots {
                 number,
                 statics,
@@ -128,24 +139,28 @@ impl Shard {
                 rest: None,
             },
             rows,
+            passed: EMPTY,
+            allowance: 0,
             journal: Vec::new(alloc),
             outs: Vec::new(alloc),
             room: 0,
         })
     }
 
-    /// Makes room for a round of so many items: for an entry and ten outs of each, and for the outs of a Tick and of an End. No
-    /// round may be going on. After an error all is as before, room aside.
-    pub fn prepare(&mut self, _alloc: Global, items: u16) -> Result<(), ShardError>
+    /// Makes room for a round of so many items: for an entry and ten outs of each, and for the outs of a Tick and of an End. At most
+    /// `allowance` terms may begin in it. No round may be going on. After an error all is as before, room and allowance aside.
+    pub fn prepare(&mut self, _alloc: Global, items: u16, allowance: u32) -> Result<(), ShardError>
         requires journal { self.old.journal ≡ [] }
         requires outs { self.old.outs ≡ [] }
         ensures kept { Kept self.old self.new }
-        ensures ready { OnOk result (IsReady items self.new) }
+        ensures ready { OnOk result (IsReady items allowance self.new) }
         ensures empty { (self.new.journal ≡ []) × (self.new.outs ≡ []) }
-        ensures fit { map (λ r. r.key) self.new.rows ≡ keys (terms_of self.new.state) }
+        ensures fit { row_keys self.new.rows ≡ keys (terms_of self.new.state) }
+        ensures few { sessions_of self.new.state ≤ sessions_most }
     {
         let items = usize::from(items);
         self.room = 0;
+        self.allowance = allowance;
         if !reserve_amply(&mut self.journal, &mut self.outs, items) {
             return Err(ShardError::OutOfMemory);
         }
@@ -154,15 +169,16 @@ impl Shard {
     }
 
     /// Handles an item that stood at this place of this seat's list, at the round's moment in milliseconds, below 2^60, and answers
-    /// its fate before its sends. It appends one entry to the journal, and takes no memory. A round has at most one Tick and one
-    /// End for a shard.
-    pub fn step(&mut self, rules: &Rules, seat: u16, place: u16, now: u64, item: Item) -> Fate
+    /// its fate before its sends. It appends one entry to the journal, and takes no memory. What passes is entered in the seat's tally,
+    /// `ledger`, and in the book of its term's profile. A round has at most one Tick and one End for a shard.
+    pub fn step(&mut self, seat: u16, place: u16, now: u64, item: Item, ledger: &mut Book) -> Fate
         requires room { 0 < self.old.room }
         requires once { Admits self.old item.kind }
         requires moment { now < 2 ^ 60 }
-        requires auth { 0 < length rules.now.link.auth.items }
         requires whole { item.frame.headroom ≡ 64 }
-        ensures { Handles rules.now self.old self.new (entry_of seat place now item) result }
+        requires low_books { AreLow (2 ^ 63) self.old.books }
+        requires low_ledger { IsLow (2 ^ 63) ledger.old }
+        ensures { Handles self.old self.new (entry_of seat place now item) result ledger.old ledger.new }
     {
         prove!(item.frame.payload().len() <= LONGEST);
         let at = At {
@@ -170,7 +186,11 @@ impl Shard {
             seat,
             place,
         };
-        let fate = hear(&mut self.slots, rules, at, now, &item, &mut self.outs);
+        let before = self.outs.len();
+        let fate = hear(&mut self.slots, &self.rules, at, now, &item, &mut self.outs);
+        let sends = &self.outs.as_slice()[before..];
+        book(&mut self.passed, sends);
+        tally(ledger, sends);
         self.journal.push_reserved(Entry {
             seat,
             place,
@@ -182,18 +202,25 @@ impl Shard {
         fate
     }
 
-    /// Ends a round: hands out its journal and its outs, and lets the sessions that ended leave.
+    /// Hands out the journal of the round and what is to be sent for it.
     pub fn drain(&mut self) -> (Vec<Entry>, Vec<OutRecord>)
         ensures journal { result.0.items ≡ self.old.journal }
         ensures outs { result.1.items ≡ self.old.outs }
-        ensures after { self.new ≡ record self.old { state = settled self.old.state; journal = []; outs = []; room = 0 } }
+        ensures after { self.new ≡ record self.old { journal = []; outs = []; room = 0 } }
     {
         let alloc = *self.journal.allocator();
         self.room = 0;
-        self.slots.settle();
         let journal = mem::replace(&mut self.journal, Vec::new(alloc));
         let outs = mem::replace(&mut self.outs, Vec::new(alloc));
         (journal, outs)
+    }
+
+    /// Ends a round: lets the sessions that ended leave. It is called once its outs were sent and charged.
+    pub fn settle(&mut self)
+        ensures { self.new ≡ record self.old { state = record self.old.state { slots = settled self.old.state.slots }; room = 0 } }
+    {
+        self.room = 0;
+        self.slots.settle();
     }
 
     /// Keeps an empty list for the journals of the rounds to come, as one that `drain` handed out: its room serves again. No round
@@ -217,27 +244,29 @@ impl Shard {
         self.outs = list;
     }
 
-    /// Takes the answer to the send of an out that `drain` handed out: where it was sent, the octets of its packet are added to its
-    /// term's row. It is called once for each.
+    /// Takes the answer to the send of an out that `drain` handed out: where it was sent, its packet is added to its term's row, and
+    /// where not, it is taken off the book of its profile. It is called once for each.
     pub fn charge(&mut self, out: &OutRecord) -> Charged
-        requires low { All (IsLow (2 ^ 63)) self.old.rows }
-        ensures after { self.new ≡ record self.old { rows = map (plus (out.now ∷ [])) self.old.rows } }
+        requires low { RowsAreLow (2 ^ 63) self.old.rows }
+        requires covered { AreCovered self.old.books out.now }
+        requires own { IsOwned (row_keys self.old.rows) out.now }
+        ensures after { ChargesShown pppoe self.old out.now self.new }
         ensures answer { result ≡ charged_as out.now.charge }
     {
-        carry_out(&mut self.rows, out);
+        settle(&mut self.rows, &mut self.passed, out);
         charged_as(out.charge)
     }
 
     /// The earliest deadline of its sessions, in milliseconds; none exactly where no session has one.
     pub fn due(&self) -> Option<u64>
-        ensures { result ≡ due_of self.now.state }
+        ensures { result ≡ deadline_of self.now.state }
     {
         self.slots.due()
     }
 
     /// How many sessions discovery made that are still there.
     pub fn sessions(&self) -> u32
-        ensures { result ≡ length self.now.state.sessions }
+        ensures { result ≡ sessions_of self.now.state }
     {
         self.slots.count()
     }
