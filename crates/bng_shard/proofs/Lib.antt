@@ -1,7 +1,9 @@
 pub mod RowSums
+pub mod Tallying
 pub mod Holding
 pub mod RowLaws
 pub mod Statics
+pub mod Reading
 pub mod Spelling
 pub mod Packets
 pub mod Sends

@@ -4,7 +4,7 @@ use Rattle.std.specs.Prelude.{find, option_map}
 use Rattle.std.proofs.Math.ListN.{get_or}
 use Rattle.std.proofs.lemmas.List.{map-append, at_drop_more}
 use Rattle.bng_base.specs.declared.settings.Static.{Static}
-use Rattle.bng_engine.specs.Sight.{Row, new_row, resumed}
+use Rattle.bng_engine.specs.Views.{Row, new_row}
 use Rattle.bng_engine.specs.Terms.{Key, keys}
 use Rattle.bng_shard.specs.declared.running.Running.{Running}
 use Rattle.bng_shard.specs.Protocol.{term_of, terms_after, row_at}
@@ -24,15 +24,6 @@ row_more all cs i c rs lt at e =
     ∙ append_assoc (rows_in rs) (first ∷ []) rest
     ∙ ap (λ (rows : List Row). rows_in rs ++ rows) (sym split)
     ∙ e
-
--- rows of the same keys stay
-pub resumed_same : (rows : List Row) (ks : List Key) → map (λ (r : Row). r.key) rows ≡ ks → resumed ks rows ≡ rows
-resumed_same [] [] e = refl
-resumed_same [] (k ∷ ks) e = cc
-resumed_same (r ∷ rows) [] e = cc
-resumed_same (r ∷ rows) (k ∷ ks) e =
-    let rest : map (λ (r : Row). r.key) rows ≡ ks = cc in
-    ap (λ (more : List Row). r ∷ more) (resumed_same rows ks rest)
 
 -- the keys of new rows
 pub new_keys : (ks : List Key) → map (λ (r : Row). r.key) (map new_row ks) ≡ ks

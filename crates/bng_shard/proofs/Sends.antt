@@ -37,9 +37,9 @@ use Rattle.bng_ppp.proofs.LcpOuts.{steps_lcp, hears_lcp}
 use Rattle.bng_shard.proofs.Spelling.{IsControl, AreControl, discovery_control, ends_control, said_control}
 use Rattle.bng_shard.proofs.Packets.{spelled_up, short_up, spelled_down, short_down}
 
--- nothing is charged
-pub record SendsNone (d : Deed) : Type 0 where
-  pub outs : AreControl d.outs
+-- nothing is charged, and what is sent is of the entry's seat
+pub record SendsNone (e : Entry) (d : Deed) : Type 0 where
+  pub outs : AreControl e.seat d.outs
   pub fate : is_forwarded d.fate ≡ false
 
 -- the one out is charged to the circuit at this place, for a packet no longer than the datagram that it came in
@@ -81,46 +81,46 @@ fails_down core circuits a fate (inr (n, inr (n₁, inr (n₂, inr (n₃, inr (s
 
 -- Sessions --------------------------------------------------------------------------------------------------------------
 
-told_control : (r : Rules) (e : Entry) (input : Input) (a : At) (x : Session) (outs : List OutRecord) (x' : Session) → Drives r a x (told r e input) outs x' → AreControl outs
+told_control : (r : Rules) (e : Entry) (input : Input) (a : At) (x : Session) (outs : List OutRecord) (x' : Session) → Drives r a x (told r e input) outs x' → AreControl a.seat outs
 told_control r e input a x outs x' h =
-    subst (λ (os : List OutRecord). AreControl os) (sym h.outs_are) (said_control r a x h.says (steps_lcp r.link input e.moment e.item.random x.link h.says h.link h.steps))
+    subst (λ (os : List OutRecord). AreControl a.seat os) (sym h.outs_are) (said_control r a x h.says (steps_lcp r.link input e.moment e.item.random x.link h.says h.link h.steps))
 
-hears_control : (r : Rules) (e : Entry) (octets : List ℕ) (a : At) (x : Session) (outs : List OutRecord) (x' : Session) → Drives r a x (hears r e octets) outs x' → AreControl outs
+hears_control : (r : Rules) (e : Entry) (octets : List ℕ) (a : At) (x : Session) (outs : List OutRecord) (x' : Session) → Drives r a x (hears r e octets) outs x' → AreControl a.seat outs
 hears_control r e octets a x outs x' h =
-    subst (λ (os : List OutRecord). AreControl os) (sym h.outs_are) (said_control r a x h.says (hears_lcp r.link.echo e.moment x.link h.says h.link octets e.item.random h.steps))
+    subst (λ (os : List OutRecord). AreControl a.seat os) (sym h.outs_are) (said_control r a x h.says (hears_lcp r.link.echo e.moment x.link h.says h.link octets e.item.random h.steps))
 
-ticks_control : (n : ℕ) (r : Rules) (e : Entry) (s : State) (outs : List OutRecord) (s' : State) → Ticks n r e s outs s' → AreControl outs
-ticks_control zero r e s outs s' h = subst (λ (os : List OutRecord). AreControl os) (sym h.0) tt
-ticks_control (suc n) r e s outs s' (inl h) = subst (λ (os : List OutRecord). AreControl os) (sym h.1) tt
+ticks_control : (n : ℕ) (r : Rules) (e : Entry) (s : State) (outs : List OutRecord) (s' : State) → Ticks n r e s outs s' → AreControl e.seat outs
+ticks_control zero r e s outs s' h = subst (λ (os : List OutRecord). AreControl e.seat os) (sym h.0) tt
+ticks_control (suc n) r e s outs s' (inl h) = subst (λ (os : List OutRecord). AreControl e.seat os) (sym h.1) tt
 ticks_control (suc n) r e s outs s' (inr (place, x, due, first, x', drives, rest, more, are)) =
-    subst (λ (os : List OutRecord). AreControl os) (sym are)
-    (all_append IsControl first rest (told_control r e Timer (at_of s e) x first x' drives) (ticks_control n r e (with_session s place x') rest s' more))
+    subst (λ (os : List OutRecord). AreControl e.seat os) (sym are)
+    (all_append (IsControl e.seat) first rest (told_control r e Timer (at_of s e) x first x' drives) (ticks_control n r e (with_session s place x') rest s' more))
 
-ends_all_control : (n : ℕ) (r : Rules) (e : Entry) (s : State) (outs : List OutRecord) (s' : State) → Ends n r e s outs s' → AreControl outs
-ends_all_control zero r e s outs s' h = subst (λ (os : List OutRecord). AreControl os) (sym h.0) tt
-ends_all_control (suc n) r e s outs s' (inl h) = subst (λ (os : List OutRecord). AreControl os) (sym h.1) tt
+ends_all_control : (n : ℕ) (r : Rules) (e : Entry) (s : State) (outs : List OutRecord) (s' : State) → Ends n r e s outs s' → AreControl e.seat outs
+ends_all_control zero r e s outs s' h = subst (λ (os : List OutRecord). AreControl e.seat os) (sym h.0) tt
+ends_all_control (suc n) r e s outs s' (inl h) = subst (λ (os : List OutRecord). AreControl e.seat os) (sym h.1) tt
 ends_all_control (suc n) r e s outs s' (inr (place, x, lowest, rest, more, are)) =
-    subst (λ (os : List OutRecord). AreControl os) (sym are)
-    (all_append IsControl (ends_outs r (at_of s e) x) rest (ends_control r (at_of s e) x) (ends_all_control n r e (with_session s place (record x { ended = true })) rest s' more))
+    subst (λ (os : List OutRecord). AreControl e.seat os) (sym are)
+    (all_append (IsControl e.seat) (ends_outs r (at_of s e) x) rest (ends_control r (at_of s e) x) (ends_all_control n r e (with_session s place (record x { ended = true })) rest s' more))
 
 -- Entries ---------------------------------------------------------------------------------------------------------------
 
 -- a deed that is this one, which sends no packet
-none : (s : State) (e : Entry) (d f : Deed) → d ≡ f → AreControl f.outs → is_forwarded f.fate ≡ false → SendsNone d ⊎ SendsOne s e d
-none s e d f same outs fate = inl (subst (λ (x : Deed). SendsNone x) (sym same) (record { outs = outs; fate = fate }))
+none : (s : State) (e : Entry) (d f : Deed) → d ≡ f → AreControl e.seat f.outs → is_forwarded f.fate ≡ false → SendsNone e d ⊎ SendsOne s e d
+none s e d f same outs fate = inl (subst (λ (x : Deed). SendsNone e x) (sym same) (record { outs = outs; fate = fate }))
 
-one : (s : State) (e : Entry) (d f : Deed) → d ≡ f → SendsOne s e f → SendsNone d ⊎ SendsOne s e d
+one : (s : State) (e : Entry) (d f : Deed) → d ≡ f → SendsOne s e f → SendsNone e d ⊎ SendsOne s e d
 one s e d f same h = inr (subst (λ (x : Deed). SendsOne s e x) (sym same) h)
 
 module _ (r : Rules) (s : State) (e : Entry) (d : Deed) where
   abbrev Sends : Type 0
-  Sends = SendsNone d ⊎ SendsOne s e d
+  Sends = SendsNone e d ⊎ SendsOne s e d
 
   answers : (answer : Answer) (number : ℕ) (port : AccessPort) (offers : PortRules) (p : PppoeFrame) (tags : List PppoeTag) → Answers answer r s e number port offers p tags d → Sends
   answers Offer number port offers p tags h = none s e d _ h (discovery_control (at_of s e) number port (pado_of offers p.src tags) refl) refl
   answers Make number port offers p tags h =
       let confirmed = pads_of offers p.src h.session tags in
-      none s e d _ h.done (all_append IsControl (frame_outs (at_of s e) number port confirmed) h.outs (discovery_control (at_of s e) number port confirmed refl) (told_control r e Start (at_of s e) _ h.outs h.x h.starts)) refl
+      none s e d _ h.done (all_append (IsControl e.seat) (frame_outs (at_of s e) number port confirmed) h.outs (discovery_control (at_of s e) number port confirmed refl) (told_control r e Start (at_of s e) _ h.outs h.x h.starts)) refl
   answers Again number port offers p tags h = none s e d _ h.done (discovery_control (at_of s e) number port (pads_of offers p.src h.x.number tags) refl) refl
   answers (Refuse error) number port offers p tags h = none s e d _ h (discovery_control (at_of s e) number port (refusal_of offers p.src error tags) refl) refl
   answers Ended number port offers p tags h = none s e d _ h tt refl
@@ -213,5 +213,5 @@ module _ (r : Rules) (s : State) (e : Entry) (d : Deed) where
   hears_sends End h = ends h
 
 -- what a step sends
-pub step_sends : (r : Rules) (s : State) (d : Deed) → Step r s d → SendsNone d ⊎ SendsOne s d.entry d
+pub step_sends : (r : Rules) (s : State) (d : Deed) → Step r s d → SendsNone d.entry d ⊎ SendsOne s d.entry d
 step_sends r s d h = hears_sends r s d.entry d d.entry.item.kind h.hears

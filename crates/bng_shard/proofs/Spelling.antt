@@ -24,14 +24,15 @@ use Rattle.bng_shard.specs.Deed.{out, frame_outs}
 use Rattle.bng_shard.specs.Link.{ppp_outs, padt_outs, ends_outs, said_outs}
 use Rattle.bng_ppp.proofs.LcpOuts.{IsLcp, AreLcp}
 
--- an out that no one is charged for, and no packet of a subscriber
-pub record IsControl (o : OutRecord) : Type 0 where
+-- an out of an entry of that seat, that no one is charged for, and no packet of a subscriber
+pub record IsControl (seat : ℕ) (o : OutRecord) : Type 0 where
+  pub seat_is : o.seat ≡ seat
   pub charge : o.charge ≡ None
   pub unsent : o.sent ≡ false
   pub no_packet : IsNoPacket o.role o.frame
 
-abbrev pub AreControl : List OutRecord → Type 0
-AreControl outs = AllByRecursion IsControl outs
+abbrev pub AreControl : ℕ → List OutRecord → Type 0
+AreControl seat outs = AllByRecursion (IsControl seat) outs
 
 -- Octets of frames ------------------------------------------------------------------------------------------------------
 
@@ -53,59 +54,59 @@ lcp_shown d s code session info ld ls =
 -- Outs ------------------------------------------------------------------------------------------------------------------
 
 -- what goes out on an access port and is no session data is no packet
-no_data : (a : At) (number : ℕ) (port : AccessPort) (octets : List ℕ) → is_session_data octets ≡ false → IsControl (out a (Access number) port.peer octets None)
-no_data a number port octets h = record { charge = refl; unsent = refl; no_packet = record { not_core = refl; not_data = λ e. h } }
+no_data : (a : At) (number : ℕ) (port : AccessPort) (octets : List ℕ) → is_session_data octets ≡ false → IsControl a.seat (out a (Access number) port.peer octets None)
+no_data a number port octets h = record { seat_is = refl; charge = refl; unsent = refl; no_packet = record { not_core = refl; not_data = λ e. h } }
 
-where_fits : (b c d : Bool) (o : OutRecord) → (b ≡ true → c ≡ true → IsControl o) → AreControl (if (b && c) && d then o ∷ [] else [])
-where_fits false c d o h = tt
-where_fits true false d o h = tt
-where_fits true true false o h = tt
-where_fits true true true o h = (h refl refl, tt)
+where_fits : (seat : ℕ) (b c d : Bool) (o : OutRecord) → (b ≡ true → c ≡ true → IsControl seat o) → AreControl seat (if (b && c) && d then o ∷ [] else [])
+where_fits seat false c d o h = tt
+where_fits seat true false d o h = tt
+where_fits seat true true false o h = tt
+where_fits seat true true true o h = (h refl refl, tt)
 
 same_length : (n : ℕ) → eqb n 6 ≡ true → n ≡ 6
 same_length n e = grind (arith, nat_tests)
 
 -- a frame with right addresses that is no session data
-frame_control : (a : At) (number : ℕ) (port : AccessPort) (p : PppoeFrame) → (length p.dst.0 ≡ 6 → length p.src.0 ≡ 6 → is_session_data (pppoe_text p) ≡ false) → AreControl (frame_outs a number port p)
+frame_control : (a : At) (number : ℕ) (port : AccessPort) (p : PppoeFrame) → (length p.dst.0 ≡ 6 → length p.src.0 ≡ 6 → is_session_data (pppoe_text p) ≡ false) → AreControl a.seat (frame_outs a number port p)
 frame_control a number port p h =
-    where_fits (eqb (length p.dst.0) 6) (eqb (length p.src.0) 6) (nat_le (length (pppoe_text p)) LONGEST) (out a (Access number) port.peer (pppoe_text p) None)
+    where_fits a.seat (eqb (length p.dst.0) 6) (eqb (length p.src.0) 6) (nat_le (length (pppoe_text p)) LONGEST) (out a (Access number) port.peer (pppoe_text p) None)
     (λ d s. no_data a number port (pppoe_text p) (h (same_length (length p.dst.0) d) (same_length (length p.src.0) s)))
 
 -- a frame of the discovery stage
-pub discovery_control : (a : At) (number : ℕ) (port : AccessPort) (p : PppoeFrame) → p.discovery ≡ true → AreControl (frame_outs a number port p)
+pub discovery_control : (a : At) (number : ℕ) (port : AccessPort) (p : PppoeFrame) → p.discovery ≡ true → AreControl a.seat (frame_outs a number port p)
 discovery_control a number port p e =
     frame_control a number port p
     (λ d s. ap (λ (b : Bool). is_session_data (pppoe_text (made p.dst.0 p.src.0 b p.code p.session p.payload))) e ∙ discovery_shown p.dst.0 p.src.0 p.code p.session p.payload d s)
 
 -- a session frame of LCP
-lcp_control : (a : At) (number : ℕ) (port : AccessPort) (dst src : Mac) (session : ℕ) (f : List ℕ) → IsLcp f → AreControl (frame_outs a number port (session_frame dst src session f))
+lcp_control : (a : At) (number : ℕ) (port : AccessPort) (dst src : Mac) (session : ℕ) (f : List ℕ) → IsLcp f → AreControl a.seat (frame_outs a number port (session_frame dst src session f))
 lcp_control a number port dst src session f is =
-    subst (λ (g : List ℕ). AreControl (frame_outs a number port (session_frame dst src session g))) (sym is.spelled)
+    subst (λ (g : List ℕ). AreControl a.seat (frame_outs a number port (session_frame dst src session g))) (sym is.spelled)
     (frame_control a number port (session_frame dst src session (ppp_text (record { protocol = protocol.LCP; info = is.info }))) (lcp_shown dst.0 src.0 0 session is.info))
 
-lcp_controls : (a : At) (x : Session) (port : AccessPort) (fs : List (List ℕ)) → AreLcp fs → AreControl (ppp_outs a x (Some port) fs)
+lcp_controls : (a : At) (x : Session) (port : AccessPort) (fs : List (List ℕ)) → AreLcp fs → AreControl a.seat (ppp_outs a x (Some port) fs)
 lcp_controls a x port [] h = tt
 lcp_controls a x port (f ∷ fs) h =
-    all_append IsControl (frame_outs a x.port port (session_frame x.mac port.mac x.number f)) (ppp_outs a x (Some port) fs) (lcp_control a x.port port x.mac port.mac x.number f h.0) (lcp_controls a x port fs h.1)
+    all_append (IsControl a.seat) (frame_outs a x.port port (session_frame x.mac port.mac x.number f)) (ppp_outs a x (Some port) fs) (lcp_control a x.port port x.mac port.mac x.number f h.0) (lcp_controls a x port fs h.1)
 
-ppp_control : (a : At) (x : Session) (port : Option AccessPort) (fs : List (List ℕ)) → AreLcp fs → AreControl (ppp_outs a x port fs)
+ppp_control : (a : At) (x : Session) (port : Option AccessPort) (fs : List (List ℕ)) → AreLcp fs → AreControl a.seat (ppp_outs a x port fs)
 ppp_control a x None fs h = tt
 ppp_control a x (Some port) fs h = lcp_controls a x port fs h
 
-padt_control : (a : At) (x : Session) (port : Option AccessPort) (offers : Option PortRules) → AreControl (padt_outs a x port offers)
+padt_control : (a : At) (x : Session) (port : Option AccessPort) (offers : Option PortRules) → AreControl a.seat (padt_outs a x port offers)
 padt_control a x None offers = tt
 padt_control a x (Some port) None = tt
 padt_control a x (Some port) (Some offers) = discovery_control a x.port port (padt_of offers x.mac x.number) refl
 
 -- the PADT of a session
-pub ends_control : (r : Rules) (a : At) (x : Session) → AreControl (ends_outs r a x)
+pub ends_control : (r : Rules) (a : At) (x : Session) → AreControl a.seat (ends_outs r a x)
 ends_control r a x = padt_control a x (port_at r.access x.port) (offers_at r.offers x.port)
 
-ends_if : (b : Bool) (r : Rules) (a : At) (x : Session) → AreControl (if b then ends_outs r a x else [])
+ends_if : (b : Bool) (r : Rules) (a : At) (x : Session) → AreControl a.seat (if b then ends_outs r a x else [])
 ends_if true r a x = ends_control r a x
 ends_if false r a x = tt
 
 -- what a link says
-pub said_control : (r : Rules) (a : At) (x : Session) (says : Said) → AreLcp says.outs → AreControl (said_outs r a x says)
+pub said_control : (r : Rules) (a : At) (x : Session) (says : Said) → AreLcp says.outs → AreControl a.seat (said_outs r a x says)
 said_control r a x says h =
-    all_append IsControl (ppp_outs a x (port_at r.access x.port) says.outs) (if says.finished then ends_outs r a x else []) (ppp_control a x (port_at r.access x.port) says.outs h) (ends_if says.finished r a x)
+    all_append (IsControl a.seat) (ppp_outs a x (port_at r.access x.port) says.outs) (if says.finished then ends_outs r a x else []) (ppp_control a x (port_at r.access x.port) says.outs h) (ends_if says.finished r a x)

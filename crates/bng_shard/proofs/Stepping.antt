@@ -1,36 +1,32 @@
 -- What is kept of a shard's fields, and what a caller sees of a step.
-use Rattle.std.proofs.Common.{◌≡◌, ℕ, ◌+◌, ◌-◌, ◌≤◌, Bool, true, false, not, ◌||◌, cond, List, [], ◌∷◌, ◌++◌, map, length, refl, sym, ap, subst, ◌∙◌, arith}
-use Rattle.std.specs.List.{All, list_any}
-use Rattle.std.proofs.lemmas.List.Elements.{All-nil, All-cons, All-head, All-tail}
+use Rattle.std.proofs.Common.{◌≡◌, ℕ, ◌+◌, ◌-◌, ◌≤◌, Bool, true, false, not, ◌||◌, cond, List, [], ◌∷◌, ◌++◌, map, length, length-append, take, drop, leb, refl, sym, ap, subst, ◌∙◌, arith}
+use Rattle.std.specs.List.{flat_map, list_any}
+use Rattle.std.proofs.lemmas.List.{take_all}
 use Rattle.std.proofs.lemmas.List.Folds.{list_any-append}
 use Rattle.std.proofs.lemmas.List.Sums.{length-filter, count_by-le-length}
+use Rattle.bng_base.specs.declared.book.Book.{Book}
 use Rattle.bng_base.specs.declared.fate.Fate.{Fate}
 use Rattle.bng_base.specs.declared.item.Entry.{Entry}
 use Rattle.bng_base.specs.declared.item.ItemKind.{ItemKind}
 use Rattle.bng_base.specs.declared.item.ItemKind.TheVariants.{Access, Core, Tunnel, Verdict, Change, Tick, End}
 use Rattle.bng_base.specs.declared.item.OutRecord.{OutRecord}
-use Rattle.bng_engine.specs.Sight.{Row, Sight, resumed, stepped}
+use Rattle.bng_engine.specs.Books.{BooksRise}
+use Rattle.bng_engine.specs.Calls.{Handles as EngineHandles}
+use Rattle.bng_engine.specs.Journals.{claims_of}
+use Rattle.bng_engine.specs.Showing.{with_journal}
 use Rattle.bng_engine.specs.Terms.{keys}
-use Rattle.bng_shard.specs.declared.running.Running.{Running}
+use Rattle.bng_engine.specs.Views.{Row, ShardView, row_keys}
+use Rattle.bng_engine.proofs.SameLists.{same_equal}
 use Rattle.bng_shard.specs.declared.rules.Rules.{Rules}
-use Rattle.bng_shard.specs.Deed.{Deed}
 use Rattle.bng_shard.specs.Fits.{owed}
 use Rattle.bng_shard.specs.Hearing.{Does, outs_most}
-use Rattle.bng_shard.specs.Protocol.{Handles, pppoe, terms_after, terms_of, with_deeds}
+use Rattle.bng_shard.specs.Protocol.{Handles, ShardState, Handled, pppoe, claimed_by, terms_after}
 use Rattle.bng_shard.specs.Room.{is_tick, is_end, has_tick, has_end}
-use Rattle.bng_shard.specs.Running.{row_from, rows_in}
 use Rattle.bng_shard.specs.State.{State, Session, sessions_most, settled}
 use Rattle.bng_shard.specs.Step.{Step}
-use Rattle.bng_shard.specs.Sums.{IsLow}
-use Rattle.bng_shard.proofs.RowLaws.{resumed_same}
+use Rattle.bng_shard.specs.Sums.{Rises}
 use Rattle.bng_shard.proofs.Statics.{Remains, step_remains}
 use Rattle.bng_shard.proofs.StepLaws.{light}
-
--- sums that are low as a caller sees them are low as they are kept
-pub low_rows : (most : ℕ) (rs : List Running) → All (IsLow most) (rows_in rs) → All (λ (r : Running). IsLow most (row_from r)) rs
-low_rows most [] low = All-nil (λ (r : Running). IsLow most (row_from r))
-low_rows most (r ∷ rs) low =
-    All-cons (λ (r : Running). IsLow most (row_from r)) r rs (All-head (IsLow most) (row_from r) (rows_in rs) low) (low_rows most rs (All-tail (IsLow most) (row_from r) (rows_in rs) low))
 
 -- no session comes where some leave
 pub settled_few : (s : State) (most : ℕ) → length s.sessions ≤ most → length (settled s).sessions ≤ most
@@ -85,38 +81,81 @@ owed_more journal e tick end =
 -- a step as a caller sees it -----------------------------------------------------------------------------------------------
 
 -- the fields of a shard that is in a round
-abbrev pub sight : State → List Row → List Entry → List OutRecord → ℕ → Sight State Entry
-sight s rows journal outs room = record { number = s.number; state = s; rows = rows; journal = journal; outs = outs; records = []; stops = []; room = room }
+abbrev pub view : Rules → State → List Row → Book → ℕ → List Entry → List OutRecord → ℕ → ShardView ShardState Entry
+view r s rows passed allowance journal outs room = record {
+  number = s.number;
+  state = record { rules = r; slots = s };
+  rows = rows;
+  books = passed ∷ [];
+  allowance = allowance;
+  journal = journal;
+  outs = outs;
+  sends = [];
+  stops = [];
+  starts = [];
+  room = room;
+}
 
-module _ (r : Rules) (s s' : State) (rows : List Row) (journal journal' : List Entry) (outs outs' : List OutRecord) (room : ℕ) (e : Entry) (fate : Fate)
-    (does : Does (Step r s) (outs_most e.item.kind) s s' outs outs' e fate) (fit : map (λ (x : Row). x.key) rows ≡ keys (terms_of s)) where
+-- how many terms a journal's entries began
+abbrev begun_in : List Entry → ℕ
+begun_in journal = length (flat_map (λ (e : Entry). claimed_by e.claim) journal)
+
+claims_same : (es : List Handled) → flat_map (λ (e : Entry). claimed_by e.claim) (map (λ (h : Handled). h.deed.entry) es) ≡ claims_of pppoe es
+claims_same [] = refl
+claims_same (h ∷ es) = ap (λ (xs : List ℕ). claimed_by h.deed.entry.claim ++ xs) (claims_same es)
+
+module _ (r : Rules) (s s' : State) (rows : List Row) (passed passed' : Book) (allowance : ℕ) (journal journal' : List Entry) (outs outs' : List OutRecord) (room : ℕ) (e : Entry) (fate : Fate)
+    (does : Does (Step r s) (outs_most e.item.kind) s s' outs outs' e fate) (fit : row_keys rows ≡ keys (terms_after 0 s.statics)) where
   remains : Remains s s'
   remains = subst (λ (t : State). Remains s t) does.next (step_remains r s does.deed does.says)
 
-  pub keys_remain : keys (terms_of s') ≡ keys (terms_of s)
-  keys_remain = ap (λ cs. keys (terms_after 0 cs)) remains.statics
-
   -- the rows fit as before
-  pub still_fit : map (λ (x : Row). x.key) rows ≡ keys (terms_of s')
-  still_fit = fit ∙ sym keys_remain
+  pub still_fit : row_keys rows ≡ keys (terms_after 0 s'.statics)
+  still_fit = fit ∙ sym (ap (λ cs. keys (terms_after 0 cs)) remains.statics)
 
   pub still_few : (most : ℕ) → most ≡ sessions_most → length s.sessions ≤ most → length s'.sessions ≤ most
   still_few most is few = omega (arith, is, remains.few (omega (arith, is, few)))
 
-  after : journal' ≡ journal ++ e ∷ [] → (deeds : List Deed) → with_deeds (sight s' rows journal' outs' (room - 1)) (deeds ++ does.deed ∷ []) ≡ stepped (pppoe r) (with_deeds (sight s rows journal outs room) deeds) does.deed
-  after is deeds =
-      let resumes : rows ≡ resumed (keys (terms_of does.deed.next)) rows =
-      sym (resumed_same rows (keys (terms_of does.deed.next)) (subst (λ (t : State). map (λ (x : Row). x.key) rows ≡ keys (terms_of t)) (sym does.next) still_fit)) in
-      cc (resumes, remains.number, does.next, does.outs_are)
+  abbrev effect : Handled
+  effect = record { deed = does.deed; limited = leb allowance (begun_in journal) }
 
-  pub handles : journal' ≡ journal ++ e ∷ [] → length e.item.frame.payload ≤ 4096 → Handles r (sight s rows journal outs room) (sight s' rows journal' outs' (room - 1)) e fate
-  handles is short = record {
-    deed = does.deed;
-    entry = does.entry;
-    fate_is = does.fate_is;
+  one_handled : BooksRise (passed ∷ []) does.deed.outs (passed' ∷ []) → (es : List Handled) → map (λ (h : Handled). h.deed.entry) es ≡ journal
+      → EngineHandles pppoe (with_journal (view r s rows passed allowance journal outs room) es) effect (with_journal (view r s' rows passed' allowance journal' outs' (room - 1)) (es ++ effect ∷ []))
+  one_handled books es same = record {
     is_step = does.says;
+    limited = ap (λ (xs : List ℕ). leb allowance (length xs)) (ap (flat_map (λ (e : Entry). claimed_by e.claim)) (sym same) ∙ claims_same es);
+    number = remains.number;
+    allowance = refl;
+    state = ap (λ (t : State). let x : ShardState = record { rules = r; slots = t } in x) (sym does.next);
+    fit = same_equal (row_keys rows) (keys (terms_after 0 s'.statics)) still_fit;
+    rows = λ q pick input. refl;
+    books = books;
+    journal = refl;
+    outs = does.outs_are;
+    sends = refl;
+    stops = refl;
+    starts = refl;
+    room = refl;
+  }
+
+  pub handles : (tally tally' : Book) → journal' ≡ journal ++ e ∷ [] → length e.item.frame.payload ≤ 4096 → BooksRise (passed ∷ []) does.deed.outs (passed' ∷ []) → Rises tally does.deed.outs tally'
+      → Handles (view r s rows passed allowance journal outs room) (view r s' rows passed' allowance journal' outs' (room - 1)) e fate tally tally'
+  handles tally tally' is short books rises = record {
+    shown = record { effect = effect; entry = does.entry; journal = is; handles = one_handled books };
+    fate_is = does.fate_is;
     light = light r s does.deed does.says (subst (λ (x : Entry). length x.item.frame.payload ≤ 4096) (sym does.entry) short);
     few = does.few;
-    journal = is;
-    after = after is;
+    tallied = rises;
   }
+
+-- what stands after some outs
+drop_front : (xs ys : List OutRecord) → drop (length xs) (xs ++ ys) ≡ ys
+drop_front [] ys = refl
+drop_front (x ∷ xs) ys = drop_front xs ys
+
+pub slice_after : (xs ys zs : List OutRecord) (n : ℕ) → n ≡ length xs → zs ≡ xs ++ ys → take (length zs - n) (drop n zs) ≡ ys
+slice_after xs ys zs n count e =
+    ap (λ (k : ℕ). take (length zs - k) (drop k zs)) count
+    ∙ ap (λ (ws : List OutRecord). take (length ws - length xs) (drop (length xs) ws)) e
+    ∙ ap (take (length (xs ++ ys) - length xs)) (drop_front xs ys)
+    ∙ take_all (length (xs ++ ys) - length xs) ys (omega (arith, length-append xs ys))

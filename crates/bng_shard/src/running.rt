@@ -1,5 +1,5 @@
 // The sums that a shard keeps for its terms.
-ghost use Rattle.std.specs.Prelude.{◌≡◌, ◌+◌, ◌==◌, ◌^◌, ◌≤◌, ◌∷◌, [], Some, true, find, length, map, option_map, IfOk};
+ghost use Rattle.std.specs.Prelude.{◌≡◌, ◌+◌, ◌==◌, ◌^◌, ◌≤◌, ◌∷◌, [], ℕ, Some, true, find, length, map, option_map, IfOk};
 ghost use Rattle.bng_base.specs.declared.item.OutRecord.{OutRecord as Out};
 ghost use Rattle.bng_engine.specs.Books.{BooksFall, BooksRise};
 ghost use Rattle.bng_engine.specs.Calls.{SayMore};
@@ -99,7 +99,8 @@ pub(crate) fn charged_as(charge: Option<Charge>) -> Charged
 // Enters one packet more in a book, of so many octets in this direction.
 fn enter(book: &mut Book, input: bool, octets: u16)
     requires low { IsLow (2 ^ 63 + 2 ^ 62) book.old }
-    ensures { IsMore book.old input octets book.new }
+    ensures more { IsMore book.old input octets book.new }
+    ensures few { (most : ℕ) → IsLow most book.old → IsLow (most + 2 ^ 16) book.new }
 {
     let octets = u64::from(octets);
     if input {
@@ -126,6 +127,34 @@ fn take_off(book: &mut Book, input: bool, octets: u16)
     }
 }
 
+// Enters the packet of an out, if it has one, in a tally.
+fn tally_one(tally: &mut Book, out: &OutRecord)
+    requires low { IsLow (2 ^ 63 + 2 ^ 62) tally.old }
+    ensures rises { Rises tally.old (out.now ∷ []) tally.new }
+    ensures few { (most : ℕ) → IsLow most tally.old → IsLow (most + 2 ^ 16) tally.new }
+{
+    match out.charge {
+        Some(charge) => enter(tally, charge.input, charge.octets),
+        None => {}
+    }
+}
+
+// Enters it in the book of the first profile, if it is of that.
+fn book_one(book: &mut Book, out: &OutRecord)
+    requires low { IsLow (2 ^ 63 + 2 ^ 62) book.old }
+    ensures rises { BooksRise (book.old ∷ []) (out.now ∷ []) (book.new ∷ []) }
+    ensures few { (most : ℕ) → IsLow most book.old → IsLow (most + 2 ^ 16) book.new }
+{
+    match out.charge {
+        Some(charge) => {
+            if charge.profile == 0 {
+                enter(book, charge.input, charge.octets);
+            }
+        }
+        None => {}
+    }
+}
+
 /// Enters the packets among these outs in a tally.
 pub(crate) fn tally(tally: &mut Book, outs: &[OutRecord])
     requires few { length outs.now ≤ 2 ^ 16 }
@@ -133,9 +162,7 @@ pub(crate) fn tally(tally: &mut Book, outs: &[OutRecord])
     ensures { Rises tally.old outs.now tally.new }
 {
     for out in outs {
-        if let Some(charge) = out.charge {
-            enter(tally, charge.input, charge.octets);
-        }
+        tally_one(tally, out);
     }
 }
 
@@ -146,12 +173,17 @@ pub(crate) fn book(book: &mut Book, outs: &[OutRecord])
     ensures { BooksRise (book.old ∷ []) outs.now (book.new ∷ []) }
 {
     for out in outs {
-        if let Some(charge) = out.charge {
-            if charge.profile == 0 {
-                enter(book, charge.input, charge.octets);
-            }
-        }
+        book_one(book, out);
     }
+}
+
+// Enters a packet in what a term carried.
+fn carry_in(row: &mut Running, charge: Charge)
+    requires low { IsLow (2 ^ 63) row.old.carried }
+    ensures book { IsMore row.old.carried charge.input charge.octets row.new.carried }
+    ensures row { row.new ≡ record row.old { carried = row.new.carried } }
+{
+    enter(&mut row.carried, charge.input, charge.octets);
 }
 
 // Adds a packet that was sent to the row of its term, which stands at the number before its serial.
@@ -163,7 +195,8 @@ fn carry(rows: &mut [Running], charge: Charge)
     ensures keys { row_keys (rows_in rows.new) ≡ row_keys (rows_in rows.old) }
 {
     let place = (charge.term.serial - 1) as usize;
-    enter(&mut rows[place].carried, charge.input, charge.octets);
+    prove!(place < rows.len());
+    carry_in(&mut rows[place], charge);
 }
 
 /// Takes the answer to a send: a packet that was sent is added to the row of its term, and one that was not is taken off the book of

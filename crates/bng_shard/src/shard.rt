@@ -186,7 +186,7 @@ impl Shard {
             seat,
             place,
         };
-        let before = self.outs.len();
+        let before = self.outs.as_slice().len();
         let fate = hear(&mut self.slots, &self.rules, at, now, &item, &mut self.outs);
         let sends = &self.outs.as_slice()[before..];
         book(&mut self.passed, sends);

@@ -1,5 +1,5 @@
 use Rattle.bng_shard.proofs.Statics.{step_statics}
-use Rattle.bng_shard.proofs.StepLaws.{pppoe_laws, pppoe_still, light, data_fates}
+use Rattle.bng_shard.proofs.StepLaws.{pppoe_laws, pppoe_still, step_whole, light, data_fates}
 use Rattle.bng_shard.proofs.laws.steps_meet_laws.Goals as goal
 
 pub returns-clause-laws : goal.returns-clause-laws
@@ -7,6 +7,9 @@ returns-clause-laws c = pppoe_laws
 
 pub returns-clause-still : goal.returns-clause-still
 returns-clause-still c = pppoe_still
+
+pub returns-clause-whole : goal.returns-clause-whole
+returns-clause-whole c = step_whole
 
 pub returns-clause-circuits : goal.returns-clause-circuits
 returns-clause-circuits c = step_statics

@@ -1,5 +1,5 @@
 use Rattle.std.proofs.Common.{◌++◌, ◌∷◌, [], ◌+◌, drop, map, List, arith, ap, ◌∙◌, length, length-append}
-use Rattle.bng_engine.specs.Sight.{Row, new_row}
+use Rattle.bng_engine.specs.Views.{Row, new_row}
 use Rattle.bng_engine.specs.Terms.{keys}
 use Rattle.bng_shard.specs.declared.running.Running.{Running}
 use Rattle.bng_shard.specs.Protocol.{terms_after}

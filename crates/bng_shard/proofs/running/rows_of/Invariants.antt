@@ -1,5 +1,5 @@
 use Rattle.std.proofs.Common.{◌≡◌, ◌≤◌, ◌++◌, drop, length, map, vec_capacity}
-use Rattle.bng_engine.specs.Sight.{new_row}
+use Rattle.bng_engine.specs.Views.{new_row}
 use Rattle.bng_engine.specs.Terms.{keys}
 use Rattle.bng_shard.specs.Protocol.{terms_after}
 use Rattle.bng_shard.specs.Running.{rows_in}
