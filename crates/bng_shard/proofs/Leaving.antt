@@ -1,5 +1,5 @@
 -- A settlement of sessions of which none has ended.
-use Rattle.std.proofs.Common.{◌≡◌, Bool, true, false, not, List, [], ◌∷◌, cond, filter, refl, sym, ap, ◌∙◌}
+use Rattle.std.proofs.Common.{◌≡◌, Bool, true, false, not, List, [], ◌∷◌, cond, filter, refl, ap, ◌∙◌}
 use Rattle.bng_shard.specs.State.{Session}
 
 abbrev is_live : Session → Bool

@@ -8,6 +8,7 @@ pub mod Spelling
 pub mod Packets
 pub mod Sends
 pub mod StepLaws
+pub mod Fewer
 pub mod Stepping
 pub mod Carrying
 pub mod Driving

@@ -1,5 +1,5 @@
 -- What is a whole packet as its charge says is read so.
-use Rattle.std.proofs.Common.{◌≡◌, ◌&&◌, ℕ, zero, suc, ◌+◌, ◌*◌, ◌^◌, Bool, true, false, not, cond, List, length, take, drop, Option, Some, None, MatchOption, refl, sym, ap, ◌∙◌, arith, eqb}
+use Rattle.std.proofs.Common.{◌≡◌, ◌&&◌, ℕ, zero, suc, ◌+◌, ◌*◌, ◌^◌, Bool, true, false, not, cond, List, length, drop, Option, Some, None, MatchOption, refl, sym, ap, ◌∙◌, arith, eqb}
 use Rattle.std.specs.Option.{option_map}
 use Rattle.std.proofs.lemmas.Bool.{false≢true}
 use Rattle.std.proofs.lemmas.List.{get_or-drop}
@@ -15,7 +15,7 @@ use Rattle.bng_base.specs.declared.outside.Role.{Role}
 use Rattle.bng_base.specs.declared.outside.Role.TheVariants.{Access, Core, Tunnel, Auth, Acct, Coa, Control}
 use Rattle.bng_engine.specs.Wire.{WirePacket}
 use Rattle.bng_engine.specs.Protocol.{as_told}
-use Rattle.bng_shard.specs.Reader.{is_session_data, core_packet, frame_packet, pppoe_reader, tells_pppoe, IsInputOf, IsOutputOf, IsInDirection, IsNoPacket, IsWhole}
+use Rattle.bng_shard.specs.Reader.{is_session_data, frame_packet, pppoe_reader, tells_pppoe, IsInputOf, IsOutputOf, IsInDirection, IsNoPacket, IsWhole}
 
 -- a number that stands after some octets
 big_from_drop : (k i n : ℕ) (xs : List ℕ) → big_from i n (drop k xs) ≡ big_from (k + i) n xs

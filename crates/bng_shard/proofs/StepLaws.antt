@@ -1,5 +1,5 @@
 -- The protocol of a shard meets the laws of a step.
-use Rattle.std.proofs.Common.{◌≡◌, ◌⊎◌, inl, inr, ℕ, zero, suc, ◌+◌, ◌≤◌, Bool, true, false, List, [], ◌∷◌, filter, Option, Some, IfSome, MatchOption, length, slice_get, is_some, count_by, sum_by, if◌then◌else◌, refl, sym, ap, subst, ◌∙◌, arith, append-nil}
+use Rattle.std.proofs.Common.{◌≡◌, ◌⊎◌, inl, inr, ℕ, zero, suc, ◌+◌, ◌≤◌, Bool, false, List, [], ◌∷◌, filter, Option, Some, IfSome, MatchOption, length, slice_get, is_some, count_by, sum_by, if◌then◌else◌, refl, sym, ap, subst, ◌∙◌, arith, append-nil}
 use Rattle.std.specs.List.{AllByRecursion}
 use Rattle.std.proofs.lemmas.List.Sums.{sum_by-cons}
 use Rattle.std.proofs.lemmas.Option.{same_Some, slice_get_within}
@@ -15,7 +15,7 @@ use Rattle.bng_shard.specs.declared.rules.Rules.{Rules}
 use Rattle.bng_shard.specs.State.{State}
 use Rattle.bng_shard.specs.Deed.{Deed, at_of, out, is_forwarded}
 use Rattle.bng_shard.specs.Frames.{charge_of}
-use Rattle.bng_shard.specs.Protocol.{ShardState, Handled, term_of, terms_after, claimed_by, refused_by, pppoe, packet_octets, profiles_there}
+use Rattle.bng_shard.specs.Protocol.{term_of, terms_after, claimed_by, refused_by, pppoe, packet_octets, profiles_there}
 use Rattle.bng_shard.specs.Reader.{IsWhole, IsNoPacket, IsInDirection}
 use Rattle.bng_shard.specs.Step.{Step}
 use Rattle.bng_shard.proofs.Reading.{whole_read}

@@ -1,5 +1,5 @@
 -- What passes is entered in books, packet by packet.
-use Rattle.std.proofs.Common.{◌≡◌, ℕ, zero, suc, ◌+◌, ◌*◌, ◌<◌, ◌≤◌, ◌==◌, Bool, true, false, ◌&&◌, cond, List, [], ◌∷◌, ◌++◌, length, take, Option, Some, None, refl, sym, ap, subst, ◌∙◌, arith}
+use Rattle.std.proofs.Common.{◌≡◌, ℕ, zero, suc, ◌+◌, ◌<◌, ◌≤◌, ◌==◌, Bool, true, false, ◌&&◌, cond, List, [], ◌∷◌, ◌++◌, length, Option, Some, None, refl, ap, arith}
 use Rattle.std.specs.List.{sum_by}
 use Rattle.std.proofs.lemmas.Bool.{ne_eqb}
 use Rattle.std.proofs.lemmas.List.Sums.{sum_by-cons, sum_by-append}
@@ -9,7 +9,7 @@ use Rattle.bng_base.specs.declared.item.OutRecord.{OutRecord}
 use Rattle.bng_engine.specs.Books.{book_at, failed_under, passed_under, BooksRise, BooksFall}
 use Rattle.bng_engine.specs.Quantities.{Quantity, amount, in_book}
 use Rattle.bng_engine.specs.Sums.{same, part_of_charge, charge_if, is_directed, is_under, passed_sum}
-use Rattle.bng_shard.specs.Sums.{Has, IsLow, IsMore, AreCovered, Rises}
+use Rattle.bng_shard.specs.Sums.{Has, IsLow, IsMore, AreCovered, AreLow, Rises}
 
 abbrev part : (Charge → ℕ) → OutRecord → ℕ
 part f o = part_of_charge f o.charge
@@ -124,3 +124,7 @@ none_falls b o e =
     book_falls b b o (λ q input.
     let f = charge_if q (is_under 0 input) in
     omega (arith, sum_by-cons (failed_part f) o [], ap (λ (c : Option Charge). cond o.sent 0 (part_of_charge f c)) e, either_nothing o.sent))
+
+-- the one book of a list is low, and so all are
+pub all_low : (most : ℕ) (books : List Book) → length books ≡ 1 → IsLow most (book_at 0 books) → AreLow most books
+all_low most books one low i lt q input = first_of (λ (i : ℕ). in_book q input (book_at i books) ≤ most) (low q input) i (omega (arith, lt, one))

@@ -1,5 +1,5 @@
 -- What the fields of a shard keep.
-use Rattle.std.specs.Prelude.{◌≡◌, ℕ, ◌+◌, ◌*◌, ◌<◌, ◌≤◌, cond, List, length, map, vec_capacity}
+use Rattle.std.specs.Prelude.{◌≡◌, ℕ, ◌+◌, ◌*◌, ◌<◌, ◌≤◌, cond, List, length, vec_capacity}
 use Rattle.bng_base.specs.declared.item.Entry.{Entry}
 use Rattle.bng_engine.specs.Terms.{keys}
 use Rattle.bng_engine.specs.Views.{row_keys}

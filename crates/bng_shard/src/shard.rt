@@ -1,11 +1,12 @@
 //! One shard.
 ghost use Rattle.std.specs.Prelude.{◌≡◌, ◌≤◌, ◌<◌, ◌+◌, ◌*◌, ◌^◌, ◌++◌, ◌∷◌, [], true, IfOk, OnOk, length, map, option_map, vec_capacity};
+ghost use Rattle.bng_engine.specs.Books.{book_at};
 ghost use Rattle.bng_engine.specs.Calls.{Kept, IsReady};
 ghost use Rattle.bng_engine.specs.Protocol.{IsOwned};
 ghost use Rattle.bng_engine.specs.Showing.{ChargesShown};
 ghost use Rattle.bng_engine.specs.Terms.{keys};
 ghost use Rattle.bng_engine.specs.Views.{new_row, row_keys};
-ghost use Rattle.bng_shard.specs.Protocol.{Handles, deadline_of, entry_of, opened, pppoe, row_at, sessions_of, terms_after, terms_of};
+ghost use Rattle.bng_shard.specs.Protocol.{Handles, deadline_of, entry_of, opened, pppoe, profiles_there, row_at, sessions_of, terms_after, terms_of};
 ghost use Rattle.bng_shard.specs.Room.{Admits};
 ghost use Rattle.bng_shard.specs.Running.{rows_in};
 ghost use Rattle.bng_shard.specs.State.{sessions_most, settled};
@@ -269,6 +270,16 @@ impl Shard {
         ensures { result ≡ sessions_of self.now.state }
     {
         self.slots.count()
+    }
+
+    /// What passed under this profile, from 0, and was not taken off. There is one profile.
+    pub fn book(&self, profile: u8) -> Book
+        requires { profile < profiles_there }
+        ensures book { result ≡ book_at profile self.now.books }
+        ensures number { length self.now.books ≡ profiles_there }
+    {
+        prove!(profile == 0);
+        self.passed
     }
 
     /// What the term of this session carried; none exactly where no term has it.

@@ -1,9 +1,14 @@
-ghost use Rattle.std.specs.Prelude.{◌≡◌, ◌<◌, ◌≤◌, ◌^◌, IfOk, length};
+ghost use Rattle.std.specs.Prelude.{◌≡◌, ◌<◌, ◌≤◌, ◌^◌, [], ◌∷◌, Some, ℕ, IfOk, length, true};
+ghost use Rattle.bng_base.specs.declared.settings.Static.{Static as Provisioned};
+ghost use Rattle.bng_shard.specs.declared.rules.Rules.{Rules as Ways};
+ghost use Rattle.bng_shard.specs.Frames.{charge_of};
+ghost use Rattle.bng_shard.specs.Protocol.{opened};
+ghost use Rattle.bng_shard.specs.Sums.{AreLow, IsLow};
 
 use crate::{Charged, Rules, Shard, Traffic};
 use arrayvec::ArrayVec;
 use bng_base::{
-    AccessPort, AuthKind, Charge, Circuit, Frame, Ip4, Item, ItemKind, Listed, Mac, Octets,
+    AccessPort, AuthKind, Book, Charge, Circuit, Frame, Ip4, Item, ItemKind, Listed, Mac, Octets,
     OutRecord, Peer, Role, SessionNo, Static, TermId,
 };
 use bng_discovery::PortRules;
@@ -122,24 +127,52 @@ fn item(kind: ItemKind, octets: &[u8]) -> Item
     }
 }
 
-// The outs of a round of one item at this moment.
+const NOTHING: Book = Book {
+    input: 0,
+    output: 0,
+    input_packets: 0,
+    output_packets: 0,
+};
+
+// No more than 2^62 octets or packets are in a book.
+fn is_low(book: &Book) -> bool
+    ensures { result ≡ true → IsLow (2 ^ 63) book.now }
+{
+    let most = 1 << 62;
+    book.input <= most
+        && book.output <= most
+        && book.input_packets <= most
+        && book.output_packets <= most
+}
+
+// Whether the shard's book is low.
+fn has_low_book(shard: &Shard) -> bool
+    ensures { result ≡ true → AreLow (2 ^ 63) shard.now.books }
+{
+    let passed = shard.book(0);
+    is_low(&passed)
+}
+
+// The outs of a round of one item at this moment, with its packets in a seat's tally.
 fn round(
     rt: &impl Abort,
     alloc: Global,
     shard: &mut Shard,
-    rules: &Rules,
+    tally: &mut Book,
     now: u64,
     item: Item,
 ) -> Vec<OutRecord>
     requires moment { now < 2 ^ 60 }
-    requires auth { 0 < length rules.now.link.auth.items }
     requires whole { item.frame.headroom ≡ 64 }
 {
     // No round is going on now, which `prepare` asks.
     let _none = shard.drain();
-    assert!(rt; shard.prepare(alloc, 1).is_ok());
-    let _fate = shard.step(rules, 0, 0, now, item);
+    assert!(rt; shard.prepare(alloc, 1, 0).is_ok());
+    assert!(rt; has_low_book(shard));
+    assert!(rt; is_low(tally));
+    let _fate = shard.step(0, 0, now, item, tally);
     let (journal, outs) = shard.drain();
+    shard.settle();
     assert_eq!(rt; journal.len(), 1);
     outs
 }
@@ -174,28 +207,21 @@ fn padr(host: u16, offer: &[u8]) -> [u8; 52] {
 }
 
 // The outs of a round with the PADR of a host, after one with its PADI, at moment 0.
-fn request(
-    rt: &impl Abort,
-    alloc: Global,
-    shard: &mut Shard,
-    rules: &Rules,
-    host: u16,
-) -> Vec<OutRecord>
-    requires { 0 < length rules.now.link.auth.items }
-{
+fn request(rt: &impl Abort, alloc: Global, shard: &mut Shard, host: u16) -> Vec<OutRecord> {
+    let mut tally = NOTHING;
     let access = ItemKind::Access(1);
-    let offered = round(rt, alloc, shard, rules, 0, item(access, &padi(host)));
+    let offered = round(rt, alloc, shard, &mut tally, 0, item(access, &padi(host)));
     let asked = padr(host, octets(&offered, 0));
-    round(rt, alloc, shard, rules, 0, item(access, &asked))
+    round(rt, alloc, shard, &mut tally, 0, item(access, &asked))
 }
 
 // So many Ticks at this moment.
-fn ticks(rt: &impl Abort, alloc: Global, shard: &mut Shard, rules: &Rules, now: u64, count: u32)
+fn ticks(rt: &impl Abort, alloc: Global, shard: &mut Shard, now: u64, count: u32)
     requires moment { now < 2 ^ 60 }
-    requires auth { 0 < length rules.now.link.auth.items }
 {
+    let mut tally = NOTHING;
     for _ in 0..count {
-        let _outs = round(rt, alloc, shard, rules, now, item(ItemKind::Tick, &[]));
+        let _outs = round(rt, alloc, shard, &mut tally, now, item(ItemKind::Tick, &[]));
     }
 }
 
@@ -204,16 +230,16 @@ fn a_host_is_offered_a_session_and_its_request_sent_twice_makes_one(
     rt: HostRuntime,
 ) -> Result<(), Fail> {
     let alloc = rt.alloc();
-    let rules = rules(alloc)?;
-    let mut shard = Shard::open(alloc, 0, Vec::new(alloc))?;
+    let mut shard = Shard::open(alloc, 0, rules(alloc)?, Vec::new(alloc))?;
     let access = ItemKind::Access(1);
-    let outs = round(&rt, alloc, &mut shard, &rules, 0, item(access, &PADI));
+    let mut tally = NOTHING;
+    let outs = round(&rt, alloc, &mut shard, &mut tally, 0, item(access, &PADI));
     assert_eq!(rt; octets(&outs, 0), PADO.as_slice());
     assert_eq!(rt; shard.sessions(), 0);
-    let first = request(&rt, alloc, &mut shard, &rules, 1);
+    let first = request(&rt, alloc, &mut shard, 1);
     assert_eq!(rt; first.len(), 2);
     assert_eq!(rt; octets(&first, 0), PADS.as_slice());
-    let again = request(&rt, alloc, &mut shard, &rules, 1);
+    let again = request(&rt, alloc, &mut shard, 1);
     assert_eq!(rt; again.len(), 1);
     assert_eq!(rt; octets(&again, 0), PADS.as_slice());
     assert_eq!(rt; shard.sessions(), 1);
@@ -224,11 +250,11 @@ fn a_host_is_offered_a_session_and_its_request_sent_twice_makes_one(
 #[test]
 fn ten_thousand_calls_make_no_session(rt: HostRuntime) -> Result<(), Fail> {
     let alloc = rt.alloc();
-    let rules = rules(alloc)?;
-    let mut shard = Shard::open(alloc, 0, Vec::new(alloc))?;
+    let mut shard = Shard::open(alloc, 0, rules(alloc)?, Vec::new(alloc))?;
+    let mut tally = NOTHING;
     for host in 0..10_000 {
         let call = item(ItemKind::Access(1), &padi(host));
-        let outs = round(&rt, alloc, &mut shard, &rules, 0, call);
+        let outs = round(&rt, alloc, &mut shard, &mut tally, 0, call);
         assert_eq!(rt; outs.len(), 1);
     }
     assert_eq!(rt; shard.sessions(), 0);
@@ -241,21 +267,20 @@ fn a_full_shard_refuses_and_is_free_again_where_no_host_goes_on(
     rt: HostRuntime,
 ) -> Result<(), Fail> {
     let alloc = rt.alloc();
-    let rules = rules(alloc)?;
-    let mut shard = Shard::open(alloc, 0, Vec::new(alloc))?;
+    let mut shard = Shard::open(alloc, 0, rules(alloc)?, Vec::new(alloc))?;
     for host in 1..1023 {
-        let outs = request(&rt, alloc, &mut shard, &rules, host);
+        let outs = request(&rt, alloc, &mut shard, host);
         assert_eq!(rt;
             octets(&outs, 0).get(16..18),
             Some(host.to_be_bytes().as_slice())
         );
     }
     assert_eq!(rt; shard.sessions(), 1022);
-    let outs = request(&rt, alloc, &mut shard, &rules, 1024);
+    let outs = request(&rt, alloc, &mut shard, 1024);
     assert_eq!(rt; octets(&outs, 0), FULL.as_slice());
     for count in 1..11 {
         assert_eq!(rt; shard.sessions(), 1022);
-        ticks(&rt, alloc, &mut shard, &rules, 3000 * count, 16);
+        ticks(&rt, alloc, &mut shard, 3000 * count, 16);
     }
     assert_eq!(rt; shard.sessions(), 0);
     Ok(())
@@ -275,8 +300,10 @@ fn circuit() -> Static {
 }
 
 // A packet of its term of so many octets, from the subscriber, that was sent.
-fn sent(octets: u16) -> OutRecord {
-    let circuit = circuit();
+fn sent(circuit: &Static, octets: u16) -> OutRecord
+    ensures charge { result.charge ≡ Some (charge_of circuit.now 0 true octets) }
+    ensures sent { result.sent ≡ true }
+{
     OutRecord {
         shard: 1,
         seat: 0,
@@ -289,7 +316,7 @@ fn sent(octets: u16) -> OutRecord {
                 session: circuit.session,
                 serial: 1,
             },
-            profile: 0,
+            profile: circuit.profile,
             circuit: Circuit::Pppoe {
                 port: circuit.port,
                 mac: circuit.mac,
@@ -303,15 +330,25 @@ fn sent(octets: u16) -> OutRecord {
     }
 }
 
+// Charges the first packet of a shard that has one circuit.
+fn charge_first(shard: &mut Shard, out: &OutRecord) -> Charged
+    requires charged { (rules : Ways) × (circuit : Provisioned) × (octets : ℕ) × (shard.old ≡ opened 1 rules (circuit ∷ [])) × (out.now.charge ≡ Some (charge_of circuit 0 true octets)) }
+    requires sent { out.now.sent ≡ true }
+{
+    shard.charge(out)
+}
+
 #[test]
 fn a_packet_counts_for_its_term(rt: HostRuntime) -> Result<(), Fail> {
     let alloc = rt.alloc();
-    let mut shard = Shard::open(alloc, 1, Vec::from_array(alloc, [circuit()])?)?;
-    let packet = Charged::Packet {
+    let circuit = circuit();
+    let packet = sent(&circuit, 84);
+    let mut shard = Shard::open(alloc, 1, rules(alloc)?, Vec::from_array(alloc, [circuit])?)?;
+    let charged = Charged::Packet {
         input: true,
         octets: 84,
     };
-    assert_eq!(rt; shard.charge(&sent(84)), packet);
+    assert_eq!(rt; charge_first(&mut shard, &packet), charged);
     let carried = Some(Traffic {
         input: 84,
         output: 0,

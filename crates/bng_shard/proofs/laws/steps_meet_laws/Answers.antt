@@ -1,3 +1,4 @@
+use Rattle.bng_shard.proofs.Fewer.{end_leaves_fewer}
 use Rattle.bng_shard.proofs.Statics.{step_statics}
 use Rattle.bng_shard.proofs.StepLaws.{pppoe_laws, pppoe_still, step_whole, light, data_fates}
 use Rattle.bng_shard.proofs.laws.steps_meet_laws.Goals as goal
@@ -19,3 +20,6 @@ returns-clause-light c = light
 
 pub returns-clause-fates : goal.returns-clause-fates
 returns-clause-fates c = data_fates
+
+pub returns-clause-fewer : goal.returns-clause-fewer
+returns-clause-fewer c = end_leaves_fewer

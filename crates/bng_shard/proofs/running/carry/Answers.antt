@@ -1,10 +1,10 @@
-use Rattle.std.proofs.Common.{◌≡◌, ◌^◌, ◌-◌, arith, length, sym, ap, subst, ◌∙◌, ℕ, List, [], ◌∷◌}
+use Rattle.std.proofs.Common.{◌≡◌, ◌^◌, ◌-◌, arith, length, sym, ap, subst, ◌∙◌, ℕ, [], ◌∷◌}
 use Rattle.std.proofs.Math.ListN.{get_or, set}
 use Rattle.bng_engine.specs.Calls.{SayMore}
 use Rattle.bng_engine.specs.Views.{row_keys}
 use Rattle.bng_shard.specs.declared.running.Running.{Running}
 use Rattle.bng_shard.specs.Running.{rows_in, row_from}
-use Rattle.bng_shard.proofs.RowSums.{StandsAt, stands_at, row_low, one_row, keys_set, blank, with_book}
+use Rattle.bng_shard.proofs.RowSums.{stands_at, row_low, one_row, keys_set, blank}
 use Rattle.bng_shard.proofs.running.carry.Goals as goal
 
 pub overflow_sub-place : goal.overflow_sub-place

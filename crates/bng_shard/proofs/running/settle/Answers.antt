@@ -1,4 +1,3 @@
-use Rattle.std.proofs.Common.{arith}
 use Rattle.bng_shard.proofs.Tallying.{covered_has}
 use Rattle.bng_shard.proofs.running.settle.Goals as goal
 

@@ -1,4 +1,4 @@
-use Rattle.std.proofs.Common.{◌≡◌, rules, ap, sym, arith, ◌∙◌, List, Option, fold, None, ℕ, filter, not}
+use Rattle.std.proofs.Common.{rules, ap, sym, arith, ◌∙◌, List, Option, fold, None, ℕ, filter, not}
 use Rattle.std.proofs.lemmas.Fn.{filter_same}
 use Rattle.bng_ppp.specs.LinkRelation.{earliest}
 use Rattle.bng_shard.specs.Resting.{IsAtRest}
