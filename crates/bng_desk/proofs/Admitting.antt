@@ -10,7 +10,7 @@ use Rattle.bng_base.specs.declared.item.Entry.{Entry}
 use Rattle.bng_base.specs.declared.item.Item.{Item}
 use Rattle.bng_base.specs.declared.item.ItemKind.{ItemKind}
 use Rattle.bng_base.specs.declared.item.ItemKind.TheVariants.{Access, Core, Tunnel, Verdict, Change, Tick, End}
-use Rattle.bng_engine.specs.Sight.{Sight}
+use Rattle.bng_engine.specs.Views.{ShardView}
 use Rattle.bng_engine.proofs.Everywhere.{all_append, all_weaker}
 use Rattle.bng_shard.specs.declared.pool.Holder.{Holder}
 use Rattle.bng_shard.specs.declared.rules.Rules.{Rules}
@@ -18,7 +18,7 @@ use Rattle.bng_shard.specs.declared.whose.Whose.{Whose}
 use Rattle.bng_shard.specs.declared.whose.Whose.TheVariants.{Loose as IsLoose, Stands}
 use Rattle.bng_shard.specs.Protocol.{entry_of}
 use Rattle.bng_shard.specs.Room.{Admits, is_tick, is_end}
-use Rattle.bng_shard.specs.State.{State}
+use Rattle.bng_shard.specs.Protocol.{ShardState}
 use Rattle.bng_shard.specs.Whose.{IsWhose, IsForKind, IsForTarget}
 use Rattle.bng_desk.specs.Items.{entries_in, stands_in}
 use Rattle.bng_desk.specs.Taking.{is_once, AreOnce}
@@ -88,11 +88,11 @@ not_here r holders n i (Stands m) is low e =
     let same : m ≡ n = same_number m n e in
     not_true (is_once i.kind) (λ (yes : is_once i.kind ≡ true). let target = once_target i.kind r holders i m is yes in let lower = low yes in omega (arith, same, target, lower))
 
-none_once : (r : Rules) (holders : List Holder) (n place moment : ℕ) (done : List Item) (whose : List Whose) → AllZip (IsWhose r holders) done whose → AllByRecursion (IsLower n) done → AllByRecursion NotOnce (entries_in n place moment done whose)
+none_once : (r : Rules) (holders : List Holder) (n place moment : ℕ) (done : List Item) (whose : List Whose) → AllZip (IsWhose r holders) done whose → AllByRecursion (IsLower n) done → AllByRecursion NotOnce (entries_in 0 n place moment done whose)
 none_once r holders n place moment [] whose is low = tt
 none_once r holders n place moment (i ∷ done) [] is low = tt
 none_once r holders n place moment (i ∷ done) (w ∷ whose) is low =
-    all_append NotOnce (if stands_in n w then entry_of 0 place moment i ∷ [] else []) (entries_in n (place + 1) moment done whose)
+    all_append NotOnce (if stands_in n w then entry_of 0 place moment i ∷ [] else []) (entries_in 0 n (place + 1) moment done whose)
     (none_in (stands_in n w) n place moment i (not_here r holders n i w is.0 low.0))
     (none_once r holders n (place + 1) moment done whose is.1 low.1)
 
@@ -112,15 +112,15 @@ not_tick e h = not_true (is_tick e.item.kind) (λ yes. false≢true (sym h ∙ t
 not_end : (e : Entry) → NotOnce e → is_end e.item.kind ≡ false
 not_end e h = not_true (is_end e.item.kind) (λ yes. false≢true (sym h ∙ end_once e.item.kind yes))
 
-none_admits : (v : Sight State Entry) (kind : ItemKind) → (is_once kind ≡ true → AllByRecursion NotOnce v.journal) → Admits v kind
+none_admits : (v : ShardView ShardState Entry) (kind : ItemKind) → (is_once kind ≡ true → AllByRecursion NotOnce v.journal) → Admits v kind
 none_admits v kind h = record {
   tick = λ yes. list_any_none (λ (e : Entry). is_tick e.item.kind) v.journal (All-from_recursion (λ e. is_tick e.item.kind ≡ false) v.journal (all_weaker NotOnce (λ e. is_tick e.item.kind ≡ false) not_tick v.journal (h (tick_once kind yes))));
   end = λ yes. list_any_none (λ (e : Entry). is_end e.item.kind) v.journal (All-from_recursion (λ e. is_end e.item.kind ≡ false) v.journal (all_weaker NotOnce (λ e. is_end e.item.kind ≡ false) not_end v.journal (h (end_once kind yes))));
 }
 
 -- the shard of the next item admits it
-pub admits_next : (r : Rules) (holders : List Holder) (moment : ℕ) (done : List Item) (whose : List Whose) (item : Item) (left : List Item) (n : ℕ) (v : Sight State Entry)
-    → AreOnce (done ++ item ∷ left) → AllZip (IsWhose r holders) done whose → IsWhose r holders item (Stands n) → v.journal ≡ entries_in n 0 moment done whose → Admits v item.kind
+pub admits_next : (r : Rules) (holders : List Holder) (moment : ℕ) (done : List Item) (whose : List Whose) (item : Item) (left : List Item) (n : ℕ) (v : ShardView ShardState Entry)
+    → AreOnce (done ++ item ∷ left) → AllZip (IsWhose r holders) done whose → IsWhose r holders item (Stands n) → v.journal ≡ entries_in 0 n 0 moment done whose → Admits v item.kind
 admits_next r holders moment done whose item left n v once are is journal = none_admits v item.kind (λ yes.
     let target : item.target ≡ n = once_target item.kind r holders item n is yes in
     let low : AllByRecursion (IsLower n) done = subst (λ (m : ℕ). AllByRecursion (IsLower m) done) target (once_before done item left once yes) in

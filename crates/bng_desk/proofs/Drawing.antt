@@ -8,8 +8,8 @@ use Rattle.std.proofs.lemmas.List.Sums.{count_by-le-length, length-filter}
 use Rattle.bng_base.specs.declared.item.Entry.{Entry}
 use Rattle.bng_base.specs.declared.item.Item.{Item}
 use Rattle.bng_base.specs.declared.item.ItemKind.TheVariants.{Tick, End}
-use Rattle.bng_engine.specs.Sight.{Sight}
-use Rattle.bng_shard.specs.State.{State}
+use Rattle.bng_engine.specs.Views.{ShardView}
+use Rattle.bng_shard.specs.Protocol.{ShardState}
 use Rattle.bng_desk.specs.Items.{drawn_from, for_shard, is_due, ticks_of, ends_of}
 use Rattle.bng_desk.specs.Random.{draw, Drawn}
 
@@ -37,13 +37,13 @@ ends_length n = length-map-range_with_len (for_shard End) 0 n
 pub ends_more : (n : ℕ) → ends_of (n + 1) ≡ ends_of n ++ for_shard End n ∷ []
 ends_more n = map-range_with_len_more (for_shard End) 0 n n (omega arith)
 
-abbrev tick_of : Sight State Entry → Item
+abbrev tick_of : ShardView ShardState Entry → Item
 tick_of v = for_shard Tick v.number
 
-pub ticks_append : (moment : ℕ) (vs ws : List (Sight State Entry)) → ticks_of moment (vs ++ ws) ≡ ticks_of moment vs ++ ticks_of moment ws
-ticks_append moment vs ws = ap (λ (us : List (Sight State Entry)). map tick_of us) (filter-append (is_due moment) vs ws) ∙ map-append tick_of (filter (is_due moment) vs) (filter (is_due moment) ws)
+pub ticks_append : (moment : ℕ) (vs ws : List (ShardView ShardState Entry)) → ticks_of moment (vs ++ ws) ≡ ticks_of moment vs ++ ticks_of moment ws
+ticks_append moment vs ws = ap (λ (us : List (ShardView ShardState Entry)). map tick_of us) (filter-append (is_due moment) vs ws) ∙ map-append tick_of (filter (is_due moment) vs) (filter (is_due moment) ws)
 
-pub ticks_length : (moment : ℕ) (vs : List (Sight State Entry)) → length (ticks_of moment vs) ≤ length vs
+pub ticks_length : (moment : ℕ) (vs : List (ShardView ShardState Entry)) → length (ticks_of moment vs) ≤ length vs
 ticks_length moment vs = omega (arith, length-map (filter (is_due moment) vs) tick_of, length-filter (is_due moment) vs, count_by-le-length (is_due moment) vs)
 
 -- further items stand after those before, each with its own random octets

@@ -1,16 +1,21 @@
 -- The shards of a desk that was just opened.
-use Rattle.std.proofs.Common.{◌≡◌, ℕ, ◌+◌, ◌*◌, ◌<◌, ◌≤◌, ◌^◌, List, [], ◌∷◌, map, length, get_or, refl, sym, ap, subst, ◌∙◌, arith}
+use Rattle.std.proofs.Common.{◌≡◌, ℕ, ◌+◌, ◌*◌, ◌<◌, ◌≤◌, ◌^◌, Bool, true, false, cond, List, [], ◌∷◌, map, length, get_or, refl, sym, ap, subst, ◌∙◌, arith}
 use Rattle.std.specs.List.{All, range_with_len}
-use Rattle.std.proofs.lemmas.List.Elements.{All-map}
+use Rattle.std.proofs.lemmas.List.Sums.{sum_by-cons}
 use Rattle.std.proofs.lemmas.List.FromFn.{get_or-map-range_with_len, length-map-range_with_len}
 use Rattle.bng_base.specs.declared.item.Entry.{Entry}
 use Rattle.bng_base.specs.declared.settings.Static.{Static}
-use Rattle.bng_engine.specs.Sight.{Sight, new_row}
-use Rattle.bng_engine.specs.Terms.{keys}
+use Rattle.bng_base.specs.declared.book.Book.{Book}
+use Rattle.bng_engine.specs.Books.{book_at}
+use Rattle.bng_engine.specs.Quantities.{Quantity, Octets, Packets, in_book, empty_book}
+use Rattle.bng_engine.specs.Sums.{is_any}
+use Rattle.bng_engine.specs.Views.{ShardView, Row, new_row, rows_where}
+use Rattle.bng_engine.specs.Terms.{Key, keys}
 use Rattle.bng_shard.specs.Protocol.{opened, terms_after}
-use Rattle.bng_shard.specs.State.{State}
-use Rattle.bng_shard.specs.Sums.{IsLow}
+use Rattle.bng_shard.specs.Protocol.{ShardState}
+use Rattle.bng_shard.specs.Sums.{IsLow, AreLow, RowsAreLow}
 use Rattle.bng_shard.specs.declared.pool.Holder.{Holder}
+use Rattle.bng_shard.specs.declared.rules.Rules.{Rules}
 use Rattle.bng_base.specs.declared.item.Item.{Item}
 use Rattle.bng_desk.specs.declared.drops.Drops.{Drops}
 use Rattle.bng_desk.specs.Counting.{Within, no_drops}
@@ -18,44 +23,63 @@ use Rattle.bng_desk.specs.Kept.{IsKept, all_turns, rested, octets_most, drops_mo
 use Rattle.bng_desk.specs.Model.{Desk}
 use Rattle.bng_desk.specs.Round.{refused_of}
 use Rattle.bng_desk.specs.Taking.{IsEmpty, AreInOrder, AreItems, outs_of_items}
-use Rattle.bng_desk.proofs.Keeping.{no_ends}
+use Rattle.bng_desk.proofs.Keeping.{no_ends, one_low}
 
-module _ (statics : ℕ → List Static) where
-  abbrev fresh : ℕ → Sight State Entry
-  fresh n = opened n (statics n)
+-- Nothing was carried ---------------------------------------------------------------------------------------------------
+
+pub nothing_in : (q : Quantity) (input : Bool) → in_book q input empty_book ≡ 0
+nothing_in Octets true = refl
+nothing_in Octets false = refl
+nothing_in Packets true = refl
+nothing_in Packets false = refl
+
+none_carried : (q : Quantity) (input : Bool) (ks : List Key) → rows_where q is_any input (map new_row ks) ≡ 0
+none_carried q input [] = refl
+none_carried q input (k ∷ ks) =
+    omega (arith, sum_by-cons (λ (r : Row). cond (is_any r.key) (in_book q input r.carried) 0) (new_row k) (map new_row ks), nothing_in q input, none_carried q input ks)
+
+pub empty_low : (most : ℕ) → IsLow most empty_book
+empty_low most q input = omega (arith, nothing_in q input)
+
+-- Shards ----------------------------------------------------------------------------------------------------------------
+
+module _ (rules : Rules) (statics : ℕ → List Static) where
+  abbrev fresh : ℕ → ShardView ShardState Entry
+  fresh n = opened n rules (statics n)
 
   pub fresh_rested : (ns : List ℕ) → map rested (map fresh ns) ≡ map fresh ns
   fresh_rested [] = refl
-  fresh_rested (n ∷ ns) = ap (λ (vs : List (Sight State Entry)). fresh n ∷ vs) (fresh_rested ns)
+  fresh_rested (n ∷ ns) = ap (λ (vs : List (ShardView ShardState Entry)). fresh n ∷ vs) (fresh_rested ns)
 
-  fresh_at : (n k : ℕ) (d : Sight State Entry) → k < length (map fresh (range_with_len 0 n)) → get_or (map fresh (range_with_len 0 n)) k d ≡ fresh k
+  fresh_at : (n k : ℕ) (d : ShardView ShardState Entry) → k < length (map fresh (range_with_len 0 n)) → get_or (map fresh (range_with_len 0 n)) k d ≡ fresh k
   fresh_at n k d lt = get_or-map-range_with_len fresh 0 n k k d (omega (arith, lt, length-map-range_with_len fresh 0 n)) (omega arith)
 
   pub fresh_order : (n : ℕ) → AreInOrder (map fresh (range_with_len 0 n))
-  fresh_order n k d lt = ap (λ (v : Sight State Entry). v.number) (fresh_at n k d lt)
+  fresh_order n k d lt = ap (λ (v : ShardView ShardState Entry). v.number) (fresh_at n k d lt)
 
   pub fresh_empty : (n : ℕ) → All IsEmpty (map fresh (range_with_len 0 n))
-  fresh_empty n k d lt = subst (λ (v : Sight State Entry). IsEmpty v) (sym (fresh_at n k d lt)) (refl, refl)
+  fresh_empty n k d lt = subst (λ (v : ShardView ShardState Entry). IsEmpty v) (sym (fresh_at n k d lt)) (refl, refl)
 
-  pub fresh_low : (most n : ℕ) → All (λ v. All (IsLow most) v.rows) (map fresh (range_with_len 0 n))
+  pub fresh_low : (most n : ℕ) → All (λ v. RowsAreLow most v.rows) (map fresh (range_with_len 0 n))
   fresh_low most n k d lt =
-      subst (λ (v : Sight State Entry). All (IsLow most) v.rows) (sym (fresh_at n k d lt))
-      (All-map (IsLow most) new_row (keys (terms_after 0 (statics k))) (λ j e l. record { up = omega arith; down = omega arith }))
+      subst (λ (v : ShardView ShardState Entry). RowsAreLow most v.rows) (sym (fresh_at n k d lt)) (λ q input. omega (arith, none_carried q input (keys (terms_after 0 (statics k)))))
+
+  pub fresh_books : (most n : ℕ) → All (λ v. AreLow most v.books) (map fresh (range_with_len 0 n))
+  fresh_books most n k d lt = subst (λ (v : ShardView ShardState Entry). AreLow most v.books) (sym (fresh_at n k d lt)) (one_low most empty_book (empty_low most))
 
 -- a desk with such shards, in which nothing has happened
-pub kept_fresh : (d : Desk) (statics : ℕ → List Static) → d.shards ≡ map (λ n. opened n (statics n)) (range_with_len 0 d.rules.shards) → 1 ≤ length d.rules.access → length d.rules.access ≤ 16 → 1 ≤ d.rules.shards → d.rules.shards ≤ 64
-    → 0 < length d.rules.link.auth.items → All (λ (h : Holder). h.shard < d.rules.shards) d.holders → d.rounds ≤ 2 ^ 40 → d.turns ≡ 0 → d.endings ≡ 0 → d.unopened ≡ 0 → d.told ≡ 0 → d.drawn ≡ 1 → d.drops ≡ no_drops → d.kept ≡ [] → IsKept d
-kept_fresh d statics shards some_port few_ports some_shard few_shards auth holders most turns endings unopened told drawn drops kept =
+pub kept_fresh : (d : Desk) (statics : ℕ → List Static) → d.shards ≡ map (λ n. opened n d.rules (statics n)) (range_with_len 0 d.rules.shards) → 1 ≤ length d.rules.access → length d.rules.access ≤ 16 → 1 ≤ d.rules.shards → d.rules.shards ≤ 64
+    → All (λ (h : Holder). h.shard < d.rules.shards) d.holders → d.rounds ≤ 2 ^ 40 → d.turns ≡ 0 → d.endings ≡ 0 → d.unopened ≡ 0 → d.told ≡ 0 → d.drawn ≡ 1 → d.drops ≡ no_drops → d.tallies ≡ empty_book ∷ [] → d.kept ≡ [] → IsKept d
+kept_fresh d statics shards some_port few_ports some_shard few_shards holders most turns endings unopened told drawn drops tallies kept =
     let empty = no_ends d in
     record {
       some_port = some_port;
       few_ports = few_ports;
-      shards = ap (λ (xs : List (Sight State Entry)). length xs) shards ∙ length-map-range_with_len (λ (n : ℕ). opened n (statics n)) 0 d.rules.shards;
+      shards = ap (λ (xs : List (ShardView ShardState Entry)). length xs) shards ∙ length-map-range_with_len (λ (n : ℕ). opened n d.rules (statics n)) 0 d.rules.shards;
       some_shard = some_shard;
       few_shards = few_shards;
-      order = subst AreInOrder (sym shards) (fresh_order statics d.rules.shards);
-      empty = subst (λ (xs : List (Sight State Entry)). All IsEmpty xs) (sym shards) (fresh_empty statics d.rules.shards);
-      auth = auth;
+      order = subst AreInOrder (sym shards) (fresh_order d.rules statics d.rules.shards);
+      empty = subst (λ (xs : List (ShardView ShardState Entry)). All IsEmpty xs) (sym shards) (fresh_empty d.rules statics d.rules.shards);
       holders = holders;
       most = most;
       made = omega (arith, turns);
@@ -63,7 +87,10 @@ kept_fresh d statics shards some_port few_ports some_shard few_shards auth holde
       unopened = omega (arith, unopened);
       told = omega (arith, told);
       drawn = omega (arith, drawn);
-      low = subst (λ (xs : List (Sight State Entry)). All (λ v. All (IsLow (octets_most * all_turns d)) v.rows) xs) (sym shards) (fresh_low statics (octets_most * all_turns d) d.rules.shards);
+      low = subst (λ (xs : List (ShardView ShardState Entry)). All (λ v. RowsAreLow (octets_most * all_turns d) v.rows) xs) (sym shards) (fresh_low d.rules statics (octets_most * all_turns d) d.rules.shards);
+      books = subst (λ (xs : List (ShardView ShardState Entry)). All (λ v. AreLow (octets_most * all_turns d) v.books) xs) (sym shards) (fresh_books d.rules statics (octets_most * all_turns d) d.rules.shards);
+      one_seat = ap (λ (bs : List Book). length bs) tallies;
+      tallies = subst (λ (bs : List Book). AreLow (octets_most * all_turns d) bs) (sym tallies) (one_low (octets_most * all_turns d) empty_book (empty_low (octets_most * all_turns d)));
       counts = subst (λ (x : Drops). Within (drops_most * all_turns d) x) (sym drops) (record { malformed = omega arith; no_session = omega arith; not_open = omega arith; expired = omega arith; spoofed = omega arith; too_big = omega arith; exceeded = omega arith; link_failed = omega arith; want_of_memory = omega arith });
       kept = subst AreItems (sym kept) empty.items;
       kept_outs = subst (λ (is : List Item). outs_of_items is ≤ 4480 + 320 * length d.shards) (sym kept) empty.outs;

@@ -15,7 +15,7 @@ use Rattle.bng_base.specs.FateOf.{Arrival}
 use Rattle.bng_base.specs.Told.{PlantTold}
 use Rattle.bng_base.specs.Stretch.{PlantStretch, plant_joined, ExtendsPlant}
 use Rattle.bng_base.proofs.StretchLaws.{plant_more, plant_stays}
-use Rattle.bng_engine.specs.Sums.{one_if}
+use Rattle.bng_engine.specs.Lists.{one_if}
 use Rattle.bng_desk.specs.Reading.{is_empty, receiving, sending}
 use Rattle.bng_desk.specs.Control.{Heeded, is_near, is_answered, is_unanswered, reply_text, reply, heeding, answering}
 

@@ -12,9 +12,9 @@ use Rattle.bng_base.specs.declared.item.ItemKind.TheVariants.{Tick, End}
 use Rattle.bng_base.specs.declared.outside.Role.{Role}
 use Rattle.bng_base.specs.declared.outside.Role.TheVariants.{Access, Core, Tunnel, Auth, Acct, Coa, Control}
 use Rattle.bng_base.specs.FateOf.{Arrival}
-use Rattle.bng_engine.specs.Sight.{Sight}
+use Rattle.bng_engine.specs.Views.{ShardView}
 use Rattle.bng_shard.specs.Hearing.{outs_most}
-use Rattle.bng_shard.specs.State.{State}
+use Rattle.bng_shard.specs.Protocol.{ShardState}
 use Rattle.bng_desk.specs.Items.{DataReading, arrived, kind_of, drawn_from, for_shard, is_due, taken_items, ticks_of, ends_of}
 use Rattle.bng_desk.specs.Random.{draw}
 use Rattle.bng_desk.specs.Taking.{AreInOrder, AreItems, is_once, outs_of_items}
@@ -65,21 +65,21 @@ pairs_map R f (x ∷ xs) pairs =
     (All-map (R (f x)) f xs (λ k d l. pairs 0 (suc k) d (omega arith) (omega arith)))
     (pairs_map R f xs (λ i j d low high. pairs (suc i) (suc j) d (omega arith) (omega arith)))
 
-numbers_rise : (vs : List (Sight State Entry)) → AreInOrder vs → AllPairs (λ (a b : Sight State Entry). a.number < b.number) vs
+numbers_rise : (vs : List (ShardView ShardState Entry)) → AreInOrder vs → AllPairs (λ (a b : ShardView ShardState Entry). a.number < b.number) vs
 numbers_rise vs order i j d low high = omega (arith, low, order i d (omega arith), order j d high)
 
-ticks_rise : (moment : ℕ) (vs : List (Sight State Entry)) → AreInOrder vs → AllPairs IsBelow (ticks_of moment vs)
+ticks_rise : (moment : ℕ) (vs : List (ShardView ShardState Entry)) → AreInOrder vs → AllPairs IsBelow (ticks_of moment vs)
 ticks_rise moment vs order =
-    pairs_map IsBelow (λ (v : Sight State Entry). for_shard Tick v.number) (filter (is_due moment) vs)
-    (AllPairs-filter (λ (a b : Sight State Entry). a.number < b.number) (is_due moment) vs (numbers_rise vs order))
+    pairs_map IsBelow (λ (v : ShardView ShardState Entry). for_shard Tick v.number) (filter (is_due moment) vs)
+    (AllPairs-filter (λ (a b : ShardView ShardState Entry). a.number < b.number) (is_due moment) vs (numbers_rise vs order))
 
 ends_rise : (n : ℕ) → AllPairs IsBelow (ends_of n)
 ends_rise n =
     pairs_map IsBelow (for_shard End) (range_with_len 0 n)
     (λ i j d low high. omega (arith, low, high, length-range_with_len 0 n, get_or-range_with_len 0 n i d (omega (arith, length-range_with_len 0 n)), get_or-range_with_len 0 n j d (omega (arith, length-range_with_len 0 n))))
 
-pub all_due : (P : Item → Type 0) → ((shard : ℕ) → P (for_shard Tick shard)) → (moment : ℕ) (vs : List (Sight State Entry)) → All P (ticks_of moment vs)
-all_due P holds moment vs = All-map P (λ (v : Sight State Entry). for_shard Tick v.number) (filter (is_due moment) vs) (λ k d l. holds _)
+pub all_due : (P : Item → Type 0) → ((shard : ℕ) → P (for_shard Tick shard)) → (moment : ℕ) (vs : List (ShardView ShardState Entry)) → All P (ticks_of moment vs)
+all_due P holds moment vs = All-map P (λ (v : ShardView ShardState Entry). for_shard Tick v.number) (filter (is_due moment) vs) (λ k d l. holds _)
 
 pub all_ends : (P : Item → Type 0) → ((shard : ℕ) → P (for_shard End shard)) → (n : ℕ) → All P (ends_of n)
 all_ends P holds n = All-map P (for_shard End) (range_with_len 0 n) (λ k d l. holds _)
@@ -115,7 +115,7 @@ none_kept (i ∷ is) all js =
 -- The items of a turn ---------------------------------------------------------------------------------------------------
 
 -- what was taken, at most 448, and a Tick of each shard that has a due deadline, at most 64
-pub are_items : (seed : List ℕ) (n moment : ℕ) (readings : List DataReading) (shards : List (Sight State Entry)) → length (taken_items readings) ≤ 448 → length shards ≤ 64 → AreInOrder shards
+pub are_items : (seed : List ℕ) (n moment : ℕ) (readings : List DataReading) (shards : List (ShardView ShardState Entry)) → length (taken_items readings) ≤ 448 → length shards ≤ 64 → AreInOrder shards
     → AreItems (drawn_from seed n (taken_items readings ++ ticks_of moment shards))
 are_items seed n moment readings shards taken few order =
     let ts = taken_items readings in
@@ -139,7 +139,7 @@ are_ends seed n shards few = record {
 }
 
 -- how many outs they have at most
-pub outs_of_turn : (seed : List ℕ) (n moment : ℕ) (readings : List DataReading) (shards : List (Sight State Entry)) → length (taken_items readings) ≤ 448
+pub outs_of_turn : (seed : List ℕ) (n moment : ℕ) (readings : List DataReading) (shards : List (ShardView ShardState Entry)) → length (taken_items readings) ≤ 448
     → outs_of_items (drawn_from seed n (taken_items readings ++ ticks_of moment shards)) ≤ 4480 + 320 * length shards
 outs_of_turn seed n moment readings shards taken =
     let f = λ (i : Item). outs_most i.kind in

@@ -1,9 +1,10 @@
 -- What a desk keeps from turn to turn.
-use Rattle.std.proofs.Common.{◌≡◌, ◌≢◌, ℕ, ◌+◌, ◌*◌, ◌<◌, ◌≤◌, ◌^◌, Bool, true, false, not, cond, List, [], length, eqb, refl, ◌∙◌, arith}
+use Rattle.std.proofs.Common.{◌≡◌, ◌≢◌, ℕ, zero, suc, ◌+◌, ◌*◌, ◌<◌, ◌≤◌, ◌^◌, Bool, true, false, not, cond, List, [], ◌∷◌, length, eqb, refl, ◌∙◌, arith}
 use Rattle.std.specs.List.{All}
 use Rattle.std.specs.Prelude.{nat_le}
 use Rattle.std.proofs.lemmas.Bool.{or_parts, leb-false}
 use Rattle.std.proofs.lemmas.Bool.Decides.{nat_tests}
+use Rattle.bng_base.specs.declared.book.Book.{Book}
 use Rattle.bng_base.specs.declared.item.Item.{Item}
 use Rattle.bng_desk.specs.declared.desk.DeskState.{DeskState}
 use Rattle.bng_desk.specs.declared.desk.DeskState.TheVariants.{Serving, Ending, Ended, Starved}
@@ -21,7 +22,10 @@ use Rattle.bng_desk.specs.Turn.{ending_items, ending_draws, told_after}
 use Rattle.bng_desk.proofs.DropLaws.{within_wider}
 use Rattle.bng_desk.proofs.Ending.{after_ending}
 use Rattle.bng_desk.proofs.ItemLaws.{are_ends, outs_of_ends}
-use Rattle.bng_desk.proofs.Joining.{HasLow, low_wider}
+use Rattle.bng_shard.specs.Sums.{IsLow, AreLow}
+use Rattle.bng_engine.specs.Books.{book_at}
+use Rattle.bng_desk.proofs.Joining.{HasLow, HasLowBooks, low_wider, books_wider}
+use Rattle.bng_desk.proofs.OneMore.{low_more}
 use Rattle.bng_desk.proofs.RefusedLaws.{none_refused}
 use Rattle.bng_desk.proofs.Turning.{after_turn}
 
@@ -60,17 +64,27 @@ endings_left d e =
 
 -- One round more ------------------------------------------------------------------------------------------------------------
 
+-- the tally of the one seat
+low_at : (most : ℕ) (tally : Book) → IsLow most tally → (i : ℕ) → i < 1 → IsLow most (book_at i (tally ∷ []))
+low_at most tally low zero lt = low
+low_at most tally low (suc i) lt = absurd (omega (arith, lt))
+
+pub one_low : (most : ℕ) (tally : Book) → IsLow most tally → AreLow most (tally ∷ [])
+one_low most tally low = low_at most tally low
+
 -- what a round leaves
-pub record IsLeft (d : Desk) (ws : Shards) (drops : Drops) (drawn : ℕ) : Type 0 where
+pub record IsLeft (d : Desk) (ws : Shards) (drops : Drops) (tally : Book) (drawn : ℕ) : Type 0 where
   pub shards : length ws ≡ length d.shards
   pub order : AreInOrder ws
   pub empty : All IsEmpty ws
   pub low : All (HasLow (octets_most * all_turns d + octets_most)) ws
+  pub books : All (HasLowBooks (octets_most * all_turns d + octets_most)) ws
+  pub tally_low : IsLow (octets_most * all_turns d + octets_most) tally
   pub counts : Within (drops_most * all_turns d + drops_most) drops
   pub drawn_is : drawn ≤ d.drawn + 512
 
-pub kept_served : (d : Desk) (ws : Shards) (drops : Drops) (draws : Drawn) (stopped : Bool) (moment told : ℕ) → IsKept d → d.turns < d.rounds → IsLeft d ws drops draws.drawn → told ≤ d.told + 1 → IsKept (after_turn d ws drops draws stopped moment told)
-kept_served d ws drops draws stopped moment told k turns l up = record {
+pub kept_served : (d : Desk) (ws : Shards) (drops : Drops) (tally : Book) (draws : Drawn) (stopped : Bool) (moment told : ℕ) → IsKept d → d.turns < d.rounds → IsLeft d ws drops tally draws.drawn → told ≤ d.told + 1 → IsKept (after_turn d ws drops tally draws stopped moment told)
+kept_served d ws drops tally draws stopped moment told k turns l up = record {
   some_port = k.some_port;
   few_ports = k.few_ports;
   shards = l.shards ∙ k.shards;
@@ -78,7 +92,6 @@ kept_served d ws drops draws stopped moment told k turns l up = record {
   few_shards = k.few_shards;
   order = l.order;
   empty = l.empty;
-  auth = k.auth;
   holders = k.holders;
   most = k.most;
   made = omega (arith, turns);
@@ -86,16 +99,19 @@ kept_served d ws drops draws stopped moment told k turns l up = record {
   unopened = k.unopened;
   told = omega (arith, k.told, up);
   drawn = omega (arith, k.drawn, l.drawn_is);
+  one_seat = refl;
   low = low_wider (octets_most * all_turns d + octets_most) (octets_most * (d.turns + 1 + d.endings)) ws (omega arith) l.low;
+  books = books_wider (octets_most * all_turns d + octets_most) (octets_most * (d.turns + 1 + d.endings)) ws (omega arith) l.books;
+  tallies = one_low (octets_most * (d.turns + 1 + d.endings)) tally (low_more (octets_most * all_turns d + octets_most) (octets_most * (d.turns + 1 + d.endings)) tally (omega arith) l.tally_low);
   counts = within_wider (drops_most * all_turns d + drops_most) (drops_most * (d.turns + 1 + d.endings)) drops (omega arith) l.counts;
   kept = k.kept;
   kept_outs = omega (arith, k.kept_outs, l.shards);
   none_refused = k.none_refused;
 }
 
-pub kept_ended : (d : Desk) (ws : Shards) (drops : Drops) (draws : Drawn) (unopened : ℕ) (closed : Bool) (kept : List Item) (moment told : ℕ) → IsKept d → d.endings < 2 ^ 40 → IsLeft d ws drops draws.drawn → unopened ≤ d.unopened + 1 → told ≤ d.told + 1
-    → AreItems kept → outs_of_items kept ≤ 4480 + 320 * length d.shards → refused_of kept ≡ [] → IsKept (after_ending d ws drops draws unopened closed kept moment told)
-kept_ended d ws drops draws unopened closed kept moment told k left l few up items outs none = record {
+pub kept_ended : (d : Desk) (ws : Shards) (drops : Drops) (tally : Book) (draws : Drawn) (unopened : ℕ) (closed : Bool) (kept : List Item) (moment told : ℕ) → IsKept d → d.endings < 2 ^ 40 → IsLeft d ws drops tally draws.drawn → unopened ≤ d.unopened + 1 → told ≤ d.told + 1
+    → AreItems kept → outs_of_items kept ≤ 4480 + 320 * length d.shards → refused_of kept ≡ [] → IsKept (after_ending d ws drops (tally ∷ []) draws unopened closed kept moment told)
+kept_ended d ws drops tally draws unopened closed kept moment told k left l few up items outs none = record {
   some_port = k.some_port;
   few_ports = k.few_ports;
   shards = l.shards ∙ k.shards;
@@ -103,7 +119,6 @@ kept_ended d ws drops draws unopened closed kept moment told k left l few up ite
   few_shards = k.few_shards;
   order = l.order;
   empty = l.empty;
-  auth = k.auth;
   holders = k.holders;
   most = k.most;
   made = k.made;
@@ -111,7 +126,10 @@ kept_ended d ws drops draws unopened closed kept moment told k left l few up ite
   unopened = omega (arith, k.unopened, few);
   told = omega (arith, k.told, up);
   drawn = omega (arith, k.drawn, l.drawn_is);
+  one_seat = refl;
   low = low_wider (octets_most * all_turns d + octets_most) (octets_most * (d.turns + (d.endings + 1))) ws (omega arith) l.low;
+  books = books_wider (octets_most * all_turns d + octets_most) (octets_most * (d.turns + (d.endings + 1))) ws (omega arith) l.books;
+  tallies = one_low (octets_most * (d.turns + (d.endings + 1))) tally (low_more (octets_most * all_turns d + octets_most) (octets_most * (d.turns + (d.endings + 1))) tally (omega arith) l.tally_low);
   counts = within_wider (drops_most * all_turns d + drops_most) (drops_most * (d.turns + (d.endings + 1))) drops (omega arith) l.counts;
   kept = items;
   kept_outs = omega (arith, outs, l.shards);

@@ -7,7 +7,6 @@ pub mod Zips
 pub mod Readying
 pub mod Sending
 pub mod Settling
-pub mod Reaping
 pub mod Admitting
 pub mod Dealing
 pub mod OneMore

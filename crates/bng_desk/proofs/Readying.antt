@@ -3,45 +3,45 @@ use Rattle.std.proofs.Common.{◌≡◌, ℕ, ◌+◌, ◌<◌, List, length, ge
 use Rattle.std.specs.List.{All, AllZip}
 use Rattle.std.proofs.lemmas.List.Elements.{AllZip-get_or, length_all_zip}
 use Rattle.bng_base.specs.declared.item.Entry.{Entry}
-use Rattle.bng_engine.specs.Progress.{Kept, IsReady}
-use Rattle.bng_engine.specs.Sight.{Sight}
+use Rattle.bng_engine.specs.Calls.{Kept, IsReady}
+use Rattle.bng_engine.specs.Views.{ShardView}
 use Rattle.bng_engine.proofs.Walks.{Walked, walk_all, walk_more, walk_stop, walk_weaker}
-use Rattle.bng_shard.specs.State.{State}
+use Rattle.bng_shard.specs.Protocol.{ShardState}
 use Rattle.bng_desk.specs.Taking.{IsEmpty, HasRows, AreInOrder}
 
 abbrev pub Shards : Type 0
-Shards = List (Sight State Entry)
+Shards = List (ShardView ShardState Entry)
 
 -- what each step of a walk over the shards keeps
-pub all_right : (R : Sight State Entry → Sight State Entry → Type 0) (P : Sight State Entry → Type 0) → ((x y : Sight State Entry) → R x y → P y) → (vs ws : Shards) → AllZip R vs ws → All P ws
+pub all_right : (R : ShardView ShardState Entry → ShardView ShardState Entry → Type 0) (P : ShardView ShardState Entry → Type 0) → ((x y : ShardView ShardState Entry) → R x y → P y) → (vs ws : Shards) → AllZip R vs ws → All P ws
 all_right R P f vs ws zip k d lt =
     let within : k < length vs = omega (arith, lt, length_all_zip R vs ws zip) in
     f (get_or vs k d) (get_or ws k d) (AllZip-get_or R vs ws k d d zip within)
 
-pub order_kept : (R : Sight State Entry → Sight State Entry → Type 0) → ((x y : Sight State Entry) → R x y → y.number ≡ x.number) → (vs ws : Shards) → AllZip R vs ws → AreInOrder vs → AreInOrder ws
+pub order_kept : (R : ShardView ShardState Entry → ShardView ShardState Entry → Type 0) → ((x y : ShardView ShardState Entry) → R x y → y.number ≡ x.number) → (vs ws : Shards) → AllZip R vs ws → AreInOrder vs → AreInOrder ws
 order_kept R f vs ws zip order k d lt =
     let within : k < length vs = omega (arith, lt, length_all_zip R vs ws zip) in
     f (get_or vs k d) (get_or ws k d) (AllZip-get_or R vs ws k d d zip within) ∙ order k d within
 
-pub all_onward : (R : Sight State Entry → Sight State Entry → Type 0) (P : Sight State Entry → Type 0) → ((x y : Sight State Entry) → R x y → P x → P y) → (vs ws : Shards) → AllZip R vs ws → All P vs → All P ws
+pub all_onward : (R : ShardView ShardState Entry → ShardView ShardState Entry → Type 0) (P : ShardView ShardState Entry → Type 0) → ((x y : ShardView ShardState Entry) → R x y → P x → P y) → (vs ws : Shards) → AllZip R vs ws → All P vs → All P ws
 all_onward R P f vs ws zip all k d lt =
     let within : k < length vs = omega (arith, lt, length_all_zip R vs ws zip) in
     f (get_or vs k d) (get_or ws k d) (AllZip-get_or R vs ws k d d zip within) (all k d within)
 
 -- a shard that was made ready, and one that was only kept
-pub record IsMadeReady (items : ℕ) (v v' : Sight State Entry) : Type 0 where
+pub record IsMadeReady (items : ℕ) (v v' : ShardView ShardState Entry) : Type 0 where
   pub kept : Kept v v'
-  pub ready : IsReady items v'
+  pub ready : IsReady items 0 v'
   pub rows : HasRows v'
 
-pub record IsLeft (v v' : Sight State Entry) : Type 0 where
+pub record IsLeft (v v' : ShardView ShardState Entry) : Type 0 where
   pub kept : Kept v v'
   pub empty : IsEmpty v → IsEmpty v'
 
-left_itself : (v : Sight State Entry) → IsLeft v v
-left_itself v = record { kept = record { number = refl; state = refl; rows = refl }; empty = λ h. h }
+left_itself : (v : ShardView ShardState Entry) → IsLeft v v
+left_itself v = record { kept = record { number = refl; state = refl; rows = refl; books = refl }; empty = λ h. h }
 
-ready_left : (n : ℕ) (v w : Sight State Entry) → IsMadeReady n v w → IsLeft v w
+ready_left : (n : ℕ) (v w : ShardView ShardState Entry) → IsMadeReady n v w → IsLeft v w
 ready_left n v w h = record { kept = h.kept; empty = λ e. (h.ready.journal, h.ready.outs) }
 
 -- all were made ready
@@ -49,6 +49,6 @@ pub all_ready : (n : ℕ) (olds shards : Shards) (i : ℕ) → i ≡ length olds
 all_ready n olds shards i e same w = walk_all (IsMadeReady n) olds shards same (subst (λ (k : ℕ). Walked (IsMadeReady n) olds shards k) e w)
 
 -- where one wanted memory, those after it are as they were
-pub some_ready : (n : ℕ) (olds shards : Shards) (i : ℕ) (d v : Sight State Entry) → i < length olds → Walked (IsMadeReady n) olds shards i → IsLeft (get_or shards i d) v → AllZip IsLeft olds (set shards i v)
+pub some_ready : (n : ℕ) (olds shards : Shards) (i : ℕ) (d v : ShardView ShardState Entry) → i < length olds → Walked (IsMadeReady n) olds shards i → IsLeft (get_or shards i d) v → AllZip IsLeft olds (set shards i v)
 some_ready n olds shards i d v lt w here =
     walk_stop IsLeft left_itself olds (set shards i v) (i + 1) (walk_more IsLeft olds shards i d v lt (walk_weaker (IsMadeReady n) IsLeft (ready_left n) olds shards i w) here)

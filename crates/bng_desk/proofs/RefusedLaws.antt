@@ -6,9 +6,9 @@ use Rattle.bng_base.specs.declared.item.Entry.{Entry}
 use Rattle.bng_base.specs.declared.item.Item.{Item}
 use Rattle.bng_base.specs.declared.outside.Role.{Role}
 use Rattle.bng_base.specs.declared.outside.Role.TheVariants.{Access, Core}
-use Rattle.bng_engine.specs.Sight.{Sight}
+use Rattle.bng_engine.specs.Views.{ShardView}
 use Rattle.bng_shard.specs.declared.rules.Rules.{Rules}
-use Rattle.bng_shard.specs.State.{State}
+use Rattle.bng_shard.specs.Protocol.{ShardState}
 use Rattle.bng_desk.specs.Items.{DataReading, arrived, kind_of, drawn_from, is_from_outside, taken_items, ticks_of, ends_of}
 use Rattle.bng_desk.specs.Round.{refused_of}
 use Rattle.bng_desk.specs.Turn.{data_roles, ports_up_to}
@@ -49,7 +49,7 @@ taken_outside (r ∷ rs) of =
     (taken_outside rs (All-tail IsData r.role roles of))
 
 -- of a turn they are those of the datagrams
-pub refused_are : (r : Rules) (seed : List ℕ) (n moment : ℕ) (readings : List DataReading) (shards : List (Sight State Entry)) → map (λ (x : DataReading). x.role) readings ≡ data_roles r
+pub refused_are : (r : Rules) (seed : List ℕ) (n moment : ℕ) (readings : List DataReading) (shards : List (ShardView ShardState Entry)) → map (λ (x : DataReading). x.role) readings ≡ data_roles r
     → refused_of (drawn_from seed n (taken_items readings ++ ticks_of moment shards)) ≡ drawn_from seed n (taken_items readings)
 refused_are r seed n moment readings shards roles =
     let ts = taken_items readings in

@@ -2,36 +2,38 @@
 use Rattle.std.proofs.Common.{◌≡◌, ℕ, zero, suc, ◌+◌, Bool, true, false, cond, List, [], ◌∷◌, Option, None, map, filter, fold, length, slice_get, refl, sym, ap, ◌∙◌}
 use Rattle.std.specs.List.{AllZip}
 use Rattle.std.proofs.lemmas.List.Sums.{sum_by-cons}
+use Rattle.bng_base.specs.declared.book.Book.{Book}
 use Rattle.bng_base.specs.declared.item.Entry.{Entry}
 use Rattle.bng_base.specs.declared.item.Item.{Item}
 use Rattle.bng_base.specs.declared.item.ItemKind.TheVariants.{Tick}
-use Rattle.bng_engine.specs.Progress.{Kept}
-use Rattle.bng_engine.specs.Sight.{Row, Sight, Moves}
+use Rattle.bng_engine.specs.Calls.{Kept}
+use Rattle.bng_engine.specs.Calls.{Moves}
+use Rattle.bng_engine.specs.Showing.{with_journal}
+use Rattle.bng_engine.specs.Turns.{TurnOf}
+use Rattle.bng_engine.specs.Views.{Row, ShardView}
 use Rattle.bng_ppp.specs.LinkRelation.{earliest}
 use Rattle.bng_shard.specs.declared.pool.Holder.{Holder}
 use Rattle.bng_shard.specs.declared.rules.Rules.{Rules}
 use Rattle.bng_shard.specs.declared.sums.Traffic.{Traffic}
-use Rattle.bng_shard.specs.Deed.{Deed}
-use Rattle.bng_shard.specs.Due.{due_of}
-use Rattle.bng_shard.specs.Protocol.{pppoe, with_deeds}
-use Rattle.bng_shard.specs.State.{State}
+use Rattle.bng_shard.specs.Protocol.{ShardState, Handled, pppoe, deadline_of, sessions_of}
 use Rattle.bng_desk.specs.declared.line.Line.{Line}
 use Rattle.bng_desk.specs.Items.{for_shard, is_due, ticks_of}
 use Rattle.bng_desk.specs.Kept.{rested}
 use Rattle.bng_desk.specs.Model.{sessions_in, carried_on, traffic_at}
-use Rattle.bng_desk.specs.Round.{Round, IsRound, left_by, sights_of}
+use Rattle.bng_desk.specs.Round.{Round, IsRound, left_by, views_of, view_of, view_after}
+use Rattle.bng_desk.specs.Taking.{IsLeftBy}
 use Rattle.bng_desk.specs.Turn.{deadline_in}
 
 abbrev Shards : Type 0
-Shards = List (Sight State Entry)
+Shards = List (ShardView ShardState Entry)
 
 -- What does not see a round -----------------------------------------------------------------------------------------------
 
 pub sessions_rested : (vs : Shards) → sessions_in (map rested vs) ≡ sessions_in vs
 sessions_rested [] = refl
 sessions_rested (v ∷ vs) =
-    let f = λ (x : Sight State Entry). length x.state.sessions in
-    sum_by-cons f (rested v) (map rested vs) ∙ ap (λ (n : ℕ). length v.state.sessions + n) (sessions_rested vs) ∙ sym (sum_by-cons f v vs)
+    let f = λ (x : ShardView ShardState Entry). sessions_of x.state in
+    sum_by-cons f (rested v) (map rested vs) ∙ ap (λ (n : ℕ). sessions_of v.state + n) (sessions_rested vs) ∙ sym (sum_by-cons f v vs)
 
 traffic_rested : (vs : Shards) (n session : ℕ) → traffic_at (slice_get (map rested vs) n) session ≡ traffic_at (slice_get vs n) session
 traffic_rested [] n session = refl
@@ -45,17 +47,17 @@ pub all_carried_rested : (vs : Shards) (ls : List Line) → map (carried_on vs) 
 all_carried_rested vs [] = refl
 all_carried_rested vs (l ∷ ls) = ap (λ (t : Traffic). t ∷ map (carried_on vs) ls) (sym (carried_rested vs l)) ∙ ap (λ (ts : List Traffic). carried_on (map rested vs) l ∷ ts) (all_carried_rested vs ls)
 
-earliest_rested : (vs : Shards) (a : Option ℕ) → fold (λ b (v : Sight State Entry). earliest b (due_of v.state)) a (map rested vs) ≡ fold (λ b (v : Sight State Entry). earliest b (due_of v.state)) a vs
+earliest_rested : (vs : Shards) (a : Option ℕ) → fold (λ b (v : ShardView ShardState Entry). earliest b (deadline_of v.state)) a (map rested vs) ≡ fold (λ b (v : ShardView ShardState Entry). earliest b (deadline_of v.state)) a vs
 earliest_rested [] a = refl
-earliest_rested (v ∷ vs) a = earliest_rested vs (earliest a (due_of v.state))
+earliest_rested (v ∷ vs) a = earliest_rested vs (earliest a (deadline_of v.state))
 
 pub deadline_rested : (vs : Shards) → deadline_in (map rested vs) ≡ deadline_in vs
 deadline_rested vs = earliest_rested vs None
 
-abbrev tick_of : Sight State Entry → Item
+abbrev tick_of : ShardView ShardState Entry → Item
 tick_of v = for_shard Tick v.number
 
-tick_rested : (b : Bool) (v : Sight State Entry) (vs ws : Shards) → map tick_of vs ≡ map tick_of ws → map tick_of (cond b (rested v ∷ vs) vs) ≡ map tick_of (cond b (v ∷ ws) ws)
+tick_rested : (b : Bool) (v : ShardView ShardState Entry) (vs ws : Shards) → map tick_of vs ≡ map tick_of ws → map tick_of (cond b (rested v ∷ vs) vs) ≡ map tick_of (cond b (v ∷ ws) ws)
 tick_rested true v vs ws e = ap (λ (is : List Item). tick_of v ∷ is) e
 tick_rested false v vs ws e = e
 
@@ -65,37 +67,55 @@ ticks_rested moment (v ∷ vs) = tick_rested (is_due moment v) v (filter (is_due
 
 -- Kept shards -------------------------------------------------------------------------------------------------------------
 
-abbrev made : ℕ → State → List Row → Sight State Entry
-made number state rows = record { number = number; state = state; rows = rows; journal = []; outs = []; records = []; stops = []; room = 0 }
+abbrev made : ℕ → ShardState → List Row → List Book → ShardView ShardState Entry
+made number state rows books = record { number = number; state = state; rows = rows; books = books; allowance = 0; journal = []; outs = []; sends = []; stops = []; starts = []; room = 0 }
 
 pub kept_rested : (vs ws : Shards) → AllZip Kept vs ws → map rested ws ≡ map rested vs
 kept_rested [] [] h = refl
 kept_rested [] (w ∷ ws) h = absurd h
 kept_rested (v ∷ vs) [] h = absurd h
 kept_rested (v ∷ vs) (w ∷ ws) h =
-    ap (λ (n : ℕ). made n w.state w.rows ∷ map rested ws) h.0.number
-    ∙ ap (λ (s : State). made v.number s w.rows ∷ map rested ws) h.0.state
-    ∙ ap (λ (rs : List Row). made v.number v.state rs ∷ map rested ws) h.0.rows
+    ap (λ (n : ℕ). made n w.state w.rows w.books ∷ map rested ws) h.0.number
+    ∙ ap (λ (s : ShardState). made v.number s w.rows w.books ∷ map rested ws) h.0.state
+    ∙ ap (λ (rs : List Row). made v.number v.state rs w.books ∷ map rested ws) h.0.rows
+    ∙ ap (λ (bs : List Book). made v.number v.state v.rows bs ∷ map rested ws) h.0.books
     ∙ ap (λ (xs : Shards). rested v ∷ xs) (kept_rested vs ws h.1)
 
-pub left_rested : (xs : List (Sight State Deed)) → map rested (map left_by xs) ≡ map left_by xs
-left_rested [] = refl
-left_rested (x ∷ xs) = ap (λ (vs : Shards). left_by x ∷ vs) (left_rested xs)
+pub left_rested : (ws : Shards) (xs : List (ShardView ShardState Handled)) → AllZip IsLeftBy ws xs → map rested ws ≡ map left_by xs
+left_rested [] [] h = refl
+left_rested [] (x ∷ xs) h = absurd h
+left_rested (w ∷ ws) [] h = absurd h
+left_rested (w ∷ ws) (x ∷ xs) h =
+    ap (λ (n : ℕ). made n w.state w.rows w.books ∷ map rested ws) h.0.number
+    ∙ ap (λ (s : ShardState). made x.number s w.rows w.books ∷ map rested ws) h.0.state
+    ∙ ap (λ (rs : List Row). made x.number x.state rs w.books ∷ map rested ws) h.0.rows
+    ∙ ap (λ (bs : List Book). made x.number x.state x.rows bs ∷ map rested ws) h.0.books
+    ∙ ap (λ (ys : Shards). left_by x ∷ ys) (left_rested ws xs h.1)
 
-module _ (r : Rules) where
-  -- a turn sees of a shard before it what is kept
-  moves_rested : (v : Sight State Entry) (x : Sight State Deed) → Moves (pppoe r) (with_deeds v []) x → Moves (pppoe r) (with_deeds (rested v) []) x
-  moves_rested v x m = record { number = m.number; steps = m.steps; outs = m.outs; state = m.state; stops = m.stops; rows = m.rows }
+-- a turn sees of a shard before it what is kept
+moves_rested : (v : ShardView ShardState Entry) (x : ShardView ShardState Handled) → Moves pppoe (with_journal v []) x → Moves pppoe (with_journal (rested v) []) x
+moves_rested v x m = record {
+  number = m.number;
+  steps = m.steps;
+  limits = m.limits;
+  outs = m.outs;
+  state = m.state;
+  order = m.order;
+  each = m.each;
+  begun = m.begun;
+  fit = m.fit;
+  rows = m.rows;
+  books = m.books;
+}
 
-  all_move : (vs : Shards) (xs : List (Sight State Deed)) → AllZip (Moves (pppoe r)) (sights_of vs) xs → AllZip (Moves (pppoe r)) (sights_of (map rested vs)) xs
-  all_move [] [] h = tt
-  all_move [] (x ∷ xs) h = absurd h
-  all_move (v ∷ vs) [] h = absurd h
-  all_move (v ∷ vs) (x ∷ xs) h = (moves_rested v x h.0, all_move vs xs h.1)
+all_move : (vs : Shards) (xs : List (ShardView ShardState Handled)) → AllZip (Moves pppoe) (views_of vs) xs → AllZip (Moves pppoe) (views_of (map rested vs)) xs
+all_move [] [] h = tt
+all_move [] (x ∷ xs) h = absurd h
+all_move (v ∷ vs) [] h = absurd h
+all_move (v ∷ vs) (x ∷ xs) h = (moves_rested v x h.0, all_move vs xs h.1)
 
-  pub round_rested : (vs : Shards) (holders : List Holder) (moment : ℕ) (items : List Item) (round : Round) → IsRound r vs holders moment items round → IsRound r (map rested vs) holders moment items round
-  round_rested vs holders moment items round is = record {
-    whose = is.whose;
-    dealt = is.dealt;
-    turn = record { shards = all_move vs round.shards is.turn.shards; different = is.turn.different; free = is.turn.free; refused = is.turn.refused; grew = is.turn.grew; shrank = is.turn.shrank };
-  }
+turn_rested : (vs : Shards) (holders : List Holder) (tallies : List Book) (round : Round) → TurnOf pppoe (view_of vs holders tallies) (view_after holders round) → TurnOf pppoe (view_of (map rested vs) holders tallies) (view_after holders round)
+turn_rested vs holders tallies round t = record { shards = all_move vs round.shards t.shards; mid = t.mid; claims = t.claims; given = t.given; seats = t.seats; tallies = t.tallies }
+
+pub round_rested : (r : Rules) (vs : Shards) (holders : List Holder) (tallies : List Book) (moment : ℕ) (lists : List (List Item)) (round : Round) → IsRound r vs holders tallies moment lists round → IsRound r (map rested vs) holders tallies moment lists round
+round_rested r vs holders tallies moment lists round is = record { dealt = is.dealt; turn = turn_rested vs holders tallies round is.turn }

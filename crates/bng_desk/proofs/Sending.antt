@@ -1,9 +1,9 @@
 -- A shard's outs are sent, one after the other.
-use Rattle.std.proofs.Common.{◌≡◌, ℕ, ◌+◌, ◌≤◌, Bool, true, false, ◌&&◌, not, cond, List, [], ◌∷◌, ◌++◌, map, Option, Some, None, is_some, length, length-append, refl, sym, ap, subst, ◌∙◌, arith, append-nil, append_assoc}
-use Rattle.std.specs.List.{All, count_by}
+use Rattle.std.proofs.Common.{◌≡◌, ℕ, zero, suc, ◌+◌, ◌<◌, ◌≤◌, Bool, true, false, ◌&&◌, not, cond, List, [], ◌∷◌, ◌++◌, map, Option, Some, None, is_some, length, length-append, refl, sym, ap, subst, ◌∙◌, arith, append-nil, append_assoc}
+use Rattle.std.specs.List.{AllByRecursion, count_by, sum_by}
 use Rattle.std.proofs.lemmas.List.{length-map, map-append}
-use Rattle.std.proofs.lemmas.List.Elements.{All-map, All-weaker}
-use Rattle.std.proofs.lemmas.List.Sums.{sum_by-le-sum_by, sum_by_push, sum_by-append}
+use Rattle.std.proofs.lemmas.List.Sums.{sum_by-le-sum_by, sum_by_push, sum_by-append, sum_by-cons}
+use Rattle.bng_base.specs.declared.book.Book.{Book}
 use Rattle.bng_base.specs.declared.item.Charge.{Charge}
 use Rattle.bng_base.specs.declared.item.Entry.{Entry}
 use Rattle.bng_base.specs.declared.item.OutRecord.{OutRecord}
@@ -11,34 +11,51 @@ use Rattle.bng_base.specs.declared.outside.Datagram.{Datagram}
 use Rattle.bng_base.specs.Stretch.{PlantStretch, plant_joined, ExtendsPlant}
 use Rattle.bng_base.specs.Told.{PlantTold}
 use Rattle.bng_base.proofs.StretchLaws.{plant_more, plant_stays}
-use Rattle.bng_engine.specs.Round.{unsent}
-use Rattle.bng_engine.specs.Sight.{Sight, Row, plus as plus_row}
-use Rattle.bng_engine.specs.Sums.{octets_if, carried, one_if}
+use Rattle.bng_engine.specs.Books.{book_at, failed_under, BooksSoFar}
+use Rattle.bng_engine.specs.Calls.{InTurn, Reaps}
+use Rattle.bng_engine.specs.Journals.{unsent, after, AreLimited}
+use Rattle.bng_engine.specs.Lists.{one_if}
+use Rattle.bng_engine.specs.Protocol.{IsOwned, IsUnsent}
+use Rattle.bng_engine.specs.Quantities.{Quantity, in_book}
+use Rattle.bng_engine.specs.Showing.{ChargesShown, with_journal, with_lists}
+use Rattle.bng_engine.specs.Sums.{part_of_charge, charge_if, is_any, is_directed, is_picked, sent_sum, passed_sum, failed_sum, sent_where}
+use Rattle.bng_engine.specs.Terms.{Key, Term, Stop, keys}
+use Rattle.bng_engine.specs.Views.{Row, ShardView, row_keys, rows_where}
 use Rattle.bng_engine.specs.Wire.{datagram_of, went}
 use Rattle.bng_engine.proofs.Adding.{sum_map}
-use Rattle.bng_engine.proofs.Owners.{octets_in, is_carried}
-use Rattle.bng_engine.proofs.Progressing.{plus_none, plus_more}
+use Rattle.bng_engine.proofs.Covering.{book_covers}
+use Rattle.bng_engine.proofs.Journals.{run_owned, run_unsent, owned_same}
+use Rattle.bng_engine.proofs.Progressing.{turn_sends}
+use Rattle.bng_engine.proofs.SameLists.{same_back}
+use Rattle.bng_engine.proofs.Still.{still_reaps}
 use Rattle.bng_engine.proofs.Wire.{went_append}
 use Rattle.bng_shard.specs.declared.sums.Charged.{Charged}
-use Rattle.bng_shard.specs.Protocol.{packet_octets}
-use Rattle.bng_shard.specs.State.{State, settled}
-use Rattle.bng_shard.specs.Sums.{IsLow, charged_as}
+use Rattle.bng_shard.specs.Protocol.{ShardState, Handled, pppoe, terms_of}
+use Rattle.bng_shard.specs.State.{settled}
+use Rattle.bng_shard.specs.Sums.{charged_as, AreCovered, AreLow, RowsAreLow}
+use Rattle.bng_shard.proofs.StepLaws.{pppoe_laws, pppoe_still}
 use Rattle.bng_desk.specs.declared.drops.Drops.{Drops}
 use Rattle.bng_desk.specs.Counting.{plus, Within}
 use Rattle.bng_desk.specs.Reading.{sending}
 use Rattle.bng_desk.specs.Round.{is_failed, with_failed, not_sent, sends_stretch}
-use Rattle.bng_desk.specs.Taking.{is_lost, Sends}
+use Rattle.bng_desk.specs.Taking.{is_lost, lost_part, IsEmpty, IsLight, IsTurning, Turns, Covers, Falls, SettledTo, Sends}
 use Rattle.bng_desk.proofs.DropLaws.{same}
 use Rattle.bng_desk.proofs.Going.{count_pushed}
 
 -- some of its outs were sent, and these are left
-pub record SendsSome (v w : Sight State Entry) (old new : PlantTold) (outs outs' : List OutRecord) (rest : List OutRecord) (drops drops' : Drops) : Type 0 where
-  pub records : List OutRecord
-  pub are_outs : map unsent records ++ map unsent rest ≡ map unsent v.outs
-  pub left : w ≡ record v { state = settled v.state; rows = map (plus_row records) v.rows; journal = []; outs = []; room = 0 }
-  pub outs_are : outs' ≡ outs ++ records
-  pub told : ExtendsPlant old new (sends_stretch records)
-  pub drops_are : drops' ≡ plus drops (with_failed (count_by is_failed records))
+pub record SendsSome (v w : ShardView ShardState Entry) (old new : PlantTold) (outs outs' : List OutRecord) (rest : List OutRecord) (drops drops' : Drops) (tally tally' : Book) : Type 0 where
+  pub sends : List OutRecord
+  pub are_outs : map unsent sends ++ map unsent rest ≡ map unsent v.outs
+  pub turn : (was now : ShardView ShardState Handled) → IsTurning v was now → InTurn pppoe was (with_lists w now.journal now.outs sends)
+  pub number : w.number ≡ v.number
+  pub allowance : w.allowance ≡ v.allowance
+  pub stops : w.stops ≡ v.stops
+  pub starts : w.starts ≡ v.starts
+  pub empty : IsEmpty w
+  pub outs_are : outs' ≡ outs ++ sends
+  pub told : ExtendsPlant old new (sends_stretch sends)
+  pub drops_are : drops' ≡ plus drops (with_failed (count_by is_failed sends))
+  pub falls : Falls tally sends tally'
 
 -- Drops -----------------------------------------------------------------------------------------------------------------
 
@@ -75,92 +92,215 @@ one_went r false e = sym (ap (λ (b : Bool). map datagram_of (cond b (r ∷ []) 
 abbrev made : List Datagram → ℕ → PlantStretch
 made sent failed = record { heard = []; taken = []; sent = sent; failed = failed }
 
-stretch_more : (records : List OutRecord) (r : OutRecord) → plant_joined (sends_stretch records) (sending r.role r.to r.frame r.sent) ≡ sends_stretch (records ++ r ∷ [])
-stretch_more records r =
-    let sent : went records ++ cond r.sent (datagram_of r ∷ []) [] ≡ went (records ++ r ∷ []) =
-    ap (λ (ds : List Datagram). went records ++ ds) (one_went r r.sent refl) ∙ sym (went_append records (r ∷ [])) in
-    ap (λ (ds : List Datagram). made ds (count_by not_sent records + one_if (not_sent r))) sent ∙ ap (λ (n : ℕ). made (went (records ++ r ∷ [])) n) (count_pushed not_sent records r)
+stretch_more : (sends : List OutRecord) (r : OutRecord) → plant_joined (sends_stretch sends) (sending r.role r.to r.frame r.sent) ≡ sends_stretch (sends ++ r ∷ [])
+stretch_more sends r =
+    let sent : went sends ++ cond r.sent (datagram_of r ∷ []) [] ≡ went (sends ++ r ∷ []) =
+    ap (λ (ds : List Datagram). went sends ++ ds) (one_went r r.sent refl) ∙ sym (went_append sends (r ∷ [])) in
+    ap (λ (ds : List Datagram). made ds (count_by not_sent sends + one_if (not_sent r))) sent ∙ ap (λ (n : ℕ). made (went (sends ++ r ∷ [])) n) (count_pushed not_sent sends r)
 
--- Octets ----------------------------------------------------------------------------------------------------------------
+-- What passed -----------------------------------------------------------------------------------------------------------
 
-abbrev octets_of_out : OutRecord → ℕ
-octets_of_out o = octets_if (λ c. true) o.charge
+abbrev part : (Charge → ℕ) → OutRecord → ℕ
+part f o = part_of_charge f o.charge
 
-passed : (b : Bool) (n : ℕ) → cond b n 0 ≤ n
-passed true n = omega arith
-passed false n = omega arith
+abbrev sent_part : (Charge → ℕ) → OutRecord → ℕ
+sent_part f o = cond o.sent (part f o) 0
 
-part_if : (test : Charge → Bool) (charge : Option Charge) → octets_if test charge ≤ octets_if (λ c. true) charge
-part_if test None = omega arith
-part_if test (Some c) = passed (test c) c.octets
+abbrev failed_part : (Charge → ℕ) → OutRecord → ℕ
+failed_part f o = cond o.sent 0 (part f o)
 
-part : (test : Charge → Bool) (sent : Bool) (charge : Option Charge) → cond sent (octets_if test charge) 0 ≤ octets_if (λ c. true) charge
-part test true charge = part_if test charge
-part test false charge = omega arith
+sent_less : (b : Bool) (n : ℕ) → cond b n 0 ≤ n
+sent_less true n = omega arith
+sent_less false n = omega arith
+
+failed_less : (b : Bool) (n : ℕ) → cond b 0 n ≤ n
+failed_less true n = omega arith
+failed_less false n = omega arith
+
+pub sent_within : (f : Charge → ℕ) (sends : List OutRecord) → sent_sum f sends ≤ passed_sum f sends
+sent_within f sends = sum_by-le-sum_by (sent_part f) (part f) sends (λ r. sent_less r.sent (part f r))
+
+pub failed_least : (f : Charge → ℕ) (sends : List OutRecord) → failed_sum f sends ≤ passed_sum f sends
+failed_least f sends = sum_by-le-sum_by (failed_part f) (part f) sends (λ r. failed_less r.sent (part f r))
+
+pub passed_unsent : (f : Charge → ℕ) (outs : List OutRecord) → passed_sum f (map unsent outs) ≡ passed_sum f outs
+passed_unsent f outs = sum_map unsent (part f) outs
+
+-- what was sent so far and what is left are all outs
+passed_parts : (f : Charge → ℕ) (sends rest outs : List OutRecord) → map unsent sends ++ map unsent rest ≡ map unsent outs → passed_sum f sends + passed_sum f rest ≡ passed_sum f outs
+passed_parts f sends rest outs e =
+    omega (arith, passed_unsent f sends, passed_unsent f rest, passed_unsent f outs, ap (passed_sum f) e, sum_by-append (part f) (map unsent sends) (map unsent rest))
 
 -- how many were sent, and how many are left
-pub sends_count : (records rest outs : List OutRecord) → map unsent records ++ map unsent rest ≡ map unsent outs → length records + length rest ≡ length outs
-sends_count records rest outs e =
-    omega (arith, ap (λ (xs : List OutRecord). length xs) e, length-append (map unsent records) (map unsent rest), length-map records unsent, length-map rest unsent, length-map outs unsent)
+pub sends_count : (sends rest outs : List OutRecord) → map unsent sends ++ map unsent rest ≡ map unsent outs → length sends + length rest ≡ length outs
+sends_count sends rest outs e =
+    omega (arith, ap (λ (xs : List OutRecord). length xs) e, length-append (map unsent sends) (map unsent rest), length-map sends unsent, length-map rest unsent, length-map outs unsent)
 
--- a row takes no more than the octets of all packets
-carried_within : (n : ℕ) (input : Bool) (records : List OutRecord) → carried n input records ≤ packet_octets records
-carried_within n input records = sum_by-le-sum_by (octets_in (is_carried n input)) octets_of_out records (λ r. part (is_carried n input) r.sent r.charge)
+-- Tallies ---------------------------------------------------------------------------------------------------------------
 
-unsent_octets : (outs : List OutRecord) → packet_octets (map unsent outs) ≡ packet_octets outs
-unsent_octets outs = sum_map unsent octets_of_out outs
+part_by : (q : Quantity) (input : Bool) (charge : Option Charge) (sent : Bool) → lost_part q input (charged_as charge) sent ≡ cond sent 0 (part_of_charge (charge_if q (is_directed input)) charge)
+part_by q input None true = refl
+part_by q input None false = refl
+part_by q input (Some c) sent = refl
 
--- what was sent so far is not more than all outs
-pub octets_so_far : (records rest outs : List OutRecord) → map unsent records ++ map unsent rest ≡ map unsent outs → packet_octets records ≤ packet_octets outs
-octets_so_far records rest outs e =
-    omega (arith, unsent_octets records, unsent_octets outs, ap packet_octets e, sum_by-append octets_of_out (map unsent records) (map unsent rest))
+-- what is taken off for one answer
+part_is : (q : Quantity) (input : Bool) (r : OutRecord) (charged : Charged) (sent : Bool) → charged ≡ charged_as r.charge → r.sent ≡ sent → lost_part q input charged sent ≡ failed_sum (charge_if q (is_directed input)) (r ∷ [])
+part_is q input r charged sent answer was =
+    let f = charge_if q (is_directed input) in
+    let here : lost_part q input charged sent ≡ failed_part f r =
+    ap (λ (x : Charged). lost_part q input x sent) answer ∙ ap (lost_part q input (charged_as r.charge)) (sym was) ∙ part_by q input r.charge r.sent in
+    omega (arith, here, sum_by-cons (failed_part f) r [])
 
-row_low : (m n : ℕ) (records : List OutRecord) (r : Row) → m + packet_octets records ≤ n → IsLow m r → IsLow n (plus_row records r)
-row_low m n records r le low = record {
-  up = omega (arith, low.up, le, carried_within r.key.term.serial true records);
-  down = omega (arith, low.down, le, carried_within r.key.term.serial false records);
+-- the tally has it
+pub still_covered : (v : ShardView ShardState Entry) (tally tally' : Book) (sends rest : List OutRecord) (o r : OutRecord) (charged : Charged) (sent : Bool) → Covers tally v.outs → Falls tally sends tally' → map unsent sends ++ map unsent (o ∷ rest) ≡ map unsent v.outs → r ≡ record o { sent = sent }
+    → charged ≡ charged_as r.charge → (q : Quantity) (input : Bool) → lost_part q input charged sent ≤ in_book q input tally'
+still_covered v tally tally' sends rest o r charged sent covers falls are is answer q input =
+    let f = charge_if q (is_directed input) in
+    let one : part f r ≡ part f o = ap (part f) is in
+    omega (
+      arith,
+      covers q input,
+      falls q input,
+      passed_parts f sends (o ∷ rest) v.outs are,
+      sum_by-cons (part f) o rest,
+      failed_least f sends,
+      part_is q input r charged sent answer (ap (λ (x : OutRecord). x.sent) is),
+      sum_by-cons (failed_part f) r [],
+      failed_less r.sent (part f r),
+      one,
+    )
+
+-- Within its turn -------------------------------------------------------------------------------------------------------
+
+-- once its lists were handed out, the engine's shard has them still
+drained : (was x : ShardView ShardState Handled) (w : ShardView ShardState Entry) → InTurn pppoe was x → x.sends ≡ [] → w.number ≡ x.number → w.allowance ≡ x.allowance → w.state ≡ x.state → w.rows ≡ x.rows → w.books ≡ x.books → InTurn pppoe was (with_lists w x.journal x.outs [])
+drained was x w t none number allowance state rows books = record {
+  number = number ∙ t.number;
+  steps = t.steps;
+  limits = subst (λ (n : ℕ). AreLimited pppoe n 0 x.journal) (sym allowance) t.limits;
+  state = state ∙ t.state;
+  outs = t.outs;
+  fit = λ f. ap (λ (rs : List Row). sum_by f (row_keys rs)) rows ∙ t.fit f ∙ sym (ap (λ (s : ShardState). sum_by f (keys (terms_of s))) state);
+  rows = λ q pick input. omega (arith, ap (rows_where q pick input) rows, t.rows q pick input, ap (sent_where q pick input) none);
+  books = subst (λ (bs : List Book). BooksSoFar was.books x.outs [] bs) (sym books) (subst (λ (rs : List OutRecord). BooksSoFar was.books x.outs rs x.books) none t.books);
 }
 
-pub rows_low : (m n : ℕ) (records : List OutRecord) (rows : List Row) → m + packet_octets records ≤ n → All (IsLow m) rows → All (IsLow n) (map (plus_row records) rows)
-rows_low m n records rows le low = All-map (IsLow n) (plus_row records) rows (All-weaker (IsLow m) (λ r. IsLow n (plus_row records r)) (λ r. row_low m n records r le) rows low)
+unsent_is : (o : OutRecord) → o.sent ≡ false → unsent o ≡ o
+unsent_is o e = ap (λ (b : Bool). let x : OutRecord = record o { sent = b } in x) (sym e)
+
+unsent_same : (outs : List OutRecord) → AllByRecursion IsUnsent outs → map unsent outs ≡ outs
+unsent_same [] h = refl
+unsent_same (o ∷ outs) h = ap (λ (x : OutRecord). x ∷ map unsent outs) (unsent_is o h.0) ∙ ap (λ (xs : List OutRecord). o ∷ xs) (unsent_same outs h.1)
+
+all_at : (P : OutRecord → Type 0) (xs : List OutRecord) (y : OutRecord) (ys : List OutRecord) → AllByRecursion P (xs ++ y ∷ ys) → P y
+all_at P [] y ys h = h.0
+all_at P (x ∷ xs) y ys h = all_at P xs y ys h.1
+
+module _ (v : ShardView ShardState Entry) (was now : ShardView ShardState Handled) (t : IsTurning v was now) where
+  outs_same : now.outs ≡ v.outs
+  outs_same = ap (λ (x : ShardView ShardState Handled). x.outs) (sym t.shows.same)
+
+  not_sent_yet : map unsent v.outs ≡ now.outs
+  not_sent_yet =
+      let all : AllByRecursion IsUnsent now.outs = subst (λ (os : List OutRecord). AllByRecursion IsUnsent os) (sym t.turn.outs) (run_unsent pppoe pppoe_laws was.state now.journal t.turn.steps) in
+      ap (map unsent) (sym outs_same) ∙ unsent_same now.outs all
+
+  module _ (w : ShardView ShardState Entry) (sends : List OutRecord) (x : InTurn pppoe was (with_lists w now.journal now.outs sends)) where
+    -- the rows have what was sent
+    pub sent_low : (rest : List OutRecord) → map unsent sends ++ map unsent rest ≡ map unsent v.outs → (most octets : ℕ) → RowsAreLow most v.rows → IsLight octets v.outs → RowsAreLow (most + octets) w.rows
+    sent_low rest are most octets low light q input =
+        let f = charge_if q (is_picked is_any input) in
+        omega (
+          arith,
+          x.rows q is_any input,
+          t.turn.rows q is_any input,
+          ap (sent_where q is_any input) t.sends,
+          ap (λ (y : ShardView ShardState Handled). rows_where q is_any input y.rows) t.shows.same,
+          sent_within f sends,
+          passed_parts f sends rest v.outs are,
+          light q (is_picked is_any input),
+          low q input,
+        )
+
+    -- the books have no more than what passed
+    pub books_low : (most : ℕ) → AreLow most v.books → AreLow most w.books
+    books_low most low i within q input =
+        let same = ap (λ (y : ShardView ShardState Handled). y.books) t.shows.same in
+        let inside : i < length was.books = omega (arith, within, x.books.count) in
+        omega (
+          arith,
+          x.books.each q i input inside,
+          t.turn.books.each q i input inside,
+          ap (failed_under q i input) t.sends,
+          ap (λ (bs : List Book). in_book q input (book_at i bs)) same,
+          low i (omega (arith, inside, t.turn.books.count, ap (λ (bs : List Book). length bs) same)) q input,
+        )
+
+    module _ (rest : List OutRecord) (o r : OutRecord) (sent : Bool) (are : map unsent sends ++ map unsent (o ∷ rest) ≡ map unsent v.outs) (is : r ≡ record o { sent = sent }) where
+      these : now.outs ≡ map unsent sends ++ unsent r ∷ map unsent rest
+      these = sym (are ∙ not_sent_yet) ∙ ap (λ (y : OutRecord). map unsent sends ++ y ∷ map unsent rest) (sym (ap unsent is))
+
+      pub book_has : AreCovered w.books r
+      book_has q i input within = book_covers was.books w.books now.outs sends (map unsent rest) r x.books these q i input (omega (arith, within, x.books.count))
+
+      pub row_has : IsOwned (row_keys w.rows) r
+      row_has =
+          let all : AllByRecursion (IsOwned (keys (terms_of w.state))) now.outs =
+          subst (λ (s : ShardState). AllByRecursion (IsOwned (keys (terms_of s))) now.outs) (sym x.state) (subst (λ (os : List OutRecord). AllByRecursion (IsOwned (keys (terms_of (after pppoe was.state now.journal)))) os) (sym t.turn.outs)
+          (run_owned pppoe pppoe_laws was.state now.journal t.turn.steps)) in
+          owned_same (keys (terms_of w.state)) (row_keys w.rows) r (same_back (row_keys w.rows) (keys (terms_of w.state)) x.fit)
+          (all_at (IsOwned (keys (terms_of w.state))) (map unsent sends) (unsent r) (map unsent rest) (subst (λ (os : List OutRecord). AllByRecursion (IsOwned (keys (terms_of w.state))) os) these all))
 
 -- One after the other ---------------------------------------------------------------------------------------------------
 
-abbrev with_rows : Sight State Entry → List Row → Sight State Entry
-with_rows v rows = record v { state = settled v.state; rows = rows; journal = []; outs = []; room = 0 }
-
-pub sends_none : (v w : Sight State Entry) (told : PlantTold) (outs rest : List OutRecord) (drops : Drops) → w ≡ record v { state = settled v.state; journal = []; outs = []; room = 0 } → rest ≡ v.outs → SendsSome v w told told outs outs rest drops drops
-sends_none v w told outs rest drops drained all = record {
-  records = [];
+pub sends_none : (v w : ShardView ShardState Entry) (told : PlantTold) (outs rest : List OutRecord) (drops : Drops) (tally : Book) → w ≡ record v { journal = []; outs = []; room = 0 } → rest ≡ v.outs → SendsSome v w told told outs outs rest drops drops tally tally
+sends_none v w told outs rest drops tally drained_as all = record {
+  sends = [];
   are_outs = ap (map unsent) all;
-  left = drained ∙ ap (λ (rows : List Row). with_rows v rows) (sym (plus_none v.rows));
+  turn = λ was now t.
+      drained was now w t.turn t.sends
+      (ap (λ (x : ShardView ShardState Entry). x.number) drained_as ∙ ap (λ (x : ShardView ShardState Handled). x.number) t.shows.same)
+      (ap (λ (x : ShardView ShardState Entry). x.allowance) drained_as ∙ ap (λ (x : ShardView ShardState Handled). x.allowance) t.shows.same)
+      (ap (λ (x : ShardView ShardState Entry). x.state) drained_as ∙ ap (λ (x : ShardView ShardState Handled). x.state) t.shows.same)
+      (ap (λ (x : ShardView ShardState Entry). x.rows) drained_as ∙ ap (λ (x : ShardView ShardState Handled). x.rows) t.shows.same)
+      (ap (λ (x : ShardView ShardState Entry). x.books) drained_as ∙ ap (λ (x : ShardView ShardState Handled). x.books) t.shows.same);
+  number = ap (λ (x : ShardView ShardState Entry). x.number) drained_as;
+  allowance = ap (λ (x : ShardView ShardState Entry). x.allowance) drained_as;
+  stops = ap (λ (x : ShardView ShardState Entry). x.stops) drained_as;
+  starts = ap (λ (x : ShardView ShardState Entry). x.starts) drained_as;
+  empty = (ap (λ (x : ShardView ShardState Entry). x.journal) drained_as, ap (λ (x : ShardView ShardState Entry). x.outs) drained_as);
   outs_are = sym (append-nil outs);
   told = plant_stays told;
   drops_are = failed_none drops;
+  falls = λ q input. omega arith;
 }
 
-module _ (v w w' : Sight State Entry) (old mid new : PlantTold) (outs outs' outs'' rest : List OutRecord) (o : OutRecord) (drops drops' drops'' : Drops) (sent : Bool) (charged : Charged) where
-  pub sends_more : SendsSome v w old mid outs outs' (o ∷ rest) drops drops' → (r : OutRecord) → r ≡ record o { sent = sent }
+module _ (v w w' : ShardView ShardState Entry) (old mid new : PlantTold) (outs outs' outs'' rest : List OutRecord) (o : OutRecord) (drops drops' drops'' : Drops) (tally tally' tally'' : Book) (sent : Bool) (charged : Charged) where
+  pub sends_more : SendsSome v w old mid outs outs' (o ∷ rest) drops drops' tally tally' → (r : OutRecord) → r ≡ record o { sent = sent }
       → ExtendsPlant mid new (sending o.role o.to o.frame sent)
-      → w' ≡ record w { rows = map (plus_row (r ∷ [])) w.rows } → outs'' ≡ outs' ++ r ∷ []
+      → ChargesShown pppoe w r w' → outs'' ≡ outs' ++ r ∷ []
       → charged ≡ charged_as r.charge → drops'' ≡ plus drops' (with_failed (one_if (is_lost charged sent)))
-      → SendsSome v w' old new outs outs'' rest drops drops''
-  sends_more so_far r is told rows pushed answer counted =
-      let rs = so_far.records in
+      → ((q : Quantity) (input : Bool) → in_book q input tally'' + lost_part q input charged sent ≡ in_book q input tally')
+      → SendsSome v w' old new outs outs'' rest drops drops'' tally tally''
+  sends_more so_far r is told charges pushed answer counted taken =
+      let rs = so_far.sends in
       let back : unsent r ≡ unsent o = ap unsent is in
       let was_sent : r.sent ≡ sent = ap (λ (x : OutRecord). x.sent) is in
       let sending_is : ExtendsPlant mid new (sending r.role r.to r.frame r.sent) = subst (λ (x : OutRecord). ExtendsPlant mid new (sending x.role x.to x.frame x.sent)) (sym is) told in
       let lost : is_lost charged sent ≡ is_failed r = ap (λ (x : Charged). is_lost x sent) answer ∙ lost_is r.charge sent r refl was_sent in
-      let more_rows : map (plus_row (r ∷ [])) w.rows ≡ map (plus_row (rs ++ r ∷ [])) v.rows = ap (λ (x : Sight State Entry). map (plus_row (r ∷ [])) x.rows) so_far.left ∙ plus_more rs r v.rows in
+      let one = charges.charges [] [] [] in
       record {
-        records = rs ++ r ∷ [];
+        sends = rs ++ r ∷ [];
         are_outs =
             ap (λ (xs : List OutRecord). xs ++ map unsent rest) (map-append unsent rs (r ∷ []) ∙ ap (λ (x : OutRecord). map unsent rs ++ x ∷ []) back)
             ∙ append_assoc (map unsent rs) (unsent o ∷ []) (map unsent rest)
             ∙ so_far.are_outs;
-        left = rows
-            ∙ ap (λ (x : Sight State Entry). let y : Sight State Entry = record x { rows = map (plus_row (r ∷ [])) w.rows } in y) so_far.left
-            ∙ ap (λ (xs : List Row). with_rows v xs) more_rows;
+        turn = λ was now t. turn_sends pppoe was (with_lists w now.journal now.outs rs) r (with_lists w' now.journal now.outs (rs ++ r ∷ [])) (so_far.turn was now t) (charges.charges now.journal now.outs rs);
+        number = one.number ∙ so_far.number;
+        allowance = one.allowance ∙ so_far.allowance;
+        stops = one.stops ∙ so_far.stops;
+        starts = one.starts ∙ so_far.starts;
+        empty = (charges.journal ∙ so_far.empty.0, charges.outs ∙ so_far.empty.1);
         outs_are = pushed ∙ ap (λ (xs : List OutRecord). xs ++ r ∷ []) so_far.outs_are ∙ append_assoc outs rs (r ∷ []);
         told = subst (λ (s : PlantStretch). ExtendsPlant old new s) (stretch_more rs r) (plant_more old mid new (sends_stretch rs) (sending r.role r.to r.frame r.sent) so_far.told sending_is);
         drops_are = counted
@@ -168,15 +308,67 @@ module _ (v w w' : Sight State Entry) (old mid new : PlantTold) (outs outs' outs
             ∙ ap (λ (b : Bool). plus (plus drops (with_failed (count_by is_failed rs))) (with_failed (one_if b))) lost
             ∙ failed_more drops (count_by is_failed rs) (one_if (is_failed r))
             ∙ ap (λ (n : ℕ). plus drops (with_failed n)) (sym (sum_by_push (λ (x : OutRecord). one_if (is_failed x)) rs r));
+        falls = λ q input.
+            let f = charge_if q (is_directed input) in
+            omega (arith, so_far.falls q input, taken q input, part_is q input r charged sent answer was_sent, sum_by-append (failed_part f) rs (r ∷ []));
       }
 
-pub sends_all : (v w : Sight State Entry) (old new : PlantTold) (outs outs' : List OutRecord) (rest : List OutRecord) (journal : List Entry) (drops drops' : Drops) → SendsSome v w old new outs outs' rest drops drops' → rest ≡ [] → journal ≡ v.journal → Sends v w old new outs outs' journal drops drops'
-sends_all v w old new outs outs' rest journal drops drops' s none is = record {
-  records = s.records;
-  are_outs = sym (append-nil (map unsent s.records)) ∙ ap (λ (xs : List OutRecord). map unsent s.records ++ map unsent xs) (sym none) ∙ s.are_outs;
-  left = s.left;
-  outs_are = s.outs_are;
-  journal_is = is;
-  told = s.told;
-  drops_are = s.drops_are;
+-- how much room there is is nothing to the engine once a round is over
+aside : (before : List Term) (x y : ShardView ShardState Handled) (n : ℕ) → Reaps pppoe before x y → Reaps pppoe before x (record y { room = n })
+aside before x y n h = record {
+  number = h.number;
+  allowance = h.allowance;
+  state = h.state;
+  fit = h.fit;
+  order = h.order;
+  each = h.each;
+  rows = h.rows;
+  begun = h.begun;
+  books = h.books;
+  journal = h.journal;
+  sends = h.sends;
 }
+
+abbrev pub reaped : ShardView ShardState Entry → ShardView ShardState Entry
+reaped w = record w { state = record w.state { slots = settled w.state.slots }; room = 0 }
+
+module _ (v w w' : ShardView ShardState Entry) (old new : PlantTold) (outs outs' rest : List OutRecord) (journal : List Entry) (drops drops' : Drops) (tally tally' : Book) where
+  pub sends_all : Turns v → SendsSome v w old new outs outs' rest drops drops' tally tally' → rest ≡ [] → journal ≡ v.journal → w' ≡ reaped w → Sends v w' old new outs outs' journal drops drops' tally tally'
+  sends_all turns s none is left =
+      let are : map unsent s.sends ++ map unsent [] ≡ map unsent v.outs = ap (λ (xs : List OutRecord). map unsent s.sends ++ map unsent xs) (sym none) ∙ s.are_outs in
+      let all : map unsent s.sends ≡ map unsent v.outs = sym (append-nil (map unsent s.sends)) ∙ are in
+      let here = turns.turning in
+      let turn = s.turn turns.was turns.now here in
+      record {
+        sends = s.sends;
+        settled = record {
+          are_outs = all;
+          settles = λ was now t.
+              let mid : ShardView ShardState Handled = with_lists w now.journal now.outs s.sends in
+              let x = s.turn was now t in
+              let stops : w.stops ≡ [] = s.stops ∙ ap (λ (y : ShardView ShardState Handled). y.stops) t.shows.same ∙ t.stops in
+              let starts : w.starts ≡ [] = s.starts ∙ ap (λ (y : ShardView ShardState Handled). y.starts) t.shows.same ∙ t.starts in
+              record {
+                mid = mid;
+                turn = x;
+                journal = refl;
+                outs = refl;
+                settles = record {
+                  all = all ∙ not_sent_yet v was now t;
+                  reaps = subst (λ (y : ShardView ShardState Entry). Reaps pppoe (terms_of was.state) mid (with_lists y now.journal now.outs s.sends)) (sym left)
+                      (aside (terms_of was.state) mid (record mid { state = record w.state { slots = settled w.state.slots } }) 0 (still_reaps pppoe pppoe_laws pppoe_still was mid x stops starts));
+                };
+              };
+          number = ap (λ (y : ShardView ShardState Entry). y.number) left ∙ s.number;
+          allowance = ap (λ (y : ShardView ShardState Entry). y.allowance) left ∙ s.allowance;
+          empty = (ap (λ (y : ShardView ShardState Entry). y.journal) left ∙ s.empty.0, ap (λ (y : ShardView ShardState Entry). y.outs) left ∙ s.empty.1);
+          rows = λ most octets low light.
+              subst (λ (y : ShardView ShardState Entry). RowsAreLow (most + octets) y.rows) (sym left) (sent_low v turns.was turns.now here w s.sends turn [] are most octets low light);
+          books = λ most low. subst (λ (y : ShardView ShardState Entry). AreLow most y.books) (sym left) (books_low v turns.was turns.now here w s.sends turn most low);
+        };
+        outs_are = s.outs_are;
+        journal_is = is;
+        told = s.told;
+        drops_are = s.drops_are;
+        falls = s.falls;
+      }

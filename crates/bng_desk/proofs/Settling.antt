@@ -1,84 +1,84 @@
 -- The shards are settled, one after the other.
-use Rattle.std.proofs.Common.{◌≡◌, ℕ, ◌+◌, ◌<◌, ◌≤◌, List, [], ◌∷◌, ◌++◌, map, length, take, drop, get_or, set, refl, sym, ap, subst, ◌∙◌, arith, append-nil, length-append}
+use Rattle.std.proofs.Common.{◌≡◌, ℕ, zero, suc, ◌+◌, ◌<◌, ◌≤◌, Bool, cond, List, [], ◌∷◌, ◌++◌, map, length, take, drop, get_or, set, refl, sym, ap, subst, ◌∙◌, arith, append-nil, length-append}
 use Rattle.std.specs.List.{All, AllByRecursion, AllZip, count_by, flat_map, sum_by}
 use Rattle.std.proofs.lemmas.List.{length-map, map-append, take_more, take_more_set, take_all, drop-set-lt, drop-drop}
 use Rattle.std.proofs.lemmas.List.Concat.{flat_map-append}
-use Rattle.std.proofs.lemmas.List.Elements.{recursion_from_All, All-from_recursion}
 use Rattle.std.proofs.lemmas.List.Sums.{sum_by-append, sum_by-cons}
+use Rattle.bng_base.specs.declared.book.Book.{Book}
+use Rattle.bng_base.specs.declared.item.Charge.{Charge}
 use Rattle.bng_base.specs.declared.item.Entry.{Entry}
 use Rattle.bng_base.specs.declared.item.OutRecord.{OutRecord}
 use Rattle.bng_base.specs.declared.outside.Datagram.{Datagram}
 use Rattle.bng_base.specs.Stretch.{PlantStretch, plant_joined, ExtendsPlant}
 use Rattle.bng_base.specs.Told.{PlantTold}
 use Rattle.bng_base.proofs.StretchLaws.{plant_more, plant_stays}
-use Rattle.bng_engine.specs.Round.{unsent}
-use Rattle.bng_engine.specs.Sight.{Sight, plus as plus_row}
-use Rattle.bng_engine.specs.Sums.{one_if}
+use Rattle.bng_engine.specs.Calls.{IsSettled, all_sends}
+use Rattle.bng_engine.specs.Journals.{unsent}
+use Rattle.bng_engine.specs.Lists.{Zip3, one_if}
+use Rattle.bng_engine.specs.Quantities.{Quantity, in_book}
+use Rattle.bng_engine.specs.Showing.{with_lists}
+use Rattle.bng_engine.specs.Sums.{part_of_charge, charge_if, is_directed, passed_sum, failed_sum}
+use Rattle.bng_engine.specs.Views.{ShardView}
 use Rattle.bng_engine.specs.Wire.{went}
 use Rattle.bng_engine.proofs.Walks.{same_at}
 use Rattle.bng_engine.proofs.Wire.{went_append}
-use Rattle.bng_shard.specs.Protocol.{packet_octets}
-use Rattle.bng_shard.specs.State.{State, settled}
-use Rattle.bng_shard.specs.Sums.{IsLow}
+use Rattle.bng_shard.specs.Protocol.{ShardState, Handled, pppoe}
+use Rattle.bng_shard.specs.Sums.{IsLow, AreLow, RowsAreLow}
 use Rattle.bng_desk.specs.declared.drops.Drops.{Drops}
 use Rattle.bng_desk.specs.Counting.{plus}
-use Rattle.bng_desk.specs.Round.{is_failed, with_failed, not_sent, sends_stretch}
-use Rattle.bng_desk.specs.Taking.{IsEmpty, AreInOrder, Sends}
-use Rattle.bng_desk.proofs.Readying.{Shards, order_kept}
-use Rattle.bng_desk.proofs.Zips.{zip_push}
-use Rattle.bng_desk.proofs.Sending.{failed_none, failed_more, octets_so_far, rows_low}
+use Rattle.bng_desk.specs.Round.{entries_of, is_failed, with_failed, not_sent, sends_stretch}
+use Rattle.bng_desk.specs.Taking.{IsEmpty, IsLight, AreInOrder, IsTurning, Turns, AllTurn, IsLeftBy, Covers, Falls, SettledTo, Sends, SettlesAll}
+use Rattle.bng_desk.proofs.Dealing.{Seens}
+use Rattle.bng_desk.proofs.Readying.{Shards}
+use Rattle.bng_desk.proofs.Sending.{failed_none, failed_more, failed_least, passed_unsent}
+use Rattle.bng_desk.proofs.Zips.{zip3_push, zip3_at, zip3_length}
 
--- the records of a shard are its outs
-abbrev pub AreOuts : Sight State Entry → List OutRecord → Type 0
-AreOuts v records = map unsent records ≡ map unsent v.outs
-
--- a shard whose outs were sent
-abbrev pub settled_with : Sight State Entry → List OutRecord → Sight State Entry
-settled_with v records = record v { state = settled v.state; rows = map (plus_row records) v.rows; journal = []; outs = []; room = 0 }
-
-abbrev pub all_settled : Shards → List (List OutRecord) → Shards
-all_settled [] rss = []
-all_settled (v ∷ vs) [] = []
-all_settled (v ∷ vs) (rs ∷ rss) = settled_with v rs ∷ all_settled vs rss
-
-abbrev pub joined_records : List (List OutRecord) → List OutRecord
-joined_records rss = flat_map (λ rs. rs) rss
+abbrev pub joined : List (List OutRecord) → List OutRecord
+joined rss = flat_map (λ rs. rs) rss
 
 -- the first shards are settled, and the others are as they were
-pub record SettlesSome (olds shards : Shards) (i : ℕ) (old new : PlantTold) (outs : List OutRecord) (journals : List (List Entry)) (drops drops' : Drops) : Type 0 where
-  pub records : List (List OutRecord)
-  pub are_outs : AllZip AreOuts (take i olds) records
-  pub left : take i shards ≡ all_settled (take i olds) records
+pub record SettlesSome (olds shards : Shards) (i : ℕ) (old new : PlantTold) (outs : List OutRecord) (journals : List (List Entry)) (drops drops' : Drops) (tally tally' : Book) : Type 0 where
+  pub sends : List (List OutRecord)
+  pub done : Zip3 SettledTo (take i olds) (take i shards) sends
   pub rest : drop i shards ≡ drop i olds
-  pub outs_are : outs ≡ joined_records records
+  pub outs_are : outs ≡ joined sends
   pub journals_are : journals ≡ map (λ v. v.journal) (take i olds)
-  pub told : ExtendsPlant old new (sends_stretch (joined_records records))
-  pub drops_are : drops' ≡ plus drops (with_failed (count_by is_failed (joined_records records)))
+  pub told : ExtendsPlant old new (sends_stretch (joined sends))
+  pub drops_are : drops' ≡ plus drops (with_failed (count_by is_failed (joined sends)))
+  pub falls : Falls tally (joined sends) tally'
 
 -- Lists -----------------------------------------------------------------------------------------------------------------
 
 tails : (xs ys : Shards) (i : ℕ) → drop i xs ≡ drop i ys → drop (i + 1) xs ≡ drop (i + 1) ys
 tails xs ys i e = sym (drop-drop 1 i xs) ∙ ap (drop 1) e ∙ drop-drop 1 i ys
 
-settled_push : (vs : Shards) (rss : List (List OutRecord)) (v : Sight State Entry) (rs : List OutRecord) → AllZip AreOuts vs rss → all_settled vs rss ++ settled_with v rs ∷ [] ≡ all_settled (vs ++ v ∷ []) (rss ++ rs ∷ [])
-settled_push [] [] v rs h = refl
-settled_push [] (x ∷ rss) v rs h = absurd h
-settled_push (w ∷ vs) [] v rs h = absurd h
-settled_push (w ∷ vs) (x ∷ rss) v rs h = ap (λ (ys : Shards). settled_with w x ∷ ys) (settled_push vs rss v rs h.1)
+joined_push : (rss : List (List OutRecord)) (rs : List OutRecord) → joined rss ++ rs ≡ joined (rss ++ rs ∷ [])
+joined_push rss rs = ap (λ (ys : List OutRecord). joined rss ++ ys) (sym (append-nil rs)) ∙ sym (flat_map-append (λ (x : List OutRecord). x) rss (rs ∷ []))
 
-joined_push : (rss : List (List OutRecord)) (rs : List OutRecord) → joined_records rss ++ rs ≡ joined_records (rss ++ rs ∷ [])
-joined_push rss rs = ap (λ (ys : List OutRecord). joined_records rss ++ ys) (sym (append-nil rs)) ∙ sym (flat_map-append (λ (x : List OutRecord). x) rss (rs ∷ []))
-
-as_many : (v : Sight State Entry) (records : List OutRecord) → AreOuts v records → length records ≡ length v.outs
-as_many v records e = omega (arith, ap (λ (xs : List OutRecord). length xs) e, length-map records unsent, length-map v.outs unsent)
+as_many : (v w : ShardView ShardState Entry) (sends : List OutRecord) → SettledTo v w sends → length sends ≡ length v.outs
+as_many v w sends s = omega (arith, ap (λ (xs : List OutRecord). length xs) s.are_outs, length-map sends unsent, length-map v.outs unsent)
 
 -- how many were sent
-pub joined_count : (vs : Shards) (rss : List (List OutRecord)) → AllZip AreOuts vs rss → length (joined_records rss) ≡ sum_by (λ (v : Sight State Entry). length v.outs) vs
-joined_count [] [] h = refl
-joined_count [] (x ∷ rss) h = absurd h
-joined_count (v ∷ vs) [] h = absurd h
-joined_count (v ∷ vs) (rs ∷ rss) h =
-    omega (arith, length-append rs (joined_records rss), as_many v rs h.0, joined_count vs rss h.1, sum_by-cons (λ (v : Sight State Entry). length v.outs) v vs)
+pub joined_count : (vs ws : Shards) (rss : List (List OutRecord)) → Zip3 SettledTo vs ws rss → length (joined rss) ≡ sum_by (λ (v : ShardView ShardState Entry). length v.outs) vs
+joined_count [] [] [] h = refl
+joined_count (v ∷ vs) (w ∷ ws) (rs ∷ rss) h =
+    omega (arith, length-append rs (joined rss), as_many v w rs h.0, joined_count vs ws rss h.1, sum_by-cons (λ (v : ShardView ShardState Entry). length v.outs) v vs)
+joined_count vs ws rss h = absurd h
+
+-- what passed was sent, or failed
+pub joined_passed : (f : Charge → ℕ) (vs ws : Shards) (rss : List (List OutRecord)) → Zip3 SettledTo vs ws rss → passed_sum f (joined rss) ≡ sum_by (λ (v : ShardView ShardState Entry). passed_sum f v.outs) vs
+joined_passed f [] [] [] h = refl
+joined_passed f (v ∷ vs) (w ∷ ws) (rs ∷ rss) h =
+    omega (
+      arith,
+      sum_by-append (λ (r : OutRecord). part_of_charge f r.charge) rs (joined rss),
+      passed_unsent f rs,
+      passed_unsent f v.outs,
+      ap (passed_sum f) h.0.are_outs,
+      joined_passed f vs ws rss h.1,
+      sum_by-cons (λ (v : ShardView ShardState Entry). passed_sum f v.outs) v vs,
+    )
+joined_passed f vs ws rss h = absurd h
 
 -- What is told ----------------------------------------------------------------------------------------------------------
 
@@ -92,113 +92,171 @@ stretches a b =
 
 -- One after the other ---------------------------------------------------------------------------------------------------
 
-pub settles_none : (olds : Shards) (told : PlantTold) (outs : List OutRecord) (journals : List (List Entry)) (drops : Drops) → outs ≡ [] → journals ≡ [] → SettlesSome olds olds 0 told told outs journals drops drops
-settles_none olds told outs journals drops no_outs no_journals = record {
-  records = [];
-  are_outs = tt;
-  left = refl;
+falls_more : (a b : List OutRecord) (tally mid tally' : Book) → Falls tally a mid → Falls mid b tally' → Falls tally (a ++ b) tally'
+falls_more a b tally mid tally' x y q input =
+    omega (arith, x q input, y q input, sum_by-append (λ (r : OutRecord). cond r.sent 0 (part_of_charge (charge_if q (is_directed input)) r.charge)) a b)
+
+pub settles_none : (olds : Shards) (told : PlantTold) (outs : List OutRecord) (journals : List (List Entry)) (drops : Drops) (tally : Book) → outs ≡ [] → journals ≡ [] → SettlesSome olds olds 0 told told outs journals drops drops tally tally
+settles_none olds told outs journals drops tally no_outs no_journals = record {
+  sends = [];
+  done = tt;
   rest = refl;
   outs_are = no_outs;
   journals_are = no_journals;
   told = plant_stays told;
   drops_are = failed_none drops;
+  falls = λ q input. omega arith;
 }
 
-module _ (olds shards : Shards) (i : ℕ) (d : Sight State Entry) (old mid new : PlantTold) (outs outs' : List OutRecord) (journals journals' : List (List Entry)) (journal : List Entry) (drops drops' drops'' : Drops) where
-  pub settles_more : i < length olds → length shards ≡ length olds → (w : Sight State Entry) → SettlesSome olds shards i old mid outs journals drops drops'
-      → Sends (get_or shards i d) w mid new outs outs' journal drops' drops''
-      → (last : List Entry) → journals' ≡ journals ++ last ∷ [] → last ≡ journal → SettlesSome olds (set shards i w) (i + 1) old new outs' journals' drops drops''
+module _ (olds shards : Shards) (i : ℕ) (d : ShardView ShardState Entry) (old mid new : PlantTold) (outs outs' : List OutRecord) (journals journals' : List (List Entry)) (journal : List Entry) (drops drops' drops'' : Drops) (tally tally' tally'' : Book) where
+  pub settles_more : i < length olds → length shards ≡ length olds → (w : ShardView ShardState Entry) → SettlesSome olds shards i old mid outs journals drops drops' tally tally'
+      → Sends (get_or shards i d) w mid new outs outs' journal drops' drops'' tally' tally''
+      → (last : List Entry) → journals' ≡ journals ++ last ∷ [] → last ≡ journal → SettlesSome olds (set shards i w) (i + 1) old new outs' journals' drops drops'' tally tally''
   settles_more lt same w so_far here last pushed is =
       let v = get_or olds i d in
       let at : get_or shards i d ≡ v = same_at olds shards i d so_far.rest in
       let one : take (i + 1) olds ≡ take i olds ++ v ∷ [] = take_more olds i d lt in
-      let rss = so_far.records in
-      let rs = here.records in
-      let all : joined_records rss ++ rs ≡ joined_records (rss ++ rs ∷ []) = joined_push rss rs in
-      let its_outs : AreOuts v rs = here.are_outs ∙ ap (λ (x : Sight State Entry). map unsent x.outs) at in
-      let its_left : w ≡ settled_with v rs = here.left ∙ ap (λ (x : Sight State Entry). settled_with x rs) at in
+      let rss = so_far.sends in
+      let rs = here.sends in
+      let all : joined rss ++ rs ≡ joined (rss ++ rs ∷ []) = joined_push rss rs in
       let within : i < length shards = omega (arith, lt, same) in
+      let two : take (i + 1) (set shards i w) ≡ take i shards ++ w ∷ [] = take_more_set shards i w within in
       record {
-        records = rss ++ rs ∷ [];
-        are_outs = subst (λ (vs : Shards). AllZip AreOuts vs (rss ++ rs ∷ [])) (sym one) (zip_push AreOuts (take i olds) rss v rs so_far.are_outs its_outs);
-        left = take_more_set shards i w within
-            ∙ ap (λ (vs : Shards). vs ++ w ∷ []) so_far.left
-            ∙ ap (λ (x : Sight State Entry). all_settled (take i olds) rss ++ x ∷ []) its_left
-            ∙ settled_push (take i olds) rss v rs so_far.are_outs
-            ∙ ap (λ (vs : Shards). all_settled vs (rss ++ rs ∷ [])) (sym one);
+        sends = rss ++ rs ∷ [];
+        done = subst (λ (vs : Shards). Zip3 SettledTo vs (take (i + 1) (set shards i w)) (rss ++ rs ∷ [])) (sym one)
+            (subst (λ (ws : Shards). Zip3 SettledTo (take i olds ++ v ∷ []) ws (rss ++ rs ∷ [])) (sym two)
+            (zip3_push SettledTo (take i olds) (take i shards) rss v w rs so_far.done (subst (λ (x : ShardView ShardState Entry). SettledTo x w rs) at here.settled)));
         rest = drop-set-lt (i + 1) shards i w (omega arith) ∙ tails shards olds i so_far.rest;
         outs_are = here.outs_are ∙ ap (λ (xs : List OutRecord). xs ++ rs) so_far.outs_are ∙ all;
         journals_are = pushed
             ∙ ap (λ (xs : List (List Entry)). xs ++ last ∷ []) so_far.journals_are
-            ∙ ap (λ (x : List Entry). map (λ (y : Sight State Entry). y.journal) (take i olds) ++ x ∷ []) (is ∙ here.journal_is ∙ ap (λ (x : Sight State Entry). x.journal) at)
-            ∙ sym (map-append (λ (y : Sight State Entry). y.journal) (take i olds) (v ∷ []))
-            ∙ ap (λ (vs : Shards). map (λ (y : Sight State Entry). y.journal) vs) (sym one);
-        told = subst (λ (s : PlantStretch). ExtendsPlant old new s) (stretches (joined_records rss) rs ∙ ap sends_stretch all) (plant_more old mid new (sends_stretch (joined_records rss)) (sends_stretch rs) so_far.told here.told);
+            ∙ ap (λ (x : List Entry). map (λ (y : ShardView ShardState Entry). y.journal) (take i olds) ++ x ∷ []) (is ∙ here.journal_is ∙ ap (λ (x : ShardView ShardState Entry). x.journal) at)
+            ∙ sym (map-append (λ (y : ShardView ShardState Entry). y.journal) (take i olds) (v ∷ []))
+            ∙ ap (λ (vs : Shards). map (λ (y : ShardView ShardState Entry). y.journal) vs) (sym one);
+        told = subst (λ (s : PlantStretch). ExtendsPlant old new s) (stretches (joined rss) rs ∙ ap sends_stretch all) (plant_more old mid new (sends_stretch (joined rss)) (sends_stretch rs) so_far.told here.told);
         drops_are = here.drops_are
             ∙ ap (λ (x : Drops). plus x (with_failed (count_by is_failed rs))) so_far.drops_are
-            ∙ failed_more drops (count_by is_failed (joined_records rss)) (count_by is_failed rs)
-            ∙ ap (λ (n : ℕ). plus drops (with_failed n)) (sym (sum_by-append (λ (o : OutRecord). one_if (is_failed o)) (joined_records rss) rs))
+            ∙ failed_more drops (count_by is_failed (joined rss)) (count_by is_failed rs)
+            ∙ ap (λ (n : ℕ). plus drops (with_failed n)) (sym (sum_by-append (λ (o : OutRecord). one_if (is_failed o)) (joined rss) rs))
             ∙ ap (λ (xs : List OutRecord). plus drops (with_failed (count_by is_failed xs))) all;
+        falls = subst (λ (xs : List OutRecord). Falls tally xs tally'') all (falls_more (joined rss) rs tally tally' tally'' so_far.falls here.falls);
       }
 
--- all of them
-pub record SettlesThem (olds shards : Shards) (old new : PlantTold) (outs : List OutRecord) (journals : List (List Entry)) (drops drops' : Drops) : Type 0 where
-  pub records : List (List OutRecord)
-  pub are_outs : AllZip AreOuts olds records
-  pub left : shards ≡ all_settled olds records
-  pub outs_are : outs ≡ joined_records records
-  pub journals_are : journals ≡ map (λ v. v.journal) olds
-  pub told : ExtendsPlant old new (sends_stretch (joined_records records))
-  pub drops_are : drops' ≡ plus drops (with_failed (count_by is_failed (joined_records records)))
+  -- the next shard's outs stand in the tally
+  pub next_covered : i < length olds → SettlesSome olds shards i old mid outs journals drops drops' tally tally' → ((q : Quantity) (input : Bool) → sum_by (λ (v : ShardView ShardState Entry). passed_sum (charge_if q (is_directed input)) v.outs) olds ≤ in_book q input tally)
+      → ((f : ShardView ShardState Entry → ℕ) → sum_by f (take i olds) + f (get_or olds i d) ≤ sum_by f olds) → Covers tally' (get_or shards i d).outs
+  next_covered lt so_far covers within q input =
+      let f = charge_if q (is_directed input) in
+      omega (
+        arith,
+        covers q input,
+        so_far.falls q input,
+        failed_least f (joined so_far.sends),
+        joined_passed f (take i olds) (take i shards) so_far.sends so_far.done,
+        within (λ (v : ShardView ShardState Entry). passed_sum f v.outs),
+        ap (λ (v : ShardView ShardState Entry). passed_sum f v.outs) (same_at olds shards i d so_far.rest),
+      )
 
-pub settles_them : (olds shards : Shards) (i : ℕ) (old new : PlantTold) (outs : List OutRecord) (journals : List (List Entry)) (drops drops' : Drops) → i ≡ length olds → length shards ≡ length olds → SettlesSome olds shards i old new outs journals drops drops' → SettlesThem olds shards old new outs journals drops drops'
-settles_them olds shards i old new outs journals drops drops' e same s =
+-- all of them
+pub record SettlesThem (olds shards : Shards) (old new : PlantTold) (outs : List OutRecord) (journals : List (List Entry)) (drops drops' : Drops) (tally tally' : Book) : Type 0 where
+  pub sends : List (List OutRecord)
+  pub done : Zip3 SettledTo olds shards sends
+  pub outs_are : outs ≡ joined sends
+  pub journals_are : journals ≡ map (λ v. v.journal) olds
+  pub told : ExtendsPlant old new (sends_stretch (joined sends))
+  pub drops_are : drops' ≡ plus drops (with_failed (count_by is_failed (joined sends)))
+  pub falls : Falls tally (joined sends) tally'
+
+pub settles_them : (olds shards : Shards) (i : ℕ) (old new : PlantTold) (outs : List OutRecord) (journals : List (List Entry)) (drops drops' : Drops) (tally tally' : Book) → i ≡ length olds → length shards ≡ length olds → SettlesSome olds shards i old new outs journals drops drops' tally tally' → SettlesThem olds shards old new outs journals drops drops' tally tally'
+settles_them olds shards i old new outs journals drops drops' tally tally' e same s =
     let all : take i olds ≡ olds = take_all i olds (omega (arith, e)) in
     let those : take i shards ≡ shards = take_all i shards (omega (arith, e, same)) in
     record {
-      records = s.records;
-      are_outs = subst (λ (vs : Shards). AllZip AreOuts vs s.records) all s.are_outs;
-      left = sym those ∙ s.left ∙ ap (λ (vs : Shards). all_settled vs s.records) all;
+      sends = s.sends;
+      done = subst (λ (vs : Shards). Zip3 SettledTo vs shards s.sends) all (subst (λ (ws : Shards). Zip3 SettledTo (take i olds) ws s.sends) those s.done);
       outs_are = s.outs_are;
-      journals_are = s.journals_are ∙ ap (map (λ (v : Sight State Entry). v.journal)) all;
+      journals_are = s.journals_are ∙ ap (map (λ (v : ShardView ShardState Entry). v.journal)) all;
       told = s.told;
       drops_are = s.drops_are;
+      falls = s.falls;
     }
 
 -- What is left ----------------------------------------------------------------------------------------------------------
 
-empty_by : (vs : Shards) (rss : List (List OutRecord)) → AllByRecursion IsEmpty (all_settled vs rss)
-empty_by [] rss = tt
-empty_by (v ∷ vs) [] = tt
-empty_by (v ∷ vs) (rs ∷ rss) = ((refl, refl), empty_by vs rss)
+module _ (vs ws : Shards) (rss : List (List OutRecord)) (z : Zip3 SettledTo vs ws rss) where
+  count : length vs ≡ length ws
+  count = zip3_length SettledTo vs ws rss z
 
-pub all_empty : (vs ws : Shards) (rss : List (List OutRecord)) → ws ≡ all_settled vs rss → All IsEmpty ws
-all_empty vs ws rss e = subst (λ (xs : Shards). All IsEmpty xs) (sym e) (All-from_recursion IsEmpty (all_settled vs rss) (empty_by vs rss))
+  each : (k : ℕ) (d : ShardView ShardState Entry) → k < length ws → SettledTo (get_or vs k d) (get_or ws k d) (get_or rss k [])
+  each k d lt = zip3_at SettledTo vs ws rss k d d [] z (omega (arith, lt, count))
 
-abbrev RowsLow : ℕ → Sight State Entry → Type 0
-RowsLow m v = All (IsLow m) v.rows
+  pub all_empty : All IsEmpty ws
+  all_empty k d lt = (each k d lt).empty
 
-abbrev IsLight : ℕ → Sight State Entry → Type 0
-IsLight octets v = packet_octets v.outs ≤ octets
+  pub all_low : (most octets : ℕ) → All (λ v. RowsAreLow most v.rows) vs → All (λ v. IsLight octets v.outs) vs → All (λ v. RowsAreLow (most + octets) v.rows) ws
+  all_low most octets low light k d lt = (each k d lt).rows most octets (low k d (omega (arith, lt, count))) (light k d (omega (arith, lt, count)))
 
-low_by : (m octets : ℕ) (vs : Shards) (rss : List (List OutRecord)) → AllByRecursion (RowsLow m) vs → AllByRecursion (IsLight octets) vs → AllZip AreOuts vs rss → AllByRecursion (RowsLow (m + octets)) (all_settled vs rss)
-low_by m octets [] rss low light h = tt
-low_by m octets (v ∷ vs) [] low light h = absurd h
-low_by m octets (v ∷ vs) (rs ∷ rss) low light h =
-    let few = octets_so_far rs [] v.outs (append-nil (map unsent rs) ∙ h.0) in
-    (rows_low m (m + octets) rs v.rows (omega (arith, few, light.0)) low.0, low_by m octets vs rss low.1 light.1 h.1)
+  pub all_books : (most : ℕ) → All (λ v. AreLow most v.books) vs → All (λ v. AreLow most v.books) ws
+  all_books most low k d lt = (each k d lt).books most (low k d (omega (arith, lt, count)))
 
-pub all_low : (m octets : ℕ) (vs ws : Shards) (rss : List (List OutRecord)) → All (RowsLow m) vs → All (IsLight octets) vs → AllZip AreOuts vs rss → ws ≡ all_settled vs rss → All (RowsLow (m + octets)) ws
-all_low m octets vs ws rss low light h e =
-    subst (λ (xs : Shards). All (RowsLow (m + octets)) xs) (sym e)
-    (All-from_recursion (RowsLow (m + octets)) (all_settled vs rss) (low_by m octets vs rss (recursion_from_All (RowsLow m) vs low) (recursion_from_All (IsLight octets) vs light) h))
+  pub in_order : AreInOrder vs → AreInOrder ws
+  in_order order k d lt = (each k d lt).number ∙ order k d (omega (arith, lt, count))
 
-same_numbers : (vs : Shards) (rss : List (List OutRecord)) → AllZip AreOuts vs rss → AllZip (λ (v w : Sight State Entry). w.number ≡ v.number) vs (all_settled vs rss)
-same_numbers [] rss h = tt
-same_numbers (v ∷ vs) [] h = absurd h
-same_numbers (v ∷ vs) (rs ∷ rss) h = (refl, same_numbers vs rss h.1)
+pub falls_low : (tally tally' : Book) (sends : List OutRecord) → Falls tally sends tally' → (most : ℕ) → IsLow most tally → IsLow most tally'
+falls_low tally tally' sends falls most low q input = omega (arith, falls q input, low q input)
 
-pub in_order : (vs ws : Shards) (rss : List (List OutRecord)) → AllZip AreOuts vs rss → ws ≡ all_settled vs rss → AreInOrder vs → AreInOrder ws
-in_order vs ws rss h e order =
-    subst (λ (xs : Shards). AreInOrder xs) (sym e)
-    (order_kept (λ (v w : Sight State Entry). w.number ≡ v.number) (λ x y same. same) vs (all_settled vs rss) (same_numbers vs rss h) order)
+-- within its turn, at one place
+pub turns_at : (vs : Shards) (k : ℕ) (d v : ShardView ShardState Entry) → k < length vs → v ≡ get_or vs k d → AllTurn vs → Turns v
+turns_at vs k d v lt is all =
+    let x : ShardView ShardState Handled = with_lists d [] [] [] in
+    record {
+      was = get_or all.was k x;
+      now = get_or all.now k x;
+      turning = subst (λ (y : ShardView ShardState Entry). IsTurning y (get_or all.was k x) (get_or all.now k x)) (sym is) (zip3_at IsTurning vs all.was all.now k d x x all.turning lt);
+    }
+
+-- As the engine sees it ------------------------------------------------------------------------------------------------
+
+abbrev all_seen : Seens → Shards → List (List OutRecord) → Seens
+all_seen [] ws rss = []
+all_seen (x ∷ xs) [] rss = []
+all_seen (x ∷ xs) (w ∷ ws) [] = []
+all_seen (x ∷ xs) (w ∷ ws) (rs ∷ rss) = with_lists w x.journal x.outs rs ∷ all_seen xs ws rss
+
+record Reaped (was now xs : Seens) (vs ws : Shards) (rss : List (List OutRecord)) : Type 0 where
+  settles : Zip3 (IsSettled pppoe) was now xs
+  left : AllZip IsLeftBy ws xs
+  allowances : AllZip (λ (x y : ShardView ShardState Handled). y.allowance ≡ x.allowance) now xs
+  sends : joined rss ≡ all_sends xs
+  journals : map (λ v. v.journal) vs ≡ map entries_of now
+
+reaps : (was now : Seens) (vs ws : Shards) (rss : List (List OutRecord)) → Zip3 IsTurning vs was now → Zip3 SettledTo vs ws rss → Reaped was now (all_seen now ws rss) vs ws rss
+reaps [] [] [] [] [] t z = record { settles = tt; left = tt; allowances = tt; sends = refl; journals = refl }
+reaps [] [] [] ws rss t z = absurd z
+reaps (b ∷ was) (x ∷ now) (v ∷ vs) (w ∷ ws) (rs ∷ rss) t z =
+    let more = reaps was now vs ws rss t.1 z.1 in
+    record {
+      settles = (z.0.settles b x t.0, more.settles);
+      left = (record { number = refl; state = refl; rows = refl; books = refl }, more.left);
+      allowances = (z.0.allowance ∙ ap (λ (y : ShardView ShardState Handled). y.allowance) t.0.shows.same, more.allowances);
+      sends = ap (λ (os : List OutRecord). rs ++ os) more.sends;
+      journals = ap (λ (es : List Entry). es ∷ map (λ (y : ShardView ShardState Entry). y.journal) vs) (sym t.0.shows.entries) ∙ ap (λ (js : List (List Entry)). entries_of x ∷ js) more.journals;
+    }
+reaps (b ∷ was) (x ∷ now) (v ∷ vs) ws rss t z = absurd z
+reaps was now vs ws rss t z = absurd t
+
+pub settled_all : (was now : Seens) (olds shards : Shards) (old new : PlantTold) (outs : List OutRecord) (journals : List (List Entry)) (drops drops' : Drops) (tally tally' : Book)
+    → Zip3 IsTurning olds was now → SettlesThem olds shards old new outs journals drops drops' tally tally' → SettlesAll was now old new shards outs journals drops drops' tally tally'
+settled_all was now olds shards old new outs journals drops drops' tally tally' turning s =
+    let all = reaps was now olds shards s.sends turning s.done in
+    record {
+      settled = all_seen now shards s.sends;
+      settles = all.settles;
+      left = all.left;
+      allowances = all.allowances;
+      outs_are = s.outs_are ∙ all.sends;
+      journals_are = s.journals_are ∙ all.journals;
+      told = subst (λ (xs : List OutRecord). ExtendsPlant old new (sends_stretch xs)) all.sends s.told;
+      drops_are = s.drops_are ∙ ap (λ (xs : List OutRecord). plus drops (with_failed (count_by is_failed xs))) all.sends;
+      falls = subst (λ (xs : List OutRecord). Falls tally xs tally') all.sends s.falls;
+    }

@@ -1,6 +1,7 @@
--- Two lists side by side.
+-- Lists side by side.
 use Rattle.std.proofs.Common.{◌≡◌, ℕ, zero, suc, ◌<◌, List, [], ◌∷◌, ◌++◌, length, get_or, set, refl, ap, arith}
 use Rattle.std.specs.List.{AllZip}
+use Rattle.bng_engine.specs.Lists.{Zip3}
 
 -- one more of each
 pub zip_push : {A B : Type 0} (R : A → B → Type 0) (xs : List A) (ys : List B) (x : A) (y : B) → AllZip R xs ys → R x y → AllZip R (xs ++ x ∷ []) (ys ++ y ∷ [])
@@ -29,3 +30,20 @@ zip_set_both R [] (b ∷ ys) k x y h here = absurd h
 zip_set_both R (a ∷ xs) [] k x y h here = absurd h
 zip_set_both R (a ∷ xs) (b ∷ ys) zero x y h here = (here, h.1)
 zip_set_both R (a ∷ xs) (b ∷ ys) (suc k) x y h here = (h.0, zip_set_both R xs ys k x y h.1 here)
+
+-- three of them: one more of each
+pub zip3_push : {A B C : Type 0} (R : A → B → C → Type 0) (xs : List A) (ys : List B) (zs : List C) (x : A) (y : B) (z : C) → Zip3 R xs ys zs → R x y z → Zip3 R (xs ++ x ∷ []) (ys ++ y ∷ []) (zs ++ z ∷ [])
+zip3_push R [] [] [] x y z h here = (here, tt)
+zip3_push R (a ∷ xs) (b ∷ ys) (c ∷ zs) x y z h here = (h.0, zip3_push R xs ys zs x y z h.1 here)
+zip3_push R xs ys zs x y z h here = absurd h
+
+pub zip3_length : {A B C : Type 0} (R : A → B → C → Type 0) (xs : List A) (ys : List B) (zs : List C) → Zip3 R xs ys zs → length xs ≡ length ys
+zip3_length R [] [] [] h = refl
+zip3_length R (a ∷ xs) (b ∷ ys) (c ∷ zs) h = ap suc (zip3_length R xs ys zs h.1)
+zip3_length R xs ys zs h = absurd h
+
+pub zip3_at : {A B C : Type 0} (R : A → B → C → Type 0) (xs : List A) (ys : List B) (zs : List C) (k : ℕ) (d : A) (e : B) (f : C) → Zip3 R xs ys zs → k < length xs → R (get_or xs k d) (get_or ys k e) (get_or zs k f)
+zip3_at R [] [] [] k d e f h lt = absurd (omega (arith, lt))
+zip3_at R (a ∷ xs) (b ∷ ys) (c ∷ zs) zero d e f h lt = h.0
+zip3_at R (a ∷ xs) (b ∷ ys) (c ∷ zs) (suc k) d e f h lt = zip3_at R xs ys zs k d e f h.1 (omega (arith, lt))
+zip3_at R xs ys zs k d e f h lt = absurd h

@@ -1,40 +1,53 @@
 -- The phases of a turn, each over what it changes.
-use Rattle.std.specs.Prelude.{◌≡◌, ◌⊎◌, ℕ, ◌+◌, ◌*◌, ◌≤◌, ◌<◌, Bool, true, false, List, [], ◌++◌, All, length, map, sum_by, count_by, ◌||◌, filter, not, slice_index_or, slice_set, take}
+use Rattle.std.specs.Prelude.{◌≡◌, ◌⊎◌, ℕ, ◌+◌, ◌*◌, ◌≤◌, ◌<◌, Bool, true, false, cond, List, [], ◌∷◌, ◌++◌, All, length, map, sum_by, count_by, ◌||◌, filter, not, slice_index_or, slice_set, take}
 use Rattle.std.specs.List.{AllZip, AllPairs, flat_map}
+use Rattle.bng_base.specs.declared.book.Book.{Book}
 use Rattle.bng_base.specs.declared.fate.Fate.{Fate}
+use Rattle.bng_base.specs.declared.item.Charge.{Charge as Of}
 use Rattle.bng_base.specs.declared.item.Entry.{Entry}
 use Rattle.bng_base.specs.declared.item.Item.{Item}
 use Rattle.bng_base.specs.declared.item.ItemKind.{ItemKind}
 use Rattle.bng_base.specs.declared.item.Loose.{Loose}
 use Rattle.bng_base.specs.declared.item.OutRecord.{OutRecord}
 use Rattle.bng_base.specs.declared.outside.Role.{Role}
+use Rattle.bng_base.specs.declared.round.RoundRecord.{RoundRecord}
 use Rattle.bng_base.specs.Told.{PlantTold}
 use Rattle.bng_base.specs.Stretch.{ExtendsPlant}
-use Rattle.bng_engine.specs.Progress.{Kept, InRound, Settles, all_records}
-use Rattle.bng_engine.specs.Round.{unsent}
-use Rattle.bng_engine.specs.Sight.{Sight, plus as plus_row}
+use Rattle.bng_engine.specs.Calls.{Kept, InTurn, IsSettled, all_sends}
+use Rattle.bng_engine.specs.Journals.{unsent}
+use Rattle.bng_engine.specs.Lists.{Zip3}
+use Rattle.bng_engine.specs.Quantities.{Quantity, amount, in_book}
+use Rattle.bng_engine.specs.Showing.{Shows, with_lists}
+use Rattle.bng_engine.specs.Sums.{same, charge_if, is_directed, passed_sum, failed_sum}
 use Rattle.bng_engine.specs.Terms.{keys}
+use Rattle.bng_engine.specs.Turns.{InRound}
+use Rattle.bng_engine.specs.Views.{ShardView, row_keys}
 use Rattle.bng_shard.specs.declared.pool.Holder.{Holder}
 use Rattle.bng_shard.specs.declared.rules.Rules.{Rules}
 use Rattle.bng_shard.specs.declared.sums.Charged.{Charged}
 use Rattle.bng_shard.specs.declared.sums.Charged.TheVariants.{Packet, Control}
 use Rattle.bng_shard.specs.declared.whose.Whose.{Whose}
 use Rattle.bng_shard.specs.declared.whose.Whose.TheVariants.{Loose as IsLoose, Stands}
-use Rattle.bng_shard.specs.Deed.{Deed}
 use Rattle.bng_shard.specs.Hearing.{outs_most}
-use Rattle.bng_shard.specs.Protocol.{pppoe, with_deeds, packet_octets, terms_of, entry_of, Handles}
+use Rattle.bng_shard.specs.Protocol.{ShardState, Handled, pppoe, terms_of, entry_of, Handles}
 use Rattle.bng_shard.specs.Room.{is_tick, is_end}
-use Rattle.bng_shard.specs.State.{State, settled}
+use Rattle.bng_shard.specs.Sums.{IsLow, AreLow, RowsAreLow}
 use Rattle.bng_shard.specs.Whose.{IsWhose}
 use Rattle.bng_desk.specs.declared.drops.Drops.{Drops}
+use Rattle.bng_desk.specs.declared.holding.Named.{Named}
 use Rattle.bng_desk.specs.Counting.{drops_of, plus}
-use Rattle.bng_desk.specs.Items.{DataReading, taken_items, ticks_of, drawn_from, loose_item, loose_in}
+use Rattle.bng_desk.specs.Items.{DataReading, taken_items, ticks_of, drawn_from, entries_in, loose_item, loose_in}
 use Rattle.bng_desk.specs.Random.{Drawn}
 use Rattle.bng_desk.specs.Reading.{EndsRight, is_empty}
-use Rattle.bng_desk.specs.declared.holding.Named.{Named}
-use Rattle.bng_desk.specs.Round.{Round, IsRound, AreDealt, sights_of, is_failed, with_failed, sends_stretch, left_by, drops_in, record_of, refused_of, refused_record, with_refused}
-use Rattle.bng_base.specs.declared.round.RoundRecord.{RoundRecord}
+use Rattle.bng_desk.specs.Round.{Round, IsRound, views_of, held_by, entries_of, is_failed, with_failed, sends_stretch, drops_in, record_of, refused_of, refused_record, with_refused}
 use Rattle.bng_desk.specs.Turn.{data_stretch, arrivals_in, data_roles, most_of}
+
+-- a shard as the desk has it, and as the engine sees it
+abbrev pub Shown : Type 0
+Shown = ShardView ShardState Entry
+
+abbrev pub Seen : Type 0
+Seen = ShardView ShardState Handled
 
 -- Intake ----------------------------------------------------------------------------------------------------------------
 
@@ -51,7 +64,7 @@ pub record Takes (roles : List Role) (most : Role → ℕ) (few : ℕ) (old new 
 
 -- What a turn takes while serving: these roles were read, and the items are what was taken and the Ticks that are due, each with its
 -- own random octets. The first so many came from the outside.
-pub record Gathers (r : Rules) (shards : List (Sight State Entry)) (moment : ℕ) (old new : PlantTold) (draws draws' : Drawn) (items : List Item) (quiet : Bool) (taken : ℕ) : Type 0 where
+pub record Gathers (r : Rules) (shards : List Shown) (moment : ℕ) (old new : PlantTold) (draws draws' : Drawn) (items : List Item) (quiet : Bool) (taken : ℕ) : Type 0 where
   pub readings : List DataReading
   pub are_roles : map (λ r. r.role) readings ≡ data_roles r
   pub read : All (λ x. EndsRight (most_of r x.role) (length x.arrivals) x.ended) readings
@@ -64,16 +77,16 @@ pub record Gathers (r : Rules) (shards : List (Sight State Entry)) (moment : ℕ
 -- The round -------------------------------------------------------------------------------------------------------------
 
 -- nothing of a round is there
-abbrev pub IsEmpty : Sight State Entry → Type 0
+abbrev pub IsEmpty : Shown → Type 0
 IsEmpty v = (v.journal ≡ []) × (v.outs ≡ [])
 
 -- a row for each term
-abbrev pub HasRows : Sight State Entry → Type 0
-HasRows v = map (λ r. r.key) v.rows ≡ keys (terms_of v.state)
+abbrev pub HasRows : Shown → Type 0
+HasRows v = row_keys v.rows ≡ keys (terms_of v.state)
 
 -- each shard has its place as its number
-abbrev pub AreInOrder : List (Sight State Entry) → Type 0
-AreInOrder vs = (k : ℕ) (d : Sight State Entry) → k < length vs → (slice_index_or vs k d).number ≡ k
+abbrev pub AreInOrder : List Shown → Type 0
+AreInOrder vs = (k : ℕ) (d : Shown) → k < length vs → (slice_index_or vs k d).number ≡ k
 
 -- the item is a Tick or an End
 abbrev pub is_once : ItemKind → Bool
@@ -93,95 +106,161 @@ pub record AreItems (items : List Item) : Type 0 where
 abbrev pub outs_of_items : List Item → ℕ
 outs_of_items items = sum_by (λ (i : Item). outs_most i.kind) items
 
--- a shard in a round, as the engine sees it with the deeds of its journal, and as it is
-pub record Shows (v : Sight State Deed) (v' : Sight State Entry) : Type 0 where
-  pub shown : v ≡ with_deeds v' v.journal
-  pub entries : map (λ (d : Deed). d.entry) v.journal ≡ v'.journal
+-- at most so much passes, in octets and in packets, whatever is picked of it
+abbrev pub IsLight : ℕ → List OutRecord → Type 0
+IsLight most outs = (q : Quantity) (test : Of → Bool) → passed_sum (charge_if q test) outs ≤ most
 
--- the shard at this place handled the entry, and the others are as they were
-pub record HandledAt (r : Rules) (place : ℕ) (e : Entry) (fate : Fate) (shards shards' : List (Sight State Entry)) : Type 0 where
-  pub within : place < length shards
-  pub shard : Sight State Entry
-  pub handles : Handles r (slice_index_or shards place shard) shard e fate
-  pub others : shards' ≡ slice_set shards place shard
+-- what is to be sent stands in the tally, so that it can be taken off where its send fails
+abbrev pub Covers : Book → List OutRecord → Type 0
+Covers tally outs = (q : Quantity) (input : Bool) → passed_sum (charge_if q (is_directed input)) outs ≤ in_book q input tally
 
--- the item, from this place of the list, was handed to its shard, or is one of the loose
-abbrev pub DealsTo : Whose → Rules → ℕ → ℕ → Item → List (Sight State Entry) → List (Sight State Entry) → List Loose → List Loose → Fate → Type 0
-DealsTo (IsLoose cause) r place moment item shards shards' loose loose' fate = (fate ≡ cause) × (shards' ≡ shards) × (loose' ≡ loose ++ loose_item place item (IsLoose cause))
-DealsTo (Stands n) r place moment item shards shards' loose loose' fate = HandledAt r n (entry_of 0 place moment item) fate shards shards' × (loose' ≡ loose)
-
-pub record DealsOne (r : Rules) (holders : List Holder) (place moment : ℕ) (item : Item) (shards shards' : List (Sight State Entry)) (loose loose' : List Loose) (fate : Fate) : Type 0 where
-  pub whose : Whose
-  pub is_whose : IsWhose r holders item whose
-  pub deals : DealsTo whose r place moment item shards shards' loose loose' fate
-
--- Each item was handed to its shard or is loose: the shards are in a round from those before, and the fates were counted.
-pub record Deals (r : Rules) (holders : List Holder) (moment : ℕ) (items : List Item) (shards shards' : List (Sight State Entry)) (loose : List Loose) (drops drops' : Drops) : Type 0 where
-  pub whose : List Whose
-  pub is_whose : AllZip (IsWhose r holders) items whose
-  pub sights : List (Sight State Deed)
-  pub rounds : AllZip (InRound (pppoe r)) (sights_of shards) sights
-  pub shown : AllZip Shows sights shards'
-  pub dealt : AreDealt 0 moment items whose sights
-  pub loose_are : loose ≡ loose_in 0 items whose
-  pub drops_are : drops' ≡ plus drops (drops_of (map (λ l. l.fate) (loose_in 0 items whose) ++ flat_map (λ v. map (λ (d : Deed). d.fate) v.journal) sights))
-  pub light : All (λ v. packet_octets v.outs ≤ 4160 * length items) shards'
-  pub few : sum_by (λ v. length v.outs) shards' ≤ outs_of_items items
+-- what failed to be sent was taken off the tally
+abbrev pub Falls : Book → List OutRecord → Book → Type 0
+Falls tally sends tally' = (q : Quantity) (input : Bool) → in_book q input tally' + failed_sum (charge_if q (is_directed input)) sends ≡ in_book q input tally
 
 -- a packet's send failed
 abbrev pub is_lost : Charged → Bool → Bool
 is_lost (Packet input octets) sent = not sent
 is_lost Control sent = false
 
--- A shard's outs were sent, each once and in their order, and what was sent was charged; its round is over.
-pub record Sends (v v' : Sight State Entry) (old new : PlantTold) (outs outs' : List OutRecord) (journal : List Entry) (drops drops' : Drops) : Type 0 where
-  pub records : List OutRecord
-  pub are_outs : map unsent records ≡ map unsent v.outs
-  pub left : v' ≡ record v { state = settled v.state; rows = map (plus_row records) v.rows; journal = []; outs = []; room = 0 }
-  pub outs_are : outs' ≡ outs ++ records
-  pub journal_is : journal ≡ v.journal
-  pub told : ExtendsPlant old new (sends_stretch records)
-  pub drops_are : drops' ≡ plus drops (with_failed (count_by is_failed records))
+-- what is taken off a tally for a packet whose send failed
+abbrev pub lost_part : Quantity → Bool → Charged → Bool → ℕ
+lost_part q input (Packet way octets) sent = cond sent 0 (cond (same input way) (amount q octets) 0)
+lost_part q input Control sent = 0
 
--- The shards' outs were sent, in the order of the shards, each once; what was sent was charged, and the shards are ready for the next
--- round.
-pub record SettlesAll (r : Rules) (old new : PlantTold) (sights : List (Sight State Deed)) (shards' : List (Sight State Entry)) (outs : List OutRecord) (journals : List (List Entry)) (drops drops' : Drops) : Type 0 where
-  pub settled : List (Sight State Deed)
-  pub settles : AllZip (Settles (pppoe r)) sights settled
-  pub left : shards' ≡ map left_by settled
-  pub outs_are : outs ≡ all_records settled
-  pub journals_are : journals ≡ map (λ v. map (λ (d : Deed). d.entry) v.journal) sights
-  pub told : ExtendsPlant old new (sends_stretch (all_records settled))
-  pub drops_are : drops' ≡ plus drops (with_failed (count_by is_failed (all_records settled)))
+-- the shard at this place handled the entry, and the others are as they were
+pub record HandledAt (place : ℕ) (e : Entry) (fate : Fate) (shards shards' : List Shown) (tally tally' : Book) : Type 0 where
+  pub within : place < length shards
+  pub shard : Shown
+  pub handles : Handles (slice_index_or shards place shard) shard e fate tally tally'
+  pub others : shards' ≡ slice_set shards place shard
+
+-- the item, from this place of the list, was handed to its shard, or is one of the loose
+abbrev pub DealsTo : Whose → ℕ → ℕ → Item → List Shown → List Shown → List Loose → List Loose → Book → Book → Fate → Type 0
+DealsTo (IsLoose cause) place moment item shards shards' loose loose' tally tally' fate =
+    (fate ≡ cause) × (shards' ≡ shards) × (loose' ≡ loose ++ loose_item 0 place item (IsLoose cause)) × (tally' ≡ tally)
+DealsTo (Stands n) place moment item shards shards' loose loose' tally tally' fate =
+    HandledAt n (entry_of 0 place moment item) fate shards shards' tally tally' × (loose' ≡ loose)
+
+pub record DealsOne (r : Rules) (holders : List Holder) (place moment : ℕ) (item : Item) (shards shards' : List Shown) (loose loose' : List Loose) (tally tally' : Book) (fate : Fate) : Type 0 where
+  pub whose : Whose
+  pub is_whose : IsWhose r holders item whose
+  pub deals : DealsTo whose place moment item shards shards' loose loose' tally tally' fate
+
+-- the shards, from this one on, have the entries of the items that stand in them
+abbrev pub AreDealt : ℕ → ℕ → List Item → List Whose → List Seen → Type 0
+AreDealt shard moment items whose [] = Unit {0}
+AreDealt shard moment items whose (v ∷ vs) = (entries_of v ≡ entries_in 0 shard 0 moment items whose) × AreDealt (shard + 1) moment items whose vs
+
+-- no term may begin in its round, and none has ended or begun
+pub record IsPlain (v : Seen) : Type 0 where
+  pub allowance : v.allowance ≡ 0
+  pub stops : v.stops ≡ []
+  pub starts : v.starts ≡ []
+
+-- Each item was handed to its shard or is loose: the shards are in a round from those before, the fates were counted, and what passed
+-- is in the tally.
+pub record Deals (r : Rules) (holders : List Holder) (moment : ℕ) (items : List Item) (shards shards' : List Shown) (loose : List Loose) (drops drops' : Drops) (tally tally' : Book) : Type 0 where
+  pub whose : List Whose
+  pub is_whose : AllZip (IsWhose r holders) items whose
+  pub seen : List Seen
+  pub round : InRound pppoe (views_of shards) (held_by holders) (tally ∷ []) seen (held_by holders) (tally' ∷ [])
+  pub shown : AllZip (Shows pppoe) shards' seen
+  pub plain : All IsPlain seen
+  pub dealt : AreDealt 0 moment items whose seen
+  pub loose_are : loose ≡ loose_in 0 0 items whose
+  pub drops_are : drops' ≡ plus drops (drops_of (map (λ l. l.fate) (loose_in 0 0 items whose) ++ flat_map (λ v. map (λ (h : Handled). h.deed.fate) v.journal) seen))
+  pub light : All (λ v. IsLight (4160 * length items) v.outs) shards'
+  pub few : sum_by (λ v. length v.outs) shards' ≤ outs_of_items items
+
+-- what a shard shows, the engine sees within its turn, before its first send
+pub record IsTurning (v : Shown) (was now : Seen) : Type 0 where
+  pub turn : InTurn pppoe was now
+  pub shows : Shows pppoe v now
+  pub sends : now.sends ≡ []
+  pub stops : now.stops ≡ []
+  pub starts : now.starts ≡ []
+
+pub record Turns (v : Shown) : Type 0 where
+  pub was : Seen
+  pub now : Seen
+  pub turning : IsTurning v was now
+
+pub record AllTurn (vs : List Shown) : Type 0 where
+  pub was : List Seen
+  pub now : List Seen
+  pub turning : Zip3 IsTurning vs was now
+
+-- A shard's outs were sent, each once and in their order, and each answer was charged; its round is over.
+pub record SettledTo (v v' : Shown) (sends : List OutRecord) : Type 0 where
+  pub are_outs : map unsent sends ≡ map unsent v.outs
+  pub settles : (was now : Seen) → IsTurning v was now → IsSettled pppoe was now (with_lists v' now.journal now.outs sends)
+  pub number : v'.number ≡ v.number
+  pub allowance : v'.allowance ≡ v.allowance
+  pub empty : IsEmpty v'
+  pub rows : (most octets : ℕ) → RowsAreLow most v.rows → IsLight octets v.outs → RowsAreLow (most + octets) v'.rows
+  pub books : (most : ℕ) → AreLow most v.books → AreLow most v'.books
+
+-- and what failed was counted, and taken off the tally
+pub record Sends (v v' : Shown) (old new : PlantTold) (outs outs' : List OutRecord) (journal : List Entry) (drops drops' : Drops) (tally tally' : Book) : Type 0 where
+  pub sends : List OutRecord
+  pub settled : SettledTo v v' sends
+  pub outs_are : outs' ≡ outs ++ sends
+  pub journal_is : journal ≡ v.journal
+  pub told : ExtendsPlant old new (sends_stretch sends)
+  pub drops_are : drops' ≡ plus drops (with_failed (count_by is_failed sends))
+  pub falls : Falls tally sends tally'
+
+-- the desk has the shard as the engine left it
+pub record IsLeftBy (w : Shown) (v : Seen) : Type 0 where
+  pub number : w.number ≡ v.number
+  pub state : w.state ≡ v.state
+  pub rows : w.rows ≡ v.rows
+  pub books : w.books ≡ v.books
+
+-- The shards' outs were sent, in the order of the shards, each once; what was sent was charged, what failed was taken off the tally, and
+-- the shards are ready for the next round.
+pub record SettlesAll (was now : List Seen) (old new : PlantTold) (shards' : List Shown) (outs : List OutRecord) (journals : List (List Entry)) (drops drops' : Drops) (tally tally' : Book) : Type 0 where
+  pub settled : List Seen
+  pub settles : Zip3 (IsSettled pppoe) was now settled
+  pub left : AllZip IsLeftBy shards' settled
+  pub allowances : AllZip (λ (x y : Seen). y.allowance ≡ x.allowance) now settled
+  pub outs_are : outs ≡ all_sends settled
+  pub journals_are : journals ≡ map entries_of now
+  pub told : ExtendsPlant old new (sends_stretch (all_sends settled))
+  pub drops_are : drops' ≡ plus drops (with_failed (count_by is_failed (all_sends settled)))
+  pub falls : Falls tally (all_sends settled) tally'
 
 -- A round was opened and settled: what it was, and what the trace is to be told.
-pub record RoundHeld (r : Rules) (holders : List Holder) (named : Named) (items : List Item) (old new : PlantTold) (shards shards' : List (Sight State Entry)) (drops drops' : Drops) (record_is : RoundRecord) : Type 0 where
+pub record RoundHeld (r : Rules) (holders : List Holder) (named : Named) (items : List Item) (old new : PlantTold) (shards shards' : List Shown) (drops drops' : Drops) (tally tally' : Book) (record_is : RoundRecord) : Type 0 where
   pub round : Round
-  pub is : IsRound r shards holders named.moment items round
-  pub shards_are : shards' ≡ map left_by round.shards
-  pub drops_are : drops' ≡ plus drops (drops_in items round)
-  pub told : ExtendsPlant old new (sends_stretch (all_records round.shards))
-  pub record_told : record_is ≡ record_of named.number named.moment named.wall items round
+  pub is : IsRound r shards holders (tally ∷ []) named.moment (items ∷ []) round
+  pub shards_are : AllZip IsLeftBy shards' round.shards
+  pub tallies_are : round.tallies ≡ tally' ∷ []
+  pub drops_are : drops' ≡ plus drops (drops_in (items ∷ []) round)
+  pub told : ExtendsPlant old new (sends_stretch (all_sends round.shards))
+  pub record_told : record_is ≡ record_of named.number named.moment named.wall (items ∷ []) round
 
 -- The shards were made ready, and the round was held.
-pub record IsHeld (r : Rules) (holders : List Holder) (named : Named) (items : List Item) (old new : PlantTold) (shards shards' : List (Sight State Entry)) (drops drops' : Drops) (record_is : RoundRecord) : Type 0 where
-  pub ready : List (Sight State Entry)
+pub record IsHeld (r : Rules) (holders : List Holder) (named : Named) (items : List Item) (old new : PlantTold) (shards shards' : List Shown) (drops drops' : Drops) (tally tally' : Book) (record_is : RoundRecord) : Type 0 where
+  pub ready : List Shown
   pub kept : AllZip Kept shards ready
-  pub held : RoundHeld r holders named items old new ready shards' drops drops' record_is
+  pub held : RoundHeld r holders named items old new ready shards' drops drops' tally tally' record_is
 
 -- The shards could not be made ready: the items of the outside were dropped, and nothing was sent.
-pub record IsRefused (named : Named) (items : List Item) (old new : PlantTold) (shards shards' : List (Sight State Entry)) (drops drops' : Drops) (record_is : RoundRecord) : Type 0 where
+pub record IsRefused (named : Named) (items : List Item) (old new : PlantTold) (shards shards' : List Shown) (drops drops' : Drops) (tally tally' : Book) (record_is : RoundRecord) : Type 0 where
   pub kept : AllZip Kept shards shards'
   pub told : new ≡ old
   pub drops_are : drops' ≡ plus drops (with_refused (length (refused_of items)))
+  pub tally_is : tally' ≡ tally
   pub record_told : record_is ≡ refused_record named.number named.moment named.wall (length shards) items
 
-abbrev pub HoldsOne : Rules → List Holder → Named → List Item → PlantTold → PlantTold → List (Sight State Entry) → List (Sight State Entry) → Drops → Drops → RoundRecord → Type 0
-HoldsOne r holders named items old new shards shards' drops drops' record_is =
-    IsHeld r holders named items old new shards shards' drops drops' record_is ⊎ IsRefused named items old new shards shards' drops drops' record_is
+abbrev pub HoldsOne : Rules → List Holder → Named → List Item → PlantTold → PlantTold → List Shown → List Shown → Drops → Drops → Book → Book → RoundRecord → Type 0
+HoldsOne r holders named items old new shards shards' drops drops' tally tally' record_is =
+    IsHeld r holders named items old new shards shards' drops drops' tally tally' record_is ⊎ IsRefused named items old new shards shards' drops drops' tally tally' record_is
 
 -- A round of Ends was held, and none is kept; or it could not be opened, and its items are kept.
-abbrev pub HoldsEnds : Rules → List Holder → Named → List Item → PlantTold → PlantTold → List (Sight State Entry) → List (Sight State Entry) → Drops → Drops → RoundRecord → Bool → List Item → Type 0
-HoldsEnds r holders named items old new shards shards' drops drops' record_is opened kept =
-    ((opened ≡ true) × (kept ≡ []) × IsHeld r holders named items old new shards shards' drops drops' record_is)
-    ⊎ ((opened ≡ false) × (kept ≡ items) × IsRefused named items old new shards shards' drops drops' record_is)
+abbrev pub HoldsEnds : Rules → List Holder → Named → List Item → PlantTold → PlantTold → List Shown → List Shown → Drops → Drops → Book → Book → RoundRecord → Bool → List Item → Type 0
+HoldsEnds r holders named items old new shards shards' drops drops' tally tally' record_is opened kept =
+    ((opened ≡ true) × (kept ≡ []) × IsHeld r holders named items old new shards shards' drops drops' tally tally' record_is)
+    ⊎ ((opened ≡ false) × (kept ≡ items) × IsRefused named items old new shards shards' drops drops' tally tally' record_is)

@@ -19,10 +19,9 @@ use crate::opening;
 use crate::random::Draws;
 use crate::report::report;
 use crate::sums::{all_carried, sessions_in};
-use bng_base::{Entry, Frame, Ip4, Item, Listed};
+use bng_base::{Book, Entry, Frame, Item};
 use bng_config::Config;
 use bng_plant::{Clock, Gate, Plant, Trace};
-use bng_ppp::LinkRules;
 use bng_shard::{PlainPool, Rules, Shard};
 use std::alloc::Global;
 use std::marker::Model;
@@ -35,6 +34,14 @@ const UNOPENED_MOST: u64 = 1_000_000;
 
 /// So many turns of the ending are the end.
 const ENDINGS_MOST: u64 = 1 << 40;
+
+/// Nothing has passed yet.
+const NO_TALLY: Book = Book {
+    input: 0,
+    output: 0,
+    input_packets: 0,
+    output_packets: 0,
+};
 
 /// What a desk was not opened or did not report for.
 #[derive(Clone, Copy, PartialEq, Eq, Debug)]
@@ -73,6 +80,7 @@ pub struct Desk {
     stopped: bool,
     shards: Vec<Shard>,
     pool: PlainPool,
+    tally: Book,
     draws: Draws,
     drops: Drops,
     moment: u64,
@@ -87,14 +95,14 @@ pub struct Desk {
 
 impl Model for Desk {
     ghost use Rattle.bng_desk.specs.Model.{Desk as Seen};
-    ghost use Rattle.std.specs.Prelude.{map};
+    ghost use Rattle.std.specs.Prelude.{map, [], ◌∷◌};
     ghost use Rattle.bng_desk.specs.Kept.{IsKept, rested};
 
     ghost Value = { Seen };
 
-    ghost view = { λ d. record { rules = d.rules; lines = d.lines.items; rounds = d.rounds; turns = d.turns; stopped = d.stopped; shards = map rested d.shards.items; holders = d.pool; seed = d.draws.seed; drawn = d.draws.drawn; drops = d.drops; moment = d.moment; told = d.told; endings = d.endings; unopened = d.unopened; closed = d.closed; kept = d.kept.items } };
+    ghost view = { λ d. record { rules = d.rules; lines = d.lines.items; rounds = d.rounds; turns = d.turns; stopped = d.stopped; shards = map rested d.shards.items; holders = d.pool; tallies = d.tally ∷ []; seed = d.draws.seed; drawn = d.draws.drawn; drops = d.drops; moment = d.moment; told = d.told; endings = d.endings; unopened = d.unopened; closed = d.closed; kept = d.kept.items } };
 
-    ghost invariant = { λ d. IsKept (record { rules = d.rules; lines = d.lines.items; rounds = d.rounds; turns = d.turns; stopped = d.stopped; shards = d.shards.items; holders = d.pool; seed = d.draws.seed; drawn = d.draws.drawn; drops = d.drops; moment = d.moment; told = d.told; endings = d.endings; unopened = d.unopened; closed = d.closed; kept = d.kept.items }) };
+    ghost invariant = { λ d. IsKept (record { rules = d.rules; lines = d.lines.items; rounds = d.rounds; turns = d.turns; stopped = d.stopped; shards = d.shards.items; holders = d.pool; tallies = d.tally ∷ []; seed = d.draws.seed; drawn = d.draws.drawn; drops = d.drops; moment = d.moment; told = d.told; endings = d.endings; unopened = d.unopened; closed = d.closed; kept = d.kept.items }) };
 }
 
 // What a turn answers whose round the trace took, or did not take.
@@ -178,38 +186,20 @@ impl Desk {
         } = config;
         let mut draws = Draws::of(seed);
         let key = draws.sixteen();
-        let Ok(offers) = opening::offers(alloc, access.as_slice(), key, &name, &services) else {
-            return Err(DeskError::OutOfMemory);
-        };
-        let Ok(lines) = opening::lines(alloc, statics.as_slice()) else {
-            return Err(DeskError::OutOfMemory);
-        };
-        let Ok(holders) = opening::holders(alloc, statics.as_slice()) else {
-            return Err(DeskError::OutOfMemory);
-        };
-        let Ok(opens) = opening::shards(alloc, shards, statics.into_vec()) else {
-            return Err(DeskError::OutOfMemory);
-        };
+        let offers = opening::offers(alloc, access.as_slice(), key, &name, &services)?;
+        let lines = opening::lines(alloc, statics.as_slice())?;
+        let holders = opening::holders(alloc, statics.as_slice())?;
+        let rules = opening::rules(shards, core_peer, access, offers, name, auth, echo);
+        let opens = opening::shards(alloc, &rules, statics.into_vec())?;
         Ok(Desk {
-            rules: Rules {
-                shards,
-                core_peer,
-                access,
-                offers: Listed::of(offers),
-                link: LinkRules {
-                    name,
-                    address: Ip4(0),
-                    dns: [None, None],
-                    auth,
-                    echo,
-                },
-            },
+            rules,
             lines,
             rounds,
             turns: 0,
             stopped: false,
             shards: opens,
             pool: PlainPool::of(holders),
+            tally: NO_TALLY,
             draws,
             drops: NO_DROPS,
             moment: now,
@@ -305,6 +295,7 @@ impl Desk {
             gathered.taken,
             &mut self.spare,
             &mut self.drops,
+            &mut self.tally,
         );
         let noted = note(trace, &round);
         self.lists = Lists::of_round(alloc, round, &mut self.spare);
@@ -356,6 +347,7 @@ impl Desk {
             &mut self.kept,
             &mut self.spare,
             &mut self.drops,
+            &mut self.tally,
         );
         let Ending { record, is_opened } = ending;
         let noted = note(trace, &record);

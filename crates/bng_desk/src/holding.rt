@@ -3,8 +3,8 @@ ghost use Rattle.std.specs.Prelude.{◌≡◌, ◌+◌, ◌*◌, ◌^◌, ◌≤
 ghost use Rattle.std.specs.List.{All};
 ghost use Rattle.bng_base.specs.Causes.{HasCause};
 ghost use Rattle.bng_base.specs.Told.{Grows};
-ghost use Rattle.bng_engine.specs.Progress.{IsReady};
-ghost use Rattle.bng_shard.specs.Sums.{IsLow};
+ghost use Rattle.bng_engine.specs.Calls.{IsReady};
+ghost use Rattle.bng_shard.specs.Sums.{IsLow, AreLow, RowsAreLow};
 ghost use Rattle.bng_desk.specs.Counting.{Within};
 ghost use Rattle.bng_desk.specs.Kept.{octets_most, drops_most};
 ghost use Rattle.bng_desk.specs.Taking.{IsEmpty, HasRows, AreInOrder, AreItems, RoundHeld, HoldsOne, HoldsEnds, outs_of_items};
@@ -14,7 +14,7 @@ ghost use Rattle.bng_desk.specs.Turn.{told_if};
 use crate::drops::{Drops, count_refused};
 use crate::lists::Lists;
 use crate::round::{deal_all, prepare_all, settle_all};
-use bng_base::{Entry, Item, Listed, Loose, OutRecord, RoundRecord};
+use bng_base::{Book, Entry, Item, Listed, Loose, OutRecord, RoundRecord};
 use bng_plant::{Noted, Plant, Trace};
 use bng_shard::{PlainPool, Rules, Shard};
 use std::alloc::Global;
@@ -60,18 +60,20 @@ pub(crate) fn opened<P: Plant>(
     named: Named,
     lists: Lists,
     drops: &mut Drops,
+    tally: &mut Book,
 ) -> RoundRecord
     requires numbers { AreInOrder shards.old }
     requires count { length shards.old ≡ rules.now.shards }
     requires some { 1 ≤ rules.now.shards }
     requires few { rules.now.shards ≤ 64 }
     requires held { All (λ h. h.shard < rules.now.shards) pool.now }
-    requires auth { 0 < length rules.now.link.auth.items }
     requires moment { named.moment < 2 ^ 60 }
     requires items { AreItems lists.items.items }
-    requires ready { All (IsReady (length lists.items.items)) shards.old }
+    requires ready { All (IsReady (length lists.items.items) 0) shards.old }
     requires rows { All HasRows shards.old }
-    requires low { All (λ v. All (IsLow (2 ^ 62 + 2 ^ 61)) v.rows) shards.old }
+    requires low { All (λ v. RowsAreLow (2 ^ 62 + 2 ^ 61) v.rows) shards.old }
+    requires low_books { All (λ v. AreLow (2 ^ 62 + 2 ^ 61) v.books) shards.old }
+    requires low_tally { IsLow (2 ^ 62 + 2 ^ 61) tally.old }
     requires few_outs { outs_of_items lists.items.items ≤ 4480 + 320 * length shards.old }
     requires loose { (lists.loose.items ≡ []) × (512 ≤ vec_capacity lists.loose) }
     requires journals { (lists.journals.items ≡ []) × (length shards.old ≤ vec_capacity lists.journals) }
@@ -79,10 +81,12 @@ pub(crate) fn opened<P: Plant>(
     requires allowances { lists.allowances.items ≡ replicate (length shards.old) 0 }
     requires refused { lists.refused.items ≡ [] }
     requires drops { Within (2 ^ 61) drops.old }
-    ensures round { RoundHeld rules.now pool.now named lists.items.items (P.told plant.old) (P.told plant.new) shards.old shards.new drops.old drops.new result }
+    ensures round { RoundHeld rules.now pool.now named lists.items.items (P.told plant.old) (P.told plant.new) shards.old shards.new drops.old drops.new tally.old tally.new result }
     ensures empty { All IsEmpty shards.new }
     ensures numbers { AreInOrder shards.new }
-    ensures low { (most : ℕ) → All (λ v. All (IsLow most) v.rows) shards.old → All (λ v. All (IsLow (most + octets_most)) v.rows) shards.new }
+    ensures low { (most : ℕ) → All (λ v. RowsAreLow most v.rows) shards.old → All (λ v. RowsAreLow (most + octets_most) v.rows) shards.new }
+    ensures books { (most : ℕ) → All (λ v. AreLow most v.books) shards.old → All (λ v. AreLow (most + octets_most) v.books) shards.new }
+    ensures tally { (most : ℕ) → IsLow most tally.old → IsLow (most + octets_most) tally.new }
     ensures within { (most : ℕ) → Within most drops.old → Within (most + drops_most) drops.new }
 {
     let Lists {
@@ -93,8 +97,17 @@ pub(crate) fn opened<P: Plant>(
         mut outs,
         refused,
     } = lists;
-    deal_all(rules, shards, pool, named.moment, items, &mut loose, drops);
-    settle_all(shards, plant, &mut outs, &mut journals, drops);
+    deal_all(
+        rules,
+        shards,
+        pool,
+        named.moment,
+        items,
+        &mut loose,
+        drops,
+        tally,
+    );
+    settle_all(shards, plant, &mut outs, &mut journals, drops, tally);
     recorded(named, allowances, journals, loose, outs, refused)
 }
 
@@ -138,17 +151,19 @@ pub(crate) fn hold<P: Plant>(
     taken: usize,
     spare: &mut Vec<Vec<Entry>>,
     drops: &mut Drops,
+    tally: &mut Book,
 ) -> RoundRecord
     requires numbers { AreInOrder shards.old }
     requires count { length shards.old ≡ rules.now.shards }
     requires some { 1 ≤ rules.now.shards }
     requires few { rules.now.shards ≤ 64 }
     requires held { All (λ h. h.shard < rules.now.shards) pool.now }
-    requires auth { 0 < length rules.now.link.auth.items }
     requires moment { named.moment < 2 ^ 60 }
     requires items { AreItems lists.items.items }
     requires empty_before { All IsEmpty shards.old }
-    requires low { All (λ v. All (IsLow (2 ^ 62 + 2 ^ 61)) v.rows) shards.old }
+    requires low { All (λ v. RowsAreLow (2 ^ 62 + 2 ^ 61) v.rows) shards.old }
+    requires low_books { All (λ v. AreLow (2 ^ 62 + 2 ^ 61) v.books) shards.old }
+    requires low_tally { IsLow (2 ^ 62 + 2 ^ 61) tally.old }
     requires few_outs { outs_of_items lists.items.items ≤ 4480 + 320 * length shards.old }
     requires loose { (lists.loose.items ≡ []) × (512 ≤ vec_capacity lists.loose) }
     requires journals { (lists.journals.items ≡ []) × (length shards.old ≤ vec_capacity lists.journals) }
@@ -157,15 +172,17 @@ pub(crate) fn hold<P: Plant>(
     requires refused { lists.refused.items ≡ [] }
     requires outside { refused_of lists.items.items ≡ take taken lists.items.items }
     requires drops { Within (2 ^ 61) drops.old }
-    ensures round { HoldsOne rules.now pool.now named lists.items.items (P.told plant.old) (P.told plant.new) shards.old shards.new drops.old drops.new result }
+    ensures round { HoldsOne rules.now pool.now named lists.items.items (P.told plant.old) (P.told plant.new) shards.old shards.new drops.old drops.new tally.old tally.new result }
     ensures empty { All IsEmpty shards.new }
     ensures numbers { AreInOrder shards.new }
-    ensures low { (most : ℕ) → All (λ v. All (IsLow most) v.rows) shards.old → All (λ v. All (IsLow (most + octets_most)) v.rows) shards.new }
+    ensures low { (most : ℕ) → All (λ v. RowsAreLow most v.rows) shards.old → All (λ v. RowsAreLow (most + octets_most) v.rows) shards.new }
+    ensures books { (most : ℕ) → All (λ v. AreLow most v.books) shards.old → All (λ v. AreLow (most + octets_most) v.books) shards.new }
+    ensures tally { (most : ℕ) → IsLow most tally.old → IsLow (most + octets_most) tally.new }
     ensures within { (most : ℕ) → Within most drops.old → Within (most + drops_most) drops.new }
 {
     let count = lists.items.len() as u16;
     if prepare_all(shards, alloc, count, spare) {
-        return opened(rules, shards, pool, plant, named, lists, drops);
+        return opened(rules, shards, pool, plant, named, lists, drops, tally);
     }
     let mut items = mem::replace(&mut lists.items, Vec::new(alloc));
     items.truncate(taken);
@@ -192,17 +209,19 @@ pub(crate) fn hold_ends<P: Plant>(
     kept: &mut Vec<Item>,
     spare: &mut Vec<Vec<Entry>>,
     drops: &mut Drops,
+    tally: &mut Book,
 ) -> Ending
     requires numbers { AreInOrder shards.old }
     requires count { length shards.old ≡ rules.now.shards }
     requires some { 1 ≤ rules.now.shards }
     requires few { rules.now.shards ≤ 64 }
     requires held { All (λ h. h.shard < rules.now.shards) pool.now }
-    requires auth { 0 < length rules.now.link.auth.items }
     requires moment { named.moment < 2 ^ 60 }
     requires items { AreItems lists.items.items }
     requires empty_before { All IsEmpty shards.old }
-    requires low { All (λ v. All (IsLow (2 ^ 62 + 2 ^ 61)) v.rows) shards.old }
+    requires low { All (λ v. RowsAreLow (2 ^ 62 + 2 ^ 61) v.rows) shards.old }
+    requires low_books { All (λ v. AreLow (2 ^ 62 + 2 ^ 61) v.books) shards.old }
+    requires low_tally { IsLow (2 ^ 62 + 2 ^ 61) tally.old }
     requires few_outs { outs_of_items lists.items.items ≤ 4480 + 320 * length shards.old }
     requires loose { (lists.loose.items ≡ []) × (512 ≤ vec_capacity lists.loose) }
     requires journals { (lists.journals.items ≡ []) × (length shards.old ≤ vec_capacity lists.journals) }
@@ -212,16 +231,18 @@ pub(crate) fn hold_ends<P: Plant>(
     requires outside { refused_of lists.items.items ≡ [] }
     requires none_kept { kept.old.items ≡ [] }
     requires drops { Within (2 ^ 61) drops.old }
-    ensures round { HoldsEnds rules.now pool.now named lists.items.items (P.told plant.old) (P.told plant.new) shards.old shards.new drops.old drops.new result.record result.is_opened kept.new.items }
+    ensures round { HoldsEnds rules.now pool.now named lists.items.items (P.told plant.old) (P.told plant.new) shards.old shards.new drops.old drops.new tally.old tally.new result.record result.is_opened kept.new.items }
     ensures empty { All IsEmpty shards.new }
     ensures numbers { AreInOrder shards.new }
-    ensures low { (most : ℕ) → All (λ v. All (IsLow most) v.rows) shards.old → All (λ v. All (IsLow (most + octets_most)) v.rows) shards.new }
+    ensures low { (most : ℕ) → All (λ v. RowsAreLow most v.rows) shards.old → All (λ v. RowsAreLow (most + octets_most) v.rows) shards.new }
+    ensures books { (most : ℕ) → All (λ v. AreLow most v.books) shards.old → All (λ v. AreLow (most + octets_most) v.books) shards.new }
+    ensures tally { (most : ℕ) → IsLow most tally.old → IsLow (most + octets_most) tally.new }
     ensures within { (most : ℕ) → Within most drops.old → Within (most + drops_most) drops.new }
 {
     let count = lists.items.len() as u16;
     if prepare_all(shards, alloc, count, spare) {
         return Ending {
-            record: opened(rules, shards, pool, plant, named, lists, drops),
+            record: opened(rules, shards, pool, plant, named, lists, drops, tally),
             is_opened: true,
         };
     }

@@ -14,6 +14,9 @@ const TAKEN_OUTS_MOST: usize = 4480;
 /// The most outs of a Tick or an End.
 const SHARD_OUTS_MOST: usize = 320;
 
+/// The most lists of journals that are kept for later rounds: one for each of 64 shards.
+const SPARE_MOST: usize = 64;
+
 /// The lists of a turn, with room for all that it may put on them. A desk keeps them from turn to turn.
 #[derive(Drop)]
 pub(crate) struct Lists {
@@ -47,8 +50,11 @@ fn zeros(mut list: Vec<u32>, count: usize) -> Result<Vec<u32>, AllocError>
     }
 }
 
-// Keeps the list of a journal for a later round, if there is room to keep it.
+// Keeps the list of a journal for a later round, if it has room, few are kept, and there is memory to keep it.
 fn keep(spare: &mut Vec<Vec<Entry>>, journal: Vec<Entry>) {
+    if journal.capacity() == 0 || SPARE_MOST <= spare.len() {
+        return;
+    }
     match spare.push(journal) {
         Ok(()) => {}
         Err(_) => {}

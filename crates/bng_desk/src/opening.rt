@@ -1,21 +1,21 @@
 //! What a desk is opened with.
-ghost use Rattle.std.specs.Prelude.{◌≡◌, ◌≤◌, ◌<◌, ◌==◌, ◌/◌, [], ℕ, IfOk, length, map, filter};
+ghost use Rattle.std.specs.Prelude.{◌≡◌, ◌≤◌, ◌<◌, ◌==◌, ◌/◌, [], ◌∷◌, ℕ, None, IfOk, length, map, filter};
 ghost use Rattle.std.specs.List.{All, range_with_len};
-ghost use Rattle.arrayvec.specs.ArrayVec.{ArrayVec as Few};
 ghost use Rattle.bng_shard.specs.Protocol.{opened};
-ghost use Rattle.bng_desk.specs.Opening.{line_of, holder_of, shard_of, IsOfferOf, AreOffersOf};
+ghost use Rattle.bng_desk.specs.Opening.{line_of, holder_of, shard_of, no_address, no_dns, IsOfferOf, AreOffersOf};
 
 use crate::desk::DeskError;
 use crate::line::Line;
 use arrayvec::ArrayVec;
-use bng_base::{AccessPort, Static};
+use bng_base::{AccessPort, AuthKind, Ip4, Listed, Peer, Static};
 use bng_discovery::PortRules;
-use bng_shard::{Holder, Shard};
+use bng_ppp::LinkRules;
+use bng_shard::{Holder, Rules, Shard};
 use std::alloc::Global;
 
 // The same octets again.
 fn copied(text: &ArrayVec<u8, 64>) -> ArrayVec<u8, 64>
-    ensures { result.items ≡ text.now.items }
+    ensures { result ≡ text.now }
 {
     let Ok(copy) = ArrayVec::try_from(text.as_slice()) else {
         unreachable!();
@@ -23,14 +23,117 @@ fn copied(text: &ArrayVec<u8, 64>) -> ArrayVec<u8, 64>
     copy
 }
 
+// The same texts again.
 fn all_copied(texts: &ArrayVec<ArrayVec<u8, 64>, 12>) -> ArrayVec<ArrayVec<u8, 64>, 12>
-    ensures { map (λ (s : Few ℕ). s.items) result.items ≡ map (λ (s : Few ℕ). s.items) texts.now.items }
+    ensures { result.items ≡ texts.now.items }
 {
     let mut copies = ArrayVec::new();
     for text in texts.as_slice() {
         copies.push(copied(text));
     }
     copies
+}
+
+// The same ways to authenticate again.
+fn kinds_copied(kinds: &ArrayVec<AuthKind, 2>) -> ArrayVec<AuthKind, 2>
+    ensures { result ≡ kinds.now }
+{
+    let Ok(copy) = ArrayVec::try_from(kinds.as_slice()) else {
+        unreachable!();
+    };
+    copy
+}
+
+// What a link is run by, again.
+fn link_copied(link: &LinkRules) -> LinkRules
+    ensures { result ≡ link.now }
+{
+    LinkRules {
+        name: copied(&link.name),
+        address: link.address,
+        dns: link.dns,
+        auth: kinds_copied(&link.auth),
+        echo: link.echo,
+    }
+}
+
+// What a port offers, again.
+fn offer_copied(offer: &PortRules) -> PortRules
+    ensures { result ≡ offer.now }
+{
+    PortRules {
+        port: offer.port,
+        mac: offer.mac,
+        key: offer.key,
+        name: copied(&offer.name),
+        services: all_copied(&offer.services),
+    }
+}
+
+// The same offers again.
+fn offers_copied(alloc: Global, offers: &[PortRules]) -> Result<Vec<PortRules>, DeskError>
+    ensures { IfOk result (λ copies. copies.items ≡ offers.now) }
+{
+    let Ok(mut copies) = Vec::with_capacity(alloc, offers.len()) else {
+        return Err(DeskError::OutOfMemory);
+    };
+    for offer in offers {
+        copies.push_reserved(offer_copied(offer));
+    }
+    Ok(copies)
+}
+
+// The same ports again.
+fn ports_copied(alloc: Global, ports: &[AccessPort]) -> Result<Vec<AccessPort>, DeskError>
+    ensures { IfOk result (λ copies. copies.items ≡ ports.now) }
+{
+    let mut copies = Vec::new(alloc);
+    match copies.extend_from_slice(ports) {
+        Ok(()) => Ok(copies),
+        Err(_) => Err(DeskError::OutOfMemory),
+    }
+}
+
+// The same rules again, for one shard more.
+fn rules_copied(alloc: Global, rules: &Rules) -> Result<Rules, DeskError>
+    ensures { IfOk result (λ copy. copy ≡ rules.now) }
+{
+    let access = ports_copied(alloc, rules.access.as_slice())?;
+    let offers = offers_copied(alloc, rules.offers.as_slice())?;
+    Ok(Rules {
+        shards: rules.shards,
+        core_peer: rules.core_peer,
+        access: Listed::of(access),
+        offers: Listed::of(offers),
+        link: link_copied(&rules.link),
+    })
+}
+
+/// By what all shards work. A subscriber is told no address of the gateway and no DNS server yet.
+pub(crate) fn rules(
+    shards: u16,
+    core_peer: Peer,
+    access: Listed<AccessPort>,
+    offers: Vec<PortRules>,
+    name: ArrayVec<u8, 64>,
+    auth: ArrayVec<AuthKind, 2>,
+    echo: u16,
+) -> Rules
+    ensures { result ≡ record { shards = shards; core_peer = core_peer; access = access; offers = offers.items; link = record { name = name; address = no_address; dns = no_dns; auth = auth; echo = echo } } }
+{
+    Rules {
+        shards,
+        core_peer,
+        access,
+        offers: Listed::of(offers),
+        link: LinkRules {
+            name,
+            address: Ip4(0),
+            dns: [None, None],
+            auth,
+            echo,
+        },
+    }
 }
 
 /// What the access ports offer, by their numbers.
@@ -105,9 +208,7 @@ fn dealt(alloc: Global, shards: u16, circuits: Vec<Static>) -> Result<Vec<Vec<St
     requires { All (λ c. shard_of c < shards) circuits.items }
     ensures { IfOk result (λ lists. map (λ l. l.items) lists.items ≡ map (λ n. filter (λ c. shard_of c == n) circuits.items) (range_with_len 0 shards)) }
 {
-    let Ok(mut lists) = empties(alloc, shards) else {
-        return Err(DeskError::OutOfMemory);
-    };
+    let mut lists = empties(alloc, shards)?;
     for circuit in circuits {
         let shard = usize::from(circuit.session.0 / 1024);
         if lists[shard].push(circuit).is_err() {
@@ -117,26 +218,26 @@ fn dealt(alloc: Global, shards: u16, circuits: Vec<Static>) -> Result<Vec<Vec<St
     Ok(lists)
 }
 
-/// The shards, each with its circuits.
+/// The shards that these rules name, each with its circuits and with rules of its own.
 pub(crate) fn shards(
     alloc: Global,
-    shards: u16,
+    rules: &Rules,
     circuits: Vec<Static>,
 ) -> Result<Vec<Shard>, DeskError>
-    requires few { shards ≤ 64 }
+    requires few { rules.now.shards ≤ 64 }
     requires circuits { length circuits.items ≤ 1024 }
-    requires inside { All (λ c. shard_of c < shards) circuits.items }
-    ensures { IfOk result (λ opens. opens.items ≡ map (λ n. opened n (filter (λ c. shard_of c == n) circuits.items)) (range_with_len 0 shards)) }
+    requires inside { All (λ c. shard_of c < rules.now.shards) circuits.items }
+    requires auth { 0 < length rules.now.link.auth.items }
+    ensures { IfOk result (λ opens. opens.items ≡ map (λ n. opened n rules.now (filter (λ c. shard_of c == n) circuits.items)) (range_with_len 0 rules.now.shards)) }
 {
-    let Ok(lists) = dealt(alloc, shards, circuits) else {
-        return Err(DeskError::OutOfMemory);
-    };
-    let Ok(mut opens) = Vec::with_capacity(alloc, usize::from(shards)) else {
+    let lists = dealt(alloc, rules.shards, circuits)?;
+    let Ok(mut opens) = Vec::with_capacity(alloc, usize::from(rules.shards)) else {
         return Err(DeskError::OutOfMemory);
     };
     let mut number = 0;
     for circuits in lists {
-        let Ok(shard) = Shard::open(alloc, number, circuits) else {
+        let own = rules_copied(alloc, rules)?;
+        let Ok(shard) = Shard::open(alloc, number, own, circuits) else {
             return Err(DeskError::OutOfMemory);
         };
         opens.push_reserved(shard);

@@ -1,23 +1,20 @@
 //! A round and its settlement, over all shards.
-ghost use Rattle.std.specs.Prelude.{◌≡◌, ◌+◌, ◌*◌, ◌≤◌, ◌<◌, ◌^◌, [], true, ℕ, List, length, sum_by, slice_index_or, vec_capacity};
+ghost use Rattle.std.specs.Prelude.{◌≡◌, ◌+◌, ◌*◌, ◌≤◌, ◌<◌, ◌^◌, [], true, ℕ, List, Bool, length, sum_by, slice_index_or, vec_capacity};
 ghost use Rattle.std.specs.List.{All, AllZip};
-ghost use Rattle.bng_engine.specs.Progress.{Kept, IsReady, InRound};
-ghost use Rattle.bng_engine.specs.Sight.{Sight as Seen};
-ghost use Rattle.bng_engine.specs.Sums.{one_if};
-ghost use Rattle.bng_shard.specs.declared.rules.Rules.{Rules as Ways};
-ghost use Rattle.bng_shard.specs.Deed.{Deed as Done};
-ghost use Rattle.bng_shard.specs.Protocol.{pppoe, packet_octets};
+ghost use Rattle.bng_engine.specs.Calls.{Kept, IsReady};
+ghost use Rattle.bng_engine.specs.Lists.{Zip3, one_if};
+ghost use Rattle.bng_engine.specs.Quantities.{Quantity, in_book};
+ghost use Rattle.bng_engine.specs.Sums.{charge_if, is_directed, passed_sum};
 ghost use Rattle.bng_shard.specs.Room.{Admits};
-ghost use Rattle.bng_shard.specs.State.{State as Held};
-ghost use Rattle.bng_shard.specs.Sums.{IsLow};
+ghost use Rattle.bng_shard.specs.Sums.{Has, IsMore, IsLow, AreLow, RowsAreLow};
 ghost use Rattle.bng_shard.specs.Whose.{IsWhose};
 ghost use Rattle.bng_desk.specs.Counting.{Within, plus};
 ghost use Rattle.bng_desk.specs.Round.{with_failed};
-ghost use Rattle.bng_desk.specs.Taking.{IsEmpty, HasRows, AreInOrder, AreItems, DealsOne, Deals, is_lost, Sends, Shows, SettlesAll};
+ghost use Rattle.bng_desk.specs.Taking.{Shown as View, Seen as Sight, IsEmpty, HasRows, AreInOrder, AreItems, IsLight, Covers, DealsOne, Deals, is_lost, lost_part, IsTurning, Turns, AllTurn, Sends, SettlesAll};
 
 use crate::calls::send;
 use crate::drops::{Drops, count};
-use bng_base::{DropCause, Entry, Fate, Item, Listed, Loose, OutRecord};
+use bng_base::{Book, DropCause, Entry, Fate, Item, Listed, Loose, OutRecord};
 use bng_plant::Plant;
 use bng_shard::{Charged, PlainPool, Rules, Shard, Whose, whose_is};
 use std::alloc::Global;
@@ -31,18 +28,18 @@ fn lend(shard: &mut Shard, mut list: Vec<Entry>)
     shard.keep_journal(list);
 }
 
-// Makes a shard ready for a round of so many items, with the list of a journal of before where one is left.
+// Makes a shard ready for a round of so many items, in which no term may begin, with the list of a journal of before where one is left.
 fn prepare_one(shard: &mut Shard, alloc: Global, items: u16, spare: &mut Vec<Vec<Entry>>) -> bool
     requires { IsEmpty shard.old }
     ensures kept { Kept shard.old shard.new }
     ensures empty { IsEmpty shard.new }
-    ensures ready { result ≡ true → IsReady items shard.new }
-    ensures rows { result ≡ true → HasRows shard.new }
+    ensures ready { result ≡ true → IsReady items 0 shard.new }
+    ensures rows { HasRows shard.new }
 {
     if let Some(list) = spare.pop() {
         lend(shard, list);
     }
-    shard.prepare(alloc, items).is_ok()
+    shard.prepare(alloc, items, 0).is_ok()
 }
 
 /// Makes all shards ready for a round of so many items, and says whether there is room. Lists of `spare` serve for their journals.
@@ -55,7 +52,7 @@ pub(crate) fn prepare_all(
     requires empty { All IsEmpty shards.old }
     ensures kept { AllZip Kept shards.old shards.new }
     ensures empty { All IsEmpty shards.new }
-    ensures ready { result ≡ true → All (IsReady items) shards.new }
+    ensures ready { result ≡ true → All (IsReady items 0) shards.new }
     ensures rows { result ≡ true → All HasRows shards.new }
 {
     for shard in shards.iter_mut() {
@@ -75,17 +72,19 @@ fn deal(
     now: u64,
     item: Item,
     loose: &mut Vec<Loose>,
+    tally: &mut Book,
 ) -> Fate
     requires count { length shards.old ≡ rules.now.shards }
     requires some { 1 ≤ rules.now.shards }
     requires held { All (λ h. h.shard < rules.now.shards) pool.now }
-    requires auth { 0 < length rules.now.link.auth.items }
     requires moment { now < 2 ^ 60 }
     requires whole { item.frame.headroom ≡ 64 }
     requires room { All (λ v. 0 < v.room) shards.old }
-    requires once { (n : ℕ) (d : Seen Held Entry) → n < length shards.old → IsWhose rules.now pool.now item (Whose.Stands n) → Admits (slice_index_or shards.old n d) item.kind }
+    requires once { (n : ℕ) (d : View) → n < length shards.old → IsWhose rules.now pool.now item (Whose.Stands n) → Admits (slice_index_or shards.old n d) item.kind }
+    requires low_books { All (λ v. AreLow (2 ^ 63) v.books) shards.old }
+    requires low_tally { IsLow (2 ^ 63) tally.old }
     requires loose_room { length loose.old.items < vec_capacity loose.old }
-    ensures deals { DealsOne rules.now pool.now place now item shards.old shards.new loose.old.items loose.new.items result }
+    ensures deals { DealsOne rules.now pool.now place now item shards.old shards.new loose.old.items loose.new.items tally.old tally.new result }
     ensures capacity { vec_capacity loose.new ≡ vec_capacity loose.old }
 {
     match whose_is(rules, pool, &item) {
@@ -98,11 +97,11 @@ fn deal(
             });
             fate
         }
-        Whose::Stands(number) => shards[usize::from(number)].step(rules, 0, place, now, item),
+        Whose::Stands(number) => shards[usize::from(number)].step(0, place, now, item, tally),
     }
 }
 
-/// Hands each item to its shard, in their order; an item that is for no shard is loose.
+/// Hands each item to its shard, in their order; an item that is for no shard is loose. What passes is entered in the tally.
 pub(crate) fn deal_all(
     rules: &Rules,
     shards: &mut [Shard],
@@ -111,26 +110,29 @@ pub(crate) fn deal_all(
     items: Vec<Item>,
     loose: &mut Vec<Loose>,
     drops: &mut Drops,
+    tally: &mut Book,
 )
     requires numbers { AreInOrder shards.old }
     requires count { length shards.old ≡ rules.now.shards }
     requires some { 1 ≤ rules.now.shards }
     requires held { All (λ h. h.shard < rules.now.shards) pool.now }
-    requires auth { 0 < length rules.now.link.auth.items }
     requires moment { now < 2 ^ 60 }
     requires items { AreItems items.items }
-    requires ready { All (IsReady (length items.items)) shards.old }
+    requires ready { All (IsReady (length items.items) 0) shards.old }
     requires rows { All HasRows shards.old }
+    requires low_books { All (λ v. AreLow (2 ^ 62 + 2 ^ 61) v.books) shards.old }
+    requires low_tally { IsLow (2 ^ 62 + 2 ^ 61) tally.old }
     requires loose { loose.old.items ≡ [] }
     requires room { length items.items ≤ vec_capacity loose.old }
     requires drops { Within (2 ^ 62) drops.old }
-    ensures deals { Deals rules.now pool.now now items.items shards.old shards.new loose.new.items drops.old drops.new }
+    ensures deals { Deals rules.now pool.now now items.items shards.old shards.new loose.new.items drops.old drops.new tally.old tally.new }
     ensures numbers { AreInOrder shards.new }
     ensures within { (most : ℕ) → Within most drops.old → Within (most + length items.items) drops.new }
+    ensures tally { (most : ℕ) → IsLow most tally.old → IsLow (most + 4160 * length items.items) tally.new }
 {
     let mut place = 0;
     for item in items {
-        let fate = deal(rules, shards, pool, place, now, item, loose);
+        let fate = deal(rules, shards, pool, place, now, item, loose, tally);
         count(drops, fate);
         place += 1;
     }
@@ -156,19 +158,49 @@ fn count_failed(drops: &mut Drops, charged: Charged, sent: bool)
     }
 }
 
+// Takes a packet off a tally, of so many octets in this direction.
+fn take_off(tally: &mut Book, input: bool, octets: u16)
+    requires { Has tally.old input octets }
+    ensures { IsMore tally.new input octets tally.old }
+{
+    let octets = u64::from(octets);
+    if input {
+        tally.input -= octets;
+        tally.input_packets -= 1;
+    } else {
+        tally.output -= octets;
+        tally.output_packets -= 1;
+    }
+}
+
+// Takes a packet whose send failed off the tally, in which it was entered when it passed.
+fn take_back(tally: &mut Book, charged: Charged, sent: bool)
+    requires { (q : Quantity) (input : Bool) → lost_part q input charged sent ≤ in_book q input tally.old }
+    ensures { (q : Quantity) (input : Bool) → in_book q input tally.new + lost_part q input charged sent ≡ in_book q input tally.old }
+{
+    if let Charged::Packet { input, octets } = charged {
+        if !sent {
+            take_off(tally, input, octets);
+        }
+    }
+}
+
 // Sends what a shard has to send and charges the answers; then its round is over.
 fn settle<P: Plant>(
     shard: &mut Shard,
     plant: &mut P,
     outs: &mut Vec<OutRecord>,
     drops: &mut Drops,
+    tally: &mut Book,
 ) -> Vec<Entry>
-    requires low { All (IsLow (2 ^ 62 + 2 ^ 61)) shard.old.rows }
-    requires light { packet_octets shard.old.outs ≤ 4160 * 512 }
+    requires turns { Turns shard.old }
+    requires low { RowsAreLow (2 ^ 62 + 2 ^ 61) shard.old.rows }
+    requires light { IsLight (4160 * 512) shard.old.outs }
     requires room { length outs.old.items + length shard.old.outs ≤ vec_capacity outs.old }
     requires few { length shard.old.outs ≤ 2 ^ 32 }
     requires drops { Within (2 ^ 62 + 2 ^ 61) drops.old }
-    ensures sends { Sends shard.old shard.new (P.told plant.old) (P.told plant.new) outs.old.items outs.new.items result.items drops.old drops.new }
+    requires covered { Covers tally.old shard.old.outs }
+    ensures sends { Sends shard.old shard.new (P.told plant.old) (P.told plant.new) outs.old.items outs.new.items result.items drops.old drops.new tally.old tally.new }
     ensures capacity { vec_capacity outs.old ≤ vec_capacity outs.new }
 {
     let (journal, mut to_send) = shard.drain();
@@ -177,7 +209,9 @@ fn settle<P: Plant>(
         out.sent = sent;
         let charged = shard.charge(out);
         count_failed(drops, charged, sent);
+        take_back(tally, charged, sent);
     }
+    shard.settle();
     let moved = outs.append(&mut to_send);
     prove!(moved.is_ok());
     shard.keep_outs(to_send);
@@ -191,24 +225,28 @@ pub(crate) fn settle_all<P: Plant>(
     outs: &mut Vec<OutRecord>,
     journals: &mut Vec<Listed<Entry>>,
     drops: &mut Drops,
+    tally: &mut Book,
 )
-    requires low { All (λ v. All (IsLow (2 ^ 62 + 2 ^ 61)) v.rows) shards.old }
-    requires light { All (λ v. packet_octets v.outs ≤ 4160 * 512) shards.old }
+    requires turning { AllTurn shards.old }
+    requires low { All (λ v. RowsAreLow (2 ^ 62 + 2 ^ 61) v.rows) shards.old }
+    requires light { All (λ v. IsLight (4160 * 512) v.outs) shards.old }
     requires outs { outs.old.items ≡ [] }
     requires journals { journals.old.items ≡ [] }
     requires outs_room { sum_by (λ v. length v.outs) shards.old ≤ vec_capacity outs.old }
     requires journals_room { length shards.old ≤ vec_capacity journals.old }
     requires drops { Within (2 ^ 62) drops.old }
     requires few { sum_by (λ v. length v.outs) shards.old ≤ 2 ^ 32 }
-    ensures settles { (rules : Ways) (was now : List (Seen Held Done)) → AllZip (InRound (pppoe rules)) was now → AllZip Shows now shards.old
-        → SettlesAll rules (P.told plant.old) (P.told plant.new) now shards.new outs.new.items journals.new.items drops.old drops.new }
+    requires covered { (q : Quantity) (input : Bool) → sum_by (λ v. passed_sum (charge_if q (is_directed input)) v.outs) shards.old ≤ in_book q input tally.old }
+    ensures settles { (was now : List Sight) → Zip3 IsTurning shards.old was now → SettlesAll was now (P.told plant.old) (P.told plant.new) shards.new outs.new.items journals.new.items drops.old drops.new tally.old tally.new }
     ensures empty { All IsEmpty shards.new }
     ensures numbers { AreInOrder shards.old → AreInOrder shards.new }
-    ensures low { (most octets : ℕ) → All (λ v. All (IsLow most) v.rows) shards.old → All (λ v. packet_octets v.outs ≤ octets) shards.old → All (λ v. All (IsLow (most + octets)) v.rows) shards.new }
+    ensures low { (most octets : ℕ) → All (λ v. RowsAreLow most v.rows) shards.old → All (λ v. IsLight octets v.outs) shards.old → All (λ v. RowsAreLow (most + octets) v.rows) shards.new }
+    ensures books { (most : ℕ) → All (λ v. AreLow most v.books) shards.old → All (λ v. AreLow most v.books) shards.new }
+    ensures tally { (most : ℕ) → IsLow most tally.old → IsLow most tally.new }
     ensures within { (most : ℕ) → Within most drops.old → Within (most + sum_by (λ v. length v.outs) shards.old) drops.new }
 {
     for shard in shards.iter_mut() {
-        let journal = settle(shard, plant, outs, drops);
+        let journal = settle(shard, plant, outs, drops, tally);
         journals.push_reserved(Listed::of(journal));
     }
 }

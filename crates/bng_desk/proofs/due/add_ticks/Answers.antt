@@ -2,15 +2,15 @@ use Rattle.std.proofs.Common.{◌≡◌, ◌+◌, ◌<◌, ◌≤◌, ◌^◌, �
 use Rattle.std.proofs.lemmas.List.{take_more, length-take-le}
 use Rattle.bng_base.specs.declared.item.Entry.{Entry}
 use Rattle.bng_base.specs.declared.item.Item.{Item}
-use Rattle.bng_engine.specs.Sight.{Sight}
-use Rattle.bng_shard.specs.State.{State}
+use Rattle.bng_engine.specs.Views.{ShardView}
+use Rattle.bng_shard.specs.Protocol.{ShardState}
 use Rattle.bng_desk.specs.Items.{ticks_of, drawn_from}
 use Rattle.bng_desk.specs.Random.{Drawn}
 use Rattle.bng_desk.proofs.Drawing.{drawn_length, drawn_more, draws_more, ticks_append, ticks_length}
 use Rattle.bng_desk.proofs.due.add_ticks.Goals as goal
 
 -- no more Ticks than shards so far
-few : (moment k : ℕ) (vs : List (Sight State Entry)) → k < length vs → length (ticks_of moment (take k vs)) ≤ k
+few : (moment k : ℕ) (vs : List (ShardView ShardState Entry)) → k < length vs → length (ticks_of moment (take k vs)) ≤ k
 few moment k vs l = omega (arith, l, ticks_length moment (take k vs), length-take-le k vs (omega (arith, l)))
 
 pub add_tick-requires-clause-room : goal.add_tick-requires-clause-room
@@ -44,7 +44,7 @@ loop-number-preserved c =
     let here = ticks_of c.args.now (v ∷ []) in
     let more : before ++ here ≡ ticks_of c.args.now (take (k + 1) vs) =
     sym (ticks_append c.args.now (take k vs) (v ∷ []))
-    ∙ ap (λ (w : Sight State Entry). ticks_of c.args.now (take k vs ++ w ∷ [])) c.index-shards-number.is
+    ∙ ap (λ (w : ShardView ShardState Entry). ticks_of c.args.now (take k vs ++ w ∷ [])) c.index-shards-number.is
     ∙ ap (ticks_of c.args.now) (sym (take_more vs k v c.loop-number-test.true)) in
     record {
       items = drawn_more seed n old c.loop-number.items.items c.add_tick.new.items.items before here c.loop-number.draws so_far.items so_far.draws c.add_tick.ensures.items

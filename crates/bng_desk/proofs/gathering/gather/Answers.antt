@@ -3,9 +3,9 @@ use Rattle.std.proofs.Math.Seq.{take-append_seam}
 use Rattle.bng_base.specs.declared.item.Item.{Item}
 use Rattle.bng_base.specs.declared.item.Entry.{Entry}
 use Rattle.bng_base.specs.Told.{PlantTold}
-use Rattle.bng_engine.specs.Sight.{Sight}
+use Rattle.bng_engine.specs.Views.{ShardView}
 use Rattle.bng_shard.specs.declared.rules.Rules.{Rules}
-use Rattle.bng_shard.specs.State.{State}
+use Rattle.bng_shard.specs.Protocol.{ShardState}
 use Rattle.bng_desk.specs.Items.{drawn_from, taken_items, ticks_of}
 use Rattle.bng_desk.specs.Random.{Drawn}
 use Rattle.bng_desk.specs.Round.{refused_of}
@@ -20,7 +20,7 @@ use Rattle.bng_desk.proofs.gathering.gather.Goals as goal
 use Rattle.bng_desk.proofs.gathering.gather.Goals.{After-add_ticks}
 
 abbrev Shards : Type 0
-Shards = List (Sight State Entry)
+Shards = List (ShardView ShardState Entry)
 
 -- what was taken, and the Ticks after it
 gathered : (r : Rules) (vs : Shards) (moment : ℕ) (p p' : PlantTold) (d d₁ d₂ : Drawn) (i i₁ i₂ : List Item) (quiet : Bool) (taken : ℕ) → i ≡ [] → Takes (data_roles r) (most_of r) 448 p p' d d₁ i i₁ quiet

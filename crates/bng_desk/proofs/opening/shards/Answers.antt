@@ -3,30 +3,31 @@ use Rattle.std.specs.List.{range_with_len}
 use Rattle.std.proofs.lemmas.List.FromFn.{map-range_with_len_more, length-map-range_with_len}
 use Rattle.bng_base.specs.declared.item.Entry.{Entry}
 use Rattle.bng_base.specs.declared.settings.Static.{Static}
-use Rattle.bng_engine.specs.Sight.{Sight}
+use Rattle.bng_engine.specs.Views.{ShardView}
+use Rattle.bng_shard.specs.declared.rules.Rules.{Rules}
 use Rattle.bng_shard.specs.Protocol.{opened}
-use Rattle.bng_shard.specs.State.{State}
+use Rattle.bng_shard.specs.Protocol.{ShardState}
 use Rattle.bng_desk.proofs.Outfit.{of_shard, few_of, list_count, list_next}
 use Rattle.bng_desk.proofs.opening.shards.Goals as goal
 
 pub open-requires-clause-number : goal.open-requires-clause-number
 open-requires-clause-number c =
     let was = c.loop-circuits.invariant in
-    let next = list_next (λ x. x.items) (of_shard c.args.circuits.items) c.loop-circuits.yielded c.next.new.self.rest.items c.loop-circuits.circuits-iterator.rest.items c.in-Some.circuits c.args.shards c.loop-circuits.number was.left c.in-Some.ensures.steps.0 was.number in
+    let next = list_next (λ x. x.items) (of_shard c.args.circuits.items) c.loop-circuits.yielded c.next.new.self.rest.items c.loop-circuits.circuits-iterator.rest.items c.in-Some.circuits c.args.rules.now.shards c.loop-circuits.number was.left c.in-Some.ensures.steps.0 was.number in
     omega (arith, next.0, c.requires.few)
 
 pub open-requires-clause-few : goal.open-requires-clause-few
 open-requires-clause-few c =
     let was = c.loop-circuits.invariant in
-    let next = list_next (λ x. x.items) (of_shard c.args.circuits.items) c.loop-circuits.yielded c.next.new.self.rest.items c.loop-circuits.circuits-iterator.rest.items c.in-Some.circuits c.args.shards c.loop-circuits.number was.left c.in-Some.ensures.steps.0 was.number in
+    let next = list_next (λ x. x.items) (of_shard c.args.circuits.items) c.loop-circuits.yielded c.next.new.self.rest.items c.loop-circuits.circuits-iterator.rest.items c.in-Some.circuits c.args.rules.now.shards c.loop-circuits.number was.left c.in-Some.ensures.steps.0 was.number in
     omega (arith, ap (λ (cs : List Static). length cs) next.1, few_of c.args.circuits.items c.loop-circuits.number, c.requires.circuits)
 
 pub push_reserved-requires : goal.push_reserved-requires
 push_reserved-requires c =
     let was = c.loop-circuits.invariant in
-    let next = list_next (λ x. x.items) (of_shard c.args.circuits.items) c.loop-circuits.yielded c.next.new.self.rest.items c.loop-circuits.circuits-iterator.rest.items c.in-Some.circuits c.args.shards c.loop-circuits.number was.left c.in-Some.ensures.steps.0 was.number in
-    let open_shard = λ (n : ℕ). opened n (of_shard c.args.circuits.items n) in
-    omega (arith, next.0, was.room, ap (λ (vs : List (Sight State Entry)). length vs) was.opens, length-map-range_with_len open_shard 0 c.loop-circuits.number)
+    let next = list_next (λ x. x.items) (of_shard c.args.circuits.items) c.loop-circuits.yielded c.next.new.self.rest.items c.loop-circuits.circuits-iterator.rest.items c.in-Some.circuits c.args.rules.now.shards c.loop-circuits.number was.left c.in-Some.ensures.steps.0 was.number in
+    let open_shard = λ (n : ℕ). opened n c.args.rules.now (of_shard c.args.circuits.items n) in
+    omega (arith, next.0, was.room, ap (λ (vs : List (ShardView ShardState Entry)). length vs) was.opens, length-map-range_with_len open_shard 0 c.loop-circuits.number)
 
 pub loop-circuits-preserved : goal.loop-circuits-preserved
 loop-circuits-preserved c =
@@ -34,13 +35,13 @@ loop-circuits-preserved c =
     let done = c.loop-circuits.yielded in
     let left = c.next.new.self.rest.items in
     let n = c.loop-circuits.number in
-    let next = list_next (λ x. x.items) (of_shard c.args.circuits.items) done left c.loop-circuits.circuits-iterator.rest.items c.in-Some.circuits c.args.shards n was.left c.in-Some.ensures.steps.0 was.number in
-    let open_shard = λ (n : ℕ). opened n (of_shard c.args.circuits.items n) in
+    let next = list_next (λ x. x.items) (of_shard c.args.circuits.items) done left c.loop-circuits.circuits-iterator.rest.items c.in-Some.circuits c.args.rules.now.shards n was.left c.in-Some.ensures.steps.0 was.number in
+    let open_shard = λ (n : ℕ). opened n c.args.rules.now (of_shard c.args.circuits.items n) in
     record {
       left = ap (map (λ x. x.items)) (append_assoc done (c.in-Some.circuits ∷ []) left ∙ sym (ap (λ xs. done ++ xs) c.in-Some.ensures.steps.0)) ∙ was.left;
       opens = c.push_reserved.ensures.items
-          ∙ ap (λ (vs : List (Sight State Entry)). vs ++ c.in-Ok-open.shard ∷ []) was.opens
-          ∙ ap (λ (v : Sight State Entry). map open_shard (range_with_len 0 n) ++ v ∷ []) (c.in-Ok-open.ensures ∙ ap (λ (cs : List Static). opened n cs) next.1)
+          ∙ ap (λ (vs : List (ShardView ShardState Entry)). vs ++ c.in-Ok-open.shard ∷ []) was.opens
+          ∙ ap (λ (v : ShardView ShardState Entry). map open_shard (range_with_len 0 n) ++ v ∷ []) (c.in-Ok.ensures ∙ ap (λ (r : Rules). opened n r c.in-Some.circuits.items) c.rules_copied-own.value-ensures ∙ ap (λ (cs : List Static). opened n c.args.rules.now cs) next.1)
           ∙ sym (map-range_with_len_more open_shard 0 n n (omega arith));
       number = omega (arith, length-append done (c.in-Some.circuits ∷ []), was.number);
       room = omega (arith, c.push_reserved.ensures.capacity, was.room);
@@ -51,6 +52,6 @@ returns c =
     let was = c.loop-circuits.invariant in
     let done = c.loop-circuits.yielded in
     let rest = c.loop-circuits.circuits-iterator.rest in
-    let open_shard = λ (n : ℕ). opened n (of_shard c.args.circuits.items n) in
-    let count = list_count (λ x. x.items) (of_shard c.args.circuits.items) (done ++ rest.items) c.args.shards was.left in
+    let open_shard = λ (n : ℕ). opened n c.args.rules.now (of_shard c.args.circuits.items n) in
+    let count = list_count (λ x. x.items) (of_shard c.args.circuits.items) (done ++ rest.items) c.args.rules.now.shards was.left in
     was.opens ∙ ap (λ (n : ℕ). map open_shard (range_with_len 0 n)) (omega (arith, was.number, count, c.in-None.ensures.steps.0, rest.ok, length-append done rest.items))

@@ -8,8 +8,8 @@ use Rattle.bng_desk.proofs.opening.shards.Given as goal
 -- the shards so far are opened
 abbrev pub invariant-loop-circuits : goal.invariant-loop-circuits
 invariant-loop-circuits l = record {
-  left : map (λ x. x.items) (l.yielded ++ l.circuits-iterator.rest.items) ≡ map (λ (n : ℕ). filter (λ (c : Static). shard_of c == n) l.fn.circuits.items) (range_with_len 0 l.fn.shards);
-  opens : l.opens.items ≡ map (λ (n : ℕ). opened n (filter (λ (c : Static). shard_of c == n) l.fn.circuits.items)) (range_with_len 0 l.number);
+  left : map (λ x. x.items) (l.yielded ++ l.circuits-iterator.rest.items) ≡ map (λ (n : ℕ). filter (λ (c : Static). shard_of c == n) l.fn.circuits.items) (range_with_len 0 l.fn.rules.shards);
+  opens : l.opens.items ≡ map (λ (n : ℕ). opened n l.fn.rules (filter (λ (c : Static). shard_of c == n) l.fn.circuits.items)) (range_with_len 0 l.number);
   number : length l.yielded ≡ l.number;
-  room : l.fn.shards ≤ vec_capacity l.opens;
+  room : l.fn.rules.shards ≤ vec_capacity l.opens;
 }

@@ -1,12 +1,12 @@
-use Rattle.std.proofs.Common.{◌≡◌, ◌+◌, ◌≤◌, ◌^◌, ℕ, List, [], ◌∷◌, ◌++◌, length, get_or, refl, sym, ap, subst, ◌∙◌, arith, append_assoc, length-append}
+use Rattle.std.proofs.Common.{◌≡◌, ◌+◌, ◌*◌, ◌≤◌, ◌^◌, ℕ, List, [], ◌∷◌, ◌++◌, length, get_or, refl, sym, ap, subst, ◌∙◌, arith, append_assoc, length-append}
 use Rattle.std.specs.List.{All}
 use Rattle.bng_base.specs.declared.item.Item.{Item}
 use Rattle.bng_base.specs.declared.item.Loose.{Loose}
-use Rattle.bng_shard.proofs.StepLaws.{pppoe_laws}
+use Rattle.bng_shard.specs.Sums.{IsLow}
 use Rattle.bng_desk.specs.Taking.{AreOnce, DealsOne}
 use Rattle.bng_desk.proofs.Admitting.{admits_next}
 use Rattle.bng_desk.proofs.DropLaws.{within_wider, within_more}
-use Rattle.bng_desk.proofs.OneMore.{deals_none, deals_more, journal_in, room_more, loose_more, numbers_dealt}
+use Rattle.bng_desk.proofs.OneMore.{deals_none, deals_more, journal_in, room_more, loose_more, tally_more, numbers_dealt, dealt_books, low_more}
 use Rattle.bng_desk.proofs.round.deal_all.Goals as goal
 
 pub loop-item-init : goal.loop-item-init
@@ -14,13 +14,14 @@ loop-item-init c =
     let shards = c.args.shards.now in
     let n = length c.args.items.items in
     record {
-      deals = deals_none c.args.rules.now (pppoe_laws c.args.rules.now) c.args.pool.now c.args.now n shards c.args.loose.now.items c.args.drops.now c.requires.ready c.requires.rows c.requires.loose;
+      deals = deals_none c.args.rules.now c.args.pool.now c.args.now n shards c.args.loose.now.items c.args.drops.now c.args.tally.now c.requires.ready c.requires.rows c.requires.loose;
       whole = sym c.into_iter-item-iterator.ensures.into_iter_gives.0;
       place = refl;
       room = λ k d lt. omega (arith, (c.requires.ready k d lt).room);
       loose = omega (arith, ap (λ (ls : List Loose). length ls) c.requires.loose);
       loose_room = refl;
       drops = λ most within. within_wider most (most + 0) c.args.drops.now (omega arith) within;
+      tally = λ most low. low_more most (most + 4160 * 0) c.args.tally.now (omega arith) low;
     }
 
 pub deal-fate-requires-clause-once : goal.deal-fate-requires-clause-once
@@ -32,7 +33,22 @@ deal-fate-requires-clause-once c n d lt is =
     let whole : c.args.items.items ≡ done ++ c.in-Some.item ∷ c.next.new.self.rest.items = was.whole ∙ ap (λ (is : List Item). done ++ is) c.in-Some.ensures.steps.0 in
     admits_next r holders c.args.now done was.deals.whose c.in-Some.item c.next.new.self.rest.items n (get_or c.loop-item.shards n d)
     (subst (λ (is : List Item). AreOnce is) whole c.requires.items.once) was.deals.is_whose is
-    (journal_in r holders c.args.now done c.args.shards.now c.loop-item.shards c.loop-item.loose.items c.args.drops.now c.loop-item.drops was.deals n d lt)
+    (journal_in r holders c.args.now done c.args.shards.now c.loop-item.shards c.loop-item.loose.items c.args.drops.now c.loop-item.drops c.args.tally.now c.loop-item.tally was.deals n d lt)
+
+pub deal-fate-requires-clause-low_books : goal.deal-fate-requires-clause-low_books
+deal-fate-requires-clause-low_books c k d lt i within q input =
+    let was = c.loop-item.invariant in
+    let number = ap (λ (is : List Item). length is) was.whole in
+    omega (
+      arith, number, length-append c.loop-item.yielded c.loop-item.item-iterator.rest.items, c.requires.items.few,
+      dealt_books c.args.rules.now c.args.pool.now c.args.now c.loop-item.yielded c.args.shards.now c.loop-item.shards c.loop-item.loose.items c.args.drops.now c.loop-item.drops c.args.tally.now c.loop-item.tally was.deals (2 ^ 62 + 2 ^ 61) c.requires.low_books k d lt i within q input,
+    )
+
+pub deal-fate-requires-clause-low_tally : goal.deal-fate-requires-clause-low_tally
+deal-fate-requires-clause-low_tally c =
+    let was = c.loop-item.invariant in
+    let number = ap (λ (is : List Item). length is) was.whole in
+    low_more (2 ^ 62 + 2 ^ 61 + 4160 * length c.loop-item.yielded) (2 ^ 63) c.loop-item.tally (omega (arith, number, length-append c.loop-item.yielded c.loop-item.item-iterator.rest.items, c.requires.items.few)) (was.tally (2 ^ 62 + 2 ^ 61) c.requires.low_tally)
 
 pub count-requires : goal.count-requires
 count-requires c =
@@ -49,34 +65,46 @@ loop-item-preserved c =
     let r = c.args.rules.now in
     let holders = c.args.pool.now in
     let now = c.args.now in
+    let olds = c.args.shards.now in
     let shards = c.loop-item.shards in
     let shards' = c.deal-fate.new.shards in
     let loose = c.loop-item.loose.items in
     let loose' = c.deal-fate.new.loose.items in
+    let start = c.args.tally.now in
+    let tally = c.loop-item.tally in
+    let tally' = c.deal-fate.new.tally in
     let whole : c.args.items.items ≡ done ++ item ∷ left = was.whole ∙ ap (λ (is : List Item). done ++ is) c.in-Some.ensures.steps.0 in
     let longer = length-append done (item ∷ []) in
     let number = ap (λ (is : List Item). length is) whole in
     let within = length-append done (item ∷ left) in
-    let one : DealsOne r holders (length done) now item shards shards' loose loose' c.deal-fate.result =
-    subst (λ (place : ℕ). DealsOne r holders place now item shards shards' loose loose' c.deal-fate.result) (sym was.place) c.deal-fate.ensures.deals in
+    let one : DealsOne r holders (length done) now item shards shards' loose loose' tally tally' c.deal-fate.result =
+    subst (λ (place : ℕ). DealsOne r holders place now item shards shards' loose loose' tally tally' c.deal-fate.result) (sym was.place) c.deal-fate.ensures.deals in
     let more : length done + 1 ≡ length (done ++ item ∷ []) = omega (arith, longer) in
     record {
-      deals = deals_more r (pppoe_laws r) holders now done item c.args.shards.now shards shards' loose loose' c.args.drops.now c.loop-item.drops c.count.new.drops c.deal-fate.result was.deals c.count.ensures one;
+      deals = deals_more r holders now done item olds shards shards' loose loose' c.args.drops.now c.loop-item.drops c.count.new.drops start tally tally' c.deal-fate.result was.deals c.count.ensures one;
       whole = whole ∙ sym (append_assoc done (item ∷ []) left);
       place = omega (arith, longer, was.place);
       room = subst (λ (n : ℕ). All (λ v. length c.args.items.items ≤ v.room + n) shards') more
-          (room_more r holders now (length done) item shards shards' loose loose' c.deal-fate.result one (length c.args.items.items) (length done) (omega (arith, number, within)) was.room);
-      loose = omega (arith, longer, was.loose, loose_more r holders now (length done) item shards shards' loose loose' c.deal-fate.result one);
+          (room_more r holders now done olds shards loose c.args.drops.now c.loop-item.drops start tally was.deals (length done) item shards' loose' tally' c.deal-fate.result one (length c.args.items.items) (length done) (omega (arith, number, within)) was.room);
+      loose = omega (arith, longer, was.loose, loose_more r holders now done olds shards loose c.args.drops.now c.loop-item.drops start tally was.deals (length done) item shards' loose' tally' c.deal-fate.result one);
       loose_room = c.deal-fate.ensures.capacity ∙ was.loose_room;
       drops = λ most within. within_more (most + length done) (most + length (done ++ item ∷ [])) c.loop-item.drops c.count.new.drops c.deal-fate.result (omega (arith, longer)) (was.drops most within) c.count.ensures;
+      tally = λ most low. low_more (most + 4160 * length done + 4160) (most + 4160 * length (done ++ item ∷ [])) tally' (omega (arith, longer))
+          (tally_more r holders now done olds shards loose c.args.drops.now c.loop-item.drops start tally was.deals (length done) item shards' loose' tally' c.deal-fate.result one (most + 4160 * length done) (was.tally most low));
     }
 
 pub returns-clause-numbers : goal.returns-clause-numbers
 returns-clause-numbers c =
-    numbers_dealt c.args.rules.now c.args.pool.now c.args.now c.loop-item.yielded c.args.shards.now c.loop-item.shards c.loop-item.loose.items c.args.drops.now c.loop-item.drops c.loop-item.invariant.deals c.requires.numbers
+    numbers_dealt c.args.rules.now c.args.pool.now c.args.now c.loop-item.yielded c.args.shards.now c.loop-item.shards c.loop-item.loose.items c.args.drops.now c.loop-item.drops c.args.tally.now c.loop-item.tally c.loop-item.invariant.deals c.requires.numbers
 
 pub returns-clause-within : goal.returns-clause-within
 returns-clause-within c most within =
     let number = ap (λ (is : List Item). length is) c.loop-item.invariant.whole in
     within_wider (most + length c.loop-item.yielded) (most + length c.args.items.items) c.loop-item.drops
     (omega (arith, number, length-append c.loop-item.yielded c.loop-item.item-iterator.rest.items)) (c.loop-item.invariant.drops most within)
+
+pub returns-clause-tally : goal.returns-clause-tally
+returns-clause-tally c most low =
+    let number = ap (λ (is : List Item). length is) c.loop-item.invariant.whole in
+    low_more (most + 4160 * length c.loop-item.yielded) (most + 4160 * length c.args.items.items) c.loop-item.tally
+    (omega (arith, number, length-append c.loop-item.yielded c.loop-item.item-iterator.rest.items)) (c.loop-item.invariant.tally most low)

@@ -1,9 +1,9 @@
 use Rattle.std.proofs.Common.{rules, get_or, sym, subst, arith}
 use Rattle.bng_base.specs.declared.item.Entry.{Entry}
-use Rattle.bng_engine.specs.Progress.{Kept, IsReady}
-use Rattle.bng_engine.specs.Sight.{Sight}
+use Rattle.bng_engine.specs.Calls.{Kept, IsReady}
+use Rattle.bng_engine.specs.Views.{ShardView}
 use Rattle.bng_engine.proofs.Walks.{same_at, walk_more, zip_weaker}
-use Rattle.bng_shard.specs.State.{State}
+use Rattle.bng_shard.specs.Protocol.{ShardState}
 use Rattle.bng_desk.specs.Taking.{IsEmpty, HasRows}
 use Rattle.bng_desk.proofs.Readying.{IsMadeReady, IsLeft, all_ready, some_ready, all_right, all_onward}
 use Rattle.bng_desk.proofs.round.prepare_all.Goals as goal
@@ -29,9 +29,8 @@ returns-then-not-prepare_one-clause-empty c =
 pub loop-shard-preserved : goal.loop-shard-preserved
 loop-shard-preserved c =
     let i = c.loop-shard.shard-index in
-    let ready : IsReady c.args.items c.prepare_one.new.shard = search rules in
-    let rows : HasRows c.prepare_one.new.shard = search rules in
-    let here : IsMadeReady c.args.items (get_or c.loop-shard.shards i c.shard-item.result) c.prepare_one.new.shard = record { kept = c.prepare_one.ensures.kept; ready = ready; rows = rows } in
+    let ready : IsReady c.args.items 0 c.prepare_one.new.shard = search rules in
+    let here : IsMadeReady c.args.items (get_or c.loop-shard.shards i c.shard-item.result) c.prepare_one.new.shard = record { kept = c.prepare_one.ensures.kept; ready = ready; rows = c.prepare_one.ensures.rows } in
     walk_more (IsMadeReady c.args.items) c.args.shards.now c.loop-shard.shards i c.shard-item.result c.prepare_one.new.shard c.loop-shard-test.true c.loop-shard.invariant here
 
 pub returns-clause-kept : goal.returns-clause-kept
@@ -46,7 +45,7 @@ returns-clause-empty c =
 
 pub returns-clause-ready : goal.returns-clause-ready
 returns-clause-ready c _ =
-    all_right (IsMadeReady c.args.items) (IsReady c.args.items) (λ x y h. h.ready) c.args.shards.now c.loop-shard.shards
+    all_right (IsMadeReady c.args.items) (IsReady c.args.items 0) (λ x y h. h.ready) c.args.shards.now c.loop-shard.shards
     (all_ready c.args.items c.args.shards.now c.loop-shard.shards c.loop-shard.shard-index (omega arith) (omega arith) c.loop-shard.invariant)
 
 pub returns-clause-rows : goal.returns-clause-rows

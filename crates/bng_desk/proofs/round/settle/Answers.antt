@@ -1,32 +1,59 @@
-use Rattle.std.proofs.Common.{◌+◌, ◌^◌, ℕ, List, [], get_or, length, sym, ap, subst, ◌∙◌, arith}
-use Rattle.std.specs.List.{All}
+use Rattle.std.proofs.Common.{◌≡◌, ◌+◌, ◌<◌, ◌^◌, ℕ, List, [], ◌∷◌, drop, take, get_or, length, refl, sym, ap, subst, ◌∙◌, arith}
+use Rattle.std.proofs.lemmas.List.{drop_all, take_all}
 use Rattle.bng_base.specs.declared.item.Entry.{Entry}
+use Rattle.bng_base.specs.declared.item.OutRecord.{OutRecord}
 use Rattle.bng_base.specs.Stretch.{ExtendsPlant}
-use Rattle.bng_engine.specs.Sight.{Sight, Row}
-use Rattle.bng_shard.specs.State.{State}
-use Rattle.bng_shard.specs.Sums.{IsLow}
+use Rattle.bng_engine.specs.Views.{ShardView}
+use Rattle.bng_shard.specs.Protocol.{ShardState}
+use Rattle.bng_shard.specs.Sums.{RowsAreLow}
 use Rattle.bng_desk.specs.Reading.{sending}
-use Rattle.bng_desk.proofs.Sending.{sends_none, rows_low, octets_so_far}
-use Rattle.bng_desk.proofs.InPlace.{sends_at}
+use Rattle.bng_desk.specs.Taking.{Sends}
+use Rattle.bng_desk.proofs.Sending.{reaped, sends_none, sends_all, sent_low, book_has, row_has, still_covered}
+use Rattle.bng_desk.proofs.InPlace.{answered, next_out, sends_at}
 use Rattle.bng_desk.proofs.round.settle.Goals as goal
 
 pub loop-out-init : goal.loop-out-init
-loop-out-init g c = sends_none c.args.shard.now c.drain-journal.new.self (g.P.Plant.told c.args.plant.now) [] c.deref_mut-out-items.result.now c.args.drops.now c.drain-journal.ensures.after (c.deref_mut-out-items.ensures.value ∙ c.drain-journal.ensures.outs)
+loop-out-init g c =
+    sends_none c.args.shard.now c.drain-journal.new.self (g.P.Plant.told c.args.plant.now) [] c.deref_mut-out-items.result.now c.args.drops.now c.args.tally.now c.drain-journal.ensures.after (c.deref_mut-out-items.ensures.value ∙ c.drain-journal.ensures.outs)
 
 pub charge-charged-requires : goal.charge-charged-requires
 charge-charged-requires g c =
-    let was = c.loop-out.invariant in
-    let octets = octets_so_far was.records _ c.args.shard.now.outs was.are_outs in
+    let told = g.P.Plant.told in
+    let v = c.args.shard.now in
+    let w = c.loop-out.shard in
+    let items = c.loop-out.out-items in
+    let i = c.loop-out.out-index in
+    let d = c.out-item.result in
+    let o = get_or items i d in
+    let sent = c.send-sent.result in
+    let lt : i < length items = omega (arith, c.loop-out-test.true, c.loop-out.auto.out-items) in
+    let was = next_out v w (told c.args.plant.now) (told c.loop-out.plant) items i d c.args.drops.now c.loop-out.drops c.args.tally.now c.loop-out.tally lt c.loop-out.invariant in
+    let t = c.requires.turns in
+    let x = was.turn t.was t.now t.turning in
     record {
-      low = subst (λ (rows : List Row). All (IsLow (2 ^ 63)) rows) (sym (ap (λ (v : Sight State Entry). v.rows) was.left))
-          (rows_low (2 ^ 62 + 2 ^ 61) (2 ^ 63) was.records c.args.shard.now.rows (omega (arith, octets, c.requires.light)) c.requires.low);
+      low = λ q input. omega (arith, sent_low v t.was t.now t.turning w was.sends x (o ∷ drop (i + 1) items) was.are_outs (2 ^ 62 + 2 ^ 61) (4160 * 512) c.requires.low c.requires.light q input);
+      covered = book_has v t.was t.now t.turning w was.sends x (drop (i + 1) items) o (answered o sent) sent was.are_outs refl;
+      own = row_has v t.was t.now t.turning w was.sends x (drop (i + 1) items) o (answered o sent) sent was.are_outs refl;
     }
+
+pub take_back-requires : goal.take_back-requires
+take_back-requires g c =
+    let told = g.P.Plant.told in
+    let v = c.args.shard.now in
+    let items = c.loop-out.out-items in
+    let i = c.loop-out.out-index in
+    let d = c.out-item.result in
+    let o = get_or items i d in
+    let sent = c.send-sent.result in
+    let lt : i < length items = omega (arith, c.loop-out-test.true, c.loop-out.auto.out-items) in
+    let was = next_out v c.loop-out.shard (told c.args.plant.now) (told c.loop-out.plant) items i d c.args.drops.now c.loop-out.drops c.args.tally.now c.loop-out.tally lt c.loop-out.invariant in
+    still_covered v c.args.tally.now c.loop-out.tally was.sends (drop (i + 1) items) o (answered o sent) c.charge-charged.result sent c.requires.covered was.falls was.are_outs refl c.charge-charged.ensures.answer
 
 pub loop-out-preserved : goal.loop-out-preserved
 loop-out-preserved g c =
     let told = g.P.Plant.told in
     let o = get_or c.loop-out.out-items c.loop-out.out-index c.out-item.result in
     let sent_is = subst (λ (octets : List ℕ). ExtendsPlant (told c.loop-out.plant) (told c.send-sent.new.plant) (sending o.role o.to octets c.send-sent.result)) c.as_slice.ensures.octets c.send-sent.ensures in
-    sends_at c.args.shard.now c.loop-out.shard c.charge-charged.new.self (told c.args.plant.now) (told c.loop-out.plant) (told c.send-sent.new.plant)
-    c.loop-out.out-items c.loop-out.out-index c.out-item.result c.args.drops.now c.loop-out.drops c.count_failed.new.drops c.send-sent.result c.charge-charged.result
-    (omega (arith, c.loop-out-test.true, c.loop-out.auto.out-items)) c.loop-out.invariant sent_is c.charge-charged.ensures.after c.charge-charged.ensures.answer c.count_failed.ensures
+    sends_at c.args.shard.now c.loop-out.shard (told c.args.plant.now) (told c.loop-out.plant) c.loop-out.out-items c.loop-out.out-index c.out-item.result c.args.drops.now c.loop-out.drops c.args.tally.now c.loop-out.tally
+    c.charge-charged.new.self (told c.send-sent.new.plant) c.count_failed.new.drops c.take_back.new.tally c.send-sent.result c.charge-charged.result
+    (omega (arith, c.loop-out-test.true, c.loop-out.auto.out-items)) c.loop-out.invariant sent_is c.charge-charged.ensures.after c.charge-charged.ensures.answer c.count_failed.ensures c.take_back.ensures

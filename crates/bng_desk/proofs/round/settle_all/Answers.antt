@@ -1,62 +1,72 @@
-use Rattle.std.proofs.Common.{◌+◌, ◌≤◌, ◌*◌, ◌^◌, List, length, take, refl, sym, ap, subst, ◌∙◌, arith}
+use Rattle.std.proofs.Common.{◌≡◌, ℕ, ◌+◌, ◌*◌, ◌<◌, ◌≤◌, ◌^◌, List, [], length, take, drop, get_or, refl, sym, ap, subst, ◌∙◌, arith}
 use Rattle.std.specs.List.{All, count_by, sum_by}
 use Rattle.std.proofs.lemmas.List.Sums.{count_by-le-length, sum_by_more_le}
 use Rattle.bng_base.specs.declared.item.Entry.{Entry}
 use Rattle.bng_base.specs.declared.item.OutRecord.{OutRecord}
-use Rattle.bng_engine.specs.Sight.{Sight}
+use Rattle.bng_engine.specs.Views.{ShardView}
 use Rattle.bng_engine.proofs.Walks.{same_at}
-use Rattle.bng_shard.specs.Protocol.{packet_octets}
-use Rattle.bng_shard.specs.State.{State}
-use Rattle.bng_shard.specs.Sums.{IsLow}
-use Rattle.bng_shard.proofs.StepLaws.{pppoe_laws}
+use Rattle.bng_shard.specs.Protocol.{ShardState}
+use Rattle.bng_shard.specs.Sums.{RowsAreLow}
 use Rattle.bng_desk.specs.Round.{is_failed}
+use Rattle.bng_desk.specs.Taking.{IsLight, Turns}
 use Rattle.bng_desk.proofs.Sending.{failed_within}
-use Rattle.bng_desk.proofs.Settling.{settles_none, settles_more, settles_them, joined_records, joined_count, all_empty, all_low, in_order}
-use Rattle.bng_desk.proofs.Reaping.{settled_all}
+use Rattle.bng_desk.proofs.Settling.{joined, settles_none, settles_more, settles_them, next_covered, joined_count, all_empty, all_low, all_books, in_order, falls_low, turns_at, settled_all}
 use Rattle.bng_desk.proofs.round.settle_all.Goals as goal
 
 pub loop-shard-init : goal.loop-shard-init
 loop-shard-init g c = record {
-  settles = settles_none c.args.shards.now (g.P.Plant.told c.args.plant.now) c.args.outs.now.items c.args.journals.now.items c.args.drops.now c.requires.outs c.requires.journals;
+  settles = settles_none c.args.shards.now (g.P.Plant.told c.args.plant.now) c.args.outs.now.items c.args.journals.now.items c.args.drops.now c.args.tally.now c.requires.outs c.requires.journals;
   outs_room = omega arith;
   journals_room = refl;
 }
 
+pub settle-journal-requires-clause-turns : goal.settle-journal-requires-clause-turns
+settle-journal-requires-clause-turns g c =
+    let i = c.loop-shard.shard-index in let d = c.shard-item.result in
+    turns_at c.args.shards.now i d (get_or c.loop-shard.shards i d) c.loop-shard-test.true (same_at c.args.shards.now c.loop-shard.shards i d c.loop-shard.invariant.settles.rest) c.requires.turning
+
 pub settle-journal-requires-clause-low : goal.settle-journal-requires-clause-low
 settle-journal-requires-clause-low g c =
     let i = c.loop-shard.shard-index in let d = c.shard-item.result in
-    subst (λ (v : Sight State Entry). All (IsLow (2 ^ 62 + 2 ^ 61)) v.rows) (sym (same_at c.args.shards.now c.loop-shard.shards i d c.loop-shard.invariant.settles.rest)) (c.requires.low i d c.loop-shard-test.true)
+    subst (λ (v : ShardView ShardState Entry). RowsAreLow (2 ^ 62 + 2 ^ 61) v.rows) (sym (same_at c.args.shards.now c.loop-shard.shards i d c.loop-shard.invariant.settles.rest)) (c.requires.low i d c.loop-shard-test.true)
 
 pub settle-journal-requires-clause-light : goal.settle-journal-requires-clause-light
 settle-journal-requires-clause-light g c =
     let i = c.loop-shard.shard-index in let d = c.shard-item.result in
-    subst (λ (v : Sight State Entry). packet_octets v.outs ≤ 4160 * 512) (sym (same_at c.args.shards.now c.loop-shard.shards i d c.loop-shard.invariant.settles.rest)) (c.requires.light i d c.loop-shard-test.true)
+    subst (λ (v : ShardView ShardState Entry). IsLight (4160 * 512) v.outs) (sym (same_at c.args.shards.now c.loop-shard.shards i d c.loop-shard.invariant.settles.rest)) (c.requires.light i d c.loop-shard-test.true)
 
 pub settle-journal-requires-clause-room : goal.settle-journal-requires-clause-room
 settle-journal-requires-clause-room g c =
     let was = c.loop-shard.invariant.settles in
     let i = c.loop-shard.shard-index in let d = c.shard-item.result in
-    let number = joined_count (take i c.args.shards.now) was.records was.are_outs in
-    let within = sum_by_more_le (λ (v : Sight State Entry). length v.outs) c.args.shards.now i d c.loop-shard-test.true in
-    let here = ap (λ (v : Sight State Entry). length v.outs) (same_at c.args.shards.now c.loop-shard.shards i d was.rest) in
+    let number = joined_count (take i c.args.shards.now) (take i c.loop-shard.shards) was.sends was.done in
+    let within = sum_by_more_le (λ (v : ShardView ShardState Entry). length v.outs) c.args.shards.now i d c.loop-shard-test.true in
+    let here = ap (λ (v : ShardView ShardState Entry). length v.outs) (same_at c.args.shards.now c.loop-shard.shards i d was.rest) in
     omega (arith, number, within, here, ap (λ (xs : List OutRecord). length xs) was.outs_are, c.requires.outs_room, c.loop-shard.invariant.outs_room)
 
 pub settle-journal-requires-clause-few : goal.settle-journal-requires-clause-few
 settle-journal-requires-clause-few g c =
     let was = c.loop-shard.invariant.settles in
     let i = c.loop-shard.shard-index in let d = c.shard-item.result in
-    let within = sum_by_more_le (λ (v : Sight State Entry). length v.outs) c.args.shards.now i d c.loop-shard-test.true in
-    let here = ap (λ (v : Sight State Entry). length v.outs) (same_at c.args.shards.now c.loop-shard.shards i d was.rest) in
+    let within = sum_by_more_le (λ (v : ShardView ShardState Entry). length v.outs) c.args.shards.now i d c.loop-shard-test.true in
+    let here = ap (λ (v : ShardView ShardState Entry). length v.outs) (same_at c.args.shards.now c.loop-shard.shards i d was.rest) in
     omega (arith, within, here, c.requires.few)
 
 pub settle-journal-requires-clause-drops : goal.settle-journal-requires-clause-drops
 settle-journal-requires-clause-drops g c =
     let was = c.loop-shard.invariant.settles in
     let i = c.loop-shard.shard-index in let d = c.shard-item.result in
-    let number = joined_count (take i c.args.shards.now) was.records was.are_outs in
-    let within = sum_by_more_le (λ (v : Sight State Entry). length v.outs) c.args.shards.now i d c.loop-shard-test.true in
-    failed_within (2 ^ 62) (count_by is_failed (joined_records was.records)) (2 ^ 62 + 2 ^ 61) c.args.drops.now c.loop-shard.drops
-    (omega (arith, number, within, c.requires.few, count_by-le-length is_failed (joined_records was.records))) c.requires.drops was.drops_are
+    let number = joined_count (take i c.args.shards.now) (take i c.loop-shard.shards) was.sends was.done in
+    let within = sum_by_more_le (λ (v : ShardView ShardState Entry). length v.outs) c.args.shards.now i d c.loop-shard-test.true in
+    failed_within (2 ^ 62) (count_by is_failed (joined was.sends)) (2 ^ 62 + 2 ^ 61) c.args.drops.now c.loop-shard.drops
+    (omega (arith, number, within, c.requires.few, count_by-le-length is_failed (joined was.sends))) c.requires.drops was.drops_are
+
+pub settle-journal-requires-clause-covered : goal.settle-journal-requires-clause-covered
+settle-journal-requires-clause-covered g c =
+    let told = g.P.Plant.told in
+    let i = c.loop-shard.shard-index in let d = c.shard-item.result in
+    next_covered c.args.shards.now c.loop-shard.shards i d (told c.args.plant.now) (told c.loop-shard.plant) (told c.loop-shard.plant) c.loop-shard.outs.items c.loop-shard.outs.items c.loop-shard.journals.items c.loop-shard.journals.items [] c.args.drops.now c.loop-shard.drops c.loop-shard.drops
+    c.args.tally.now c.loop-shard.tally c.loop-shard.tally c.loop-shard-test.true c.loop-shard.invariant.settles c.requires.covered (λ f. omega (arith, sum_by_more_le f c.args.shards.now i d c.loop-shard-test.true))
 
 pub loop-shard-preserved : goal.loop-shard-preserved
 loop-shard-preserved g c =
@@ -65,6 +75,7 @@ loop-shard-preserved g c =
     record {
       settles = settles_more c.args.shards.now c.loop-shard.shards i c.shard-item.result (told c.args.plant.now) (told c.loop-shard.plant) (told c.settle-journal.new.plant)
           c.loop-shard.outs.items c.settle-journal.new.outs.items c.loop-shard.journals.items c.push_reserved.new.self.items c.settle-journal.result.items c.args.drops.now c.loop-shard.drops c.settle-journal.new.drops
+          c.args.tally.now c.loop-shard.tally c.settle-journal.new.tally
           c.loop-shard-test.true c.loop-shard.auto.shards c.settle-journal.new.shard c.loop-shard.invariant.settles c.settle-journal.ensures.sends
           c.of.result c.push_reserved.ensures.items c.of.ensures;
       outs_room = omega (arith, c.settle-journal.ensures.capacity, c.loop-shard.invariant.outs_room);
@@ -72,32 +83,41 @@ loop-shard-preserved g c =
     }
 
 pub returns-clause-settles : goal.returns-clause-settles
-returns-clause-settles g c rules was now rounds shown =
+returns-clause-settles g c was now turning =
     let told = g.P.Plant.told in
-    let s = settles_them c.args.shards.now c.loop-shard.shards c.loop-shard.shard-index (told c.args.plant.now) (told c.loop-shard.plant) c.loop-shard.outs.items c.loop-shard.journals.items c.args.drops.now c.loop-shard.drops (omega arith) c.loop-shard.auto.shards c.loop-shard.invariant.settles in
-    settled_all rules (pppoe_laws rules) was now c.args.shards.now c.loop-shard.shards (told c.args.plant.now) (told c.loop-shard.plant) c.loop-shard.outs.items c.loop-shard.journals.items c.args.drops.now c.loop-shard.drops rounds shown s
+    let s = settles_them c.args.shards.now c.loop-shard.shards c.loop-shard.shard-index (told c.args.plant.now) (told c.loop-shard.plant) c.loop-shard.outs.items c.loop-shard.journals.items c.args.drops.now c.loop-shard.drops c.args.tally.now c.loop-shard.tally (omega arith) c.loop-shard.auto.shards c.loop-shard.invariant.settles in
+    settled_all was now c.args.shards.now c.loop-shard.shards (told c.args.plant.now) (told c.loop-shard.plant) c.loop-shard.outs.items c.loop-shard.journals.items c.args.drops.now c.loop-shard.drops c.args.tally.now c.loop-shard.tally turning s
 
 pub returns-clause-empty : goal.returns-clause-empty
 returns-clause-empty g c =
     let told = g.P.Plant.told in
-    let s = settles_them c.args.shards.now c.loop-shard.shards c.loop-shard.shard-index (told c.args.plant.now) (told c.loop-shard.plant) c.loop-shard.outs.items c.loop-shard.journals.items c.args.drops.now c.loop-shard.drops (omega arith) c.loop-shard.auto.shards c.loop-shard.invariant.settles in
-    all_empty c.args.shards.now c.loop-shard.shards s.records s.left
+    let s = settles_them c.args.shards.now c.loop-shard.shards c.loop-shard.shard-index (told c.args.plant.now) (told c.loop-shard.plant) c.loop-shard.outs.items c.loop-shard.journals.items c.args.drops.now c.loop-shard.drops c.args.tally.now c.loop-shard.tally (omega arith) c.loop-shard.auto.shards c.loop-shard.invariant.settles in
+    all_empty c.args.shards.now c.loop-shard.shards s.sends s.done
 
 pub returns-clause-numbers : goal.returns-clause-numbers
 returns-clause-numbers g c order =
     let told = g.P.Plant.told in
-    let s = settles_them c.args.shards.now c.loop-shard.shards c.loop-shard.shard-index (told c.args.plant.now) (told c.loop-shard.plant) c.loop-shard.outs.items c.loop-shard.journals.items c.args.drops.now c.loop-shard.drops (omega arith) c.loop-shard.auto.shards c.loop-shard.invariant.settles in
-    in_order c.args.shards.now c.loop-shard.shards s.records s.are_outs s.left order
+    let s = settles_them c.args.shards.now c.loop-shard.shards c.loop-shard.shard-index (told c.args.plant.now) (told c.loop-shard.plant) c.loop-shard.outs.items c.loop-shard.journals.items c.args.drops.now c.loop-shard.drops c.args.tally.now c.loop-shard.tally (omega arith) c.loop-shard.auto.shards c.loop-shard.invariant.settles in
+    in_order c.args.shards.now c.loop-shard.shards s.sends s.done order
 
 pub returns-clause-low : goal.returns-clause-low
 returns-clause-low g c most octets low light =
     let told = g.P.Plant.told in
-    let s = settles_them c.args.shards.now c.loop-shard.shards c.loop-shard.shard-index (told c.args.plant.now) (told c.loop-shard.plant) c.loop-shard.outs.items c.loop-shard.journals.items c.args.drops.now c.loop-shard.drops (omega arith) c.loop-shard.auto.shards c.loop-shard.invariant.settles in
-    all_low most octets c.args.shards.now c.loop-shard.shards s.records low light s.are_outs s.left
+    let s = settles_them c.args.shards.now c.loop-shard.shards c.loop-shard.shard-index (told c.args.plant.now) (told c.loop-shard.plant) c.loop-shard.outs.items c.loop-shard.journals.items c.args.drops.now c.loop-shard.drops c.args.tally.now c.loop-shard.tally (omega arith) c.loop-shard.auto.shards c.loop-shard.invariant.settles in
+    all_low c.args.shards.now c.loop-shard.shards s.sends s.done most octets low light
+
+pub returns-clause-books : goal.returns-clause-books
+returns-clause-books g c most low =
+    let told = g.P.Plant.told in
+    let s = settles_them c.args.shards.now c.loop-shard.shards c.loop-shard.shard-index (told c.args.plant.now) (told c.loop-shard.plant) c.loop-shard.outs.items c.loop-shard.journals.items c.args.drops.now c.loop-shard.drops c.args.tally.now c.loop-shard.tally (omega arith) c.loop-shard.auto.shards c.loop-shard.invariant.settles in
+    all_books c.args.shards.now c.loop-shard.shards s.sends s.done most low
+
+pub returns-clause-tally : goal.returns-clause-tally
+returns-clause-tally g c most low = falls_low c.args.tally.now c.loop-shard.tally (joined c.loop-shard.invariant.settles.sends) c.loop-shard.invariant.settles.falls most low
 
 pub returns-clause-within : goal.returns-clause-within
 returns-clause-within g c most within =
     let told = g.P.Plant.told in
-    let s = settles_them c.args.shards.now c.loop-shard.shards c.loop-shard.shard-index (told c.args.plant.now) (told c.loop-shard.plant) c.loop-shard.outs.items c.loop-shard.journals.items c.args.drops.now c.loop-shard.drops (omega arith) c.loop-shard.auto.shards c.loop-shard.invariant.settles in
-    failed_within most (count_by is_failed (joined_records s.records)) (most + sum_by (λ (v : Sight State Entry). length v.outs) c.args.shards.now) c.args.drops.now c.loop-shard.drops
-    (omega (arith, joined_count c.args.shards.now s.records s.are_outs, count_by-le-length is_failed (joined_records s.records))) within s.drops_are
+    let s = settles_them c.args.shards.now c.loop-shard.shards c.loop-shard.shard-index (told c.args.plant.now) (told c.loop-shard.plant) c.loop-shard.outs.items c.loop-shard.journals.items c.args.drops.now c.loop-shard.drops c.args.tally.now c.loop-shard.tally (omega arith) c.loop-shard.auto.shards c.loop-shard.invariant.settles in
+    failed_within most (count_by is_failed (joined s.sends)) (most + sum_by (λ (v : ShardView ShardState Entry). length v.outs) c.args.shards.now) c.args.drops.now c.loop-shard.drops
+    (omega (arith, joined_count c.args.shards.now c.loop-shard.shards s.sends s.done, count_by-le-length is_failed (joined s.sends))) within s.drops_are

@@ -6,7 +6,7 @@ abbrev pub invariant-loop-shard : goal.invariant-loop-shard
 invariant-loop-shard g l =
     let told = g.P.Plant.told in
     record {
-      settles : SettlesSome l.initial.shards l.shards l.shard-index (told l.fn.plant) (told l.plant) l.outs.items l.journals.items l.fn.drops l.drops;
+      settles : SettlesSome l.initial.shards l.shards l.shard-index (told l.fn.plant) (told l.plant) l.outs.items l.journals.items l.fn.drops l.drops l.fn.tally l.tally;
       outs_room : vec_capacity l.fn.outs ≤ vec_capacity l.outs;
       journals_room : vec_capacity l.journals ≡ vec_capacity l.fn.journals;
     }

@@ -1,4 +1,4 @@
-use Rattle.std.proofs.Common.{◌≡◌, ℕ, ◌+◌, ◌*◌, ◌≤◌, cond, List, map, length, refl, sym, ap, subst, arith, ◌∙◌}
+use Rattle.std.proofs.Common.{◌≡◌, ℕ, ◌+◌, ◌*◌, ◌≤◌, cond, List, [], ◌∷◌, map, length, refl, sym, ap, subst, arith, ◌∙◌}
 use Rattle.std.specs.List.{All}
 use Rattle.std.specs.Vec.{with_items}
 use Rattle.std.proofs.lemmas.List.{with_items_is, length-map}
@@ -13,7 +13,7 @@ use Rattle.bng_desk.specs.Reading.{is_empty}
 use Rattle.bng_desk.specs.Taking.{HoldsEnds, outs_of_items}
 use Rattle.bng_desk.specs.Turn.{MakesEnd, ending_items, ending_draws}
 use Rattle.bng_desk.proofs.Ending.{ended, kept_as, after_ending}
-use Rattle.bng_desk.proofs.Joining.{HasLow}
+use Rattle.bng_desk.proofs.Joining.{HasLow, HasLowBooks}
 use Rattle.bng_desk.proofs.Keeping.{IsLeft, AreEnds, kept_ended, few_told, endings_left, are_ends_of, no_ends, few_draws, few_unopened}
 use Rattle.bng_desk.proofs.Readying.{Shards}
 use Rattle.bng_desk.proofs.desk.Desk.end.Given.{Over}
@@ -30,6 +30,7 @@ module _ (g : Over) (c : After-to_end g) where
     stopped = c.self.inside.stopped;
     shards = shards;
     holders = c.self.inside.pool;
+    tallies = c.self.inside.tally ∷ [];
     seed = c.self.inside.draws.seed;
     drawn = c.self.inside.draws.drawn;
     drops = c.self.inside.drops;
@@ -86,19 +87,21 @@ invariant_of-self-2 g c =
     let ws = c.hold_ends-ending.new.shards in
     let d = before g b vs in
     let named : Named = record { number = c.self.inside.told + 1; moment = c.now-now.result; wall = c.wall-wall.result } in
-    let kept = kept_as (λ (is : List Item). AreEnds d is) d.rules d.holders named c.to_end.result.items (g.P.Plant.told c.args.plant.now) (g.P.Plant.told c.hold_ends-ending.new.plant) c.as_mut_slice.result.now ws d.drops c.hold_ends-ending.new.drops
+    let kept = kept_as (λ (is : List Item). AreEnds d is) d.rules d.holders named c.to_end.result.items (g.P.Plant.told c.args.plant.now) (g.P.Plant.told c.hold_ends-ending.new.plant) c.as_mut_slice.result.now ws d.drops c.hold_ends-ending.new.drops c.self.inside.tally c.hold_ends-ending.new.tally
     c.hold_ends-ending.result.record c.hold_ends-ending.result.is_opened c.hold_ends-ending.new.kept.items c.hold_ends-ending.ensures.round (no_ends d) (are_ends g b) in
-    let left : IsLeft d ws c.hold_ends-ending.new.drops c.to_end.new.draws.drawn = record {
+    let left : IsLeft d ws c.hold_ends-ending.new.drops c.hold_ends-ending.new.tally c.to_end.new.draws.drawn = record {
       shards = same_length g c b ∙ c.self.inside.shards.ok.0;
       order = c.hold_ends-ending.ensures.numbers;
       empty = c.hold_ends-ending.ensures.empty;
       low = c.hold_ends-ending.ensures.low (octets_most * all_turns d) (subst (λ (xs : Shards). All (HasLow (octets_most * all_turns d)) xs) (sym c.as_mut_slice.ensures.value) c.self.invariant.low);
+      books = c.hold_ends-ending.ensures.books (octets_most * all_turns d) (subst (λ (xs : Shards). All (HasLowBooks (octets_most * all_turns d)) xs) (sym c.as_mut_slice.ensures.value) c.self.invariant.books);
+      tally_low = c.hold_ends-ending.ensures.tally (octets_most * all_turns d) (c.self.invariant.tallies 0 (omega arith));
       counts = c.hold_ends-ending.ensures.within (drops_most * all_turns d) c.self.invariant.counts;
       drawn_is = omega (arith, ap (λ (x : Drawn). x.drawn) (draws_are g b), few_draws d c.self.invariant);
     } in
     let few : c.unopened_after-self-inside.result ≤ c.self.inside.unopened + 1 = subst (λ (n : ℕ). n ≤ c.self.inside.unopened + 1) (sym c.unopened_after-self-inside.ensures) (few_unopened c.hold_ends-ending.result.is_opened c.self.inside.unopened) in
-    subst (λ (xs : Shards). IsKept (after_ending d xs c.hold_ends-ending.new.drops c.to_end.new.draws c.unopened_after-self-inside.result c.either-self-inside.result c.hold_ends-ending.new.kept.items c.now-now.result c.told_after-self-inside.result)) (sym (shards_are g c b))
-    (kept_ended d ws c.hold_ends-ending.new.drops c.to_end.new.draws c.unopened_after-self-inside.result c.either-self-inside.result c.hold_ends-ending.new.kept.items c.now-now.result c.told_after-self-inside.result c.self.invariant
+    subst (λ (xs : Shards). IsKept (after_ending d xs c.hold_ends-ending.new.drops (c.hold_ends-ending.new.tally ∷ []) c.to_end.new.draws c.unopened_after-self-inside.result c.either-self-inside.result c.hold_ends-ending.new.kept.items c.now-now.result c.told_after-self-inside.result)) (sym (shards_are g c b))
+    (kept_ended d ws c.hold_ends-ending.new.drops c.hold_ends-ending.new.tally c.to_end.new.draws c.unopened_after-self-inside.result c.either-self-inside.result c.hold_ends-ending.new.kept.items c.now-now.result c.told_after-self-inside.result c.self.invariant
     (endings_left (before g b (map rested vs)) (ap (λ (x : Desk). state_of x) c.self.view_is ∙ c.requires.state)) left few
     (subst (λ (n : ℕ). n ≤ c.self.inside.told + 1) (sym c.told_after-self-inside.ensures) (few_told c.note-noted.result c.self.inside.told)) kept.items kept.outs kept.none)
 
@@ -121,6 +124,8 @@ returns g c =
     let behind_is : Outside = record { plant = p₁; clock = c₂; trace = t₁ } in
     let draws = c.to_end.new.draws in
     let drops = c.hold_ends-ending.new.drops in
+    let tally = c.self.inside.tally in
+    let tally' = c.hold_ends-ending.new.tally in
     let unopened = c.unopened_after-self-inside.result in
     let closed = c.either-self-inside.result in
     let kept = c.hold_ends-ending.new.kept.items in
@@ -128,9 +133,9 @@ returns g c =
     let same : c.to_end.result.items ≡ ending_items d = items_are g b ∙ ap (λ (n : ℕ). cond (is_empty c.self.inside.kept.items) (drawn_from c.self.inside.draws.seed c.self.inside.draws.drawn (ends_of n)) c.self.inside.kept.items) count in
     let drew : draws ≡ (let x : Drawn = record { seed = d.seed; drawn = d.drawn + ending_draws d } in x) =
     draws_are g b ∙ ap (λ (n : ℕ). let x : Drawn = record { seed = c.self.inside.draws.seed; drawn = c.self.inside.draws.drawn + cond (is_empty c.self.inside.kept.items) n 0 } in x) count in
-    let made = ended d vs ws named c.note-noted.result draws c.to_end.result.items drops c.hold_ends-ending.result.record c.hold_ends-ending.result.is_opened kept p₀ p₁ refl refl same drew
-    (subst (λ (xs : Shards). HoldsEnds d.rules d.holders named c.to_end.result.items p₀ p₁ xs ws d.drops drops c.hold_ends-ending.result.record c.hold_ends-ending.result.is_opened kept) c.as_mut_slice.ensures.value c.hold_ends-ending.ensures.round)
+    let made = ended d vs ws named c.note-noted.result draws c.to_end.result.items drops tally tally' c.hold_ends-ending.result.record c.hold_ends-ending.result.is_opened kept p₀ p₁ refl refl refl same drew
+    (subst (λ (xs : Shards). HoldsEnds d.rules d.holders named c.to_end.result.items p₀ p₁ xs ws d.drops drops tally tally' c.hold_ends-ending.result.record c.hold_ends-ending.result.is_opened kept) c.as_mut_slice.ensures.value c.hold_ends-ending.ensures.round)
     (omega (arith, ap (λ (x : Desk). x.moment) c.self.view_is, c.requires.later, c.now-now.ensures.later)) c₀ c₁ c₂ c.now-now.ensures.answers c.wall-wall.ensures.answers (c.wall-wall.ensures.last ∙ c.now-now.ensures.last)
     t₀ t₁ c.note-noted.ensures.rounds c.note-noted.ensures.cause c.note-noted.ensures.uncounted c.answer.result c.answer.ensures unopened c.unopened_after-self-inside.ensures closed c.either-self-inside.ensures c.told_after-self-inside.result c.told_after-self-inside.ensures in
-    subst (λ (x : Desk). MakesEnd x (after_ending d (map rested (with_items c.self.inside.shards ws).items) drops draws unopened closed kept named.moment c.told_after-self-inside.result) before_is behind_is c.answer.result) c.self.view_is
-    (subst (λ (xs : Shards). MakesEnd d (after_ending d (map rested xs) drops draws unopened closed kept named.moment c.told_after-self-inside.result) before_is behind_is c.answer.result) (sym (shards_are g c b)) made)
+    subst (λ (x : Desk). MakesEnd x (after_ending d (map rested (with_items c.self.inside.shards ws).items) drops (tally' ∷ []) draws unopened closed kept named.moment c.told_after-self-inside.result) before_is behind_is c.answer.result) c.self.view_is
+    (subst (λ (xs : Shards). MakesEnd d (after_ending d (map rested xs) drops (tally' ∷ []) draws unopened closed kept named.moment c.told_after-self-inside.result) before_is behind_is c.answer.result) (sym (shards_are g c b)) made)

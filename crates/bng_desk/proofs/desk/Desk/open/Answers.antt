@@ -5,12 +5,12 @@ use Rattle.bng_base.specs.declared.item.Entry.{Entry}
 use Rattle.bng_base.specs.declared.item.Item.{Item}
 use Rattle.bng_base.specs.declared.settings.AccessPort.{AccessPort}
 use Rattle.bng_base.specs.declared.settings.Static.{Static}
-use Rattle.bng_engine.specs.Sight.{Sight}
+use Rattle.bng_engine.specs.Views.{ShardView}
 use Rattle.bng_discovery.specs.declared.port.PortRules.{PortRules}
 use Rattle.bng_shard.specs.declared.pool.Holder.{Holder}
 use Rattle.bng_shard.specs.declared.rules.Rules.{Rules}
 use Rattle.bng_shard.specs.Protocol.{opened}
-use Rattle.bng_shard.specs.State.{State}
+use Rattle.bng_shard.specs.Protocol.{ShardState}
 use Rattle.bng_desk.specs.declared.line.Line.{Line}
 use Rattle.bng_desk.specs.Counting.{no_drops}
 use Rattle.bng_desk.specs.Kept.{rested}
@@ -65,7 +65,7 @@ returns c =
       offers = c.of.result;
       link = record { name = config.name; address = record { 0 = 0 }; dns = None ∷ None ∷ []; auth = config.auth; echo = config.echo };
     } in
-    let desk = λ (lines : List Line) (shards : List (Sight State Entry)) (holders : List Holder) (draws : Drawn) (kept : List Item). let x : Desk = record {
+    let desk = λ (lines : List Line) (shards : List (ShardView ShardState Entry)) (holders : List Holder) (draws : Drawn) (kept : List Item). let x : Desk = record {
       rules = r;
       lines = lines;
       rounds = c.args.rounds;
@@ -91,7 +91,7 @@ returns c =
       are_rules = record { shards = refl; core_peer = refl; access = refl; offers = offers_are c; name = refl; address = refl; dns = refl; auth = refl; echo = refl };
       desk =
           ap (λ (ls : List Line). desk ls (map rested c.in-Ok-shards.opens.items) c.of-2.result c.sixteen-key.new.self c.new.result.items) (lines_are c)
-          ∙ ap (λ (xs : List (Sight State Entry)). desk (map line_of config.statics) xs c.of-2.result c.sixteen-key.new.self c.new.result.items) (ap (λ (xs : List (Sight State Entry)). map rested xs) (shards_are c) ∙ fresh_rested (statics c) ns)
+          ∙ ap (λ (xs : List (ShardView ShardState Entry)). desk (map line_of config.statics) xs c.of-2.result c.sixteen-key.new.self c.new.result.items) (ap (λ (xs : List (ShardView ShardState Entry)). map rested xs) (shards_are c) ∙ fresh_rested (statics c) ns)
           ∙ ap (λ (hs : List Holder). desk (map line_of config.statics) opens hs c.sixteen-key.new.self c.new.result.items) (holders_are c)
           ∙ ap (λ (x : Drawn). desk (map line_of config.statics) opens (map holder_of config.statics) x c.new.result.items) (draws_are c)
           ∙ ap (λ (is : List Item). desk (map line_of config.statics) opens (map holder_of config.statics) first is) c.new.ensures.items;

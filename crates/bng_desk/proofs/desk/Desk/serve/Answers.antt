@@ -1,4 +1,4 @@
-use Rattle.std.proofs.Common.{◌≡◌, ℕ, ◌+◌, ◌*◌, ◌<◌, ◌≤◌, Bool, ◌&&◌, Option, map, length, refl, sym, ap, subst, arith, ◌∙◌}
+use Rattle.std.proofs.Common.{◌≡◌, ℕ, ◌+◌, ◌*◌, ◌<◌, ◌≤◌, Bool, ◌&&◌, List, [], ◌∷◌, Option, map, length, refl, sym, ap, subst, arith, ◌∙◌}
 use Rattle.std.specs.List.{All}
 use Rattle.std.specs.Vec.{with_items}
 use Rattle.std.proofs.lemmas.List.{with_items_is}
@@ -10,8 +10,9 @@ use Rattle.bng_desk.specs.Random.{Drawn}
 use Rattle.bng_desk.specs.Taking.{Gathers, HoldsOne}
 use Rattle.bng_desk.specs.Turn.{MakesTurn, wait_for, deadline_in}
 use Rattle.bng_desk.proofs.DropLaws.{within_wider}
-use Rattle.bng_desk.proofs.Joining.{HasLow, low_wider}
-use Rattle.bng_desk.proofs.Keeping.{IsLeft, kept_served, few_told, turns_left}
+use Rattle.bng_desk.proofs.Joining.{HasLow, HasLowBooks, low_wider, books_wider}
+use Rattle.bng_desk.proofs.Keeping.{IsLeft, kept_served, few_told, turns_left, one_low}
+use Rattle.bng_desk.proofs.OneMore.{low_more}
 use Rattle.bng_desk.proofs.Readying.{Shards}
 use Rattle.bng_desk.proofs.Turning.{served, after_turn}
 use Rattle.bng_desk.proofs.desk.Desk.serve.Given.{Over}
@@ -28,6 +29,7 @@ module _ (g : Over) (c : After-answer g) where
     stopped = c.self.inside.stopped;
     shards = shards;
     holders = c.self.inside.pool;
+    tallies = c.self.inside.tally ∷ [];
     seed = c.self.inside.draws.seed;
     drawn = c.self.inside.draws.drawn;
     drops = c.self.inside.drops;
@@ -45,12 +47,14 @@ module _ (g : Over) (c : After-answer g) where
   shards_are : (with_items c.self.inside.shards c.hold-round.new.shards).items ≡ c.hold-round.new.shards
   shards_are = with_items_is c.self.inside.shards c.hold-round.new.shards same_length
 
-  is_left : IsLeft (before c.self.inside.shards.items) c.hold-round.new.shards c.hold-round.new.drops c.gather-gathered.new.draws.drawn
+  is_left : IsLeft (before c.self.inside.shards.items) c.hold-round.new.shards c.hold-round.new.drops c.hold-round.new.tally c.gather-gathered.new.draws.drawn
   is_left = record {
     shards = same_length ∙ c.self.inside.shards.ok.0;
     order = c.hold-round.ensures.numbers;
     empty = c.hold-round.ensures.empty;
     low = c.hold-round.ensures.low (octets_most * all_turns (before c.self.inside.shards.items)) (subst (λ (xs : Shards). All (HasLow (octets_most * all_turns (before c.self.inside.shards.items))) xs) (sym c.as_mut_slice.ensures.value) c.self.invariant.low);
+    books = c.hold-round.ensures.books (octets_most * all_turns (before c.self.inside.shards.items)) (subst (λ (xs : Shards). All (HasLowBooks (octets_most * all_turns (before c.self.inside.shards.items))) xs) (sym c.as_mut_slice.ensures.value) c.self.invariant.books);
+    tally_low = c.hold-round.ensures.tally (octets_most * all_turns (before c.self.inside.shards.items)) (c.self.invariant.tallies 0 (omega arith));
     counts = c.hold-round.ensures.within (drops_most * all_turns (before c.self.inside.shards.items)) c.self.invariant.counts;
     drawn_is = omega (arith, ap (λ (x : Drawn). x.drawn) c.gather-gathered.ensures.gathers.draws_are, c.gather-gathered.ensures.items.few);
   }
@@ -68,7 +72,6 @@ invariant_of-self g c =
       few_shards = was.few_shards;
       order = was.order;
       empty = was.empty;
-      auth = was.auth;
       holders = was.holders;
       most = was.most;
       made = omega (arith, left);
@@ -76,7 +79,10 @@ invariant_of-self g c =
       unopened = was.unopened;
       told = omega (arith, was.told);
       drawn = omega (arith, was.drawn);
+      one_seat = was.one_seat;
       low = low_wider (octets_most * (c.self.inside.turns + c.self.inside.endings)) (octets_most * (c.self.inside.turns + 1 + c.self.inside.endings)) c.self.inside.shards.items (omega arith) was.low;
+      books = books_wider (octets_most * (c.self.inside.turns + c.self.inside.endings)) (octets_most * (c.self.inside.turns + 1 + c.self.inside.endings)) c.self.inside.shards.items (omega arith) was.books;
+      tallies = one_low (octets_most * (c.self.inside.turns + 1 + c.self.inside.endings)) c.self.inside.tally (low_more (octets_most * (c.self.inside.turns + c.self.inside.endings)) (octets_most * (c.self.inside.turns + 1 + c.self.inside.endings)) c.self.inside.tally (omega arith) (was.tallies 0 (omega arith)));
       counts = within_wider (drops_most * (c.self.inside.turns + c.self.inside.endings)) (drops_most * (c.self.inside.turns + 1 + c.self.inside.endings)) c.self.inside.drops (omega arith) was.counts;
       kept = was.kept;
       kept_outs = was.kept_outs;
@@ -85,8 +91,8 @@ invariant_of-self g c =
 
 pub invariant_of-self-2 : goal.invariant_of-self-2
 invariant_of-self-2 g c =
-    subst (λ (xs : Shards). IsKept (after_turn (before g c c.self.inside.shards.items) xs c.hold-round.new.drops c.gather-gathered.new.draws c.either-self-inside.result c.now-now.result c.told_after-self-inside.result)) (sym (shards_are g c))
-    (kept_served (before g c c.self.inside.shards.items) c.hold-round.new.shards c.hold-round.new.drops c.gather-gathered.new.draws c.either-self-inside.result c.now-now.result c.told_after-self-inside.result c.self.invariant
+    subst (λ (xs : Shards). IsKept (after_turn (before g c c.self.inside.shards.items) xs c.hold-round.new.drops c.hold-round.new.tally c.gather-gathered.new.draws c.either-self-inside.result c.now-now.result c.told_after-self-inside.result)) (sym (shards_are g c))
+    (kept_served (before g c c.self.inside.shards.items) c.hold-round.new.shards c.hold-round.new.drops c.hold-round.new.tally c.gather-gathered.new.draws c.either-self-inside.result c.now-now.result c.told_after-self-inside.result c.self.invariant
     (turns_left (before g c (map rested c.self.inside.shards.items)) (ap (λ (x : Desk). state_of x) c.self.view_is ∙ c.requires.state) c.self.invariant.made) (is_left g c)
     (subst (λ (n : ℕ). n ≤ c.self.inside.told + 1) (sym c.told_after-self-inside.ensures) (few_told c.note-noted.result c.self.inside.told)))
 
@@ -111,13 +117,13 @@ returns g c =
     let behind_is : Outside = record { plant = p₄; clock = c₂; trace = t₁ } in
     let draws = c.gather-gathered.new.draws in
     let items = c.gather-gathered.new.items.items in
-    let made = served d vs ws named c.heed-heeding.result c.gather-gathered.result.quiet c.note-noted.result c.gather-gathered.result.taken draws items c.hold-round.new.drops c.hold-round.result p₀ p₁ p₂ p₃ p₄
-    refl refl c.heed-heeding.ensures
+    let made = served d vs ws named c.heed-heeding.result c.gather-gathered.result.quiet c.note-noted.result c.gather-gathered.result.taken draws items c.hold-round.new.drops c.self.inside.tally c.hold-round.new.tally c.hold-round.result p₀ p₁ p₂ p₃ p₄
+    refl refl refl c.heed-heeding.ensures
     (subst (λ (xs : Shards). Gathers d.rules xs named.moment p₁ p₂ c.self.inside.draws draws items c.gather-gathered.result.quiet c.gather-gathered.result.taken) c.as_slice.ensures.value c.gather-gathered.ensures.gathers)
-    (subst (λ (xs : Shards). HoldsOne d.rules d.holders named items p₂ p₃ xs ws d.drops c.hold-round.new.drops c.hold-round.result) c.as_mut_slice.ensures.value c.hold-round.ensures.round)
+    (subst (λ (xs : Shards). HoldsOne d.rules d.holders named items p₂ p₃ xs ws d.drops c.hold-round.new.drops c.self.inside.tally c.hold-round.new.tally c.hold-round.result) c.as_mut_slice.ensures.value c.hold-round.ensures.round)
     c.both-2.result c.wait_until-wait.result c.wait_if.ensures (c.both-2.ensures ∙ ap (λ (b : Bool). b && c.note-noted.result) c.both.ensures)
     (c.wait_until-wait.ensures ∙ ap (λ (x : Option ℕ). wait_for x named.moment) (c.deadline_of.ensures ∙ ap (λ (xs : Shards). deadline_in xs) (c.as_slice-2.ensures.value ∙ shards_are g c)))
     (omega (arith, ap (λ (x : Desk). x.moment) c.self.view_is, c.requires.later, c.now-now.ensures.later)) c₀ c₁ c₂ c.now-now.ensures.answers c.wall-wall.ensures.answers (c.wall-wall.ensures.last ∙ c.now-now.ensures.last)
     t₀ t₁ c.note-noted.ensures.rounds c.note-noted.ensures.cause c.note-noted.ensures.uncounted c.answer.result c.answer.ensures c.either-self-inside.result c.either-self-inside.ensures c.told_after-self-inside.result c.told_after-self-inside.ensures in
-    subst (λ (x : Desk). MakesTurn x (after_turn d (map rested (with_items c.self.inside.shards ws).items) c.hold-round.new.drops draws c.either-self-inside.result named.moment c.told_after-self-inside.result) before_is behind_is c.answer.result) c.self.view_is
-    (subst (λ (xs : Shards). MakesTurn d (after_turn d (map rested xs) c.hold-round.new.drops draws c.either-self-inside.result named.moment c.told_after-self-inside.result) before_is behind_is c.answer.result) (sym (shards_are g c)) made)
+    subst (λ (x : Desk). MakesTurn x (after_turn d (map rested (with_items c.self.inside.shards ws).items) c.hold-round.new.drops c.hold-round.new.tally draws c.either-self-inside.result named.moment c.told_after-self-inside.result) before_is behind_is c.answer.result) c.self.view_is
+    (subst (λ (xs : Shards). MakesTurn d (after_turn d (map rested xs) c.hold-round.new.drops c.hold-round.new.tally draws c.either-self-inside.result named.moment c.told_after-self-inside.result) before_is behind_is c.answer.result) (sym (shards_are g c)) made)
