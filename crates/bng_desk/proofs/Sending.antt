@@ -30,9 +30,10 @@ use Rattle.bng_engine.proofs.SameLists.{same_back}
 use Rattle.bng_engine.proofs.Still.{still_reaps}
 use Rattle.bng_engine.proofs.Wire.{went_append}
 use Rattle.bng_shard.specs.declared.sums.Charged.{Charged}
+use Rattle.bng_shard.specs.declared.sums.Charged.TheVariants.{Packet}
 use Rattle.bng_shard.specs.Protocol.{ShardState, Handled, pppoe, terms_of}
 use Rattle.bng_shard.specs.State.{settled}
-use Rattle.bng_shard.specs.Sums.{charged_as, AreCovered, AreLow, RowsAreLow}
+use Rattle.bng_shard.specs.Sums.{charged_as, Has, IsMore, AreCovered, AreLow, RowsAreLow}
 use Rattle.bng_shard.proofs.StepLaws.{pppoe_laws, pppoe_still}
 use Rattle.bng_desk.specs.declared.drops.Drops.{Drops}
 use Rattle.bng_desk.specs.Counting.{plus, Within}
@@ -142,6 +143,14 @@ part_by : (q : Quantity) (input : Bool) (charge : Option Charge) (sent : Bool) �
 part_by q input None true = refl
 part_by q input None false = refl
 part_by q input (Some c) sent = refl
+
+-- the packet that is taken off is there
+pub lost_there : (tally : Book) (input : Bool) (octets : ℕ) → ((q : Quantity) (way : Bool) → lost_part q way (Packet input octets) false ≤ in_book q way tally) → Has tally input octets
+lost_there tally true octets there q = there q true
+lost_there tally false octets there q = there q false
+
+pub lost_taken : (tally tally' : Book) (input : Bool) (octets : ℕ) → IsMore tally' input octets tally → (q : Quantity) (way : Bool) → in_book q way tally' + lost_part q way (Packet input octets) false ≡ in_book q way tally
+lost_taken tally tally' input octets more q way = sym (more q way)
 
 -- what is taken off for one answer
 part_is : (q : Quantity) (input : Bool) (r : OutRecord) (charged : Charged) (sent : Bool) → charged ≡ charged_as r.charge → r.sent ≡ sent → lost_part q input charged sent ≡ failed_sum (charge_if q (is_directed input)) (r ∷ [])
@@ -332,9 +341,9 @@ aside before x y n h = record {
 abbrev pub reaped : ShardView ShardState Entry → ShardView ShardState Entry
 reaped w = record w { state = record w.state { slots = settled w.state.slots }; room = 0 }
 
-module _ (v w w' : ShardView ShardState Entry) (old new : PlantTold) (outs outs' rest : List OutRecord) (journal : List Entry) (drops drops' : Drops) (tally tally' : Book) where
-  pub sends_all : Turns v → SendsSome v w old new outs outs' rest drops drops' tally tally' → rest ≡ [] → journal ≡ v.journal → w' ≡ reaped w → Sends v w' old new outs outs' journal drops drops' tally tally'
-  sends_all turns s none is left =
+module _ (v w w' : ShardView ShardState Entry) (old new : PlantTold) (first last outs rest : List OutRecord) (journal : List Entry) (drops drops' : Drops) (tally tally' : Book) where
+  pub sends_all : Turns v → SendsSome v w old new [] outs rest drops drops' tally tally' → rest ≡ [] → journal ≡ v.journal → last ≡ first ++ outs → w' ≡ reaped w → Sends v w' old new first last journal drops drops' tally tally'
+  sends_all turns s none is moved left =
       let are : map unsent s.sends ++ map unsent [] ≡ map unsent v.outs = ap (λ (xs : List OutRecord). map unsent s.sends ++ map unsent xs) (sym none) ∙ s.are_outs in
       let all : map unsent s.sends ≡ map unsent v.outs = sym (append-nil (map unsent s.sends)) ∙ are in
       let here = turns.turning in
@@ -366,7 +375,7 @@ module _ (v w w' : ShardView ShardState Entry) (old new : PlantTold) (outs outs'
               subst (λ (y : ShardView ShardState Entry). RowsAreLow (most + octets) y.rows) (sym left) (sent_low v turns.was turns.now here w s.sends turn [] are most octets low light);
           books = λ most low. subst (λ (y : ShardView ShardState Entry). AreLow most y.books) (sym left) (books_low v turns.was turns.now here w s.sends turn most low);
         };
-        outs_are = s.outs_are;
+        outs_are = moved ∙ ap (λ (xs : List OutRecord). first ++ xs) s.outs_are;
         journal_is = is;
         told = s.told;
         drops_are = s.drops_are;

@@ -230,11 +230,11 @@ record Reaped (was now xs : Seens) (vs ws : Shards) (rss : List (List OutRecord)
   sends : joined rss ≡ all_sends xs
   journals : map (λ v. v.journal) vs ≡ map entries_of now
 
-reaps : (was now : Seens) (vs ws : Shards) (rss : List (List OutRecord)) → Zip3 IsTurning vs was now → Zip3 SettledTo vs ws rss → Reaped was now (all_seen now ws rss) vs ws rss
+reaps : (vs : Shards) (was now : Seens) (ws : Shards) (rss : List (List OutRecord)) → Zip3 IsTurning vs was now → Zip3 SettledTo vs ws rss → Reaped was now (all_seen now ws rss) vs ws rss
 reaps [] [] [] [] [] t z = record { settles = tt; left = tt; allowances = tt; sends = refl; journals = refl }
 reaps [] [] [] ws rss t z = absurd z
-reaps (b ∷ was) (x ∷ now) (v ∷ vs) (w ∷ ws) (rs ∷ rss) t z =
-    let more = reaps was now vs ws rss t.1 z.1 in
+reaps (v ∷ vs) (b ∷ was) (x ∷ now) (w ∷ ws) (rs ∷ rss) t z =
+    let more = reaps vs was now ws rss t.1 z.1 in
     record {
       settles = (z.0.settles b x t.0, more.settles);
       left = (record { number = refl; state = refl; rows = refl; books = refl }, more.left);
@@ -242,13 +242,13 @@ reaps (b ∷ was) (x ∷ now) (v ∷ vs) (w ∷ ws) (rs ∷ rss) t z =
       sends = ap (λ (os : List OutRecord). rs ++ os) more.sends;
       journals = ap (λ (es : List Entry). es ∷ map (λ (y : ShardView ShardState Entry). y.journal) vs) (sym t.0.shows.entries) ∙ ap (λ (js : List (List Entry)). entries_of x ∷ js) more.journals;
     }
-reaps (b ∷ was) (x ∷ now) (v ∷ vs) ws rss t z = absurd z
-reaps was now vs ws rss t z = absurd t
+reaps (v ∷ vs) (b ∷ was) (x ∷ now) ws rss t z = absurd z
+reaps vs was now ws rss t z = absurd t
 
 pub settled_all : (was now : Seens) (olds shards : Shards) (old new : PlantTold) (outs : List OutRecord) (journals : List (List Entry)) (drops drops' : Drops) (tally tally' : Book)
     → Zip3 IsTurning olds was now → SettlesThem olds shards old new outs journals drops drops' tally tally' → SettlesAll was now old new shards outs journals drops drops' tally tally'
 settled_all was now olds shards old new outs journals drops drops' tally tally' turning s =
-    let all = reaps was now olds shards s.sends turning s.done in
+    let all = reaps olds was now shards s.sends turning s.done in
     record {
       settled = all_seen now shards s.sends;
       settles = all.settles;

@@ -4,7 +4,7 @@ use Rattle.bng_desk.proofs.opening.offers_copied.Given as goal
 -- the offers so far were copied
 abbrev pub invariant-loop-offer : goal.invariant-loop-offer
 invariant-loop-offer l = record {
-  same : l.copies.items ≡ take l.offer-index l.offer-items;
+  same : l.copies.items ≡ take l.offer-index l.offers;
   done : length l.copies.items ≡ l.offer-index;
-  room : length l.offer-items ≤ vec_capacity l.copies;
+  room : length l.offers ≤ vec_capacity l.copies;
 }

@@ -41,7 +41,7 @@ loop-circuits-preserved c =
       left = ap (map (λ x. x.items)) (append_assoc done (c.in-Some.circuits ∷ []) left ∙ sym (ap (λ xs. done ++ xs) c.in-Some.ensures.steps.0)) ∙ was.left;
       opens = c.push_reserved.ensures.items
           ∙ ap (λ (vs : List (ShardView ShardState Entry)). vs ++ c.in-Ok-open.shard ∷ []) was.opens
-          ∙ ap (λ (v : ShardView ShardState Entry). map open_shard (range_with_len 0 n) ++ v ∷ []) (c.in-Ok.ensures ∙ ap (λ (r : Rules). opened n r c.in-Some.circuits.items) c.rules_copied-own.value-ensures ∙ ap (λ (cs : List Static). opened n c.args.rules.now cs) next.1)
+          ∙ ap (λ (v : ShardView ShardState Entry). map open_shard (range_with_len 0 n) ++ v ∷ []) (c.in-Ok-open.ensures ∙ ap (λ (r : Rules). opened n r c.in-Some.circuits.items) c.in_ok-own.ensures ∙ ap (λ (cs : List Static). opened n c.args.rules.now cs) next.1)
           ∙ sym (map-range_with_len_more open_shard 0 n n (omega arith));
       number = omega (arith, length-append done (c.in-Some.circuits ∷ []), was.number);
       room = omega (arith, c.push_reserved.ensures.capacity, was.room);

@@ -1,5 +1,6 @@
-use Rattle.std.proofs.Common.{◌≡◌, ◌+◌, ◌<◌, ◌^◌, ℕ, List, [], ◌∷◌, drop, take, get_or, length, refl, sym, ap, subst, ◌∙◌, arith}
-use Rattle.std.proofs.lemmas.List.{drop_all, take_all}
+use Rattle.std.proofs.Common.{rules, ◌≡◌, ◌+◌, ◌*◌, ◌<◌, ◌≤◌, ◌^◌, ℕ, List, [], ◌∷◌, ◌++◌, drop, take, get_or, length, refl, sym, ap, subst, ◌∙◌, arith}
+use Rattle.std.specs.Vec.{with_items}
+use Rattle.std.proofs.lemmas.List.{drop_all, take_all, with_items_is}
 use Rattle.bng_base.specs.declared.item.Entry.{Entry}
 use Rattle.bng_base.specs.declared.item.OutRecord.{OutRecord}
 use Rattle.bng_base.specs.Stretch.{ExtendsPlant}
@@ -57,3 +58,18 @@ loop-out-preserved g c =
     sends_at c.args.shard.now c.loop-out.shard (told c.args.plant.now) (told c.loop-out.plant) c.loop-out.out-items c.loop-out.out-index c.out-item.result c.args.drops.now c.loop-out.drops c.args.tally.now c.loop-out.tally
     c.charge-charged.new.self (told c.send-sent.new.plant) c.count_failed.new.drops c.take_back.new.tally c.send-sent.result c.charge-charged.result
     (omega (arith, c.loop-out-test.true, c.loop-out.auto.out-items)) c.loop-out.invariant sent_is c.charge-charged.ensures.after c.charge-charged.ensures.answer c.count_failed.ensures c.take_back.ensures
+
+pub returns-clause-sends : goal.returns-clause-sends
+returns-clause-sends g c =
+    let told = g.P.Plant.told in
+    let items = c.loop-out.out-items in
+    let i = c.loop-out.out-index in
+    let all : length items ≤ i = omega (arith, c.loop-out-test.false, c.loop-out.auto.out-items, c.loop-out.auto.out-index-end) in
+    let left = c.drain-journal.result.1 in
+    let whole : length items ≡ left.len = omega (arith, c.loop-out.auto.out-items, c.deref_mut-out-items.ensures.len) in
+    let is : c.append-moved.new.self.items ≡ c.args.outs.now.items ++ (with_items left items).items = search rules in
+    let moved : c.append-moved.new.self.items ≡ c.args.outs.now.items ++ items = is ∙ ap (λ (xs : List OutRecord). c.args.outs.now.items ++ xs) (with_items_is left items whole) in
+    sends_all c.args.shard.now c.loop-out.shard c.keep_outs.new.self (told c.args.plant.now) (told c.loop-out.plant) c.args.outs.now.items c.append-moved.new.self.items (take i items) (drop i items)
+    c.drain-journal.result.0.items c.args.drops.now c.loop-out.drops c.args.tally.now c.loop-out.tally c.requires.turns c.loop-out.invariant (drop_all i items all) c.drain-journal.ensures.journal
+    (moved ∙ ap (λ (xs : List OutRecord). c.args.outs.now.items ++ xs) (sym (take_all i items all)))
+    (c.keep_outs.ensures ∙ ap (λ (v : ShardView ShardState Entry). let w : ShardView ShardState Entry = record v { room = 0 } in w) c.settle.ensures)
