@@ -1,4 +1,4 @@
-use Rattle.std.proofs.Common.{◌≡◌, ℕ, ◌+◌, ◌*◌, ◌≤◌, cond, List, [], ◌∷◌, map, length, refl, sym, ap, subst, arith, ◌∙◌}
+use Rattle.std.proofs.Common.{◌≡◌, ℕ, ◌+◌, ◌*◌, ◌^◌, ◌<◌, ◌≤◌, cond, List, [], ◌∷◌, map, length, refl, sym, ap, subst, arith, ◌∙◌}
 use Rattle.std.specs.List.{All}
 use Rattle.std.specs.Vec.{with_items}
 use Rattle.std.proofs.lemmas.List.{with_items_is, length-map}
@@ -13,8 +13,10 @@ use Rattle.bng_desk.specs.Reading.{is_empty}
 use Rattle.bng_desk.specs.Taking.{HoldsEnds, outs_of_items}
 use Rattle.bng_desk.specs.Turn.{MakesEnd, ending_items, ending_draws}
 use Rattle.bng_desk.proofs.Ending.{ended, kept_as, after_ending}
-use Rattle.bng_desk.proofs.Joining.{HasLow, HasLowBooks}
-use Rattle.bng_desk.proofs.Keeping.{IsLeft, AreEnds, kept_ended, few_told, endings_left, are_ends_of, no_ends, few_draws, few_unopened}
+use Rattle.bng_desk.proofs.Joining.{HasLow, HasLowBooks, low_wider, books_wider}
+use Rattle.bng_desk.proofs.DropLaws.{within_wider}
+use Rattle.bng_desk.proofs.OneMore.{low_more}
+use Rattle.bng_desk.proofs.Keeping.{IsLeft, AreEnds, kept_ended, few_told, endings_left, are_ends_of, no_ends, few_draws, few_unopened, one_low}
 use Rattle.bng_desk.proofs.Readying.{Shards}
 use Rattle.bng_desk.proofs.desk.Desk.end.Given.{Over}
 use Rattle.bng_desk.proofs.desk.Desk.end.Goals as goal
@@ -62,6 +64,42 @@ module _ (g : Over) (c : After-to_end g) where
 
   are_ends : AreEnds (before c.self.inside.shards.items) c.to_end.result.items
   are_ends = subst (λ (is : List Item). AreEnds (before c.self.inside.shards.items) is) (sym items_are) (are_ends_of (before c.self.inside.shards.items) c.self.invariant)
+
+pub invariant_of-self : goal.invariant_of-self
+invariant_of-self g c =
+    let was = c.self.invariant in
+    let turns = c.self.inside.turns in
+    let endings = c.self.inside.endings in
+    let left : endings < 2 ^ 40 = subst (λ (x : Desk). x.endings < 2 ^ 40) (sym c.self.view_is) (endings_left c.args.self.now c.requires.state) in
+    record {
+      some_port = was.some_port;
+      few_ports = was.few_ports;
+      shards = was.shards;
+      some_shard = was.some_shard;
+      few_shards = was.few_shards;
+      order = was.order;
+      empty = was.empty;
+      holders = was.holders;
+      most = was.most;
+      made = was.made;
+      endings = omega (arith, left);
+      unopened = omega (arith, was.unopened);
+      told = omega (arith, was.told);
+      drawn = omega (arith, was.drawn);
+      one_seat = was.one_seat;
+      low = low_wider (octets_most * (turns + endings)) (octets_most * (turns + (endings + 1))) c.self.inside.shards.items (omega arith) was.low;
+      books = books_wider (octets_most * (turns + endings)) (octets_most * (turns + (endings + 1))) c.self.inside.shards.items (omega arith) was.books;
+      tallies = one_low (octets_most * (turns + (endings + 1))) c.self.inside.tally (low_more (octets_most * (turns + endings)) (octets_most * (turns + (endings + 1))) c.self.inside.tally (omega arith) (was.tallies 0 (omega arith)));
+      counts = within_wider (drops_most * (turns + endings)) (drops_most * (turns + (endings + 1))) c.self.inside.drops (omega arith) was.counts;
+      kept = was.kept;
+      kept_outs = was.kept_outs;
+      none_refused = was.none_refused;
+    }
+
+pub hold_ends-ending-requires-clause-low_tally : goal.hold_ends-ending-requires-clause-low_tally
+hold_ends-ending-requires-clause-low_tally g c =
+    let was = c.self.invariant in
+    low_more (octets_most * (c.self.inside.turns + c.self.inside.endings)) (2 ^ 62 + 2 ^ 61) c.self.inside.tally (omega (arith, was.made, was.most, was.endings)) (was.tallies 0 (omega arith))
 
 pub hold_ends-ending-requires-clause-items : goal.hold_ends-ending-requires-clause-items
 hold_ends-ending-requires-clause-items g c = (are_ends g (goal.at.hold_ends-ending-requires-clause-items g c).After-to_end).items

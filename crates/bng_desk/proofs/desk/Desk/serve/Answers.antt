@@ -1,4 +1,4 @@
-use Rattle.std.proofs.Common.{◌≡◌, ℕ, ◌+◌, ◌*◌, ◌<◌, ◌≤◌, Bool, ◌&&◌, List, [], ◌∷◌, Option, map, length, refl, sym, ap, subst, arith, ◌∙◌}
+use Rattle.std.proofs.Common.{◌≡◌, ℕ, ◌+◌, ◌*◌, ◌^◌, ◌<◌, ◌≤◌, Bool, ◌&&◌, List, [], ◌∷◌, Option, map, length, refl, sym, ap, subst, arith, ◌∙◌}
 use Rattle.std.specs.List.{All}
 use Rattle.std.specs.Vec.{with_items}
 use Rattle.std.proofs.lemmas.List.{with_items_is}
@@ -58,6 +58,11 @@ module _ (g : Over) (c : After-answer g) where
     counts = c.hold-round.ensures.within (drops_most * all_turns (before c.self.inside.shards.items)) c.self.invariant.counts;
     drawn_is = omega (arith, ap (λ (x : Drawn). x.drawn) c.gather-gathered.ensures.gathers.draws_are, c.gather-gathered.ensures.items.few);
   }
+
+pub hold-round-requires-clause-low_tally : goal.hold-round-requires-clause-low_tally
+hold-round-requires-clause-low_tally g c =
+    let was = c.self.invariant in
+    low_more (octets_most * (c.self.inside.turns + c.self.inside.endings)) (2 ^ 62 + 2 ^ 61) c.self.inside.tally (omega (arith, was.made, was.most, was.endings)) (was.tallies 0 (omega arith))
 
 pub invariant_of-self : goal.invariant_of-self
 invariant_of-self g c =
