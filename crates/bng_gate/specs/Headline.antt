@@ -19,7 +19,7 @@ use Rattle.bng_engine.specs.Accounted.{Balanced}
 use Rattle.bng_engine.specs.Exact.{ConservedAt}
 use Rattle.bng_engine.specs.Histories.{History}
 use Rattle.bng_engine.specs.Laws.{RightRound, sends_of, stops_of}
-use Rattle.bng_engine.specs.Quantities.Quantity.TheVariants.{Octets}
+use Rattle.bng_engine.specs.Quantities.{Octets}
 use Rattle.bng_engine.specs.Terms.{Key, keys}
 use Rattle.bng_engine.specs.Wire.{is_input, is_from, is_output, is_on, told_of, went}
 use Rattle.bng_shard.specs.declared.sums.Traffic.{Traffic}
