@@ -14,10 +14,10 @@ use Rattle.bng_base.specs.declared.outside.Role.{Role}
 use Rattle.bng_base.specs.declared.outside.Role.TheVariants.{Access}
 use Rattle.bng_base.specs.Roles.{is_core, is_access, is_data}
 use Rattle.bng_config.specs.declared.config.Config.{Config}
-use Rattle.bng_engine.proofs.Everywhere.{all_weaker, all_filter}
-use Rattle.bng_engine.specs.Spelled.{is_session_data, IsInputOf, IsOutputOf, IsInDirection, IsNoPacket}
 use Rattle.bng_engine.specs.Terms.{key_in}
 use Rattle.bng_engine.specs.Wire.{datagram_of, went}
+use Rattle.bng_engine.proofs.Everywhere.{all_weaker, all_filter}
+use Rattle.bng_shard.specs.Reader.{is_session_data, IsInputOf, IsOutputOf, IsInDirection, IsNoPacket}
 use Rattle.bng_gate.specs.Headline.{IsFromCircuit, IsToCircuit, IsAddressed}
 use Rattle.bng_gate.specs.Rounds.{on_data}
 use Rattle.bng_gate.proofs.Keys.{IsKeyOf, IsOurs}
@@ -83,7 +83,7 @@ module _ (config : Config) where
 
   one_addressed : (o : OutRecord) → IsOurs (IsKeyOf config) o → IsAddressed config (datagram_of o)
   one_addressed o h =
-      let is = charged o.role o.frame o.charge h.spelled h.known in
+      let is = charged o.role o.frame o.charge h.whole h.known in
       record { to_core = is.to_core; to_circuit = is.to_circuit }
 
   went_addressed : (os : List OutRecord) → AllByRecursion (IsOurs (IsKeyOf config)) os → AllByRecursion (IsAddressed config) (went os)

@@ -1,11 +1,12 @@
 -- What a turn leaves of the desk, by its round alone.
 use Rattle.std.proofs.Common.{◌≡◌, ℕ, List, [], ◌∷◌, map, Option, Some, None, refl, ap, ◌∙◌}
+use Rattle.bng_base.specs.declared.book.Book.{Book}
 use Rattle.bng_base.specs.declared.item.Entry.{Entry}
 use Rattle.bng_base.specs.declared.item.Item.{Item}
 use Rattle.bng_base.specs.Chain.{Chain}
 use Rattle.bng_base.proofs.ChainLaws.{chain_append}
-use Rattle.bng_engine.specs.Sight.{Sight}
-use Rattle.bng_shard.specs.State.{State}
+use Rattle.bng_engine.specs.Views.{ShardView}
+use Rattle.bng_shard.specs.Protocol.{ShardState}
 use Rattle.bng_desk.specs.Model.{Desk}
 use Rattle.bng_desk.specs.Round.{Round, IsRound, left_by}
 use Rattle.bng_desk.specs.Turn.{Turn, EndTurn, RoundOf, Step, EndStep, after_round, items_of, ending_items}
@@ -13,31 +14,41 @@ use Rattle.bng_gate.specs.Rounds.{round_in, end_round_in, rounds_in}
 use Rattle.bng_gate.specs.Serving.{Made, MadeEnd, Goes, GoesEnding, Run, EndRun}
 
 -- the shards after a round, or after one that was not opened
-abbrev pub left_after : List (Sight State Entry) → Option Round → List (Sight State Entry)
+abbrev pub left_after : List (ShardView ShardState Entry) → Option Round → List (ShardView ShardState Entry)
 left_after shards None = shards
 left_after shards (Some round) = map left_by round.shards
+
+-- and the tallies
+abbrev pub tallies_after : List Book → Option Round → List Book
+tallies_after tallies None = tallies
+tallies_after tallies (Some round) = round.tallies
 
 -- the round was one of this desk, at some moment and of some items
 abbrev pub IsOf : Desk → Option Round → Type 0
 IsOf d None = Unit {0}
-IsOf d (Some round) = (moment : ℕ) × (items : List Item) × IsRound d.rules d.shards d.holders moment items round
+IsOf d (Some round) = (moment : ℕ) × (lists : List (List Item)) × IsRound d.rules d.shards d.holders d.tallies moment lists round
 
 -- the desk went on by a round, or as it was; what it serves and who holds an address stay
 pub record Follows (d : Desk) (round : Option Round) (d' : Desk) : Type 0 where
   pub is_round : IsOf d round
   pub shards : d'.shards ≡ left_after d.shards round
+  pub tallies : d'.tallies ≡ tallies_after d.tallies round
   pub holders : d'.holders ≡ d.holders
   pub rules : d'.rules ≡ d.rules
   pub lines : d'.lines ≡ d.lines
 
 is_of : (d : Desk) (moment : ℕ) (items : List Item) (round : Option Round) → RoundOf d moment items round → IsOf d round
 is_of d moment items None h = tt
-is_of d moment items (Some round) h = (moment, items, h)
+is_of d moment items (Some round) h = (moment, items ∷ [], h)
 
 -- what a round leaves
 shards_after : (d : Desk) (items : List Item) (round : Option Round) → (after_round d items round).shards ≡ left_after d.shards round
 shards_after d items None = refl
 shards_after d items (Some round) = refl
+
+tallies_left : (d : Desk) (items : List Item) (round : Option Round) → (after_round d items round).tallies ≡ tallies_after d.tallies round
+tallies_left d items None = refl
+tallies_left d items (Some round) = refl
 
 holders_after : (d : Desk) (items : List Item) (round : Option Round) → (after_round d items round).holders ≡ d.holders
 holders_after d items None = refl
@@ -55,6 +66,7 @@ pub step_follows : (d d' : Desk) (t : Option Turn) → Step d t d' → Follows d
 step_follows d d' None step = record {
   is_round = tt;
   shards = ap (λ (x : Desk). x.shards) step;
+  tallies = ap (λ (x : Desk). x.tallies) step;
   holders = ap (λ (x : Desk). x.holders) step;
   rules = ap (λ (x : Desk). x.rules) step;
   lines = ap (λ (x : Desk). x.lines) step;
@@ -62,6 +74,7 @@ step_follows d d' None step = record {
 step_follows d d' (Some t) step = record {
   is_round = is_of d t.moment (items_of d t) t.round step.1;
   shards = ap (λ (x : Desk). x.shards) step.2 ∙ shards_after d (items_of d t) t.round;
+  tallies = ap (λ (x : Desk). x.tallies) step.2 ∙ tallies_left d (items_of d t) t.round;
   holders = ap (λ (x : Desk). x.holders) step.2 ∙ holders_after d (items_of d t) t.round;
   rules = ap (λ (x : Desk). x.rules) step.2 ∙ rules_after d (items_of d t) t.round;
   lines = ap (λ (x : Desk). x.lines) step.2 ∙ lines_after d (items_of d t) t.round;
@@ -71,6 +84,7 @@ pub end_follows : (d d' : Desk) (t : Option EndTurn) → EndStep d t d' → Foll
 end_follows d d' None step = record {
   is_round = tt;
   shards = ap (λ (x : Desk). x.shards) step;
+  tallies = ap (λ (x : Desk). x.tallies) step;
   holders = ap (λ (x : Desk). x.holders) step;
   rules = ap (λ (x : Desk). x.rules) step;
   lines = ap (λ (x : Desk). x.lines) step;
@@ -78,6 +92,7 @@ end_follows d d' None step = record {
 end_follows d d' (Some t) step = record {
   is_round = is_of d t.moment (ending_items d) t.round step.1;
   shards = ap (λ (x : Desk). x.shards) step.2 ∙ shards_after d (ending_items d) t.round;
+  tallies = ap (λ (x : Desk). x.tallies) step.2 ∙ tallies_left d (ending_items d) t.round;
   holders = ap (λ (x : Desk). x.holders) step.2 ∙ holders_after d (ending_items d) t.round;
   rules = ap (λ (x : Desk). x.rules) step.2 ∙ rules_after d (ending_items d) t.round;
   lines = ap (λ (x : Desk). x.lines) step.2 ∙ lines_after d (ending_items d) t.round;

@@ -1,6 +1,6 @@
 -- The headline of a run, from its turns.
-use Rattle.std.proofs.Common.{◌≡◌, ◌⊎◌, inl, inr, ℕ, List, [], map, Option, refl, sym, ap, subst, ◌∙◌, arith}
-use Rattle.std.specs.List.{AllByRecursion, AllZip, range_with_len}
+use Rattle.std.proofs.Common.{◌≡◌, ◌⊎◌, inl, inr, ℕ, List, [], ◌∷◌, map, Option, refl, sym, ap, subst, ◌∙◌, arith}
+use Rattle.std.specs.List.{All, AllByRecursion, AllZip, range_with_len}
 use Rattle.bng_base.specs.declared.outside.Datagram.{Datagram}
 use Rattle.bng_base.specs.declared.outside.Heard.{Heard}
 use Rattle.bng_base.specs.Chain.{Chain}
@@ -10,27 +10,26 @@ use Rattle.bng_config.specs.Configuration.{IsRead}
 use Rattle.bng_config.specs.Rules.{KeepsRules}
 use Rattle.bng_config.proofs.Kept.{read_keeps}
 use Rattle.bng_engine.specs.Accounted.{Accounted, opening as nothing_yet}
-use Rattle.bng_engine.specs.Laws.{Opens, RunFrom, RowsAccountOnWire, sends_of, stops_of}
-use Rattle.bng_engine.specs.Protocol.{StepLaws}
-use Rattle.bng_engine.specs.Run.{Part, Past}
+use Rattle.bng_engine.specs.Histories.{History, ShardHistory, ShardTurn, Run as Rounds}
+use Rattle.bng_engine.specs.Laws.{Opens, RunFrom, RowsAccountOnWire, TurnBy, sends_of, stops_of}
+use Rattle.bng_engine.specs.Quantities.{empty_book, Octets}
 use Rattle.bng_engine.specs.Terms.{keys}
-use Rattle.bng_engine.specs.Turn.{DeskSight}
-use Rattle.bng_engine.specs.World.{World as Gateway, Run as Rounds}
-use Rattle.bng_engine.specs.Wire.{went, is_input, is_output, input_told, output_told}
-use Rattle.bng_engine.proofs.Openings.{refused_keeps}
-use Rattle.bng_engine.proofs.Runs.{opens_accounted, rounds_are_right, run_conserves, turns_go_on, rows_account_on_wire}
+use Rattle.bng_engine.specs.Views.{DeskView}
+use Rattle.bng_engine.specs.Wire.{went, is_input, is_output, told_of}
+use Rattle.bng_engine.proofs.Openings.{refused_keeps, opening_accounted}
+use Rattle.bng_engine.proofs.Runs.{rounds_are_right, run_conserves_at, turns_go_on, rows_account_on_wire}
+use Rattle.bng_engine.proofs.Turns.{balanced}
 use Rattle.bng_shard.specs.declared.rules.Rules.{Rules}
 use Rattle.bng_shard.specs.declared.sums.Traffic.{Traffic}
-use Rattle.bng_shard.specs.Deed.{Deed}
-use Rattle.bng_shard.specs.Protocol.{terms_of, pppoe}
-use Rattle.bng_shard.specs.State.{State}
+use Rattle.bng_shard.specs.Protocol.{ShardState, Handled, terms_of, pppoe}
+use Rattle.bng_shard.specs.Reader.{pppoe_reader}
 use Rattle.bng_shard.proofs.StepLaws.{pppoe_laws}
 use Rattle.bng_desk.specs.declared.drops.Drops.{Drops}
 use Rattle.bng_desk.specs.declared.line.Line.{Line}
 use Rattle.bng_desk.specs.Model.{Desk, carried_on, all_carried, input_of, output_of}
 use Rattle.bng_desk.specs.Opening.{line_of, holder_of, opened_shards}
 use Rattle.bng_desk.specs.Report.{report_text, by_number}
-use Rattle.bng_desk.specs.Round.{sight_of}
+use Rattle.bng_desk.specs.Round.{view_of}
 use Rattle.bng_gate.specs.declared.texts.Refusal.{Refusal}
 use Rattle.bng_gate.specs.declared.texts.Refusal.TheVariants.{Usage, Refused, CannotOpen, OutOfMemory, TraceFailed, OutputFailed}
 use Rattle.bng_gate.specs.Headline.{Headline, IsSafe, IsQuiet, WasSafe, all_traffic}
@@ -39,70 +38,74 @@ use Rattle.bng_gate.specs.Run.{World, outside, Course, Runs, IsReady, IsUntouche
 use Rattle.bng_gate.proofs.Addressing.{all_addressed}
 use Rattle.bng_gate.proofs.Drops.{all_dropped}
 use Rattle.bng_gate.proofs.Follows.{Follows, run_follows, lines_stay}
-use Rattle.bng_gate.proofs.Going.{Leads, stands_itself, rounds_lead, by_turns}
-use Rattle.bng_gate.proofs.Keys.{HasKeys, HasRows, IsKeyOf, IsOurs, all_keys, opened_keys, all_keys_known, run_keys, run_ours, run_stops, rows_have, world_keys}
+use Rattle.bng_gate.proofs.Going.{Leads, stands_itself, rounds_lead}
+use Rattle.bng_gate.proofs.Keys.{HasKeys, HasRows, IsKeyOf, IsOurs, all_keys, opened_keys, all_keys_known, run_keys, run_ours, run_stops, rows_have, history_keys}
 use Rattle.bng_gate.proofs.Openings.{opens}
 use Rattle.bng_gate.proofs.Telling.{sent_are, taken_are, unsent_failed}
 use Rattle.bng_gate.proofs.Traffic.{traffic_same, input_all, output_all}
 
-module _ (config : Config) (rules : KeepsRules config) (seed : List ℕ) (old new : World) (course : Course config seed (outside old) (outside new)) where
-  abbrev r : Rules
-  r = course.opening.rules
+-- each circuit of a configuration that is read has the first profile
+first_profiles : (text : List ℕ) (config : Config) → IsRead text config → All (λ c. c.profile ≡ 0) config.statics
+first_profiles text config read i d less = (read.configures.statics i d less).profile
 
-  laws : StepLaws (pppoe r)
-  laws = pppoe_laws r
+module _ (text : List ℕ) (config : Config) (read : IsRead text config) (seed : List ℕ) (old new : World) (course : Course config seed (outside old) (outside new)) where
+  rules : KeepsRules config
+  rules = read_keeps text config read
 
-  -- the engine's sights of the desk at the opening and at the end
-  abbrev start : DeskSight State Deed
-  start = sight_of course.opening.shards course.opening.holders
+  -- the desk as the engine sees it, at the opening and at the end
+  abbrev start : DeskView ShardState Handled
+  start = view_of course.opening.shards course.opening.holders course.opening.tallies
 
-  abbrev end : DeskSight State Deed
-  end = sight_of course.last.shards course.last.holders
+  abbrev end : DeskView ShardState Handled
+  end = view_of course.last.shards course.last.holders course.last.tallies
 
-  abbrev rounds : List (List (Part Deed))
+  abbrev rounds : List (List (ShardTurn Handled))
   rounds = rounds_of course.turns course.endings
 
-  start_is : start ≡ sight_of (opened_shards config) (map holder_of config.statics)
-  start_is = ap (λ (d : Desk). sight_of d.shards d.holders) course.begins.is_opened.desk
+  abbrev r : Rules
+  r = course.begins.is_opened.rules
 
-  start_opens : Opens (pppoe r) start
-  start_opens = subst (Opens (pppoe r)) (sym start_is) (opens r config rules)
+  start_is : start ≡ view_of (opened_shards config r) (map holder_of config.statics) (empty_book ∷ [])
+  start_is = ap (λ (d : Desk). view_of d.shards d.holders d.tallies) course.begins.is_opened.desk
+
+  start_opens : Opens pppoe start
+  start_opens = subst (Opens pppoe) (sym start_is) (opens r config rules (first_profiles text config read))
 
   start_keys : AllZip HasKeys start.shards (all_keys config)
-  start_keys = subst (λ (v : DeskSight State Deed). AllZip HasKeys v.shards (all_keys config)) (sym start_is) (opened_keys config (range_with_len 0 config.shards))
+  start_keys = subst (λ (v : DeskView ShardState Handled). AllZip HasKeys v.shards (all_keys config)) (sym start_is) (opened_keys r config (range_with_len 0 config.shards))
 
   follows : Chain Follows course.opening (rounds_in course.turns course.endings) course.last
   follows = run_follows course.opening course.over course.last course.turns course.endings course.run course.ending
 
-  leads : Leads r start rounds course.last
-  leads = rounds_lead r course.opening course.last (rounds_in course.turns course.endings) follows refl start (stands_itself course.opening)
+  leads : Leads start rounds course.last
+  leads = rounds_lead course.opening course.last (rounds_in course.turns course.endings) follows start (stands_itself course.opening)
 
-  goes : (w : Gateway State) × Rounds (pppoe r) (nothing_yet start) rounds w × Accounted (pppoe r) leads.sight w
-  goes = turns_go_on (pppoe r) laws start leads.sight (nothing_yet start) rounds (by_turns r start leads.sight rounds leads.turns) (opens_accounted (pppoe r) laws start start_opens)
+  goes : (h : History ShardState) × Rounds pppoe (nothing_yet start) rounds h × Accounted pppoe leads.view h
+  goes = turns_go_on pppoe pppoe_laws start leads.view (nothing_yet start) rounds leads.turns (opening_accounted pppoe start start_opens)
 
-  run_from : RunFrom (pppoe r) start rounds goes.0
-  run_from = record { opens = start_opens; rounds = goes.1 }
+  run_from : RunFrom pppoe start rounds goes.0
+  run_from = record { opens = start_opens; run = goes.1 }
 
-  accounted : Accounted (pppoe r) end goes.0
-  accounted = refused_keeps (pppoe r) leads.sight end goes.0 leads.stands.shards leads.stands.held goes.2
+  accounted : Accounted pppoe end goes.0
+  accounted = refused_keeps pppoe leads.view end goes.0 leads.stands.shards leads.stands.held leads.stands.tallies goes.2
 
-  on_wire : RowsAccountOnWire rounds end
-  on_wire = rows_account_on_wire (pppoe r) laws start end goes.0 rounds goes.1 accounted
+  on_wire : RowsAccountOnWire pppoe rounds end
+  on_wire = rows_account_on_wire pppoe pppoe_laws start end goes.0 rounds goes.1 accounted
 
-  end_keys : AllZip HasKeys leads.sight.shards (all_keys config)
-  end_keys = run_keys r laws start leads.sight rounds (all_keys config) leads.turns start_keys
+  end_keys : AllZip HasKeys leads.view.shards (all_keys config)
+  end_keys = run_keys start leads.view rounds (all_keys config) leads.turns start_keys
 
   rows : AllZip HasRows course.last.shards (all_keys config)
-  rows = rows_have r leads.sight.shards course.last.shards goes.0.shards (all_keys config) leads.stands.shards end_keys accounted.tells.shards
+  rows = rows_have leads.view.shards course.last.shards goes.0.shards (all_keys config) leads.stands.shards end_keys accounted.tells.shards
 
-  terms : map (λ (x : Past State). keys (terms_of x.state)) goes.0.shards ≡ all_keys config
-  terms = world_keys r leads.sight.shards goes.0.shards (all_keys config) goes.2.tells.shards end_keys
+  terms : map (λ (h : ShardHistory ShardState). keys (terms_of h.state)) goes.0.shards ≡ all_keys config
+  terms = history_keys leads.view.shards goes.0.shards (all_keys config) goes.2.tells.shards end_keys
 
   ours : AllByRecursion (IsOurs (IsKeyOf config)) (sends_of rounds)
-  ours = run_ours r laws (IsKeyOf config) start leads.sight rounds (all_keys config) leads.turns start_keys (all_keys_known config)
+  ours = run_ours (IsKeyOf config) start leads.view rounds (all_keys config) leads.turns start_keys (all_keys_known config)
 
   stops : stops_of rounds ≡ []
-  stops = run_stops r laws start leads.sight rounds leads.turns
+  stops = run_stops start leads.view rounds leads.turns
 
   lines : course.last.lines ≡ map line_of config.statics
   lines = lines_stay course.opening course.last (rounds_in course.turns course.endings) follows ∙ ap (λ (d : Desk). d.lines) course.begins.is_opened.desk
@@ -130,11 +133,12 @@ module _ (config : Config) (rules : KeepsRules config) (seed : List ℕ) (old ne
     are_sent = refl;
     items = taken_are course.opening course.over course.turns course.endings course.run;
     sends = sends;
-    world = goes.0;
-    rounds = rounds_are_right (pppoe r) laws start rounds goes.0 run_from;
+    history = goes.0;
+    rounds = rounds_are_right pppoe pppoe_laws start rounds goes.0 run_from;
     terms = terms;
     no_stops = stops;
-    conserved = run_conserves (pppoe r) laws start rounds goes.0 run_from;
+    conserved = run_conserves_at pppoe pppoe_laws start rounds goes.0 run_from;
+    balanced = balanced pppoe end goes.0 accounted;
     addressed = all_addressed config sent (sends_of rounds) sends ours;
     unsent = record {
       later = omega (arith, course.begins.bound.unfailed, course.told.plant.causes.later);
@@ -145,16 +149,16 @@ module _ (config : Config) (rules : KeepsRules config) (seed : List ℕ) (old ne
   report : report_text course.last.lines (all_carried course.last) (by_number course.last.drops) ≡ report_text (map line_of config.statics) (all_traffic config sent) (by_number (drops_of_run course.turns course.endings))
   report =
       ap (λ (ls : List Line). report_text ls (map (carried_on course.last.shards) ls) (by_number course.last.drops)) lines
-      ∙ ap (λ (ts : List Traffic). report_text (map line_of config.statics) ts (by_number course.last.drops)) (traffic_same config rules course.last.shards rows course.last.holders sent rounds sends stops on_wire)
+      ∙ ap (λ (ts : List Traffic). report_text (map line_of config.statics) ts (by_number course.last.drops)) (traffic_same config rules course.last.shards rows course.last.holders course.last.tallies sent rounds sends stops on_wire)
       ∙ ap (λ (d : Drops). report_text (map line_of config.statics) (all_traffic config sent) (by_number d)) drops
 
-  all_in : input_of (all_traffic config sent) ≡ input_told is_input sent
-  all_in = input_all config rules course.last.shards rows course.last.holders sent rounds sends stops on_wire
+  all_in : input_of (all_traffic config sent) ≡ told_of pppoe_reader Octets is_input sent
+  all_in = input_all config rules course.last.shards rows course.last.holders course.last.tallies sent rounds sends stops on_wire
 
-  all_out : output_of (all_traffic config sent) ≡ output_told is_output sent
-  all_out = output_all config rules course.last.shards rows course.last.holders sent rounds sends stops on_wire
+  all_out : output_of (all_traffic config sent) ≡ told_of pppoe_reader Octets is_output sent
+  all_out = output_all config rules course.last.shards rows course.last.holders course.last.tallies sent rounds sends stops on_wire
 
-module _ (config : Config) (rules : KeepsRules config) (seed : List ℕ) (old new : World) (run : Runs config seed (outside old) (outside new) old.out new.out) where
+module _ (text : List ℕ) (config : Config) (read : IsRead text config) (seed : List ℕ) (old new : World) (run : Runs config seed (outside old) (outside new) old.out new.out) where
   abbrev turned : Course config seed (outside old) (outside new)
   turned = run.completes.course
 
@@ -163,14 +167,14 @@ module _ (config : Config) (rules : KeepsRules config) (seed : List ℕ) (old ne
   headline_of = record {
     seed = seed;
     run = run;
-    safe = safe_of config rules seed old new turned;
-    printed = subst (λ (text : List ℕ). Grows old.out.bytes new.out.bytes text) (report config rules seed old new turned) run.reports.printed;
-    all_input = all_in config rules seed old new turned;
-    all_output = all_out config rules seed old new turned;
+    safe = safe_of text config read seed old new turned;
+    printed = subst (λ (text : List ℕ). Grows old.out.bytes new.out.bytes text) (report text config read seed old new turned) run.reports.printed;
+    all_input = all_in text config read seed old new turned;
+    all_output = all_out text config read seed old new turned;
   }
 
 pub headline : (text : List ℕ) (config : Config) (seed : List ℕ) (old new : World) → IsRead text config → Runs config seed (outside old) (outside new) old.out new.out → Headline config old new
-headline text config seed old new read run = headline_of config (read_keeps text config read) seed old new run
+headline text config seed old new read run = headline_of text config read seed old new run
 
 -- Where a run came to no report, it was quiet, or its turns were safe ----------------------------------------------------------
 
@@ -184,7 +188,7 @@ module _ (words : List (List ℕ)) (old new : World) where
   turned_safe : (config : Config) (seed : List ℕ) → IsReady words old new config seed → Course config seed (outside old) (outside new) → QuietOrSafe
   turned_safe config seed ready course =
       let prepares = ready.prepares in
-      inr (record { config = config; prepares = prepares; seed = seed; course = course; safe = safe_of config (read_keeps prepares.text config prepares.read) seed old new course })
+      inr (record { config = config; prepares = prepares; seed = seed; course = course; safe = safe_of prepares.text config prepares.read seed old new course })
 
   wants_safe : (config : Config) (seed : List ℕ) → IsReady words old new config seed → WantsToServe config seed (outside old) (outside new) → QuietOrSafe
   wants_safe config seed ready (inl w) = inl (record { heard = w.0.binds.heard; taken = w.0.binds.taken; sent = w.0.binds.sent })

@@ -1,11 +1,12 @@
 -- Sums over lists and over their parts, and elements that differ in a number.
-use Rattle.std.proofs.Common.{◌≡◌, ⊎_elim, ℕ, zero, suc, ◌+◌, ◌<◌, ◌≤◌, Bool, true, false, cond, List, [], ◌∷◌, map, Some, refl, sym, ap, ◌∙◌, arith, eqb}
+use Rattle.std.proofs.Common.{◌≡◌, ⊎_elim, ℕ, zero, suc, ◌+◌, ◌<◌, ◌≤◌, Bool, true, false, cond, List, [], ◌∷◌, map, Some, refl, sym, ap, subst, ◌∙◌, arith, eqb}
 use Rattle.std.specs.Prelude.{slice_get, filter}
-use Rattle.std.specs.List.{AllPairs, AllByRecursion, sum_by, range_with_len}
-use Rattle.std.proofs.lemmas.Bool.{ne_eqb, eq-eqb, cases_eq}
+use Rattle.std.specs.List.{AllPairs, AllByRecursion, sum_by, count_by, range_with_len}
+use Rattle.std.proofs.lemmas.Bool.{ne_eqb, eq-eqb, eqb-true, cases_eq}
 use Rattle.std.proofs.lemmas.List.Elements.{recursion_from_All}
 use Rattle.std.proofs.lemmas.List.Sums.{sum_by-cons}
 use Rattle.std.proofs.lemmas.Option.{same_Some, none-some}
+use Rattle.bng_engine.specs.Lists.{one_if}
 use Rattle.bng_engine.proofs.Adding.{sum_plus, sum_none}
 use Rattle.bng_engine.proofs.Everywhere.{all_filter}
 
@@ -28,6 +29,34 @@ apart_kept f false x xs ys h i = i
 pub apart_filter : {X : Type 0} (f : X → ℕ) (test : X → Bool) (xs : List X) → Apart f xs → Apart f (filter test xs)
 apart_filter f test [] h = tt
 apart_filter f test (x ∷ xs) h = apart_kept f (test x) x xs (filter test xs) (all_filter (λ y. f y ≡ f x → ⊥) test xs h.0) (apart_filter f test xs h.1)
+
+-- where each number is met at most once, no two have one; and the other way round
+none_with : {X : Type 0} (f : X → ℕ) (n : ℕ) (xs : List X) → count_by (λ x. eqb (f x) n) xs ≡ 0 → AllByRecursion (λ y. f y ≡ n → ⊥) xs
+none_with f n [] e = tt
+none_with {X} f n (x ∷ xs) e =
+    let parts = sum_by-cons (λ (y : X). one_if (eqb (f y) n)) x xs in
+    (λ same. omega (arith, e, parts, ap one_if (eq-eqb (f x) n same)), none_with f n xs (omega (arith, e, parts)))
+
+pub apart_where_once : {X : Type 0} (f : X → ℕ) (xs : List X) → ((n : ℕ) → count_by (λ x. eqb (f x) n) xs ≤ 1) → Apart f xs
+apart_where_once f [] h = tt
+apart_where_once {X} f (x ∷ xs) h =
+    let parts = λ (n : ℕ). sum_by-cons (λ (y : X). one_if (eqb (f y) n)) x xs in
+    (
+      none_with f (f x) xs (omega (arith, h (f x), parts (f x), ap one_if (eq-eqb (f x) (f x) refl))),
+      apart_where_once f xs (λ n. omega (arith, h n, parts n)),
+    )
+
+none_counted : {X : Type 0} (f : X → ℕ) (n : ℕ) (xs : List X) → AllByRecursion (λ y. f y ≡ n → ⊥) xs → count_by (λ x. eqb (f x) n) xs ≡ 0
+none_counted f n [] h = refl
+none_counted {X} f n (x ∷ xs) h = omega (arith, sum_by-cons (λ (y : X). one_if (eqb (f y) n)) x xs, ap one_if (ne_eqb (f x) n h.0), none_counted f n xs h.1)
+
+once_at : {X : Type 0} (f : X → ℕ) (n : ℕ) (x : X) (xs : List X) (b : Bool) → eqb (f x) n ≡ b → AllByRecursion (λ y. f y ≡ f x → ⊥) xs → count_by (λ x. eqb (f x) n) xs ≤ 1 → one_if b + count_by (λ x. eqb (f x) n) xs ≤ 1
+once_at {X} f n x xs true e h rest = omega (arith, none_counted f n xs (subst (λ (m : ℕ). AllByRecursion (λ (y : X). f y ≡ m → ⊥) xs) (eqb-true (f x) n e) h))
+once_at f n x xs false e h rest = omega (arith, rest)
+
+pub once_where_apart : {X : Type 0} (f : X → ℕ) (n : ℕ) (xs : List X) → Apart f xs → count_by (λ x. eqb (f x) n) xs ≤ 1
+once_where_apart f n [] h = omega arith
+once_where_apart {X} f n (x ∷ xs) h = omega (arith, sum_by-cons (λ (y : X). one_if (eqb (f y) n)) x xs, once_at f n x xs (eqb (f x) n) refl h.0 (once_where_apart f n xs h.1))
 
 pub all_at : {X : Type 0} (P : X → Type 0) (xs : List X) (i : ℕ) (x : X) → AllByRecursion P xs → slice_get xs i ≡ Some x → P x
 all_at P [] i x h e = absurd (none-some x e)

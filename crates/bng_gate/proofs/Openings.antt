@@ -1,6 +1,6 @@
 -- A desk that was opened over a configuration: its terms are those of the circuits.
-use Rattle.std.proofs.Common.{◌≡◌, ◌||◌, ℕ, ◌+◌, Bool, true, false, List, [], ◌∷◌, map, length, refl, sym, ap, ◌∙◌, arith, eqb}
-use Rattle.std.specs.List.{AllByRecursion, sum_by, count_by, range_with_len}
+use Rattle.std.proofs.Common.{◌≡◌, ◌||◌, ℕ, zero, suc, ◌+◌, Bool, true, false, List, [], ◌∷◌, map, length, refl, sym, ap, ◌∙◌, arith, eqb}
+use Rattle.std.specs.List.{All, AllByRecursion, sum_by, count_by, range_with_len}
 use Rattle.std.proofs.lemmas.Bool.{eqb-true, ne_eqb}
 use Rattle.std.proofs.lemmas.List.Elements.{recursion_from_All}
 use Rattle.std.proofs.lemmas.List.Sums.{sum_by-cons}
@@ -9,19 +9,23 @@ use Rattle.bng_base.specs.declared.address.SessionNo.{SessionNo}
 use Rattle.bng_base.specs.declared.settings.Static.{Static}
 use Rattle.bng_config.specs.declared.config.Config.{Config}
 use Rattle.bng_config.specs.Rules.{KeepsRules, IsSessionOf}
-use Rattle.bng_engine.specs.Accounted.{IsNew, past_of}
+use Rattle.bng_engine.specs.Accounted.{AreEmpty, IsNew, SayNothing, nothing_yet}
+use Rattle.bng_engine.specs.Claims.{is_held}
+use Rattle.bng_engine.specs.Exact.{holders}
+use Rattle.bng_engine.specs.Histories.{ShardHistory}
 use Rattle.bng_engine.specs.Laws.{Opens}
-use Rattle.bng_engine.specs.Protocol.{AreNumbered}
-use Rattle.bng_engine.specs.Run.{Past}
-use Rattle.bng_engine.specs.Sums.{leases_at, one_if}
-use Rattle.bng_engine.specs.Terms.{Key, keys}
-use Rattle.bng_engine.specs.World.{is_held, holders}
+use Rattle.bng_engine.specs.Lists.{one_if}
+use Rattle.bng_engine.specs.Protocol.{AreNumbered, HaveProfiles}
+use Rattle.bng_engine.specs.Quantities.{empty_book}
+use Rattle.bng_engine.specs.Showing.{with_journal}
+use Rattle.bng_engine.specs.Terms.{Key, keys, leases_at}
+use Rattle.bng_engine.specs.Views.{new_row, row_keys}
+use Rattle.bng_engine.proofs.Everywhere.{all_filter}
 use Rattle.bng_shard.specs.declared.rules.Rules.{Rules}
-use Rattle.bng_shard.specs.Protocol.{term_of, terms_of, terms_after, pppoe, opened}
-use Rattle.bng_shard.specs.State.{State}
+use Rattle.bng_shard.specs.Protocol.{ShardState, Handled, term_of, terms_of, terms_after, profiles_there, pppoe, opened}
 use Rattle.bng_shard.proofs.StepLaws.{none_ended}
 use Rattle.bng_desk.specs.Opening.{shard_of, holder_of, statics_of, opened_shards}
-use Rattle.bng_desk.specs.Round.{sights_of, sight_of, held_by}
+use Rattle.bng_desk.specs.Round.{views_of, view_of, held_by}
 use Rattle.bng_gate.proofs.Lists.{Apart, apart_of, IsWithin, sum_parts}
 
 -- What a configuration keeps, by recursion ------------------------------------------------------------------------------
@@ -63,13 +67,41 @@ numbered : (n m : ℕ) (cs : List Static) → m ≡ n + length cs → AreNumbere
 numbered n m [] e = omega (arith, e)
 numbered n m (c ∷ cs) e = (refl, numbered (n + 1) m cs (omega (arith, e)))
 
-module _ (r : Rules) where
-  new_shard : (number : ℕ) (cs : List Static) → IsNew (pppoe r) (record { number = number; state = record { number = number; statics = cs; sessions = [] }; rows = (opened number cs).rows; journal = []; outs = []; records = []; stops = []; room = 0 })
-  new_shard number cs = record { rows = refl; live = none_ended 0 cs; numbered = numbered 0 (length cs) cs (omega arith) }
+keys_of_new : (ks : List Key) → row_keys (map new_row ks) ≡ ks
+keys_of_new [] = refl
+keys_of_new (k ∷ ks) = ap (λ (js : List Key). k ∷ js) (keys_of_new ks)
 
-  new_shards : (config : Config) (ns : List ℕ) → AllByRecursion (IsNew (pppoe r)) (sights_of (map (λ n. opened n (statics_of config n)) ns))
-  new_shards config [] = tt
-  new_shards config (n ∷ ns) = (new_shard n (statics_of config n), new_shards config ns)
+new_say_nothing : (ks : List Key) → SayNothing (map new_row ks)
+new_say_nothing [] = tt
+new_say_nothing (k ∷ ks) = (refl, new_say_nothing ks)
+
+one_empty : AreEmpty (empty_book ∷ [])
+one_empty zero lt = refl
+one_empty (suc i) lt = absurd (omega (arith, lt))
+
+-- each circuit has the one profile that there is
+abbrev IsFirst : Static → Type 0
+IsFirst c = c.profile ≡ 0
+
+first_profiles : (n : ℕ) (cs : List Static) → AllByRecursion IsFirst cs → HaveProfiles profiles_there (terms_after n cs)
+first_profiles n [] h = tt
+first_profiles n (c ∷ cs) h = (omega (arith, h.0), first_profiles (n + 1) cs h.1)
+
+module _ (r : Rules) where
+  new_shard : (number : ℕ) (cs : List Static) → AllByRecursion IsFirst cs → IsNew pppoe (with_journal {E = Handled} (opened number r cs) [])
+  new_shard number cs profiles = record {
+    live = none_ended 0 cs;
+    numbered = record { in_order = keys (terms_after 0 cs); same = λ f. refl; numbered = numbered 0 (length cs) cs (omega arith) };
+    fit = λ f. ap (sum_by f) (keys_of_new (keys (terms_after 0 cs)));
+    rows = new_say_nothing (keys (terms_after 0 cs));
+    profiled = first_profiles 0 cs profiles;
+    profiles = refl;
+    books = one_empty;
+  }
+
+  new_shards : (config : Config) (ns : List ℕ) → AllByRecursion IsFirst config.statics → AllByRecursion (IsNew pppoe) (views_of (map (λ n. opened n r (statics_of config n)) ns))
+  new_shards config [] profiles = tt
+  new_shards config (n ∷ ns) profiles = (new_shard n (statics_of config n) (all_filter IsFirst (λ c. eqb (shard_of c) n) config.statics profiles), new_shards config ns profiles)
 
   -- how many terms of a shard have an address
   leases_are : (a n : ℕ) (cs : List Static) → leases_at a (keys (terms_after n cs)) ≡ count_by (λ c. eqb (address_in c) a) cs
@@ -82,14 +114,13 @@ module _ (r : Rules) where
         leases_are a (n + 1) cs,
       )
 
-  holders_are : (config : Config) (a : ℕ) (ns : List ℕ) → holders (pppoe r) a (map past_of (sights_of (map (λ n. opened n (statics_of config n)) ns))) ≡ sum_by (λ n. count_by (λ c. eqb (address_in c) a) (statics_of config n)) ns
+  holders_are : (config : Config) (a : ℕ) (ns : List ℕ) → holders pppoe a (map nothing_yet (views_of (map (λ n. opened n r (statics_of config n)) ns))) ≡ sum_by (λ n. count_by (λ c. eqb (address_in c) a) (statics_of config n)) ns
   holders_are config a [] = refl
   holders_are config a (n ∷ ns) =
-      let rest = sights_of (map (λ (m : ℕ). opened m (statics_of config m)) ns) in
-      let here : Past State = record { state = record { number = n; statics = statics_of config n; sessions = [] }; records = []; stops = [] } in
+      let rest = views_of (map (λ (m : ℕ). opened m r (statics_of config m)) ns) in
       omega (
         arith,
-        sum_by-cons (λ (s : Past State). leases_at a (keys (terms_of s.state))) here (map past_of rest),
+        sum_by-cons (λ (h : ShardHistory ShardState). leases_at a (keys (terms_of h.state))) (nothing_yet (with_journal {E = Handled} (opened n r (statics_of config n)) [])) (map nothing_yet rest),
         sum_by-cons (λ (m : ℕ). count_by (λ (c : Static). eqb (address_in c) a) (statics_of config m)) n ns,
         leases_are a 0 (statics_of config n),
         holders_are config a ns,
@@ -116,8 +147,9 @@ held_once a [] h = refl
 held_once a (c ∷ cs) h = sum_by-cons (λ (x : Static). one_if (eqb (address_in x) a)) c cs ∙ held_at a c cs (eqb (address_in c) a) refl h.0 (held_once a cs h.1)
 
 -- the desk at its opening holds each circuit's term with its address, and nothing else
-pub opens : (r : Rules) (config : Config) → KeepsRules config → Opens (pppoe r) (sight_of (opened_shards config) (map holder_of config.statics))
-opens r config rules = record {
-  new = new_shards r config (range_with_len 0 config.shards);
+pub opens : (r : Rules) (config : Config) → KeepsRules config → All (λ c. c.profile ≡ 0) config.statics → Opens pppoe (view_of (opened_shards config r) (map holder_of config.statics) (empty_book ∷ []))
+opens r config rules profiles = record {
+  new = new_shards r config (range_with_len 0 config.shards) (recursion_from_All IsFirst config.statics profiles);
   holds = λ a. holders_are r config a (range_with_len 0 config.shards) ∙ sum_shards config rules (λ (c : Static). one_if (eqb (address_in c) a)) ∙ held_once a config.statics (addresses_apart config rules);
+  tallies = one_empty;
 }

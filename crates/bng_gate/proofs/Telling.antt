@@ -12,20 +12,21 @@ use Rattle.bng_base.specs.declared.outside.Role.{Role}
 use Rattle.bng_base.specs.declared.outside.Role.TheVariants.{Access, Core, Control}
 use Rattle.bng_base.specs.FateOf.{Arrival}
 use Rattle.bng_base.specs.Roles.{is_data}
+use Rattle.bng_engine.specs.Calls.{all_sends}
+use Rattle.bng_engine.specs.Histories.{ShardTurn}
 use Rattle.bng_engine.specs.Laws.{sends_of}
-use Rattle.bng_engine.specs.Progress.{all_records}
-use Rattle.bng_engine.specs.Run.{Part}
-use Rattle.bng_engine.specs.Sums.{one_if}
+use Rattle.bng_engine.specs.Lists.{one_if}
+use Rattle.bng_engine.specs.Views.{turn_in}
 use Rattle.bng_engine.specs.Wire.{went}
 use Rattle.bng_engine.proofs.Wire.{went_append}
-use Rattle.bng_shard.specs.Deed.{Deed}
+use Rattle.bng_shard.specs.Protocol.{Handled}
 use Rattle.bng_desk.specs.Control.{Heeded, reply, is_answered}
 use Rattle.bng_desk.specs.Items.{DataReading}
 use Rattle.bng_desk.specs.Model.{Desk}
 use Rattle.bng_desk.specs.Reading.{taken_in}
 use Rattle.bng_desk.specs.Round.{Round, not_sent}
 use Rattle.bng_desk.specs.Turn.{Turn, EndTurn, Step, data_stretch, round_stretch, stretch_of, end_stretch}
-use Rattle.bng_gate.specs.Rounds.{round_in, end_round_in, rounds_in, part_in, parts_in, rounds_of, plant_of, on_data, readings_in, readings_of}
+use Rattle.bng_gate.specs.Rounds.{round_in, end_round_in, rounds_in, turns_of, rounds_of, plant_of, on_data, readings_in, readings_of}
 use Rattle.bng_gate.specs.Serving.{Made, MadeEnd, Run, run_stretch, ending_stretch}
 
 on_data_append : (a b : List Datagram) → on_data (a ++ b) ≡ on_data a ++ on_data b
@@ -35,14 +36,14 @@ on_data_append a b = filter-append (λ (d : Datagram). is_data d.role) a b
 
 abbrev pub sends_in : Option Round → List OutRecord
 sends_in None = []
-sends_in (Some round) = all_records round.shards
+sends_in (Some round) = all_sends round.shards
 
-pub sends_are : (rounds : List (Option Round)) → sends_of (flat_map parts_in rounds) ≡ flat_map sends_in rounds
+pub sends_are : (rounds : List (Option Round)) → sends_of (flat_map turns_of rounds) ≡ flat_map sends_in rounds
 sends_are [] = refl
 sends_are (None ∷ rounds) = sends_are rounds
 sends_are (Some round ∷ rounds) =
-    ap (λ (os : List OutRecord). os ++ sends_of (flat_map parts_in rounds)) (flat_map-map (λ (x : Part Deed). x.records) part_in round.shards)
-    ∙ ap (λ (os : List OutRecord). all_records round.shards ++ os) (sends_are rounds)
+    ap (λ (os : List OutRecord). os ++ sends_of (flat_map turns_of rounds)) (flat_map-map (λ (t : ShardTurn Handled). t.settlement.sends) turn_in round.shards)
+    ∙ ap (λ (os : List OutRecord). all_sends round.shards ++ os) (sends_are rounds)
 
 no_replies : (hs : List Heeded) → on_data (map reply hs) ≡ []
 no_replies [] = refl
