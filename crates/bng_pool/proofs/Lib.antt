@@ -6,4 +6,5 @@ pub mod Seated
 pub mod Scanning
 pub mod Dealing
 pub mod Telling
+pub mod Entries
 pub mod OneHand

@@ -1,44 +1,46 @@
--- A table of held addresses: the seats of all shards, where they are all in one hand.
-use Rattle.std.specs.Prelude.{◌≡◌, ◌≢◌, ℕ, ◌%◌, ◌⊎◌, true, List, ◌∷◌, length, slice_get, slice_set, Option, Some, None}
+-- A table of the addresses that are held, and what its calls answer and leave.
+use Rattle.std.specs.Prelude.{◌≡◌, ◌≢◌, ℕ, ◌<◌, ◌≤◌, ◌==◌, ◌⊎◌, List, [], ◌∷◌, Option, Some, None, if◌then◌else◌}
 use Rattle.bng_base.specs.declared.address.Ip4.{Ip4}
+use Rattle.bng_base.specs.declared.book.Range.{Range}
 use Rattle.bng_base.specs.declared.item.Claim.{Claim}
-use Rattle.bng_base.specs.declared.item.Claim.TheVariants.{Claimed, Held}
-use Rattle.bng_pool.specs.Seats.{PoolView, SeatView, Holds, Notes, IsLearned, AreAgreed, Claims, Looks}
+use Rattle.bng_base.specs.declared.item.Claim.TheVariants.{Claimed, Held, Exhausted}
+use Rattle.bng_pool.specs.Ranges.{InRange}
 
--- shard k of these holds the address
-abbrev pub HasHolder : List SeatView → ℕ → ℕ → Type 0
-HasHolder seats a k = (q : SeatView) × (slice_get seats k ≡ Some q) × Holds q.held a
+-- each address that is held, beside the number of the shard that holds it
+abbrev pub Table : Type 0
+Table = List (ℕ × ℕ)
 
--- none of these holds the address
-abbrev pub IsFree : List SeatView → ℕ → Type 0
-IsFree seats a = (k : ℕ) → ¬ HasHolder seats a k
+-- the shard that holds an address; None where it is free
+abbrev pub entry : Table → ℕ → Option ℕ
+entry [] a = None
+entry (e ∷ rest) a = if e.0 == a then Some e.1 else entry rest a
 
--- the seats of all shards of a pool, each at the place of its number, in one phase of a round, and each two of them agree
-pub record AreInOneHand (pool : PoolView) (phase : ℕ) (seats : List SeatView) : Type 0 where
-  pub all : length seats ≡ pool.shards
-  pub round : phase % 2 ≡ 0
-  pub each : (k : ℕ) (q : SeatView) → slice_get seats k ≡ Some q → (q.pool ≡ pool) × (q.number ≡ k) × (q.phase ≡ phase) × (q.full ≡ true) × IsLearned q
-  pub agreed : (i j : ℕ) (p q : SeatView) → i ≢ j → slice_get seats i ≡ Some p → slice_get seats j ≡ Some q → AreAgreed p q
+-- some shard holds the address
+abbrev pub IsTaken : Table → ℕ → Type 0
+IsTaken table a = (k : ℕ) × (entry table a ≡ Some k)
 
--- the seat heard what each other one holds
-abbrev pub HasHeard : List SeatView → ℕ → SeatView → Type 0
-HasHeard seats k seat = (j : ℕ) (q : SeatView) → j ≢ k → slice_get seats j ≡ Some q → (a : ℕ) → Holds q.held a → Notes seat.notes a j seat.phase
+-- the one table is the other but for the entry of one address
+abbrev pub IsElsewhere : Table → ℕ → Table → Type 0
+IsElsewhere table a next = (b : ℕ) → b ≢ a → entry next b ≡ entry table b
 
--- what a table of held addresses answers to a claim, and what the seat holds then
-abbrev pub TableClaims : List SeatView → Ip4 → Claim → SeatView → SeatView → Type 0
-TableClaims seats a answer before after =
-    ((answer ≡ Claimed a) × IsFree seats a.0 × (after.held ≡ a.0 ∷ before.held)) ⊎ ((answer ≡ Held a) × ((j : ℕ) × HasHolder seats a.0 j) × (after.held ≡ before.held))
+-- a free address is given to a shard
+pub record Puts (table : Table) (a k : ℕ) (next : Table) : Type 0 where
+  pub free : entry table a ≡ None
+  pub put : entry next a ≡ Some k
+  pub elsewhere : IsElsewhere table a next
 
--- what it answers to a look
-abbrev pub TableLooks : List SeatView → ℕ → Option ℕ → Type 0
-TableLooks seats a answer = ((answer ≡ None) × IsFree seats a) ⊎ ((j : ℕ) × (answer ≡ Some j) × HasHolder seats a j)
+-- A claim for shard k: Claimed exactly where the address was free, and then it is the shard's; Held exactly where it was held, and then nothing changes
+abbrev pub TableClaims : Table → ℕ → Ip4 → Claim → Table → Type 0
+TableClaims table k a answer next = ((answer ≡ Claimed a) × Puts table a.0 k next) ⊎ ((answer ≡ Held a) × IsTaken table a.0 × (next ≡ table))
 
--- a claim by shard k is one of the table, where the seats agree after it
-abbrev pub ClaimsOfTable : Type 0
-ClaimsOfTable = (pool : PoolView) (phase k : ℕ) (seats : List SeatView) (a : Ip4) (answer : Claim) (before after : SeatView) → slice_get seats k ≡ Some before → Claims a answer before after
-    → AreInOneHand pool phase (slice_set seats k after) → TableClaims seats a answer before after
+-- A scan of the range of this number for shard k: the first free address of the range; Exhausted exactly where each address of the range was held, and then nothing changes
+abbrev pub TableScans : Table → ℕ → Range → ℕ → Claim → Table → Type 0
+TableScans table k r number answer next =
+    ((a : Ip4) × (answer ≡ Claimed a) × InRange r a.0 × ((b : ℕ) → r.first.0 ≤ b → b < a.0 → IsTaken table b) × Puts table a.0 k next)
+    ⊎ ((answer ≡ Exhausted number) × ((b : ℕ) → InRange r b → IsTaken table b) × (next ≡ table))
 
--- so is a look by the seat of shard k, where it has heard of all before
-abbrev pub LooksOfTable : Type 0
-LooksOfTable = (pool : PoolView) (phase k : ℕ) (seats : List SeatView) (a : ℕ) (answer : Option ℕ) (before after : SeatView) → slice_get seats k ≡ Some before → Looks a answer before after
-    → HasHeard seats k before → AreInOneHand pool phase (slice_set seats k after) → TableLooks seats a answer
+-- Giving back: the address was shard k's, and is free
+pub record TableFrees (table : Table) (k a : ℕ) (next : Table) : Type 0 where
+  pub held : entry table a ≡ Some k
+  pub freed : entry next a ≡ None
+  pub elsewhere : IsElsewhere table a next
