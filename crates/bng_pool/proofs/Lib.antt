@@ -6,5 +6,8 @@ pub mod Seated
 pub mod Scanning
 pub mod Dealing
 pub mod Telling
+pub mod Agreeing
+pub mod Joined
+pub mod Alone
 pub mod Entries
 pub mod OneHand

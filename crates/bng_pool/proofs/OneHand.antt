@@ -1,34 +1,23 @@
 -- With the seats of all shards in one hand, the calls are those of a table of held addresses.
-use Rattle.std.proofs.Common.{◌≡◌, ◌≢◌, ℕ, zero, suc, ◌+◌, ◌-◌, ◌%◌, ◌<◌, ◌≤◌, ◌⊎◌, ⊎_elim, inl, inr, Bool, true, false, eqb, eq-eqb, List, [], ◌∷◌, ◌++◌, length, length-set, set, get_or, slice_get, Option, Some, None, sym, refl, ap, ◌∙◌, subst, arith}
+use Rattle.std.proofs.Common.{◌≡◌, ◌≢◌, ℕ, zero, suc, ◌+◌, ◌-◌, ◌%◌, ◌<◌, ◌≤◌, ◌⊎◌, ⊎_elim, inl, inr, Bool, true, false, eqb, eq-eqb, List, [], ◌∷◌, ◌++◌, length, length-set, set, get_or, slice_get, All, Option, Some, None, sym, refl, ap, ◌∙◌, subst, arith}
 use mathlib.Core.Logic.{dite}
 use mathlib.Core.Option.{some, some-ne-none}
 use native.Mathlib.Decide.{ℕ_discrete}
 use Rattle.std.proofs.lemmas.Option.{slice_get-get_or, slice_get_within, get_or_from_slice_get}
 use Rattle.std.proofs.lemmas.Bool.{and_from}
+use Rattle.std.proofs.lemmas.List.Elements.{All-nil, All-cons, All-append}
 use lib.ListN.{get_elem?}
 use Rattle.bng_base.specs.declared.address.Ip4.{Ip4}
 use Rattle.bng_base.specs.declared.book.Range.{Range}
 use Rattle.bng_base.specs.declared.item.Claim.{Claim}
 use Rattle.bng_pool.specs.Ranges.{HasAddress, InRange, size_of}
-use Rattle.bng_pool.specs.Seats.{PoolView, SeatView, Note, Holds, Notes, new_seat, notes_now, notes_after, held_after, without, AgreesWith, claimed_at, looked_at, passed_over, claim_answer, holder_in, Claims, Looks, Scans}
+use Rattle.bng_pool.specs.Seats.{PoolView, SeatView, Note, Holds, Notes, new_seat, notes_now, notes_after, held_after, without, AgreesWith, IsInRound, claimed_at, looked_at, passed_over, claim_answer, holder_in, Claims, Looks, Scans}
 use Rattle.bng_pool.specs.Tables.{Table, entry, IsTaken, IsElsewhere, Puts, TableClaims, TableScans, TableFrees}
-use Rattle.bng_pool.specs.OneHand.{entries_of, table_of, HasHolder, AreInOneHand, IsInRound, HasHeard, AgreesWithOthers, OpensTable, WithoutWordOfTable, ClaimsOfTable, ScansOfTable, LooksOfTable, GivesBackOfTable, KeepsTable}
-use Rattle.bng_pool.proofs.Places.{some_same}
+use Rattle.bng_pool.specs.OneHand.{entries_of, table_of, HasHolder, AreInOneHand, HasHeard, AgreesWithOthers, OpensTable, WithoutWordOfTable, ClaimsOfTable, ScansOfTable, LooksOfTable, GivesBackOfTable, KeepsTable, KeepTable, HoldersOfTable}
+use Rattle.bng_pool.proofs.Places.{some_same, set_same, set_other}
 use Rattle.bng_pool.proofs.HeldLists.{without_at, without_in, held_more}
 use Rattle.bng_pool.proofs.Scanning.{notes_stay, passed_pool, passed_number}
 use Rattle.bng_pool.proofs.Entries.{holder_in as holder_in_table, in_table, free_in, same_entry}
-
-set_same : (l : List SeatView) (k : ℕ) (p q : SeatView) → slice_get l k ≡ Some p → slice_get (set l k q) k ≡ Some q
-set_same [] k p q e = absurd (cc)
-set_same (x ∷ xs) zero p q e = refl
-set_same (x ∷ xs) (suc k) p q e = set_same xs k p q e
-
-set_other : (l : List SeatView) (k j : ℕ) (q : SeatView) → j ≢ k → slice_get (set l k q) j ≡ slice_get l j
-set_other [] k j q n = refl
-set_other (x ∷ xs) zero zero q n = absurd (n refl)
-set_other (x ∷ xs) zero (suc j) q n = refl
-set_other (x ∷ xs) (suc k) zero q n = refl
-set_other (x ∷ xs) (suc k) (suc j) q n = set_other xs k j q (λ e. n (ap suc e))
 
 -- a seat that holds the same leaves the table
 same_table : (l : List SeatView) (k : ℕ) (p q : SeatView) → slice_get l k ≡ Some p → q.number ≡ p.number → q.held ≡ p.held → table_of (set l k q) ≡ table_of l
@@ -221,6 +210,36 @@ gives_back_of_table pool seats k a before after hand at mine is = freed pool sea
 
 pub keeps_table : KeepsTable
 keeps_table pool seats k before after hand at same_pool same_number held = kept pool seats hand k before after at same_pool same_number held
+
+same_tables : (l m : List SeatView) → length m ≡ length l → ((k : ℕ) (p q : SeatView) → slice_get l k ≡ Some p → slice_get m k ≡ Some q → (q.number ≡ p.number) × (q.held ≡ p.held)) → table_of m ≡ table_of l
+same_tables [] [] e h = refl
+same_tables [] (y ∷ ys) e h = absurd (omega arith)
+same_tables (x ∷ xs) [] e h = absurd (omega arith)
+same_tables (x ∷ xs) (y ∷ ys) e h = let here = h 0 x y refl refl in (λ i. entries_of (here.0 i) (here.1 i) ++ same_tables xs ys (let long : length ys ≡ length xs = omega arith in long) (λ k. h (suc k)) i)
+
+pub keep_table : KeepTable
+keep_table pool seats next hand long same = let was : (k : ℕ) (q : SeatView) → slice_get next k ≡ Some q → (p : SeatView) × (slice_get seats k ≡ Some p) =
+        λ k q e. (get_or seats k q, slice_get-get_or seats k q (let within = slice_get_within next k q e in let h : k < length seats = omega arith in h)) in
+    let back : (a k : ℕ) → HasHolder next a k → HasHolder seats a k = λ a k h. let p = was k h.0 h.1 in (p.0, p.1, subst (λ z. Holds z a) (same k p.0 h.0 p.1 h.1).2 h.2) in (
+      record {
+        all = long ∙ hand.all;
+        each = λ k q e. let p = was k q e in let s = same k p.0 q p.1 e in let h = hand.each k p.0 p.1 in (s.0 ∙ h.0, s.1 ∙ h.1);
+        within = λ a k h. hand.within a k (back a k h);
+        apart = λ a j k x y. hand.apart a j k (back a j x) (back a k y);
+      },
+      same_tables seats next long (λ k p q e f. let s = same k p q e f in (s.1, s.2)),
+    )
+
+holders_below : (n k : ℕ) (held : List ℕ) → k < n → All (λ (e : ℕ × ℕ). e.1 < n) (entries_of k held)
+holders_below n k [] low = All-nil (λ (e : ℕ × ℕ). e.1 < n)
+holders_below n k (a ∷ rest) low = All-cons (λ (e : ℕ × ℕ). e.1 < n) (a, k) (entries_of k rest) low (holders_below n k rest low)
+
+holders_in : (n : ℕ) (seats : List SeatView) → ((k : ℕ) (q : SeatView) → slice_get seats k ≡ Some q → q.number < n) → All (λ (e : ℕ × ℕ). e.1 < n) (table_of seats)
+holders_in n [] low = All-nil (λ (e : ℕ × ℕ). e.1 < n)
+holders_in n (x ∷ xs) low = All-append (λ (e : ℕ × ℕ). e.1 < n) (entries_of x.number x.held) (table_of xs) (holders_below n x.number x.held (low 0 x refl)) (holders_in n xs (λ k. low (suc k)))
+
+pub holders_of_table : HoldersOfTable
+holders_of_table pool seats hand = holders_in pool.shards seats (λ k q e. let within = slice_get_within seats k q e in let all = hand.all in let number = (hand.each k q e).1 in omega arith)
 
 looks_at : (pool : PoolView) (seats : List SeatView) (a : ℕ) (answer : Option ℕ) (before after : SeatView) (w : ℕ) → AreInOneHand pool seats → before.pool ≡ pool → (before.number < pool.shards → slice_get seats before.number ≡ Some before)
     → IsInRound before → HasHeard seats before → answer ≡ holder_in w → after ≡ looked_at before a w → AgreesWith before a w → AgreesWithOthers seats after → answer ≡ entry (table_of seats) a

@@ -1,5 +1,5 @@
 -- The places of addresses among those of the ranges.
-use Rattle.std.proofs.Common.{◌≡◌, ℕ, zero, suc, ◌+◌, ◌-◌, ◌<◌, leb, cond, List, [], ◌∷◌, slice_get, Some, unwrap_or, sym, refl, ap, ◌∙◌, subst, arith}
+use Rattle.std.proofs.Common.{◌≡◌, ℕ, zero, suc, ◌+◌, ◌-◌, ◌<◌, leb, cond, List, [], ◌∷◌, set, slice_get, Some, ◌≢◌, unwrap_or, sym, refl, ap, ◌∙◌, subst, arith}
 use mathlib.Core.Logic.{dite}
 use native.Mathlib.Decide.{dec_le}
 use Rattle.std.proofs.lemmas.Bool.{le-leb, lt-leb}
@@ -8,6 +8,19 @@ use Rattle.bng_pool.specs.Ranges.{InRange, HasAddress, size_of, address_count, p
 
 pub some_same : {A : Type 0} (x y : A) → Some x ≡ Some y → x ≡ y
 some_same x y e = ap (λ z. unwrap_or z x) e
+
+-- an element that is set, and the others
+pub set_same : {A : Type 0} (l : List A) (k : ℕ) (p q : A) → slice_get l k ≡ Some p → slice_get (set l k q) k ≡ Some q
+set_same [] k p q e = absurd (cc)
+set_same (x ∷ xs) zero p q e = refl
+set_same (x ∷ xs) (suc k) p q e = set_same xs k p q e
+
+pub set_other : {A : Type 0} (l : List A) (k j : ℕ) (q : A) → j ≢ k → slice_get (set l k q) j ≡ slice_get l j
+set_other [] k j q n = refl
+set_other (x ∷ xs) zero zero q n = absurd (n refl)
+set_other (x ∷ xs) zero (suc j) q n = refl
+set_other (x ∷ xs) (suc k) zero q n = refl
+set_other (x ∷ xs) (suc k) (suc j) q n = set_other xs k j q (λ e. n (ap suc e))
 
 -- the place is in the first range or after it
 pub in_first : (r : Range) (rs : List Range) (a : ℕ) → InRange r a → place_of (r ∷ rs) a ≡ a - r.first.0

@@ -1,10 +1,11 @@
 -- The seats of all shards of a pool in one hand, the table that they are, and the laws of their calls.
-use Rattle.std.specs.Prelude.{◌≡◌, ◌≢◌, ℕ, ◌%◌, ◌<◌, ◌↔◌, true, List, [], ◌∷◌, ◌++◌, length, slice_get, slice_set, Option, Some, None}
+use Rattle.std.specs.Prelude.{◌≡◌, ◌≢◌, ℕ, ◌<◌, ◌↔◌, List, [], ◌∷◌, ◌++◌, length, slice_get, slice_set, Option, Some, None}
+use Rattle.std.specs.List.{All}
 use Rattle.bng_base.specs.declared.address.Ip4.{Ip4}
 use Rattle.bng_base.specs.declared.book.Range.{Range}
 use Rattle.bng_base.specs.declared.item.Claim.{Claim}
 use Rattle.bng_pool.specs.Ranges.{HasAddress}
-use Rattle.bng_pool.specs.Seats.{PoolView, SeatView, Holds, Notes, new_seat, AreAgreed, Claims, Looks, Scans, without}
+use Rattle.bng_pool.specs.Seats.{PoolView, SeatView, Holds, Notes, new_seat, IsInRound, AreAgreed, Claims, Looks, Scans, without}
 use Rattle.bng_pool.specs.Tables.{Table, entry, TableClaims, TableScans, TableFrees}
 
 -- addresses that shard k holds
@@ -28,10 +29,6 @@ pub record AreInOneHand (pool : PoolView) (seats : List SeatView) : Type 0 where
   pub within : (a k : ℕ) → HasHolder seats a k → HasAddress pool.ranges a
   pub apart : (a j k : ℕ) → HasHolder seats a j → HasHolder seats a k → j ≡ k
 
--- the seat's notes are of a phase in which words go from free to held alone
-abbrev pub IsInRound : SeatView → Type 0
-IsInRound seat = (seat.phase % 2 ≡ 0) × (seat.full ≡ true)
-
 -- the seat was told what each shard's seat but its own holds
 abbrev pub HasHeard : List SeatView → SeatView → Type 0
 HasHeard seats seat = (j : ℕ) (q : SeatView) → j ≢ seat.number → slice_get seats j ≡ Some q → (a : ℕ) → Holds q.held a → Notes seat.notes a j seat.phase
@@ -52,6 +49,10 @@ EntriesOfTable = (pool : PoolView) (seats : List SeatView) → AreInOneHand pool
 -- an address with no word is free
 abbrev pub WithoutWordOfTable : Type 0
 WithoutWordOfTable = (pool : PoolView) (seats : List SeatView) → AreInOneHand pool seats → (a : ℕ) → ¬ HasAddress pool.ranges a → entry (table_of seats) a ≡ None
+
+-- each holder is one of the pool's shards
+abbrev pub HoldersOfTable : Type 0
+HoldersOfTable = (pool : PoolView) (seats : List SeatView) → AreInOneHand pool seats → All (λ e. e.1 < pool.shards) (table_of seats)
 
 -- a claim by shard k in a round, after which its seat and each other agree
 abbrev pub ClaimsOfTable : Type 0
@@ -80,3 +81,8 @@ GivesBackOfTable = (pool : PoolView) (seats : List SeatView) (k a : ℕ) (before
 abbrev pub KeepsTable : Type 0
 KeepsTable = (pool : PoolView) (seats : List SeatView) (k : ℕ) (before after : SeatView) → AreInOneHand pool seats → slice_get seats k ≡ Some before
     → after.pool ≡ before.pool → after.number ≡ before.number → after.held ≡ before.held → AreInOneHand pool (slice_set seats k after) × (table_of (slice_set seats k after) ≡ table_of seats)
+
+-- so do calls that leave each seat what it holds
+abbrev pub KeepTable : Type 0
+KeepTable = (pool : PoolView) (seats next : List SeatView) → AreInOneHand pool seats → length next ≡ length seats
+    → ((k : ℕ) (p q : SeatView) → slice_get seats k ≡ Some p → slice_get next k ≡ Some q → (q.pool ≡ p.pool) × (q.number ≡ p.number) × (q.held ≡ p.held)) → AreInOneHand pool next × (table_of next ≡ table_of seats)

@@ -1,5 +1,5 @@
 -- What clauses see of a pool and of a seat, and what each call says of them.
-use Rattle.std.specs.Prelude.{◌≡◌, ℕ, zero, suc, ◌+◌, ◌%◌, ◌<◌, ◌≤◌, ◌==◌, Bool, true, ◌&&◌, List, [], ◌∷◌, ◌++◌, ◌⊎◌, length, slice_get, Option, Some, None, if◌then◌else◌}
+use Rattle.std.specs.Prelude.{◌≡◌, ◌≢◌, ℕ, zero, suc, ◌+◌, ◌%◌, ◌<◌, ◌≤◌, ◌==◌, Bool, true, ◌&&◌, List, [], ◌∷◌, ◌++◌, ◌⊎◌, length, slice_get, Option, Some, None, if◌then◌else◌}
 use mathlib.Core.Option.{some}
 use lib.ListN.{get_elem?}
 use Rattle.atomic_table.specs.Seated.{TableId}
@@ -156,3 +156,23 @@ pub record AreAgreed (one other : SeatView) : Type 0 where
   pub of_other : (a : ℕ) → Notes one.notes a other.number one.phase → Holds other.held a
   pub of_one : (a : ℕ) → Notes other.notes a one.number other.phase → Holds one.held a
   pub one_holder : (a k l : ℕ) → Notes one.notes a k one.phase → Notes other.notes a l other.phase → k ≡ l
+
+-- the seat's notes are of a phase in which words go from free to held alone
+abbrev pub IsInRound : SeatView → Type 0
+IsInRound seat = (seat.phase % 2 ≡ 0) × (seat.full ≡ true)
+
+-- another seat of the same pool at the same phase
+pub record IsBeside (seat other : SeatView) : Type 0 where
+  pub pool : other.pool ≡ seat.pool
+  pub apart : other.number ≢ seat.number
+  pub phase : other.phase ≡ seat.phase
+  pub full : other.full ≡ true
+
+-- the seat as it was, with at least its notes
+pub record HasMoreNotes (before after : SeatView) : Type 0 where
+  pub rest : after ≡ record before { notes = after.notes }
+  pub notes : (a k p : ℕ) → Notes before.notes a k p → Notes after.notes a k p
+
+-- each of the seats, in their order, as it was, with at least its notes
+abbrev pub HaveMoreNotes : List SeatView → List SeatView → Type 0
+HaveMoreNotes before after = (length after ≡ length before) × ((j : ℕ) (p q : SeatView) → slice_get before j ≡ Some p → slice_get after j ≡ Some q → HasMoreNotes p q)

@@ -10,11 +10,14 @@
 //! phase is held until that phase ends, and its notes say so; `tell` carries what one seat holds and noted to another.
 #![tactic(auto)]
 
+mod agreement;
 mod hold;
 mod laws;
 mod layout;
 mod leases;
 mod opening;
+#[cfg(test)]
+mod plain;
 mod plays;
 mod pool;
 mod scan;
