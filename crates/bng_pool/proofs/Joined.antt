@@ -2,7 +2,7 @@
 use Rattle.std.proofs.Common.{◌≡◌, ◌≢◌, ℕ, zero, suc, ◌+◌, ◌<◌, ◌≤◌, ◌⊎◌, ⊎_elim, inl, inr, List, [], ◌∷◌, ◌++◌, length, length-append, get_or, slice_get, Some, sym, refl, ap, ◌∙◌, subst, arith}
 use Rattle.std.proofs.lemmas.Option.{slice_get_within, slice_get-get_or}
 use Rattle.bng_pool.specs.Seats.{PoolView, SeatView, Holds, Notes, IsInRound, AreAgreed, IsBeside, HasMoreNotes, HaveMoreNotes}
-use Rattle.bng_pool.specs.OneHand.{HasHeard, AgreesWithOthers}
+use Rattle.bng_pool.specs.OneHand.{AreInRound, HasHeard, AgreesWithOthers}
 use Rattle.bng_pool.proofs.Places.{some_same}
 use Rattle.bng_pool.proofs.Agreeing.{agreed_less, more_self, more_more}
 
@@ -31,7 +31,7 @@ in_back [] p back j q e = ap (λ z. slice_get back z) (let h : 0 + j ≡ j = ome
 in_back (x ∷ xs) p back j q e = ap (λ z. slice_get (xs ++ p ∷ back) z) (let n : ℕ = length xs in let h : suc n + j ≡ suc (n + j) = omega arith in h) ∙ in_back xs p back j q e
 
 -- each seat after it has the one before
-was : (before after : List SeatView) (j : ℕ) (q : SeatView) → HaveMoreNotes before after → slice_get after j ≡ Some q → (p : SeatView) × (slice_get before j ≡ Some p) × HasMoreNotes p q
+pub was : (before after : List SeatView) (j : ℕ) (q : SeatView) → HaveMoreNotes before after → slice_get after j ≡ Some q → (p : SeatView) × (slice_get before j ≡ Some p) × HasMoreNotes p q
 was before after j q more e = let long = more.0 in let within = slice_get_within after j q e in let at = slice_get-get_or before j q (let h : j < length before = omega arith in h) in (get_or before j q, at, more.1 j (get_or before j q) q at e)
 
 module _ (front : List SeatView) (p : SeatView) (back : List SeatView) (front' : List SeatView) (p' p'' : SeatView) (back' : List SeatView) (fronts : HaveMoreNotes front front') (backs : HaveMoreNotes back back') (more : HasMoreNotes p p') (more' : HasMoreNotes p' p'')
@@ -70,19 +70,18 @@ module _ (front : List SeatView) (p : SeatView) (back : List SeatView) (front' :
 
 -- the seats of a pool in a round, at the places of their numbers
 module _ (pool : PoolView) (seats : List SeatView) (front : List SeatView) (p : SeatView) (back : List SeatView) (is : seats ≡ front ++ p ∷ back)
-    (each : (j : ℕ) (q : SeatView) → slice_get seats j ≡ Some q → (q.pool ≡ pool) × (q.number ≡ j) × IsInRound q)
-    (phases : (i j : ℕ) (x y : SeatView) → slice_get seats i ≡ Some x → slice_get seats j ≡ Some y → x.phase ≡ y.phase) where
-  pub seat_at : (q : SeatView) (j : ℕ) → slice_get (front ++ p ∷ back) j ≡ Some q → (q.pool ≡ pool) × (q.number ≡ j) × IsInRound q
-  seat_at q j e = each j q (ap (λ z. slice_get z j) is ∙ e)
+    (each : (j : ℕ) (q : SeatView) → slice_get seats j ≡ Some q → (q.pool ≡ pool) × (q.number ≡ j)) (round : (phase : ℕ) × AreInRound phase seats) where
+  seat_at : (q : SeatView) (j : ℕ) → slice_get (front ++ p ∷ back) j ≡ Some q → (q.pool ≡ pool) × (q.number ≡ j) × IsInRound q × (q.phase ≡ round.0)
+  seat_at q j e = let f = ap (λ z. slice_get z j) is ∙ e in let s = each j q f in let r = round.1 j q f in (s.0, s.1, r.0, r.1)
 
-  pub middle_at : (p.pool ≡ pool) × (p.number ≡ length front) × IsInRound p
+  pub middle_at : (p.pool ≡ pool) × (p.number ≡ length front) × IsInRound p × (p.phase ≡ round.0)
   middle_at = seat_at p (length front) (in_middle front p back)
 
   beside : (p' q : SeatView) (j : ℕ) → HasMoreNotes p p' → j ≢ length front → slice_get (front ++ p ∷ back) j ≡ Some q → IsBeside p' q
   beside p' q j more other e = let s = seat_at q j e in let m = middle_at in record {
     pool = s.0 ∙ (sym m.0 ∙ sym (ap (λ (z : SeatView). z.pool) more.rest));
     apart = λ h. other (sym s.1 ∙ (h ∙ (ap (λ (z : SeatView). z.number) more.rest ∙ m.1)));
-    phase = phases j (length front) q p (ap (λ z. slice_get z j) is ∙ e) (ap (λ z. slice_get z (length front)) is ∙ in_middle front p back) ∙ sym (ap (λ (z : SeatView). z.phase) more.rest);
+    phase = s.3 ∙ sym m.3 ∙ sym (ap (λ (z : SeatView). z.phase) more.rest);
     full = s.2.1;
   }
 

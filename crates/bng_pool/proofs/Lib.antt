@@ -8,6 +8,6 @@ pub mod Dealing
 pub mod Telling
 pub mod Agreeing
 pub mod Joined
-pub mod Alone
 pub mod Entries
 pub mod OneHand
+pub mod InHand

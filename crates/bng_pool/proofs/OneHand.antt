@@ -39,7 +39,7 @@ pub record IsPast (seat now : SeatView) : Type 0 where
   pub full : now.full ≡ seat.full
   pub notes : (b k p : ℕ) → Notes seat.notes b k p → Notes now.notes b k p
 
-past : (seat : SeatView) (a : ℕ) (ws : List ℕ) → IsPast seat (passed_over seat a ws)
+pub past : (seat : SeatView) (a : ℕ) (ws : List ℕ) → IsPast seat (passed_over seat a ws)
 past seat a [] = record { pool = refl; number = refl; held = refl; phase = refl; full = refl; notes = λ b k p n. n }
 past seat a (w ∷ ws) = let t = past (looked_at seat a w) (suc a) ws in record { pool = t.pool; number = t.number; held = t.held; phase = t.phase; full = t.full; notes = λ b k p n. t.notes b k p (notes_stay (notes_now seat.full seat.phase) a w seat.phase seat.notes b k p n) }
 

@@ -29,6 +29,10 @@ pub record AreInOneHand (pool : PoolView) (seats : List SeatView) : Type 0 where
   pub within : (a k : ℕ) → HasHolder seats a k → HasAddress pool.ranges a
   pub apart : (a j k : ℕ) → HasHolder seats a j → HasHolder seats a k → j ≡ k
 
+-- each of the seats knows that all are at this phase of a round
+abbrev pub AreInRound : ℕ → List SeatView → Type 0
+AreInRound phase seats = (k : ℕ) (q : SeatView) → slice_get seats k ≡ Some q → IsInRound q × (q.phase ≡ phase)
+
 -- the seat was told what each shard's seat but its own holds
 abbrev pub HasHeard : List SeatView → SeatView → Type 0
 HasHeard seats seat = (j : ℕ) (q : SeatView) → j ≢ seat.number → slice_get seats j ≡ Some q → (a : ℕ) → Holds q.held a → Notes seat.notes a j seat.phase

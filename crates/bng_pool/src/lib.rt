@@ -15,9 +15,9 @@ mod hold;
 mod laws;
 mod layout;
 mod leases;
-mod opening;
 #[cfg(test)]
-mod plain;
+mod one_hand;
+mod opening;
 mod plays;
 mod pool;
 mod scan;
