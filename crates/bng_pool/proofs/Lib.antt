@@ -10,4 +10,5 @@ pub mod Agreeing
 pub mod Joined
 pub mod Entries
 pub mod OneHand
+pub mod Stepped
 pub mod InHand

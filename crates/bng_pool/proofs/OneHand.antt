@@ -14,7 +14,7 @@ use Rattle.bng_pool.specs.Ranges.{HasAddress, InRange, size_of}
 use Rattle.bng_pool.specs.Seats.{PoolView, SeatView, Note, Holds, Notes, new_seat, notes_now, notes_after, held_after, without, AgreesWith, IsInRound, claimed_at, looked_at, passed_over, claim_answer, holder_in, Claims, Looks, Scans}
 use Rattle.bng_pool.specs.Tables.{Table, entry, IsTaken, IsElsewhere, Puts, TableClaims, TableScans, TableFrees}
 use Rattle.bng_pool.specs.OneHand.{entries_of, table_of, HasHolder, AreInOneHand, HasHeard, AgreesWithOthers, OpensTable, WithoutWordOfTable, ClaimsOfTable, ScansOfTable, LooksOfTable, GivesBackOfTable, KeepsTable, KeepTable, HoldersOfTable}
-use Rattle.bng_pool.proofs.Places.{some_same, set_same, set_other}
+use Rattle.bng_pool.proofs.Places.{some_same, set_same, set_other, dec_has}
 use Rattle.bng_pool.proofs.HeldLists.{without_at, without_in, held_more}
 use Rattle.bng_pool.proofs.Scanning.{notes_stay, passed_pool, passed_number}
 use Rattle.bng_pool.proofs.Entries.{holder_in as holder_in_table, in_table, free_in, same_entry}
@@ -241,6 +241,9 @@ holders_in n (x ∷ xs) low = All-append (λ (e : ℕ × ℕ). e.1 < n) (entries
 pub holders_of_table : HoldersOfTable
 holders_of_table pool seats hand = holders_in pool.shards seats (λ k q e. let within = slice_get_within seats k q e in let all = hand.all in let number = (hand.each k q e).1 in omega arith)
 
+pub without_word_of_table : WithoutWordOfTable
+without_word_of_table pool seats hand a none = free_in pool seats hand a (λ k h. none (hand.within a k h))
+
 looks_at : (pool : PoolView) (seats : List SeatView) (a : ℕ) (answer : Option ℕ) (before after : SeatView) (w : ℕ) → AreInOneHand pool seats → before.pool ≡ pool → (before.number < pool.shards → slice_get seats before.number ≡ Some before)
     → IsInRound before → HasHeard seats before → answer ≡ holder_in w → after ≡ looked_at before a w → AgreesWith before a w → AgreesWithOthers seats after → answer ≡ entry (table_of seats) a
 looks_at pool seats a answer before after zero hand of_pool own round heard is left agrees agreed =
@@ -250,10 +253,9 @@ looks_at pool seats a answer before after (suc m) hand of_pool own round heard i
     is ∙ sym (in_table pool seats hand a m (holder_of pool seats hand before after of_pool own (ap (λ (z : SeatView). z.number) left) agreed a m agrees note))
 
 pub looks_of_table : LooksOfTable
-looks_of_table pool seats a answer before after hand of_pool own round heard c agreed = looks_at pool seats a answer before after c.word hand of_pool own round heard c.answered c.left c.agrees agreed
-
-pub without_word_of_table : WithoutWordOfTable
-without_word_of_table pool seats hand a none = free_in pool seats hand a (λ k h. none (hand.within a k h))
+looks_of_table pool seats a answer before after hand of_pool own round heard looks without agreed = dite (dec_has pool.ranges a)
+    (λ has. let c = looks has in looks_at pool seats a answer before after c.word hand of_pool own round heard c.answered c.left c.agrees agreed)
+    (λ none. without none ∙ sym (without_word_of_table pool seats hand a none))
 
 no_entries : (pool : PoolView) (seats : List SeatView) → ((k : ℕ) (q : SeatView) → slice_get seats k ≡ Some q → q.held ≡ []) → table_of seats ≡ []
 no_entries pool [] h = refl

@@ -73,8 +73,8 @@ ScansOfTable = (pool : PoolView) (seats : List SeatView) (k : ℕ) (r : Range) (
 -- a look in a round by the seat of a shard or of a worker that had been told all, after which that seat and each shard's agree
 abbrev pub LooksOfTable : Type 0
 LooksOfTable = (pool : PoolView) (seats : List SeatView) (a : ℕ) (answer : Option ℕ) (before after : SeatView) → AreInOneHand pool seats → before.pool ≡ pool
-    → (before.number < pool.shards → slice_get seats before.number ≡ Some before) → IsInRound before → HasHeard seats before → Looks a answer before after → AgreesWithOthers seats after
-    → answer ≡ entry (table_of seats) a
+    → (before.number < pool.shards → slice_get seats before.number ≡ Some before) → IsInRound before → HasHeard seats before → (HasAddress pool.ranges a → Looks a answer before after) → (¬ HasAddress pool.ranges a → answer ≡ None)
+    → AgreesWithOthers seats after → answer ≡ entry (table_of seats) a
 
 -- giving back by shard k, in whatever phase
 abbrev pub GivesBackOfTable : Type 0
