@@ -18,6 +18,8 @@ mod leases;
 #[cfg(test)]
 mod one_hand;
 mod opening;
+#[cfg(test)]
+mod plain;
 mod plays;
 mod pool;
 mod scan;

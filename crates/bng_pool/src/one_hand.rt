@@ -10,7 +10,7 @@ use crate::{Pool, PoolSeat, seats_in_one_hand_are_a_table};
 use bng_base::{Claim, Ip4};
 use std::sync::Wait;
 
-fn claim(pool: &Pool, seats: &mut [PoolSeat], shard: usize, a: Ip4) -> Claim
+pub(crate) fn claim(pool: &Pool, seats: &mut [PoolSeat], shard: usize, a: Ip4) -> Claim
     requires hand { AreInOneHand pool.now seats.old }
     requires round { (phase : ℕ) × AreInRound phase seats.old }
     requires shard { shard < pool.now.shards }
@@ -25,7 +25,7 @@ fn claim(pool: &Pool, seats: &mut [PoolSeat], shard: usize, a: Ip4) -> Claim
     answer
 }
 
-fn scan(pool: &Pool, seats: &mut [PoolSeat], shard: usize, range: u8) -> Claim
+pub(crate) fn scan(pool: &Pool, seats: &mut [PoolSeat], shard: usize, range: u8) -> Claim
     requires hand { AreInOneHand pool.now seats.old }
     requires round { (phase : ℕ) × AreInRound phase seats.old }
     requires shard { shard < pool.now.shards }
@@ -41,7 +41,7 @@ fn scan(pool: &Pool, seats: &mut [PoolSeat], shard: usize, range: u8) -> Claim
 }
 
 // The looker is a worker's seat.
-fn look(pool: &Pool, looker: &mut PoolSeat, seats: &mut [PoolSeat], a: Ip4) -> Option<u16>
+pub(crate) fn look(pool: &Pool, looker: &mut PoolSeat, seats: &mut [PoolSeat], a: Ip4) -> Option<u16>
     requires hand { AreInOneHand pool.now seats.old }
     requires round { AreInRound looker.old.phase seats.old × IsInRound looker.old }
     requires looker { (looker.old.pool ≡ pool.now) × (looker.old.number ≡ pool.now.shards) }
@@ -89,7 +89,7 @@ fn onward<R: Wait>(rt: &R, pool: &Pool, looker: &mut PoolSeat, seats: &mut [Pool
     pool.meet(rt, looker);
 }
 
-fn give_back<R: Wait>(
+pub(crate) fn give_back<R: Wait>(
     rt: &R,
     pool: &Pool,
     looker: &mut PoolSeat,
