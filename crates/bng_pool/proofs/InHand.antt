@@ -9,7 +9,7 @@ use Rattle.bng_base.specs.declared.item.Claim.{Claim}
 use Rattle.bng_pool.specs.Ranges.{HasAddress}
 use Rattle.bng_pool.specs.Seats.{PoolView, SeatView, Holds, Notes, IsInRound, HasMoreNotes, HaveMoreNotes, IsBeside, AreAgreed, Claims, Scans, Looks, passed_over, without}
 use Rattle.bng_pool.specs.Tables.{Table, entry, TableClaims, TableScans, TableFrees}
-use Rattle.bng_pool.specs.OneHand.{table_of, AreInOneHand, AreInRound, HasHeard, AgreesWithOthers, ClaimsOfTable, ScansOfTable, LooksOfTable, KeepTable, EntriesOfTable, GivesBackOfTable}
+use Rattle.bng_pool.specs.OneHand.{table_of, AreInOneHand, AreInRound, HasHeard, AgreesWithOthers, ClaimsOfTable, ScansOfTable, LooksOfTable, AllKeepTable, EntriesOfTable, GivesBackOfTable}
 use Rattle.bng_pool.proofs.Places.{some_same, set_same, set_other}
 use Rattle.bng_pool.proofs.Joined.{was}
 use Rattle.bng_pool.proofs.OneHand.{IsPast, past}
@@ -48,14 +48,14 @@ module _ (pool : PoolView) (seats : List SeatView) (hand : AreInOneHand pool sea
   others_before agreed j q other e = agreed after (set_same seats k before after at) j q other (set_other seats k j after (λ is. other (is ∙ sym (same.number ∙ (hand.each k before at).1))) ∙ e)
 
 -- notes change neither the hand, nor its phase, nor its table
-pub noted_hand : KeepTable → (pool : PoolView) (seats next : List SeatView) → AreInOneHand pool seats → HaveMoreNotes seats next → AreInOneHand pool next × (table_of next ≡ table_of seats)
+pub noted_hand : AllKeepTable → (pool : PoolView) (seats next : List SeatView) → AreInOneHand pool seats → HaveMoreNotes seats next → AreInOneHand pool next × (table_of next ≡ table_of seats)
 noted_hand law pool seats next hand more = law pool seats next hand more.0
     (λ k p q e f. let m = more.1 k p q e f in (ap (λ (z : SeatView). z.pool) m.rest, ap (λ (z : SeatView). z.number) m.rest, ap (λ (z : SeatView). z.held) m.rest))
 
 pub noted_round : (seats next : List SeatView) (phase : ℕ) → HaveMoreNotes seats next → AreInRound phase seats → AreInRound phase next
 noted_round seats next phase more round k q e = let p = was seats next k q more e in subst (λ (z : SeatView). IsInRound z × (z.phase ≡ phase)) (sym p.2.rest) (round k p.0 p.1)
 
-module _ (keep : KeepTable) (pool : PoolView) (seats next : List SeatView) (hand : AreInOneHand pool seats) (k : ℕ) (before after : SeatView) (at : slice_get seats k ≡ Some before) (round : (phase : ℕ) × AreInRound phase seats)
+module _ (keep : AllKeepTable) (pool : PoolView) (seats next : List SeatView) (hand : AreInOneHand pool seats) (k : ℕ) (before after : SeatView) (at : slice_get seats k ≡ Some before) (round : (phase : ℕ) × AreInRound phase seats)
     (agreed : (p : SeatView) → slice_get (set seats k after) k ≡ Some p → AgreesWithOthers (set seats k after) p) (more : HaveMoreNotes (set seats k after) next) where
   pub claimed_in_hand : ClaimsOfTable → (a : Ip4) (answer : Claim) → HasAddress pool.ranges a.0 → Claims a answer before after → AreInOneHand pool next × TableClaims (table_of seats) k a answer (table_of next)
   claimed_in_hand law a answer has c = let t = law pool seats k a answer before after hand at has (round.1 k before at).0 c (others_before pool seats hand k before after at (claim_same a answer before after c) agreed) in
@@ -79,9 +79,9 @@ pub compared_heard : (pool : PoolView) (seats next : List SeatView) (looker : Se
     → HasHeard next looker
 compared_heard pool seats next looker hand more heard j q other e a h = let p = was seats next j q more e in subst (λ z. Notes looker.notes a z looker.phase) (hand.each j p.0 p.1).1 (heard j p.0 p.1 a (subst (λ z. Holds z a) (ap (λ (z : SeatView). z.held) p.2.rest) h))
 
-pub looked_in_hand : LooksOfTable → KeepTable → (pool : PoolView) (seats next : List SeatView) (looker before after : SeatView) (a : ℕ) (answer : Option ℕ) → AreInOneHand pool seats → looker.pool ≡ pool → looker.number ≡ pool.shards → IsInRound looker
+pub looked_in_hand : LooksOfTable → AllKeepTable → (pool : PoolView) (seats next : List SeatView) (looker before after : SeatView) (a : ℕ) (answer : Option ℕ) → AreInOneHand pool seats → looker.pool ≡ pool → looker.number ≡ pool.shards → IsInRound looker
     → HaveMoreNotes seats next → HasMoreNotes looker before → ((j : ℕ) (q : SeatView) → slice_get seats j ≡ Some q → (b : ℕ) → Holds q.held b → Notes before.notes b q.number before.phase)
-    → (HasAddress pool.ranges a → Looks a answer before after) → (¬ HasAddress pool.ranges a → answer ≡ None) → ((j : ℕ) (q : SeatView) → slice_get next j ≡ Some q → AreAgreed after q) → answer ≡ entry (table_of seats) a
+    → (HasAddress pool.ranges a → Looks a answer before after) → (¬ HasAddress pool.ranges a → (answer ≡ None) × (after ≡ before)) → ((j : ℕ) (q : SeatView) → slice_get next j ≡ Some q → AreAgreed after q) → answer ≡ entry (table_of seats) a
 looked_in_hand law keep pool seats next looker before after a answer hand of_pool number round more noted heard looks without agreed = let n = noted_hand keep pool seats next hand more in let shards = ap (λ (z : SeatView). z.number) noted.rest ∙ number in
     law pool next a answer before after n.0 (ap (λ (z : SeatView). z.pool) noted.rest ∙ of_pool) (λ low. absurd (omega arith)) (subst IsInRound (sym noted.rest) round) (compared_heard pool seats next before hand more heard) looks without (λ j q other e. agreed j q e)
     ∙ ap (λ z. entry z a) n.1
@@ -94,7 +94,7 @@ pub went_on : (phase : ℕ) (seats next : List SeatView) → GoesOn phase seats 
 went_on phase seats next on j q e = let long = on.0 in let within = slice_get_within next j q e in let p : SeatView = get_or seats j q in let at : slice_get seats j ≡ Some p = slice_get-get_or seats j q (omega arith) in
     (p, at, some_same q (record p { phase = phase; notes = [] }) (sym e ∙ on.1 j p at))
 
-pub hand_on : KeepTable → (pool : PoolView) (phase : ℕ) (seats next : List SeatView) → AreInOneHand pool seats → GoesOn phase seats next → AreInOneHand pool next × (table_of next ≡ table_of seats)
+pub hand_on : AllKeepTable → (pool : PoolView) (phase : ℕ) (seats next : List SeatView) → AreInOneHand pool seats → GoesOn phase seats next → AreInOneHand pool next × (table_of next ≡ table_of seats)
 hand_on law pool phase seats next hand on = law pool seats next hand on.0 (λ k p q e f. let is = some_same q (record p { phase = phase; notes = [] }) (sym f ∙ on.1 k p e) in
     (ap (λ (z : SeatView). z.pool) is, ap (λ (z : SeatView). z.number) is, ap (λ (z : SeatView). z.held) is))
 
@@ -112,7 +112,7 @@ odd_next n even = omega arith
 pub even_next : (n : ℕ) → n % 2 ≡ 0 → (n + 1 + 1) % 2 ≡ 0
 even_next n even = omega arith
 
-module _ (keep : KeepTable) (entries : EntriesOfTable) (pool : PoolView) (seats next : List SeatView) (hand : AreInOneHand pool seats) (phase : ℕ) (round : AreInRound phase seats) (on : GoesOn (phase + 1) seats next) (k a : ℕ) (held : entry (table_of seats) a ≡ Some k)
+module _ (keep : AllKeepTable) (entries : EntriesOfTable) (pool : PoolView) (seats next : List SeatView) (hand : AreInOneHand pool seats) (phase : ℕ) (round : AreInRound phase seats) (on : GoesOn (phase + 1) seats next) (k a : ℕ) (held : entry (table_of seats) a ≡ Some k)
     (before : SeatView) (at : slice_get next k ≡ Some before) where
   pub settling_hand : AreInOneHand pool next
   settling_hand = (hand_on keep pool (phase + 1) seats next hand on).0

@@ -12,8 +12,8 @@ use Rattle.bng_base.specs.declared.book.Range.{Range}
 use Rattle.bng_base.specs.declared.item.Claim.{Claim}
 use Rattle.bng_pool.specs.Ranges.{HasAddress, InRange, size_of}
 use Rattle.bng_pool.specs.Seats.{PoolView, SeatView, Note, Holds, Notes, new_seat, notes_now, notes_after, held_after, without, AgreesWith, IsInRound, claimed_at, looked_at, passed_over, claim_answer, holder_in, Claims, Looks, Scans}
-use Rattle.bng_pool.specs.Tables.{Table, entry, IsTaken, IsElsewhere, Puts, TableClaims, TableScans, TableFrees}
-use Rattle.bng_pool.specs.OneHand.{entries_of, table_of, HasHolder, AreInOneHand, HasHeard, AgreesWithOthers, OpensTable, WithoutWordOfTable, ClaimsOfTable, ScansOfTable, LooksOfTable, GivesBackOfTable, KeepsTable, KeepTable, HoldersOfTable}
+use Rattle.bng_pool.specs.Tables.{Table, entry, IsTaken, IsSameBut, Puts, TableClaims, TableScans, TableFrees}
+use Rattle.bng_pool.specs.OneHand.{entries_of, table_of, HasHolder, AreInOneHand, HasHeard, AgreesWithOthers, OpensTable, WithoutWordOfTable, ClaimsOfTable, ScansOfTable, LooksOfTable, GivesBackOfTable, KeepsTable, AllKeepTable, HoldersOfTable}
 use Rattle.bng_pool.proofs.Places.{some_same, set_same, set_other, dec_has}
 use Rattle.bng_pool.proofs.HeldLists.{without_at, without_in, held_more}
 use Rattle.bng_pool.proofs.Scanning.{notes_stay, passed_pool, passed_number}
@@ -217,8 +217,8 @@ same_tables [] (y ∷ ys) e h = absurd (omega arith)
 same_tables (x ∷ xs) [] e h = absurd (omega arith)
 same_tables (x ∷ xs) (y ∷ ys) e h = let here = h 0 x y refl refl in (λ i. entries_of (here.0 i) (here.1 i) ++ same_tables xs ys (let long : length ys ≡ length xs = omega arith in long) (λ k. h (suc k)) i)
 
-pub keep_table : KeepTable
-keep_table pool seats next hand long same = let was : (k : ℕ) (q : SeatView) → slice_get next k ≡ Some q → (p : SeatView) × (slice_get seats k ≡ Some p) =
+pub all_keep_table : AllKeepTable
+all_keep_table pool seats next hand long same = let was : (k : ℕ) (q : SeatView) → slice_get next k ≡ Some q → (p : SeatView) × (slice_get seats k ≡ Some p) =
         λ k q e. (get_or seats k q, slice_get-get_or seats k q (let within = slice_get_within next k q e in let h : k < length seats = omega arith in h)) in
     let back : (a k : ℕ) → HasHolder next a k → HasHolder seats a k = λ a k h. let p = was k h.0 h.1 in (p.0, p.1, subst (λ z. Holds z a) (same k p.0 h.0 p.1 h.1).2 h.2) in (
       record {
@@ -255,7 +255,7 @@ looks_at pool seats a answer before after (suc m) hand of_pool own round heard i
 pub looks_of_table : LooksOfTable
 looks_of_table pool seats a answer before after hand of_pool own round heard looks without agreed = dite (dec_has pool.ranges a)
     (λ has. let c = looks has in looks_at pool seats a answer before after c.word hand of_pool own round heard c.answered c.left c.agrees agreed)
-    (λ none. without none ∙ sym (without_word_of_table pool seats hand a none))
+    (λ none. (without none).0 ∙ sym (without_word_of_table pool seats hand a none))
 
 no_entries : (pool : PoolView) (seats : List SeatView) → ((k : ℕ) (q : SeatView) → slice_get seats k ≡ Some q → q.held ≡ []) → table_of seats ≡ []
 no_entries pool [] h = refl

@@ -2,7 +2,7 @@
 ghost use Rattle.std.specs.Prelude.{◌≡◌, ◌≢◌, ◌+◌, ◌*◌, ◌<◌, ◌%◌, ◌^◌, ◌++◌, true, false, []};
 ghost use Rattle.bng_pool.specs.Rule.{hold_met, HoldLearned};
 ghost use Rattle.bng_pool.specs.Seats.{told_by, told, IsLearned, AreAgreed};
-ghost use Rattle.bng_pool.specs.OneHand.{OpensTable, EntriesOfTable, WithoutWordOfTable, ClaimsOfTable, ScansOfTable, LooksOfTable, HoldersOfTable, GivesBackOfTable, KeepsTable, KeepTable};
+ghost use Rattle.bng_pool.specs.OneHand.{OpensTable, EntriesOfTable, WithoutWordOfTable, ClaimsOfTable, ScansOfTable, LooksOfTable, HoldersOfTable, GivesBackOfTable, KeepsTable, AllKeepTable};
 
 use crate::plays::{Copying, Hearing, Meeting, Passing};
 use crate::pool::{Pool, Words};
@@ -82,7 +82,7 @@ pub fn seats_in_one_hand_are_a_table()
     ensures looks { LooksOfTable }
     ensures gives_back { GivesBackOfTable }
     ensures keeps { KeepsTable }
-    ensures keep { KeepTable }
+    ensures all_keep { AllKeepTable }
 {}
 
 // Word 0 grows by one at each pass, so a thread that parks on it is woken by the next.
