@@ -6,4 +6,9 @@ pub mod Seated
 pub mod Scanning
 pub mod Dealing
 pub mod Telling
+pub mod Agreeing
+pub mod Joined
+pub mod Entries
 pub mod OneHand
+pub mod Stepped
+pub mod InHand

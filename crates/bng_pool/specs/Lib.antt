@@ -3,3 +3,4 @@ pub mod Rows
 pub mod Seats
 pub mod Rule
 pub mod Tables
+pub mod OneHand

@@ -2,7 +2,7 @@
 ghost use Rattle.std.specs.Prelude.{◌≡◌, ◌≢◌, ◌+◌, ◌*◌, ◌<◌, ◌%◌, ◌^◌, ◌++◌, true, false, []};
 ghost use Rattle.bng_pool.specs.Rule.{hold_met, HoldLearned};
 ghost use Rattle.bng_pool.specs.Seats.{told_by, told, IsLearned, AreAgreed};
-ghost use Rattle.bng_pool.specs.Tables.{ClaimsOfTable, LooksOfTable};
+ghost use Rattle.bng_pool.specs.OneHand.{OpensTable, EntriesOfTable, WithoutWordOfTable, ClaimsOfTable, ScansOfTable, LooksOfTable, HoldersOfTable, GivesBackOfTable, KeepsTable, AllKeepTable};
 
 use crate::plays::{Copying, Hearing, Meeting, Passing};
 use crate::pool::{Pool, Words};
@@ -69,10 +69,20 @@ impl Pool {
     }
 }
 
-/// With the seats of all shards in one hand, `claim` and `look` are those of a table of held addresses.
+/// With the seats of all shards in one hand, the calls are those of a table from an address to its holder, which is empty at
+/// the opening: `claim`, `scan` and `look` in a round, where the seat that calls and the others have told each other what
+/// they know, and `give_back`; every other call leaves the table.
 pub fn seats_in_one_hand_are_a_table()
+    ensures opens { OpensTable }
+    ensures entries { EntriesOfTable }
+    ensures without_word { WithoutWordOfTable }
+    ensures holders { HoldersOfTable }
     ensures claims { ClaimsOfTable }
+    ensures scans { ScansOfTable }
     ensures looks { LooksOfTable }
+    ensures gives_back { GivesBackOfTable }
+    ensures keeps { KeepsTable }
+    ensures all_keep { AllKeepTable }
 {}
 
 // Word 0 grows by one at each pass, so a thread that parks on it is woken by the next.

@@ -51,6 +51,7 @@ impl Pool {
         requires pool { seat.old.pool ≡ self.now }
         ensures looked { HasAddress self.now.ranges a.0 → Looks a.0 result seat.old seat.new }
         ensures without_word { ¬ HasAddress self.now.ranges a.0 → (result ≡ None) × (seat.new ≡ seat.old) }
+        ensures rest { seat.new ≡ record seat.old { notes = seat.new.notes; found = seat.new.found } }
     {
         match self.layout.find(a.0) {
             None => None,

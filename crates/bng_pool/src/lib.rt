@@ -8,13 +8,20 @@
 //! Phases tie the seats together: `pass` leads a seat into the next phase, and `meet` waits until all are there. In an odd
 //! phase addresses are given back, and in an even one they go from free to held alone. So what a seat found held in an even
 //! phase is held until that phase ends, and its notes say so; `tell` carries what one seat holds and noted to another.
+//!
+//! With the seats of all shards in one hand the calls are those of a table of held addresses, each beside its holder.
 #![tactic(auto)]
 
+mod agreement;
 mod hold;
 mod laws;
 mod layout;
 mod leases;
+#[cfg(test)]
+mod one_hand;
 mod opening;
+#[cfg(test)]
+mod plain;
 mod plays;
 mod pool;
 mod scan;

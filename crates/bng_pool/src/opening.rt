@@ -2,8 +2,8 @@
 ghost use Rattle.std.specs.Prelude.{◌≡◌, ◌+◌, ◌-◌, ◌<◌, ◌≤◌, ◌++◌, ℕ, [], length, slice_get, Some, IfOk};
 ghost use Rattle.std.specs.Vec.{vec_capacity};
 ghost use Rattle.bng_pool.specs.Ranges.{ArePoolRanges, address_count};
-ghost use Rattle.bng_pool.specs.Rule.{dealer};
-ghost use Rattle.bng_pool.specs.Seats.{new_seat, seats_from, pool_view};
+ghost use Rattle.bng_pool.specs.Rule.{dealer, pool_view};
+ghost use Rattle.bng_pool.specs.Seats.{new_seat, seats_from};
 
 use crate::layout::Layout;
 use crate::plays::Making;

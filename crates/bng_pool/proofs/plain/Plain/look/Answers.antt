@@ -1,0 +1,16 @@
+use Rattle.std.proofs.Common.{◌≡◌, ◌+◌, ◌<◌, ◌≤◌, ◌%◌, ℕ, List, [], length, slice_get, Some, true, refl, sym, ap, ◌∙◌, subst, arith}
+use Rattle.std.proofs.lemmas.List.{with_items_is}
+use Rattle.bng_base.specs.declared.book.Range.{Range}
+use Rattle.bng_pool.specs.Ranges.{HasAddress}
+use Rattle.bng_pool.specs.Seats.{SeatView, IsInRound}
+use Rattle.bng_pool.specs.Tables.{Table, entry, TableClaims, TableScans, TableFrees}
+use Rattle.bng_pool.specs.OneHand.{table_of, AreInOneHand, AreInRound}
+use Rattle.bng_pool.proofs.plain.Plain.look.Goals as goal
+
+pub look-requires-clause-round : goal.look-requires-clause-round
+look-requires-clause-round c = (subst (AreInRound c.self.inside.looker.phase) (sym c.as_mut_slice.ensures.value) c.self.invariant.1.0, c.self.invariant.1.1)
+
+pub invariant_of-self : goal.invariant_of-self
+invariant_of-self c = let items = with_items_is c.self.inside.seats c.look.new.seats (c.look.auto.seats ∙ (ap length c.as_mut_slice.ensures.value ∙ sym c.self.inside.seats.ok.0)) in
+    let r = c.look.ensures.round in
+    (subst (AreInOneHand c.self.inside.pool) (sym items) c.look.ensures.hand, (subst (AreInRound c.look.new.looker.phase) (sym items) (subst (λ z. AreInRound z c.look.new.seats) (sym r.2) r.0), r.1), c.look.ensures.looker)
