@@ -13,17 +13,17 @@ use Rattle.bng_acct.specs.Roster.{before, same, of_term, Rises, Puts, Removes, S
 use Rattle.bng_acct.proofs.GoingOn.{all_both}
 use Rattle.bng_acct.proofs.Rosters.{before_trans, before_is_other, after_is_other, same_is, is_same}
 
-abbrev Before : TermId → List Held → Type 0
+abbrev pub Before : TermId → List Held → Type 0
 Before t hs = AllByRecursion (λ h. before h.term t ≡ true) hs
 
-abbrev After : TermId → List Held → Type 0
+abbrev pub After : TermId → List Held → Type 0
 After t hs = AllByRecursion (λ h. before t h.term ≡ true) hs
 
-none_before : (t : TermId) (hs : List Held) → Before t hs → of_term t hs ≡ None
+pub none_before : (t : TermId) (hs : List Held) → Before t hs → of_term t hs ≡ None
 none_before t [] h = refl
 none_before t (x ∷ hs) h = rw (before_is_other x.term t h.0) (none_before t hs h.1)
 
-none_after : (t : TermId) (hs : List Held) → After t hs → of_term t hs ≡ None
+pub none_after : (t : TermId) (hs : List Held) → After t hs → of_term t hs ≡ None
 none_after t [] h = refl
 none_after t (x ∷ hs) h = rw (after_is_other x.term t h.0) (none_after t hs h.1)
 
@@ -103,6 +103,17 @@ put_over g h a b e r fa fb =
       ];
       sums = λ f. rw was (omega (arith, sum-mid f a b h, sum-mid f a b g));
     }
+
+-- nothing taken out
+pub take_none : (t : TermId) (a b : List Held) → Rises (a ++ b) → Before t a → After t b → Removes (a ++ b) (a ++ b) t
+take_none t a b r fa fb = record {
+  rises = r;
+  finds = λ u. elim (cases_Bool (same t u)) [
+    | inl is ↦ rw is (subst (λ (v : TermId). of_term v (a ++ b) ≡ None) (same_is t u is) (of_none t a b fa fb))
+    | inr other ↦ rw other refl
+  ];
+  sums = λ f. rw (of_none t a b fa fb) (add-zero (sum_by f (a ++ b)));
+}
 
 -- what a place found or missed tells
 pub found : (xs : List Held) (t : TermId) (i : ℕ) (at : StandsAt xs t i) → of_term t xs ≡ Some at.here

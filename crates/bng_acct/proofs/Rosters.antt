@@ -56,7 +56,7 @@ fronts P (x ∷ xs) zero h f = tt
 fronts P (x ∷ xs) (suc i) h f = (f 0 x (omega arith), fronts P xs i (omega arith) (λ k d lt. f (suc k) d (omega arith)))
 
 -- what is behind a term, where it is before the first of a rising list
-behinds : (t : TermId) (x : Held) (xs : List Held) → Rises (x ∷ xs) → before t x.term ≡ true → AllByRecursion (λ h. before t h.term ≡ true) xs
+pub behinds : (t : TermId) (x : Held) (xs : List Held) → Rises (x ∷ xs) → before t x.term ≡ true → AllByRecursion (λ h. before t h.term ≡ true) xs
 behinds t x [] r p = tt
 behinds t x (y ∷ ys) r p = (before_trans t x.term y.term p r.0.0, behinds t y ys r.1 (before_trans t x.term y.term p r.0.0))
 
