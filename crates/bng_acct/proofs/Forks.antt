@@ -1,5 +1,5 @@
 -- What is known of a tree once its node is a fork.
-use Rattle.std.proofs.Common.{◌≡◌, ◌+◌, max, List, [], ◌∷◌, ◌++◌, Box, sym, ap, ◌∙◌, subst}
+use Rattle.std.proofs.Common.{◌≡◌, ◌∷◌, ◌++◌, Box, sym, ap, ◌∙◌, subst}
 use Rattle.std.specs.declared.alloc.Global.{Global}
 use Rattle.bng_acct.specs.declared.held.Held.{Held}
 use Rattle.bng_acct.specs.declared.tree.Tree.{Tree}

@@ -1,5 +1,5 @@
 -- What a node of a tree of terms is seen as, and what holds of it.
-use Rattle.std.specs.Prelude.{◌≡◌, ℕ, ◌+◌, max, List, [], ◌∷◌, ◌++◌, sum_by}
+use Rattle.std.specs.Prelude.{◌≡◌, ◌+◌, max, List, ◌∷◌, ◌++◌, sum_by}
 use Rattle.bng_acct.specs.declared.held.Held.{Held}
 use Rattle.bng_acct.specs.declared.tree.Note.{Note}
 use Rattle.bng_acct.specs.declared.tree.Node.{Node}

@@ -1,7 +1,5 @@
-use Rattle.std.proofs.Common.{◌≡◌, ◌+◌, ◌<◌, ◌≤◌, ◌^◌, ◌∷◌, ◌++◌, length, arith, length-append}
-use Rattle.std.specs.Prelude.{sum_by}
+use Rattle.std.proofs.Common.{◌+◌, ◌∷◌, ◌++◌, length, arith, length-append}
 use Rattle.std.proofs.lemmas.List.Sums.{sum_by-append, sum_by-cons}
-use Rattle.bng_acct.specs.declared.held.Held.{Held}
 use Rattle.bng_acct.specs.Spool.{stop_count}
 use Rattle.bng_acct.proofs.Heights.{low, flat_node}
 use Rattle.bng_acct.proofs.Marks.{sum_le, stop_count_le}

@@ -1,7 +1,7 @@
-use Rattle.std.proofs.Common.{◌≡◌, ℕ, ◌≢◌, ◌<◌, ◌++◌, ◌∷◌, [], List, length, set, sym, ap, subst, ◌∙◌, arith}
+use Rattle.std.proofs.Common.{ℕ, ◌≢◌, ◌<◌, ◌++◌, ◌∷◌, [], List, length, set, sym, ap, subst, ◌∙◌, arith}
 use Rattle.std.specs.List.{AllByRecursion}
 use Rattle.std.proofs.lemmas.Grind.{get_or_default_zero}
-use Rattle.bng_acct.specs.Row.{Row, row, at}
+use Rattle.bng_acct.specs.Row.{Row, row}
 use Rattle.bng_acct.proofs.Rows.{row_pushed, below_last}
 use Rattle.bng_acct.proofs.line.Line.push.Goals as goal
 

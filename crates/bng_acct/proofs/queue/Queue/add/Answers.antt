@@ -1,5 +1,5 @@
-use Rattle.std.proofs.Common.{◌∷◌, ◌++◌, [], Some, ap, subst, arith, sym, ℕ, List}
-use Rattle.bng_acct.specs.Queue.{Open, count, is_waiting, AllBelow, AllWait, Sets}
+use Rattle.std.proofs.Common.{Some, ap, subst, arith, sym}
+use Rattle.bng_acct.specs.Queue.{Open, count, is_waiting, AllBelow, Sets}
 use Rattle.bng_acct.proofs.Queues.{waiting_le_count, waits_more, all_wait_more, below_more, others}
 use Rattle.bng_acct.proofs.queue.Queue.add.Goals as goal
 

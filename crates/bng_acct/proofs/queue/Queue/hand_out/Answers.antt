@@ -1,4 +1,4 @@
-use Rattle.std.proofs.Common.{◌≡◌, ◌∷◌, Some, inl, sym, ap, subst, ◌∙◌, arith, refl, true, List, ℕ}
+use Rattle.std.proofs.Common.{◌∷◌, inl, sym, ap, subst, ◌∙◌, arith, refl, true, List, ℕ}
 use Rattle.bng_acct.specs.Queue.{Open, HandsOut, IsIn, AreWaiting, sheet_at, without, AllBelow, AllWait}
 use Rattle.bng_acct.proofs.Queues.{waiting_sheet, waits_less, below_more, first_of, first_gone, all_wait_handed}
 use Rattle.bng_acct.proofs.queue.Queue.hand_out.Goals as goal

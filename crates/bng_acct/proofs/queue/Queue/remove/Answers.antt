@@ -1,4 +1,4 @@
-use Rattle.std.proofs.Common.{◌≡◌, sym, ap, subst, ◌∙◌, arith}
+use Rattle.std.proofs.Common.{sym, ap, subst, ◌∙◌, arith}
 use Rattle.bng_acct.specs.Queue.{Open, AreWaiting, AllWait, Sets, sheet_at, is_waiting, without, AllBelow}
 use Rattle.bng_acct.proofs.Queues.{waits_without, unhanded-without, handed_not_waiting, all_wait_less, below_less}
 use Rattle.bng_acct.proofs.queue.Queue.remove.Goals as goal

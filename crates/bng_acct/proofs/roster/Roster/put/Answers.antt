@@ -1,4 +1,4 @@
-use Rattle.std.proofs.Common.{◌∷◌, [], length, ap, sym, subst, ◌∙◌, arith}
+use Rattle.std.proofs.Common.{length, ap, sym, subst, ◌∙◌, arith}
 use Rattle.bng_acct.specs.Roster.{Terms, of_term, Puts}
 use Rattle.bng_acct.proofs.Sides.{edited_puts}
 use Rattle.bng_acct.proofs.roster.Roster.put.Goals as goal

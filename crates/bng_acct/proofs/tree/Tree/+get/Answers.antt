@@ -1,7 +1,5 @@
-use Rattle.std.proofs.Common.{arith, rules, length-append, sym, ap, subst, ◌∙◌, ◌∷◌}
+use Rattle.std.proofs.Common.{arith, length-append, sym, ap, subst, ◌∙◌, ◌∷◌}
 use Rattle.bng_acct.specs.Roster.{Rises, of_term}
-use Rattle.bng_acct.specs.declared.held.Held.{Held}
-use Rattle.std.proofs.Common.{List}
 use Rattle.bng_acct.proofs.Forks.{at_fork}
 use Rattle.bng_acct.proofs.Sides.{left_rises, right_rises, found_left, found_right, found_here}
 use Rattle.bng_acct.proofs.tree.Tree.+get.Goals as goal

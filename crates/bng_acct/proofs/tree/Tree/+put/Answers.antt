@@ -1,11 +1,11 @@
-use Rattle.std.proofs.Common.{◌≡◌, List, [], ◌∷◌, ◌++◌, Box, length, arith, length-append, sym, ap, subst, ◌∙◌}
+use Rattle.std.proofs.Common.{◌≡◌, [], ◌∷◌, ◌++◌, Box, length, arith, length-append, sym, ap, subst, ◌∙◌}
 use Rattle.std.specs.declared.alloc.Global.{Global}
 use Rattle.bng_acct.specs.declared.held.Held.{Held}
 use Rattle.bng_acct.specs.declared.tree.Tree.{Tree}
 use Rattle.bng_acct.specs.Branch.{Branch}
 use Rattle.bng_acct.specs.Roster.{before, Rises, of_term}
 use Rattle.bng_acct.proofs.Forks.{at_fork, at_leaf}
-use Rattle.bng_acct.proofs.Sides.{left_rises, right_rises, found_left, found_right, edits_left, edits_right, edits_here, edits_nothing, length-edited}
+use Rattle.bng_acct.proofs.Sides.{left_rises, right_rises, found_left, found_right, edits_left, edits_right, edits_here, edits_nothing}
 use Rattle.bng_acct.proofs.tree.Tree.+put.Goals as goal
 
 pub put-requires : goal.put-requires

@@ -2,7 +2,7 @@ use Rattle.std.proofs.Common.{◌≡◌, List, [], ◌∷◌, ◌++◌, Box, len
 use Rattle.std.specs.declared.alloc.Global.{Global}
 use Rattle.bng_acct.specs.declared.held.Held.{Held}
 use Rattle.bng_acct.specs.declared.tree.Tree.{Tree}
-use Rattle.bng_acct.specs.Branch.{Branch, Edits}
+use Rattle.bng_acct.specs.Branch.{Branch}
 use Rattle.bng_acct.specs.Roster.{before, Rises}
 use Rattle.bng_acct.proofs.Forks.{at_fork, at_leaf}
 use Rattle.bng_acct.proofs.Sides.{left_rises, right_rises, edits_left, edits_right, edits_here, edits_nothing}

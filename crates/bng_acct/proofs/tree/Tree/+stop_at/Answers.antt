@@ -1,4 +1,4 @@
-use Rattle.std.proofs.Common.{◌-◌, List, sym, ap, subst, ◌∙◌, arith}
+use Rattle.std.proofs.Common.{◌-◌, List, sym, ap, ◌∙◌, arith}
 use Rattle.std.specs.Prelude.{slice_get, filter_map}
 use Rattle.bng_acct.specs.declared.held.Held.{Held}
 use Rattle.bng_acct.proofs.Forks.{at_fork}
