@@ -13,6 +13,7 @@ four_times a b m p q = elim (cases_lt a b) [
   | inl less ↦ let cross : a * a ≤ a * b = mul-le a a a b (omega arith) (omega (arith, less)) in omega (arith, p, q, cross)
   | inr more ↦ let cross : b * b ≤ a * b = mul-le b b a b more (omega arith) in omega (arith, p, q, cross)
 ]
+
 flat_by : (a b n k h : ℕ) → 2 ^ k ≤ a * a → 2 ^ k ≤ b * b → n ≡ a + b → h ≡ k + 1 + 1 → 2 ^ h ≤ n * n
 flat_by a b n k h p q e f =
     let more : 2 ^ h ≡ 2 ^ k * 2 * 2 = ap (λ (i : ℕ). 2 ^ i) f ∙ pow_more 2 (k + 1) ∙ ap (λ (i : ℕ). i * 2) (pow_more 2 k) in

@@ -151,7 +151,7 @@ impl Tree {
     }
 
     /// How many levels there are. The longest way down has so many nodes.
-    pub(crate) fn height(&self) -> u32
+    fn height(&self) -> u32
         ensures value { result ≡ self.now.height }
         ensures flat { IsFlat self.now.held self.now.height }
     {

@@ -23,7 +23,7 @@ invariant_of-self c =
     let r = c.self.invariant in
     let last = c.index-last.ensures ∙ get_or_default_zero B end c.index-last.result.now (omega (arith, r.before_all)) in
     let done = row_pushed A B end n (row A end).numbers r (subst (λ (v : Row). n < v.room) (sym c.self.view_is) c.requires.below)
-        (subst (λ (v : Row). AllByRecursion (λ m. m ≢ n) v.numbers) (sym c.self.view_is) c.requires.apart) (subst (λ (v : Row). length v.numbers < v.room) (sym c.self.view_is) c.requires.few) in
+    (subst (λ (v : Row). AllByRecursion (λ m. m ≢ n) v.numbers) (sym c.self.view_is) c.requires.apart) (subst (λ (v : Row). length v.numbers < v.room) (sym c.self.view_is) c.requires.few) in
     let after = c.link-2.ensures.after ∙ ap (λ (x : List ℕ). set x n end) (c.link.ensures.after ∙ ap (λ (k : ℕ). set A k n) last) in
     let before = c.link-2.ensures.before ∙ ap (λ (x : List ℕ). set x end n) (c.link.ensures.before ∙ ap (λ (k : ℕ). set B n k) last) in
     rw (after, before) done.is
@@ -37,6 +37,6 @@ returns-clause-numbers c =
     let r = c.self.invariant in
     let last = c.index-last.ensures ∙ get_or_default_zero B end c.index-last.result.now (omega (arith, r.before_all)) in
     let done = row_pushed A B end n (row A end).numbers r (subst (λ (v : Row). n < v.room) (sym c.self.view_is) c.requires.below)
-        (subst (λ (v : Row). AllByRecursion (λ m. m ≢ n) v.numbers) (sym c.self.view_is) c.requires.apart) (subst (λ (v : Row). length v.numbers < v.room) (sym c.self.view_is) c.requires.few) in
+    (subst (λ (v : Row). AllByRecursion (λ m. m ≢ n) v.numbers) (sym c.self.view_is) c.requires.apart) (subst (λ (v : Row). length v.numbers < v.room) (sym c.self.view_is) c.requires.few) in
     let after = c.link-2.ensures.after ∙ ap (λ (x : List ℕ). set x n end) (c.link.ensures.after ∙ ap (λ (k : ℕ). set A k n) last) in
     rw after (done.are ∙ ap (λ (v : Row). v.numbers ++ n ∷ []) c.self.view_is)

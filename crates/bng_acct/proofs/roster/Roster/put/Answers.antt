@@ -10,8 +10,8 @@ put-requires c =
       rises = inv.rises;
       few = omega (arith, inv.left, inv.few);
       spare = λ none.
-        let room = c.requires (ap (λ (v : Terms). of_term c.args.held.term v.held) (sym c.self.view_is) ∙ none) in
-        omega (arith, room, inv.left, ap (λ (v : Terms). length v.held) c.self.view_is, ap (λ (v : Terms). v.room) c.self.view_is);
+          let room = c.requires (ap (λ (v : Terms). of_term c.args.held.term v.held) (sym c.self.view_is) ∙ none) in
+          omega (arith, room, inv.left, ap (λ (v : Terms). length v.held) c.self.view_is, ap (λ (v : Terms). v.room) c.self.view_is);
     }
 
 pub invariant_of-self : goal.invariant_of-self
