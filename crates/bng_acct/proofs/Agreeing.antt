@@ -4,11 +4,12 @@ use Rattle.std.specs.Prelude.{sum_by, IsSome}
 use Rattle.std.proofs.lemmas.Bool.{cases_Bool, cases_eq}
 use Rattle.bng_base.specs.declared.circuit.TermId.{TermId}
 use Rattle.bng_acct.specs.declared.facts.StatusType.{StatusType}
+use Rattle.bng_acct.specs.declared.facts.StatusType.TheVariants.{Start, Interim, Stop}
 use Rattle.bng_acct.specs.declared.held.Held.{Held}
 use Rattle.bng_acct.specs.declared.sheet.Sheet.{Sheet}
 use Rattle.bng_acct.specs.Roster.{same, of_term, weight, Rises, Puts, Removes}
 use Rattle.bng_acct.specs.Queue.{sheet_at, Sets}
-use Rattle.bng_acct.specs.Spool.{number_of, open_of, with_number, is_kept, or_unknown, ended_by, counted, open_count, stop_count, stops_in, Agree, IsReady}
+use Rattle.bng_acct.specs.Spool.{number_of, open_of, with_number, is_kept, or_unknown, ended_by, counted, open_count, stop_count, stops_in, IsLiveOrStopped, Agree, IsReady}
 use Rattle.bng_acct.proofs.Rosters.{same_is, is_same}
 use Rattle.bng_acct.proofs.Marks.{equal, other as differs, same_kind, Marks, number_in, formed, term-formed, open_count-with, open_count-ended_by, stop_count-with, number_of-ended_by, number_of-or_unknown, open_count_le, sum_le, sum_with_le}
 
@@ -36,8 +37,8 @@ decide t u status s = elim (cases_Bool (same u t)) [
 
 pub agree_more : (ss ss' : List (Option Sheet)) (old new : List Held) (x : Sheet) (n : ℕ) → Agree ss old
     → sheet_at ss n ≡ None → Sets ss ss' n (Some x) → open_of x.record.facts.term x.record.status old ≡ None → Marks old new x.record.facts.term x.record.status (Some n)
-    → ((t : TermId) (h : Held) → of_term t new ≡ Some h → is_kept h ≡ true) → Rises new → Agree ss' new
-agree_more ss ss' old new x n a free sets closed m kept rises =
+    → ((t : TermId) (h : Held) → of_term t new ≡ Some h → is_kept h ≡ true) → ((t : TermId) (h : Held) → of_term t new ≡ Some h → IsLiveOrStopped h) → Rises new → Agree ss' new
+agree_more ss ss' old new x n a free sets closed m kept stopped rises =
     let t = x.record.facts.term in
     let status = x.record.status in
     record {
@@ -58,13 +59,14 @@ agree_more ss ss' old new x n a free sets closed m kept rises =
             (was.0, sets.others k (λ is. no_sheet was.0 (sym was.1 ∙ ap (sheet_at ss) is ∙ free)) ∙ was.1, was.2, was.3)
       ];
       kept = kept;
+      stopped = stopped;
       each_once = rises;
     }
 
 pub agree_less : (ss ss' : List (Option Sheet)) (old new : List Held) (x : Sheet) (n : ℕ) → Agree ss old
     → sheet_at ss n ≡ Some x → Sets ss ss' n None → Marks old new x.record.facts.term x.record.status None
-    → ((t : TermId) (h : Held) → of_term t new ≡ Some h → is_kept h ≡ true) → Rises new → Agree ss' new
-agree_less ss ss' old new x n a here sets m kept rises =
+    → ((t : TermId) (h : Held) → of_term t new ≡ Some h → is_kept h ≡ true) → ((t : TermId) (h : Held) → of_term t new ≡ Some h → IsLiveOrStopped h) → Rises new → Agree ss' new
+agree_less ss ss' old new x n a here sets m kept stopped rises =
     let t = x.record.facts.term in
     let status = x.record.status in
     record {
@@ -87,29 +89,46 @@ agree_less ss ss' old new x n a here sets m kept rises =
             (was.0, sets.others k elsewhere ∙ was.1, was.2, was.3)
       ];
       kept = kept;
+      stopped = stopped;
       each_once = rises;
     }
 
--- what is held after h was put in is kept
-pub puts_kept : (old new : List Held) (h : Held) → Puts old new h → ((t : TermId) (x : Held) → of_term t old ≡ Some x → is_kept x ≡ true) → is_kept h ≡ true
-    → (t : TermId) (x : Held) → of_term t new ≡ Some x → is_kept x ≡ true
-puts_kept old new h p kept here t x e = elim (cases_Bool (same h.term t)) [
-  | inl is ↦ subst (λ (y : Held). is_kept y ≡ true) (some_held h x (sym (p.finds t ∙ rw is refl) ∙ e)) here
-  | inr apart ↦ kept t x (sym (p.finds t ∙ rw apart refl) ∙ e)
+-- what holds of all that is held, and of what was put in
+pub puts_all : (P : Held → Type 0) (old new : List Held) (h : Held) → Puts old new h → ((t : TermId) (x : Held) → of_term t old ≡ Some x → P x) → P h → (t : TermId) (x : Held) → of_term t new ≡ Some x → P x
+puts_all P old new h p all here t x e = elim (cases_Bool (same h.term t)) [
+  | inl is ↦ subst P (some_held h x (sym (p.finds t ∙ rw is refl) ∙ e)) here
+  | inr apart ↦ all t x (sym (p.finds t ∙ rw apart refl) ∙ e)
 ]
   where
     some_held : (a b : Held) → Some a ≡ Some b → a ≡ b
     some_held a b e = cc
 
-pub removes_kept : (old new : List Held) (u : TermId) → Removes old new u → ((t : TermId) (x : Held) → of_term t old ≡ Some x → is_kept x ≡ true)
-    → (t : TermId) (x : Held) → of_term t new ≡ Some x → is_kept x ≡ true
-removes_kept old new u p kept t x e = elim (cases_Bool (same u t)) [
+pub removes_all : (P : Held → Type 0) (old new : List Held) (u : TermId) → Removes old new u → ((t : TermId) (x : Held) → of_term t old ≡ Some x → P x) → (t : TermId) (x : Held) → of_term t new ≡ Some x → P x
+removes_all P old new u p all t x e = elim (cases_Bool (same u t)) [
   | inl is ↦ absurd (no_held x (sym e ∙ p.finds t ∙ rw is refl))
-  | inr apart ↦ kept t x (sym (p.finds t ∙ rw apart refl) ∙ e)
+  | inr apart ↦ all t x (sym (p.finds t ∙ rw apart refl) ∙ e)
 ]
   where
     no_held : (x : Held) → Some x ≡ None → ⊥
     no_held x e = cc
+
+stopped-with : (status : StatusType) (n : ℕ) (h : Held) → IsLiveOrStopped h → IsLiveOrStopped (with_number status (Some n) (ended_by status h))
+stopped-with Start n h s = s
+stopped-with Interim n h s = s
+stopped-with Stop n h s = λ live. absurd cc
+
+pub stopped-without : (status : StatusType) (h : Held) → IsLiveOrStopped h → IsLiveOrStopped (with_number status None h)
+stopped-without Start h s = s
+stopped-without Interim h s = s
+stopped-without Stop h s = λ live. refl
+
+stopped-or_unknown : (t : TermId) (o : Option Held) → ((h : Held) → o ≡ Some h → IsLiveOrStopped h) → IsLiveOrStopped (or_unknown t o)
+stopped-or_unknown t None all = λ live. refl
+stopped-or_unknown t (Some h) all = all h refl
+
+-- a term that is live has no open Stop where a record of it was formed
+pub stopped-formed : (status : StatusType) (n : ℕ) (t : TermId) (old : List Held) → ((u : TermId) (h : Held) → of_term u old ≡ Some h → IsLiveOrStopped h) → IsLiveOrStopped (formed status n t old)
+stopped-formed status n t old all = stopped-with status n (or_unknown t (of_term t old)) (stopped-or_unknown t (of_term t old) (all t))
 
 some_of : {X : Type 0} (o : Option X) → IsSome o → (x : X) × (o ≡ Some x)
 some_of None h = absurd cc
@@ -191,5 +210,6 @@ agree_same ss ss' held x n a was sets =
             | inr apart ↦ (before.0, sets.others k apart ∙ before.1, before.2, before.3)
           ];
       kept = a.kept;
+      stopped = a.stopped;
       each_once = a.each_once;
     }

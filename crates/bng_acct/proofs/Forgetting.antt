@@ -110,7 +110,7 @@ held_more : (old now : State) (o : Option Sheet) (k : ℕ) → Agree old.sheets 
     → ((t : TermId) → is_live (of_term t now.held) ≡ is_live (of_term t old.held)) × (length now.held ≤ length old.held)
 held_more old now None k a e r = (λ t. ap (λ (h : List Held). is_live (of_term t h)) r, omega (arith, ap length r))
 held_more old now (Some x) k a e r =
-    let done = released old.held now.held x.record.facts.term x.record.status k a.kept (a.marked k x e) r in
+    let done = released old.held now.held x.record.facts.term x.record.status k a.kept a.stopped (a.marked k x e) r in
     (done.live, done.fewer)
 
 -- any other record goes

@@ -3,7 +3,12 @@ pub mod StationId
 pub mod Requests
 pub mod Rosters
 pub mod RosterEdits
+pub mod Sides
+pub mod Heights
+pub mod Forks
+pub mod StopPlaces
 pub mod Queues
+pub mod Rows
 pub mod Marks
 pub mod Agreeing
 pub mod Releasing

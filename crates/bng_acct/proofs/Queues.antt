@@ -1,12 +1,12 @@
 -- Numbers of records that wait.
-use Rattle.std.proofs.Common.{◌≡◌, ◌≢◌, ℕ, zero, suc, inl, inr, ◌≤◌, ◌<◌, Bool, true, false, not, cond, List, [], ◌∷◌, ◌++◌, length, set, Option, Some, None, eqb, sym, ap, ◌∙◌, refl, arith}
-use Rattle.std.specs.Prelude.{is_some}
+use Rattle.std.proofs.Common.{◌≡◌, ◌≢◌, ℕ, zero, suc, inl, inr, ◌≤◌, ◌<◌, Bool, true, false, not, cond, List, [], ◌∷◌, ◌++◌, length, set, Option, Some, None, eqb, sym, ap, subst, ◌∙◌, refl, arith}
+use Rattle.std.specs.Prelude.{is_some, slice_get}
 use Rattle.std.specs.List.{AllByRecursion}
 use Rattle.std.proofs.lemmas.List.{get_or-set_other}
 use Rattle.std.proofs.lemmas.List.Sums.{sum_by-set}
-use Rattle.std.proofs.lemmas.Bool.{ne_eqb, cases_Bool, cases_eq, eqb-false}
+use Rattle.std.proofs.lemmas.Bool.{ne_eqb, eq-eqb, cases_Bool, cases_eq, eqb-false}
 use Rattle.bng_acct.specs.declared.sheet.Sheet.{Sheet}
-use Rattle.bng_acct.specs.Queue.{sheet_at, count, is_waiting, Apart, AreWaiting, Sets, without, AllBelow}
+use Rattle.bng_acct.specs.Queue.{sheet_at, count, is_waiting, Apart, AreWaiting, IsIn, AllWait, Sets, without, AllBelow}
 
 within : (sheets : List (Option Sheet)) (n : ℕ) → is_some (sheet_at sheets n) ≡ true → n < length sheets
 within [] n h = absurd cc
@@ -25,7 +25,7 @@ each_other : (old new : List (Option Sheet)) (n : ℕ) → ((m : ℕ) → m ≢ 
 each_other old new n same [] apart h = tt
 each_other old new n same (m ∷ ns) apart h = (ap is_waiting (same m apart.0) ∙ h.0, each_other old new n same ns apart.1 h.1)
 
-others : (sheets : List (Option Sheet)) (n : ℕ) → is_waiting (sheet_at sheets n) ≡ false → (ns : List ℕ) → Each sheets ns → AllByRecursion (λ m. m ≢ n) ns
+pub others : (sheets : List (Option Sheet)) (n : ℕ) → is_waiting (sheet_at sheets n) ≡ false → (ns : List ℕ) → Each sheets ns → AllByRecursion (λ m. m ≢ n) ns
 others sheets n not_it [] h = tt
 others sheets n not_it (m ∷ ns) h = (λ (e : m ≡ n). absurd (differ (sheet_at sheets m) h.0 (ap (λ (k : ℕ). is_waiting (sheet_at sheets k)) e ∙ not_it)), others sheets n not_it ns h.1)
   where
@@ -46,7 +46,7 @@ waiting_le_count (n ∷ ns) sheets h =
     let one = ap counted there in
     omega (arith, rest, removed, one)
 
-apart-push : (ns : List ℕ) (n : ℕ) → Apart ns → AllByRecursion (λ m. m ≢ n) ns → Apart (ns ++ n ∷ [])
+pub apart-push : (ns : List ℕ) (n : ℕ) → Apart ns → AllByRecursion (λ m. m ≢ n) ns → Apart (ns ++ n ∷ [])
 apart-push [] n a o = (tt, tt)
 apart-push (m ∷ ns) n a o = (all_push ns a.0 (λ e. o.0 (sym e)), apart-push ns n a.1 o.1)
   where
@@ -79,21 +79,21 @@ without-others (m ∷ ns) n o = rw (ne_eqb m n o.0) (ap (λ (r : List ℕ). m �
 pub unhanded-without : (sheets : List (Option Sheet)) (ns : List ℕ) (n : ℕ) → AreWaiting sheets ns → is_waiting (sheet_at sheets n) ≡ false → without n ns ≡ ns
 unhanded-without sheets ns n h p = without-others ns n (others sheets n p ns h.each)
 
-apart-of : (ns : List ℕ) (n : ℕ) → AllByRecursion (λ m. m ≢ n) (without n ns)
+pub apart-of : (ns : List ℕ) (n : ℕ) → AllByRecursion (λ m. m ≢ n) (without n ns)
 apart-of [] n = tt
 apart-of (m ∷ ns) n = elim (cases_Bool (eqb m n)) [
   | inl is ↦ rw is (apart-of ns n)
   | inr other ↦ rw other (eqb-false m n other, apart-of ns n)
 ]
 
-part : (P : ℕ → Type 0) (ns : List ℕ) (n : ℕ) → AllByRecursion P ns → AllByRecursion P (without n ns)
+pub part : (P : ℕ → Type 0) (ns : List ℕ) (n : ℕ) → AllByRecursion P ns → AllByRecursion P (without n ns)
 part P [] n h = tt
 part P (m ∷ ns) n h = elim (cases_Bool (eqb m n)) [
   | inl is ↦ rw is (part P ns n h.1)
   | inr other ↦ rw other (h.0, part P ns n h.1)
 ]
 
-apart-part : (ns : List ℕ) (n : ℕ) → Apart ns → Apart (without n ns)
+pub apart-part : (ns : List ℕ) (n : ℕ) → Apart ns → Apart (without n ns)
 apart-part [] n h = tt
 apart-part (m ∷ ns) n h = elim (cases_Bool (eqb m n)) [
   | inl is ↦ rw is (apart-part ns n h.1)
@@ -128,3 +128,52 @@ below_less old new n most below sets = λ k y e. elim (cases_eq k n) [
   | inl is ↦ absurd (some_not_none y (sym e ∙ ap (sheet_at new) is ∙ sets.changed))
   | inr apart ↦ below k y (sym (sets.others k apart) ∙ e)
 ]
+
+-- the first of some numbers
+pub first_of : (ns : List ℕ) (n : ℕ) → slice_get ns 0 ≡ Some n → (rest : List ℕ) × (ns ≡ n ∷ rest)
+first_of [] n e = absurd cc
+first_of (m ∷ ns) n e = (ns, cc)
+
+pub in_push : (k n : ℕ) (ns : List ℕ) → IsIn k ns → IsIn k (ns ++ n ∷ [])
+in_push k n [] i = absurd i
+in_push k n (m ∷ ns) (inl e) = inl e
+in_push k n (m ∷ ns) (inr i) = inr (in_push k n ns i)
+
+in_last : (n : ℕ) (ns : List ℕ) → IsIn n (ns ++ n ∷ [])
+in_last n [] = inl refl
+in_last n (m ∷ ns) = inr (in_last n ns)
+
+in_without : (k n : ℕ) (ns : List ℕ) → k ≢ n → IsIn k ns → IsIn k (without n ns)
+in_without k n [] p i = absurd i
+in_without k n (m ∷ ns) p i = elim (cases_eq m n) [
+  | inl is ↦ rw (eq-eqb m n is) (in_without k n ns p (later i is))
+  | inr apart ↦ rw (ne_eqb m n apart) (elim i [ inl e ↦ inl e | inr j ↦ inr (in_without k n ns p j) ])
+]
+  where
+    later : IsIn k (m ∷ ns) → m ≡ n → IsIn k ns
+    later (inl e) is = absurd (p (sym e ∙ is))
+    later (inr j) is = j
+
+pub all_wait_more : (old new : List (Option Sheet)) (ns : List ℕ) (n : ℕ) (x : Sheet) → AllWait old ns → Sets old new n (Some x) → AllWait new (ns ++ n ∷ [])
+all_wait_more old new ns n x all sets = λ k y e unhanded. elim (cases_eq k n) [
+  | inl is ↦ subst (λ (m : ℕ). IsIn m (ns ++ n ∷ [])) (sym is) (in_last n ns)
+  | inr apart ↦ in_push k n ns (all k y (sym (sets.others k apart) ∙ e) unhanded)
+]
+
+both_ways : (x y : Sheet) → Some x ≡ Some y → x.handed ≡ true → y.handed ≡ false → ⊥
+both_ways x y e p q = cc
+
+pub all_wait_handed : (old new : List (Option Sheet)) (ns : List ℕ) (n : ℕ) (x : Sheet) → AllWait old (n ∷ ns) → Sets old new n (Some x) → x.handed ≡ true → AllWait new ns
+all_wait_handed old new ns n x all sets handed = λ k y e unhanded. elim (cases_eq k n) [
+  | inl is ↦ absurd (both_ways x y (sym (ap (sheet_at new) is ∙ sets.changed) ∙ e) handed unhanded)
+  | inr apart ↦ elim (all k y (sym (sets.others k apart) ∙ e) unhanded) [ inl same ↦ absurd (apart (sym same)) | inr i ↦ i ]
+]
+
+pub all_wait_less : (old new : List (Option Sheet)) (ns : List ℕ) (n : ℕ) → AllWait old ns → Sets old new n None → AllWait new (without n ns)
+all_wait_less old new ns n all sets = λ k y e unhanded. elim (cases_eq k n) [
+  | inl is ↦ absurd (some_not_none y (sym e ∙ ap (sheet_at new) is ∙ sets.changed))
+  | inr apart ↦ in_without k n ns apart (all k y (sym (sets.others k apart) ∙ e) unhanded)
+]
+
+pub first_gone : (ns : List ℕ) (n : ℕ) → AllByRecursion (λ m. m ≢ n) ns → without n (n ∷ ns) ≡ ns
+first_gone ns n h = rw (eq-eqb n n refl) (without-others ns n h)

@@ -8,17 +8,21 @@ use Rattle.bng_acct.specs.declared.facts.StatusType.{StatusType}
 use Rattle.bng_acct.specs.declared.facts.StatusType.TheVariants.{Start, Interim, Stop}
 use Rattle.bng_acct.specs.declared.held.Held.{Held}
 use Rattle.bng_acct.specs.Roster.{same, of_term, weight, Rises, Puts, Removes}
-use Rattle.bng_acct.specs.Spool.{number_of, open_of, with_number, is_kept, is_live, counted, open_count, stop_count, stops_in, Releases}
+use Rattle.bng_acct.specs.Spool.{number_of, open_of, with_number, IsLiveOrStopped, is_kept, is_live, counted, open_count, stop_count, stops_in, Releases}
 use Rattle.bng_acct.proofs.Rosters.{same_is}
 use Rattle.bng_acct.proofs.Marks.{Marks, number_in, number_of-with, number_of-with_other, term-with, term_of, puts_marks, removes_marks, open_count-with, stop_count-without}
-use Rattle.bng_acct.proofs.Agreeing.{puts_kept, removes_kept}
+use Rattle.bng_acct.proofs.Agreeing.{puts_all, removes_all, stopped-without}
 
 abbrev AllKept : List Held → Type 0
 AllKept held = (t : TermId) (h : Held) → of_term t held ≡ Some h → is_kept h ≡ true
 
+abbrev AllStopped : List Held → Type 0
+AllStopped held = (t : TermId) (h : Held) → of_term t held ≡ Some h → IsLiveOrStopped h
+
 pub record Released (old new : List Held) (t : TermId) (status : StatusType) : Type 0 where
   pub marks : Marks old new t status None
   pub kept : AllKept new
+  pub stopped : AllStopped new
   pub rises : Rises new
   pub counts : sum_by open_count new + 1 ≡ sum_by open_count old
   pub stops : sum_by stop_count new + stops_in status ≡ sum_by stop_count old
@@ -65,7 +69,7 @@ live-with Start n h = refl
 live-with Interim n h = refl
 live-with Stop n h = refl
 
-module _ (old new : List Held) (t : TermId) (status : StatusType) (n : ℕ) (was : Held) (found : of_term t old ≡ Some was) (open_is : number_of status was ≡ Some n) (all_kept : AllKept old) where
+module _ (old new : List Held) (t : TermId) (status : StatusType) (n : ℕ) (was : Held) (found : of_term t old ≡ Some was) (open_is : number_of status was ≡ Some n) (all_kept : AllKept old) (all_stopped : AllStopped old) where
   left_term : (with_number status None was).term ≡ t
   left_term = term-with status None was ∙ term_of t old was found
 
@@ -84,7 +88,8 @@ module _ (old new : List Held) (t : TermId) (status : StatusType) (n : ℕ) (was
       record {
         marks = subst (λ (u : TermId). Marks old new u status None) left_term
             (puts_marks old new h status None p (number_of-with status None was) (λ s apart. number_of-with_other s status None was apart ∙ of_other s));
-        kept = puts_kept old new h p all_kept kept;
+        kept = puts_all (λ x. is_kept x ≡ true) old new h p all_kept kept;
+        stopped = puts_all IsLiveOrStopped old new h p all_stopped (stopped-without status was (all_stopped t was found));
         rises = p.rises;
         counts = omega (arith, p.sums open_count, was_weight open_count, open_less);
         stops = omega (arith, p.sums stop_count, was_weight stop_count, stop_count-without status n was open_is);
@@ -109,7 +114,8 @@ module _ (old new : List Held) (t : TermId) (status : StatusType) (n : ℕ) (was
       record {
         marks = subst (λ (u : TermId). Marks old new u status None) left_term
             (removes_marks old new h.term status p (λ s apart. sym (of_other s) ∙ sym (number_of-with_other s status None was apart) ∙ gone.numbers s));
-        kept = removes_kept old new h.term p all_kept;
+        kept = removes_all (λ x. is_kept x ≡ true) old new h.term p all_kept;
+        stopped = removes_all IsLiveOrStopped old new h.term p all_stopped;
         rises = p.rises;
         counts = omega (arith, p.sums open_count, was_weight open_count, open_less, nothing);
         stops = omega (arith, p.sums stop_count, was_weight stop_count, stop_count-without status n was open_is, no_stop);
@@ -125,11 +131,11 @@ module _ (old new : List Held) (t : TermId) (status : StatusType) (n : ℕ) (was
         fewer = omega (arith, p.sums (λ _. 1), was_weight (λ _. 1), ones new, ones old);
       }
 
-leaves : (old new : List Held) (t : TermId) (status : StatusType) (n : ℕ) (was : Held) → of_term t old ≡ Some was → number_of status was ≡ Some n → AllKept old
+leaves : (old new : List Held) (t : TermId) (status : StatusType) (n : ℕ) (was : Held) → of_term t old ≡ Some was → number_of status was ≡ Some n → AllKept old → AllStopped old
     → (b : Bool) → is_kept (with_number status None was) ≡ b → MatchBool b (Puts old new (with_number status None was)) (Removes old new (with_number status None was).term) → Released old new t status
-leaves old new t status n was found open_is kept true e p = by_putting old new t status n was found open_is kept e p
-leaves old new t status n was found open_is kept false e p = by_removing old new t status n was found open_is kept e p
+leaves old new t status n was found open_is kept stopped true e p = by_putting old new t status n was found open_is kept stopped e p
+leaves old new t status n was found open_is kept stopped false e p = by_removing old new t status n was found open_is kept stopped e p
 
-pub released : (old new : List Held) (t : TermId) (status : StatusType) (n : ℕ) → AllKept old → open_of t status old ≡ Some n → Releases old new t status → Released old new t status
-released old new t status n kept marked r =
-    leaves old new t status n r.was r.found (ap (number_in status) (sym r.found) ∙ marked) kept (is_kept (with_number status None r.was)) refl r.leaves
+pub released : (old new : List Held) (t : TermId) (status : StatusType) (n : ℕ) → AllKept old → AllStopped old → open_of t status old ≡ Some n → Releases old new t status → Released old new t status
+released old new t status n kept stopped marked r =
+    leaves old new t status n r.was r.found (ap (number_in status) (sym r.found) ∙ marked) kept stopped (is_kept (with_number status None r.was)) refl r.leaves

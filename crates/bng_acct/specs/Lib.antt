@@ -2,7 +2,10 @@ pub mod Texts
 pub mod Attributes
 pub mod Request
 pub mod Roster
+pub mod Branch
+pub mod Tree
 pub mod Queue
+pub mod Row
 pub mod Spool
 pub mod Consistent
 pub mod World

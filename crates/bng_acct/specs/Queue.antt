@@ -1,5 +1,5 @@
 -- The records that are open.
-use Rattle.std.specs.Prelude.{◌≡◌, ◌≢◌, ◌==◌, ℕ, ◌<◌, Bool, true, false, not, List, [], ◌∷◌, filter, slice_index_or, count_by, Option, Some, None, is_some}
+use Rattle.std.specs.Prelude.{◌≡◌, ◌≢◌, ◌==◌, ℕ, ◌<◌, ◌≤◌, ◌^◌, Bool, true, false, not, List, [], ◌∷◌, filter, slice_index_or, count_by, Option, Some, None, is_some, ◌⊎◌}
 use Rattle.std.specs.List.{AllByRecursion}
 use Rattle.bng_acct.specs.declared.sheet.Sheet.{Sheet}
 
@@ -30,9 +30,26 @@ pub record AreWaiting (sheets : List (Option Sheet)) (numbers : List ℕ) : Type
   pub each : AllByRecursion (λ n. is_waiting (sheet_at sheets n) ≡ true) numbers
   pub apart : Apart numbers
 
+abbrev pub IsIn : ℕ → List ℕ → Type 0
+IsIn n [] = ⊥
+IsIn n (m ∷ ms) = (m ≡ n) ⊎ IsIn n ms
+
+-- each record that was not handed out has its number among these
+abbrev pub AllWait : List (Option Sheet) → List ℕ → Type 0
+AllWait sheets numbers = (n : ℕ) (x : Sheet) → sheet_at sheets n ≡ Some x → x.handed ≡ false → IsIn n numbers
+
 -- the numbers of all records are below this one
 abbrev pub AllBelow : List (Option Sheet) → ℕ → Type 0
 AllBelow sheets most = (n : ℕ) (x : Sheet) → sheet_at sheets n ≡ Some x → n < most
+
+-- the open records and the numbers of those that wait, where numbers are below a bound
+pub record IsQueue (sheets : List (Option Sheet)) (numbers : List ℕ) (most bound room : ℕ) : Type 0 where
+  pub most_fit : most ≤ bound
+  pub bound_fits : bound < 2 ^ 32
+  pub room_is : room ≡ bound
+  pub wait : AreWaiting sheets numbers
+  pub all_wait : AllWait sheets numbers
+  pub below : AllBelow sheets bound
 
 -- the number has this, and each other number has what it had
 pub record Sets (old new : List (Option Sheet)) (n : ℕ) (x : Option Sheet) : Type 0 where

@@ -1,5 +1,5 @@
 -- The terms that a spool holds.
-use Rattle.std.specs.Prelude.{◌≡◌, ◌==◌, ℕ, ◌+◌, nat_lt, Bool, true, ◌&&◌, ◌||◌, if◌then◌else◌, List, [], ◌∷◌, ◌++◌, length, find, sum_by, Option, Some, None}
+use Rattle.std.specs.Prelude.{◌≡◌, ◌==◌, ℕ, ◌+◌, nat_lt, Bool, true, ◌&&◌, ◌||◌, if◌then◌else◌, List, [], ◌∷◌, find, sum_by, Option, Some, None}
 use Rattle.std.specs.List.{AllByRecursion}
 use Rattle.bng_base.specs.declared.circuit.TermId.{TermId}
 use Rattle.bng_acct.specs.declared.held.Held.{Held}
@@ -41,23 +41,3 @@ pub record Removes (old new : List Held) (t : TermId) : Type 0 where
   pub rises : Rises new
   pub finds : (u : TermId) → of_term u new ≡ (if same t u then None else of_term u old)
   pub sums : (f : Held → ℕ) → sum_by f new + weight f (of_term t old) ≡ sum_by f old
-
--- the term stands at this place
-pub record StandsAt (held : List Held) (t : TermId) (i : ℕ) : Type 0 where
-  pub front : List Held
-  pub here : Held
-  pub behind : List Held
-  pub are : held ≡ front ++ here ∷ behind
-  pub place : i ≡ length front
-  pub is : here.term ≡ t
-  pub front_all : AllByRecursion (λ h. before h.term t ≡ true) front
-  pub behind_all : AllByRecursion (λ h. before t h.term ≡ true) behind
-
--- the term is not there, and its place is this one
-pub record Misses (held : List Held) (t : TermId) (i : ℕ) : Type 0 where
-  pub front : List Held
-  pub behind : List Held
-  pub are : held ≡ front ++ behind
-  pub place : i ≡ length front
-  pub front_all : AllByRecursion (λ h. before h.term t ≡ true) front
-  pub behind_all : AllByRecursion (λ h. before t h.term ≡ true) behind

@@ -91,11 +91,16 @@ abbrev pub is_live : Option Held → Bool
 is_live None = false
 is_live (Some h) = h.live
 
+-- a term that is live has no open Stop
+abbrev pub IsLiveOrStopped : Held → Type 0
+IsLiveOrStopped h = h.live ≡ true → h.stop ≡ None
+
 -- what the spool holds of its terms is what it has of records
 pub record Agree (sheets : List (Option Sheet)) (held : List Held) : Type 0 where
   pub marked : (n : ℕ) (x : Sheet) → sheet_at sheets n ≡ Some x → open_of x.record.facts.term x.record.status held ≡ Some n
   pub opened : (t : TermId) (status : StatusType) (n : ℕ) → open_of t status held ≡ Some n → (x : Sheet) × (sheet_at sheets n ≡ Some x) × (x.record.facts.term ≡ t) × (x.record.status ≡ status)
   pub kept : (t : TermId) (h : Held) → of_term t held ≡ Some h → is_kept h ≡ true
+  pub stopped : (t : TermId) (h : Held) → of_term t held ≡ Some h → IsLiveOrStopped h
   pub each_once : Rises held
 
 -- the same facts

@@ -10,13 +10,17 @@ mod attributes;
 mod facts;
 mod held;
 pub mod law;
+mod line;
+mod order;
 mod queue;
 mod record;
 mod roster;
 mod rules;
 mod sheet;
+mod spares;
 mod spool;
 mod texts;
+mod tree;
 
 pub use crate::facts::{Moment, Record, RecordNo, StatusType, TermFacts};
 pub use crate::held::Held;

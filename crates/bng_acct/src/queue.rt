@@ -5,31 +5,29 @@ ghost use Rattle.slab.specs.Slab.{get, slab_len};
 ghost use Rattle.bng_acct.specs.declared.sheet.Sheet.{Sheet};
 ghost use Rattle.bng_acct.specs.Queue.{sheet_at, count, without, Sets, HandsOut, AreWaiting, AllBelow};
 
+use crate::line::Line;
 use crate::rules::SpoolError;
 use crate::sheet::Sheet;
 use slab::Slab;
 use std::alloc::Global;
-use std::collections::VecDeque;
 use std::marker::Model;
 
 /// The open records. All their memory is taken by `open`.
 #[derive(Drop)]
 pub(crate) struct Queue {
     sheets: Slab<Sheet>,
-    waiting: VecDeque<u32>,
+    waiting: Line,
     most: usize,
 }
 
 impl Model for Queue {
-    ghost use Rattle.std.specs.Prelude.{◌≤◌, ◌^◌, ◌<◌};
-    ghost use Rattle.std.specs.VecDeque.{deque_capacity};
-    ghost use Rattle.bng_acct.specs.Queue.{Open, AreWaiting, AllBelow};
+    ghost use Rattle.bng_acct.specs.Queue.{Open, IsQueue};
 
     ghost Value = { Open };
 
-    ghost view = { λ q. record { sheets = q.sheets.slots; waiting = q.waiting.items; most = q.most } };
+    ghost view = { λ q. record { sheets = q.sheets.slots; waiting = q.waiting.numbers; most = q.most } };
 
-    ghost invariant = { λ q. (q.most ≤ q.sheets.capacity) × (q.sheets.capacity < 2 ^ 32) × (q.most ≤ deque_capacity q.waiting) × AreWaiting q.sheets.slots q.waiting.items × AllBelow q.sheets.slots q.sheets.capacity };
+    ghost invariant = { λ q. IsQueue q.sheets.slots q.waiting.numbers q.most q.sheets.capacity q.waiting.room };
 }
 
 // Marks a record as handed out.
@@ -50,13 +48,14 @@ impl Queue {
         let Ok(sheets) = Slab::with_capacity(alloc, most) else {
             return Err(SpoolError::OutOfMemory);
         };
-        let Ok(waiting) = VecDeque::with_capacity(alloc, most) else {
-            return Err(SpoolError::OutOfMemory);
-        };
         // A number has 32 bits.
-        if sheets.capacity() > 0xffff_ffff {
+        let bound = sheets.capacity();
+        if bound > 0xffff_ffff {
             return Err(SpoolError::OutOfMemory);
         }
+        let Ok(waiting) = Line::open(alloc, bound as u32) else {
+            return Err(SpoolError::OutOfMemory);
+        };
         Ok(Queue {
             sheets,
             waiting,
@@ -90,7 +89,7 @@ impl Queue {
         ensures most { self.new.most ≡ self.old.most }
     {
         let number = self.sheets.insert_reserved(sheet) as u32;
-        self.waiting.push_back_reserved(number);
+        self.waiting.push(number);
         number
     }
 
@@ -100,7 +99,8 @@ impl Queue {
         ensures none { (result ≡ None) ↔ (self.old.waiting ≡ []) }
         ensures kept { IfNone result (self.new ≡ self.old) }
     {
-        let number = self.waiting.pop_front()?;
+        let number = self.waiting.first()?;
+        self.waiting.remove(number);
         mark_handed(&mut self.sheets, number);
         Some(number)
     }
@@ -118,7 +118,7 @@ impl Queue {
         if sheet.handed {
             return Some(sheet);
         }
-        self.waiting.retain(|n| *n != number);
+        self.waiting.remove(number);
         Some(sheet)
     }
 }

@@ -1,8 +1,10 @@
-//! The terms that a spool holds, by session and term number: found by halving, and each kept in its place.
-ghost use Rattle.std.specs.Prelude.{◌≡◌, ◌<◌, ◌≤◌, ◌+◌, [], length, insert, vec_len, vec_capacity, MatchResult, IfOk, None};
-ghost use Rattle.bng_acct.specs.Roster.{before, same, of_term, Rises, Puts, Removes, StandsAt, Misses};
+//! The terms that a spool holds, by session and term number, and the boxes for as many as there is room for.
+ghost use Rattle.std.specs.Prelude.{◌≡◌, ◌<◌, ◌≤◌, ◌+◌, [], length, slice_get, filter_map, IfOk, None};
+ghost use Rattle.bng_acct.specs.Roster.{of_term, Rises, Puts, Removes};
 
 use crate::held::Held;
+use crate::spares::Spares;
+use crate::tree::Tree;
 use bng_base::TermId;
 use std::alloc::{AllocError, Global};
 use std::marker::Model;
@@ -10,78 +12,42 @@ use std::marker::Model;
 /// The terms, and for how many there is room.
 #[derive(Drop)]
 pub(crate) struct Roster {
-    list: Vec<Held>,
+    tree: Tree,
+    spares: Spares,
     room: usize,
 }
 
 impl Model for Roster {
-    ghost use Rattle.std.specs.Prelude.{◌≤◌, length, vec_capacity};
-    ghost use Rattle.bng_acct.specs.Roster.{Terms, Rises};
+    ghost use Rattle.bng_acct.specs.Roster.{Terms};
+    ghost use Rattle.bng_acct.specs.Branch.{IsRoster};
 
     ghost Value = { Terms };
 
-    ghost view = { λ r. record { held = r.list.items; room = r.room } };
+    ghost view = { λ r. record { held = r.tree.held; room = r.room } };
 
-    ghost invariant = { λ r. (length r.list.items ≤ r.room) × (r.room ≤ vec_capacity r.list) × Rises r.list.items };
-}
-
-// Whether a term comes before another.
-fn is_before(s: TermId, t: TermId) -> bool
-    ensures { result ≡ before s t }
-{
-    s.session.0 < t.session.0 || (s.session.0 == t.session.0 && s.serial < t.serial)
-}
-
-fn is_same(s: TermId, t: TermId) -> bool
-    ensures { result ≡ same s t }
-{
-    s.session.0 == t.session.0 && s.serial == t.serial
-}
-
-// Where a term stands, or else where it would.
-fn seek(list: &[Held], term: TermId) -> Result<usize, usize>
-    requires { Rises list.now }
-    ensures { MatchResult result (StandsAt list.now term) (Misses list.now term) }
-{
-    let place = list.partition_point(|h| is_before(h.term, term));
-    if place == list.len() {
-        return Err(place);
-    }
-    let here = &list[place];
-    if is_same(here.term, term) {
-        Ok(place)
-    } else {
-        Err(place)
-    }
-}
-
-// Inserts at a place of a list that has room.
-fn lodge(list: &mut Vec<Held>, place: usize, held: Held)
-    requires within { place ≤ vec_len list.old }
-    requires room { vec_len list.old < vec_capacity list.old }
-    ensures items { list.new.items ≡ insert list.old.items place held }
-    ensures size { vec_len list.new ≡ vec_len list.old + 1 }
-    ensures capacity { vec_capacity list.old ≤ vec_capacity list.new }
-{
-    let _ = list.insert(place, held);
+    ghost invariant = { λ r. IsRoster r.tree r.spares r.room };
 }
 
 impl Roster {
+    /// No term, and room for so many. A term's node takes two boxes.
     pub(crate) fn open(alloc: Global, room: usize) -> Result<Roster, AllocError>
+        requires { room ≤ 262144 }
         ensures { IfOk result (λ r. r ≡ record { held = []; room = room }) }
     {
         Ok(Roster {
-            list: Vec::with_capacity(alloc, room)?,
+            tree: Tree::new(),
+            spares: Spares::open(alloc, 2 * room)?,
             room,
         })
     }
 
-    pub(crate) fn as_slice(&self) -> &[Held]
-        ensures items { result.now ≡ self.now.held }
+    /// For how many more terms there is room.
+    pub(crate) fn free(&self) -> usize
+        ensures free { result + length self.now.held ≡ self.now.room }
         ensures rises { Rises self.now.held }
-        ensures room { length self.now.held ≤ self.now.room }
     {
-        self.list.as_slice()
+        let _ = &self.tree;
+        self.spares.left() / 2
     }
 
     /// What is held of a term.
@@ -89,10 +55,14 @@ impl Roster {
         ensures held { result ≡ of_term term self.now.held }
         ensures room { length self.now.held ≤ self.now.room }
     {
-        match seek(self.list.as_slice(), term) {
-            Ok(place) => Some(self.list[place]),
-            Err(_) => None,
-        }
+        self.tree.get(term)
+    }
+
+    /// The number at this place of those of the open Stops, by session and term number.
+    pub(crate) fn stop_at(&self, at: u32) -> Option<u32>
+        ensures { result ≡ slice_get (filter_map (λ h. h.stop) self.now.held) at }
+    {
+        self.tree.stop_at(at)
     }
 
     /// Holds this of its term from then on.
@@ -101,10 +71,7 @@ impl Roster {
         ensures puts { Puts self.old.held self.new.held held }
         ensures room { self.new.room ≡ self.old.room }
     {
-        match seek(self.list.as_slice(), held.term) {
-            Ok(place) => self.list[place] = held,
-            Err(place) => lodge(&mut self.list, place, held),
-        }
+        self.tree.put(held, &mut self.spares);
     }
 
     /// Holds nothing of a term from then on.
@@ -112,8 +79,6 @@ impl Roster {
         ensures removes { Removes self.old.held self.new.held term }
         ensures room { self.new.room ≡ self.old.room }
     {
-        if let Ok(place) = seek(self.list.as_slice(), term) {
-            self.list.remove(place);
-        }
+        self.tree.remove(term, &mut self.spares);
     }
 }

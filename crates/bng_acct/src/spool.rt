@@ -1,5 +1,5 @@
 //! The spool: records from their forming until the server has them.
-ghost use Rattle.std.specs.Prelude.{◌≡◌, ◌<◌, ◌≤◌, ◌+◌, ◌*◌, ◌↔◌, [], None, Some, IfOk, IfSome, IfNone, IsTrue, IsSome, false, true, List, ℕ, length, filter, filter_map, slice_get};
+ghost use Rattle.std.specs.Prelude.{◌≡◌, ◌<◌, ◌≤◌, ◌+◌, ◌*◌, ◌↔◌, [], None, Some, IfOk, IfSome, IfNone, IsTrue, IsSome, false, true, List, ℕ, length, filter, slice_get};
 ghost use Rattle.std.specs.Option.{option_copied};
 ghost use Rattle.bng_radius_wire.specs.Attributes.{Field};
 ghost use Rattle.bng_base.specs.declared.circuit.TermId.{TermId};
@@ -112,22 +112,6 @@ fn release(roster: &mut Roster, term: TermId, status: StatusType)
             roster.remove(left.term);
         }
     }
-}
-
-// The number at this place of those of the open Stops.
-fn stop_at(held: &[Held], at: usize) -> Option<u32>
-    ensures { result ≡ slice_get (filter_map (λ h. h.stop) held.now) at }
-{
-    let mut left = at;
-    for h in held {
-        if let Some(number) = h.stop {
-            if left == 0 {
-                return Some(number);
-            }
-            left -= 1;
-        }
-    }
-    None
 }
 
 // The facts of the record with a number.
@@ -254,7 +238,7 @@ impl Spool {
         Some(RecordNo(number))
     }
 
-    /// Acknowledges a record: it is open no longer. Where it was not handed out, the queue is gone through for its number.
+    /// Acknowledges a record: it is open no longer.
     pub fn acked(&mut self, n: RecordNo)
         ensures sets { Sets self.old.sheets self.new.sheets n.0 None }
         ensures waiting { self.new.waiting ≡ without n.0 self.old.waiting }
@@ -297,11 +281,11 @@ impl Spool {
     }
 
     /// The facts of the Stop at this place, from 0, of those that are open, by session and term number. None exactly past
-    /// the last. It goes through the terms.
+    /// the last.
     pub fn unacked(&self, at: u32) -> Option<&TermFacts>
         ensures { option_copied result ≡ slice_get (unacked_stops self.now) at }
     {
-        match stop_at(self.roster.as_slice(), at as usize) {
+        match self.roster.stop_at(at) {
             Some(number) => facts_of(&self.queue, number),
             None => None,
         }
@@ -319,7 +303,7 @@ impl Spool {
         ensures agree { Agree self.now.sheets self.now.held }
         ensures free { result + length self.now.held ≡ self.now.rules.terms }
     {
-        (self.rules.terms as usize - self.roster.as_slice().len()) as u32
+        self.roster.free() as u32
     }
 
     /// The number of Stops that are open.

@@ -1,4 +1,4 @@
-ghost use Rattle.std.specs.Prelude.{◌≡◌, ◌≤◌, ◌∷◌, [], List};
+ghost use Rattle.std.specs.Prelude.{◌≡◌, ◌<◌, ◌≤◌, ◌∷◌, [], List};
 ghost use Rattle.bng_radius_wire.specs.Attributes.{Field};
 ghost use Rattle.bng_acct.specs.Request.{AreClasses};
 
@@ -195,5 +195,78 @@ fn stops_alone_stay_and_are_listed_by_session_and_term(rt: HostRuntime) -> Resul
         assert!(rt; spool.next(&mut frame).is_some());
     }
     assert!(rt; spool.next(&mut frame) == None);
+    Ok(())
+}
+
+const MANY: u64 = 20_000;
+
+// A number below MANY for each such number, no two alike and far from one another.
+fn scattered(n: u64) -> usize
+    requires { n < 20000 }
+{
+    (n * 7_919 % MANY) as usize
+}
+
+// Acknowledges records in a scattered order.
+fn acknowledge(rt: &impl Abort, spool: &mut Spool, numbers: &[RecordNo]) {
+    for n in 0..MANY {
+        match numbers.get(scattered(n)) {
+            Some(number) => {
+                assert!(rt; spool.knows(*number));
+                spool.acked(*number);
+                assert!(rt; !spool.knows(*number));
+            }
+            None => assert!(rt; false, "it has no number"),
+        }
+    }
+}
+
+// The Starts of terms that rise, and the Stops of the same that fall.
+fn fill(
+    rt: &impl Abort,
+    spool: &mut Spool,
+    starts: &mut Vec<RecordNo>,
+    stops: &mut Vec<RecordNo>,
+) -> Result<(), Fail> {
+    for n in 0..MANY {
+        let facts = facts(term(1025, n + 1), PPPOE, 84, 0);
+        starts.push(form(rt, spool, StatusType::Start, &facts, 2_000))?;
+    }
+    for n in 0..MANY {
+        let facts = facts(term(1025, MANY - n), PPPOE, 84, 0);
+        stops.push(form(rt, spool, StatusType::Stop, &facts, 3_000))?;
+    }
+    Ok(())
+}
+
+#[test]
+fn thousands_of_terms_come_and_go(rt: HostRuntime) -> Result<(), Fail> {
+    let mut spool = Spool::open(rt.alloc(), &rules(20_001))?;
+    let mut frame = Frame::new();
+    let mut starts = Vec::new(rt.alloc());
+    let mut stops = Vec::new(rt.alloc());
+    fill(&rt, &mut spool, &mut starts, &mut stops)?;
+    assert_eq!(rt; spool.free(), 1);
+    assert_eq!(rt; spool.unacked_stops(), 20_000);
+    for at in 0..20_000u32 {
+        match spool.unacked(at) {
+            Some(facts) => assert!(rt; facts.term == term(1025, u64::from(at) + 1)),
+            None => assert!(rt; false, "it is not listed"),
+        }
+    }
+    assert!(rt; spool.unacked(20_000).is_none());
+    acknowledge(&rt, &mut spool, starts.as_slice());
+    assert_eq!(rt; spool.free(), 1);
+    for stop in &stops {
+        assert!(rt; spool.next(&mut frame) == Some(*stop));
+    }
+    assert!(rt; spool.next(&mut frame) == None);
+    acknowledge(&rt, &mut spool, stops.as_slice());
+    assert_eq!(rt; spool.free(), 20_001);
+    assert_eq!(rt; spool.unacked_stops(), 0);
+    assert!(rt; spool.unacked(0).is_none());
+    fill(&rt, &mut spool, &mut starts, &mut stops)?;
+    assert_eq!(rt; spool.free(), 1);
+    assert_eq!(rt; spool.unacked_stops(), 20_000);
     Ok(())
 }

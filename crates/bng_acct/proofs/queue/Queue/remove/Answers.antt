@@ -1,54 +1,57 @@
-use Rattle.std.proofs.Common.{rules, of_calls, ℕ, not, eqb, sym, ap, subst, ◌∙◌, arith}
-use Rattle.std.proofs.lemmas.Fn.{filter_same}
-use Rattle.bng_acct.specs.Queue.{Open, AreWaiting, sheet_at, is_waiting, without, AllBelow}
-use Rattle.bng_acct.proofs.Queues.{waits_without, unhanded-without, handed_not_waiting, below_less}
+use Rattle.std.proofs.Common.{sym, ap, subst, ◌∙◌, arith}
+use Rattle.bng_acct.specs.Queue.{Open, AreWaiting, AllWait, Sets, sheet_at, is_waiting, without, AllBelow}
+use Rattle.bng_acct.proofs.Queues.{waits_without, unhanded-without, handed_not_waiting, all_wait_less, below_less}
 use Rattle.bng_acct.proofs.queue.Queue.remove.Goals as goal
 
 pub returns-in_err-sheet-clause-waiting : goal.returns-in_err-sheet-clause-waiting
 returns-in_err-sheet-clause-waiting c =
-    let items = c.self.inside.waiting.items in
-    let same = unhanded-without c.self.inside.sheets.slots items c.args.number c.self.invariant.3 (ap is_waiting (sym c.in_err-sheet.ensures.value)) in
+    let waiting = c.self.inside.waiting.numbers in
+    let same = unhanded-without c.self.inside.sheets.slots waiting c.args.number c.self.invariant.wait (ap is_waiting (sym c.in_err-sheet.ensures.value)) in
     sym same ∙ ap (λ (q : Open). without c.args.number q.waiting) c.self.view_is
 
 pub invariant_of-self-then-sheet : goal.invariant_of-self-then-sheet
 invariant_of-self-then-sheet c =
     let inv = c.self.invariant in
-    let slots = c.self.inside.sheets.slots in
-    let items = c.self.inside.waiting.items in
+    let old = c.self.inside.sheets.slots in
     let new = c.try_remove.new.self.slots in
-    let same = unhanded-without slots items c.args.number inv.3 (handed_not_waiting (sheet_at slots c.args.number) c.in_ok-sheet.sheet (sym c.in_ok-sheet.ensures.value) c.if-sheet.true) in (
-      omega (arith, inv.0, c.in_ok-sheet.ensures.capacity),
-      omega (arith, inv.1, c.in_ok-sheet.ensures.capacity),
-      inv.2,
-      subst (AreWaiting new) same (waits_without slots new items c.args.number inv.3 c.in_ok-sheet.ensures.updates.others),
-      subst (AllBelow new) (sym c.in_ok-sheet.ensures.capacity)
-          (below_less slots new c.args.number c.self.inside.sheets.capacity inv.4 (record { changed = c.in_ok-sheet.ensures.updates.changed; others = c.in_ok-sheet.ensures.updates.others })),
-    )
+    let n = c.args.number in
+    let waiting = c.self.inside.waiting.numbers in
+    let removed = c.in_ok-sheet.ensures in
+    let sets : Sets old new n _ = record { changed = removed.updates.changed; others = removed.updates.others } in
+    let same = unhanded-without old waiting n inv.wait (handed_not_waiting (sheet_at old n) c.in_ok-sheet.sheet (sym removed.value) c.if-sheet.true) in
+    record {
+      most_fit = omega (arith, inv.most_fit, removed.capacity);
+      bound_fits = omega (arith, inv.bound_fits, removed.capacity);
+      room_is = omega (arith, inv.room_is, removed.capacity);
+      wait = subst (AreWaiting new) same (waits_without old new waiting n inv.wait sets.others);
+      all_wait = subst (AllWait new) same (all_wait_less old new waiting n inv.all_wait sets);
+      below = subst (AllBelow new) (sym removed.capacity) (below_less old new n c.self.inside.sheets.capacity inv.below sets);
+    }
 
 pub returns-then-sheet-clause-waiting : goal.returns-then-sheet-clause-waiting
 returns-then-sheet-clause-waiting c =
-    let slots = c.self.inside.sheets.slots in
-    let items = c.self.inside.waiting.items in
-    let same = unhanded-without slots items c.args.number c.self.invariant.3 (handed_not_waiting (sheet_at slots c.args.number) c.in_ok-sheet.sheet (sym c.in_ok-sheet.ensures.value) c.if-sheet.true) in
+    let old = c.self.inside.sheets.slots in
+    let waiting = c.self.inside.waiting.numbers in
+    let same = unhanded-without old waiting c.args.number c.self.invariant.wait (handed_not_waiting (sheet_at old c.args.number) c.in_ok-sheet.sheet (sym c.in_ok-sheet.ensures.value) c.if-sheet.true) in
     sym same ∙ ap (λ (q : Open). without c.args.number q.waiting) c.self.view_is
+
+pub remove-requires : goal.remove-requires
+remove-requires c = c.self.invariant.all_wait c.args.number c.in_ok-sheet.sheet (sym c.in_ok-sheet.ensures.value) c.if-sheet.false
 
 pub invariant_of-self-2 : goal.invariant_of-self-2
 invariant_of-self-2 c =
     let inv = c.self.invariant in
-    let slots = c.self.inside.sheets.slots in
-    let items = c.self.inside.waiting.items in
+    let old = c.self.inside.sheets.slots in
     let new = c.try_remove.new.self.slots in
-    let filtered = filter_same _ (λ (m : ℕ). not (eqb m c.args.number)) _ (λ x b f' k. search (rules, of_calls)) items c.retain.new.self.items c.retain.ensures.filtered in (
-      omega (arith, inv.0, c.in_ok-sheet.ensures.capacity),
-      omega (arith, inv.1, c.in_ok-sheet.ensures.capacity),
-      omega (arith, inv.2, c.retain.ensures.capacity),
-      subst (AreWaiting new) (sym filtered) (waits_without slots new items c.args.number inv.3 c.in_ok-sheet.ensures.updates.others),
-      subst (AllBelow new) (sym c.in_ok-sheet.ensures.capacity)
-          (below_less slots new c.args.number c.self.inside.sheets.capacity inv.4 (record { changed = c.in_ok-sheet.ensures.updates.changed; others = c.in_ok-sheet.ensures.updates.others })),
-    )
-
-pub returns-clause-waiting : goal.returns-clause-waiting
-returns-clause-waiting c =
-    let items = c.self.inside.waiting.items in
-    let filtered = filter_same _ (λ (m : ℕ). not (eqb m c.args.number)) _ (λ x b f' k. search (rules, of_calls)) items c.retain.new.self.items c.retain.ensures.filtered in
-    filtered ∙ ap (λ (q : Open). without c.args.number q.waiting) c.self.view_is
+    let n = c.args.number in
+    let waiting = c.self.inside.waiting.numbers in
+    let removed = c.in_ok-sheet.ensures in
+    let sets : Sets old new n _ = record { changed = removed.updates.changed; others = removed.updates.others } in
+    record {
+      most_fit = omega (arith, inv.most_fit, removed.capacity);
+      bound_fits = omega (arith, inv.bound_fits, removed.capacity);
+      room_is = omega (arith, inv.room_is, c.remove.ensures.room, removed.capacity);
+      wait = rw c.remove.ensures.numbers (waits_without old new waiting n inv.wait sets.others);
+      all_wait = rw c.remove.ensures.numbers (all_wait_less old new waiting n inv.all_wait sets);
+      below = subst (AllBelow new) (sym removed.capacity) (below_less old new n c.self.inside.sheets.capacity inv.below sets);
+    }

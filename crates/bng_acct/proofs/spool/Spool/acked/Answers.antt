@@ -13,7 +13,7 @@ overflow_sub-self c =
     let inv = c.self.invariant in
     let r = c.in-Some.sheet.record in
     let marked = inv.agree.marked c.args.n.0 c.in-Some.sheet (sym c.in-Some.ensures.value) in
-    let done = released c.self.inside.roster.held c.release.new.roster.held r.facts.term r.status c.args.n.0 inv.agree.kept marked c.release.ensures.releases in
+    let done = released c.self.inside.roster.held c.release.new.roster.held r.facts.term r.status c.args.n.0 inv.agree.kept inv.agree.stopped marked c.release.ensures.releases in
     omega (arith, done.stops, inv.stops_are, c.stops_in.ensures)
 
 pub invariant_of-self-2 : goal.invariant_of-self-2
@@ -22,12 +22,12 @@ invariant_of-self-2 c =
     let r = c.in-Some.sheet.record in
     let here = sym c.in-Some.ensures.value in
     let marked = inv.agree.marked c.args.n.0 c.in-Some.sheet here in
-    let done = released c.self.inside.roster.held c.release.new.roster.held r.facts.term r.status c.args.n.0 inv.agree.kept marked c.release.ensures.releases in
+    let done = released c.self.inside.roster.held c.release.new.roster.held r.facts.term r.status c.args.n.0 inv.agree.kept inv.agree.stopped marked c.release.ensures.releases in
     record {
       room = c.release.ensures.room ∙ inv.room;
       few = inv.few;
       most = c.in-Some.ensures.most ∙ inv.most;
-      agree = agree_less c.self.inside.queue.sheets c.remove.new.self.sheets c.self.inside.roster.held c.release.new.roster.held c.in-Some.sheet c.args.n.0 inv.agree here c.in-Some.ensures.sets done.marks done.kept done.rises;
+      agree = agree_less c.self.inside.queue.sheets c.remove.new.self.sheets c.self.inside.roster.held c.release.new.roster.held c.in-Some.sheet c.args.n.0 inv.agree here c.in-Some.ensures.sets done.marks done.kept done.stopped done.rises;
       counted = omega (arith, c.in-Some.ensures.counts, inv.counted, done.counts);
       ready = ready_less c.self.inside.queue.sheets c.remove.new.self.sheets c.args.n.0 inv.ready c.in-Some.ensures.sets;
       stops_are = omega (arith, done.stops, inv.stops_are, c.stops_in.ensures);
@@ -39,5 +39,5 @@ returns-clause-agree c =
     let r = c.in-Some.sheet.record in
     let here = sym c.in-Some.ensures.value in
     let marked = inv.agree.marked c.args.n.0 c.in-Some.sheet here in
-    let done = released c.self.inside.roster.held c.release.new.roster.held r.facts.term r.status c.args.n.0 inv.agree.kept marked c.release.ensures.releases in
-    agree_less c.self.inside.queue.sheets c.remove.new.self.sheets c.self.inside.roster.held c.release.new.roster.held c.in-Some.sheet c.args.n.0 inv.agree here c.in-Some.ensures.sets done.marks done.kept done.rises
+    let done = released c.self.inside.roster.held c.release.new.roster.held r.facts.term r.status c.args.n.0 inv.agree.kept inv.agree.stopped marked c.release.ensures.releases in
+    agree_less c.self.inside.queue.sheets c.remove.new.self.sheets c.self.inside.roster.held c.release.new.roster.held c.in-Some.sheet c.args.n.0 inv.agree here c.in-Some.ensures.sets done.marks done.kept done.stopped done.rises

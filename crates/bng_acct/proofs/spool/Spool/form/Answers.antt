@@ -1,15 +1,15 @@
-use Rattle.std.proofs.Common.{◌≡◌, ℕ, ◌<◌, ◌≤◌, ◌⊎◌, None, Some, List, length, sym, ap, subst, ◌∙◌, arith, inl, inr, false}
+use Rattle.std.proofs.Common.{◌≡◌, ℕ, ◌<◌, ◌≤◌, ◌⊎◌, None, Some, List, length, sym, ap, subst, ◌∙◌, arith, inl, inr, false, true}
 use Rattle.std.specs.Prelude.{IsSome}
 use Rattle.bng_base.specs.declared.circuit.TermId.{TermId}
 use Rattle.bng_acct.specs.declared.held.Held.{Held}
 use Rattle.bng_acct.specs.declared.sheet.Sheet.{Sheet}
 use Rattle.bng_acct.specs.Roster.{of_term, Puts}
 use Rattle.bng_acct.specs.Request.{AreClasses}
-use Rattle.bng_acct.specs.Spool.{State, open_of, IsAdmitted, IsReady, stops_in, stop_count}
+use Rattle.bng_acct.specs.Spool.{State, open_of, IsAdmitted, IsReady, IsLiveOrStopped, is_kept, stops_in, stop_count}
 use Rattle.bng_acct.specs.declared.facts.StatusType.{StatusType}
 use Rattle.bng_acct.specs.declared.facts.StatusType.TheVariants.{Start, Interim, Stop}
 use Rattle.bng_acct.proofs.Marks.{Marks, formed, term-formed, kept-with, forms_marks, sum_le, stop_count_le}
-use Rattle.bng_acct.proofs.Agreeing.{room_for_one, counts_more, stops_more, agree_more, puts_kept, ready_more, none_some}
+use Rattle.bng_acct.proofs.Agreeing.{room_for_one, counts_more, stops_more, agree_more, puts_all, stopped-formed, ready_more, none_some}
 use Rattle.bng_acct.proofs.spool.Spool.form.Goals as goal
 
 not_there : (held : List Held) (t : TermId) (terms room : ℕ) → room ≡ terms → of_term t held ≡ None → IsSome (of_term t held) ⊎ (length held < terms) → length held < room
@@ -55,7 +55,8 @@ invariant_of-self c =
     let closed = ap (λ (s : State). open_of t status s.held) c.self.view_is ∙ c.requires.once in
     let is_formed = rw (c.ended_by.ensures, c.known_of-known.ensures.held) at c.with_number.ensures in
     let puts : Puts old new (formed status n t old) = subst (Puts old new) is_formed c.put.ensures.puts in
-    let kept = puts_kept old new (formed status n t old) puts inv.agree.kept (kept-with status n _) in
+    let kept = puts_all (λ x. is_kept x ≡ true) old new (formed status n t old) puts inv.agree.kept (kept-with status n _) in
+    let stopped = puts_all IsLiveOrStopped old new (formed status n t old) puts inv.agree.stopped (stopped-formed status n t old inv.agree.stopped) in
     let marks = subst (λ (u : TermId). Marks old new u status (Some n)) (sym c.copied.ensures.term) (forms_marks old new t status n puts) in
     let sheet : Sheet = record { «record» = record { status = status; facts = c.copied.result; moment = c.args.moment }; handed = false } in
     let classes = c.requires.classes in
@@ -65,7 +66,7 @@ invariant_of-self c =
       few = inv.few;
       most = c.add-number.ensures.most ∙ inv.most;
       agree = agree_more c.self.inside.queue.sheets c.add-number.new.self.sheets old new sheet n inv.agree c.add-number.ensures.fresh c.add-number.ensures.sets
-          (ap (λ (u : TermId). open_of u status old) c.copied.ensures.term ∙ closed) marks kept puts.rises;
+          (ap (λ (u : TermId). open_of u status old) c.copied.ensures.term ∙ closed) marks kept stopped puts.rises;
       counted = omega (arith, c.add-number.ensures.counts, inv.counted, counts_more old new t status n puts closed);
       ready = ready_more c.self.inside.queue.sheets c.add-number.new.self.sheets n sheet inv.ready c.add-number.ensures.sets ready;
       stops_are = omega (arith, inv.stops_are, stops_more old new t status n puts closed, c.stops_in.ensures);

@@ -8,12 +8,12 @@ pub returns-in-Some : goal.returns-in-Some
 returns-in-Some c =
     let held = c.self.inside.roster.held in
     let sheets = c.self.inside.queue.sheets in
-    let at = rw c.as_slice.ensures.items at c.in-Some.ensures in
+    let at = c.in-Some.ensures in
     c.facts_of.ensures ∙ ap (λ (o : Option ℕ). option_and_then (facts_at sheets) o) at ∙ sym (stop_listed sheets held c.self.invariant.agree c.args.at) ∙ ap (λ (s : State). slice_get (unacked_stops s) c.args.at) c.self.view_is
 
 pub returns-in-None : goal.returns-in-None
 returns-in-None c =
     let held = c.self.inside.roster.held in
     let sheets = c.self.inside.queue.sheets in
-    let at = rw c.as_slice.ensures.items at c.in-None.ensures in
+    let at = c.in-None.ensures in
     ap (λ (o : Option ℕ). option_and_then (facts_at sheets) o) at ∙ sym (stop_listed sheets held c.self.invariant.agree c.args.at) ∙ ap (λ (s : State). slice_get (unacked_stops s) c.args.at) c.self.view_is
