@@ -6,12 +6,15 @@
 
 mod command;
 mod grammar;
+mod kind;
 pub mod law;
 mod line;
+mod matches;
 mod number;
 mod option;
-mod order;
 mod piece;
+mod place;
+mod program;
 #[cfg(test)]
 mod tests;
 mod word;
