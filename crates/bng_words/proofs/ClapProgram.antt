@@ -63,3 +63,6 @@ pub takes_command : (kind : Kind) (rest : List Text) → level_passes (built_sub
 takes_command kind rest line =
     let below : entered_passes (built program_app) (Some (word_of kind, rest)) ≡ true = enters_passes kind rest ∙ line in
     rw (stops kind rest, begins kind rest, below, enters kind rest) refl
+
+pub program_simple : is_simple program_app ≡ true
+program_simple = refl

@@ -6,9 +6,11 @@ use Rattle.bng_words.specs.declared.kind.Kind.TheVariants.{Serve, Check, Exercis
 use Rattle.bng_words.specs.declared.option.OptionName.TheVariants.{Trace, Rounds, Workers}
 use Rattle.bng_words.specs.declared.place.Place.{Place}
 use Rattle.bng_words.specs.declared.place.Place.TheVariants.{Closed, Open, Number}
+use Rattle.bng_words.specs.declared.place.Places.{Places}
 use Rattle.bng_words.specs.Words.{Text}
-use Rattle.bng_words.specs.Line.{LinePiece, name, option, Values, no_values, with_piece, with_pieces}
-use Rattle.bng_words.specs.Meaning.{Meaning, serve, check, exercise, audit, IsNumber, IsNumberOr, Means, given}
+use Rattle.bng_words.specs.Line.{LinePiece, name, option, ArePieces, Values, no_values, with_piece, with_pieces}
+use Rattle.bng_words.specs.Meaning.{Meaning, serve, check, exercise, audit, IsNumber, IsNumberOr, Means, Says, given}
+use Rattle.bng_words.proofs.LineLaws.{octets_same}
 use Rattle.bng_words.specs.Place.{Where, Fits, Holds, Takes, is_same, place_at, place_of, places, value_of, values_at, word_of}
 
 -- ---- the values of pieces, in both spellings
@@ -223,3 +225,55 @@ module _ (ps : List LinePiece) where
           sym (values_are ps (Some Workers)) ∙ closed_none _ (fits.each (Some Workers)),
         ),
       )
+
+-- ---- the first word
+
+same_kind : (j k : Kind) → word_of j ≡ word_of k → j ≡ k
+same_kind Serve Serve e = refl
+same_kind Serve Check e = let bad = octets_same 0 _ _ e in absurd (omega arith)
+same_kind Serve Exercise e = let bad = octets_same 0 _ _ e in absurd (omega arith)
+same_kind Serve Audit e = let bad = octets_same 0 _ _ e in absurd (omega arith)
+same_kind Check Serve e = let bad = octets_same 0 _ _ e in absurd (omega arith)
+same_kind Check Check e = refl
+same_kind Check Exercise e = let bad = octets_same 0 _ _ e in absurd (omega arith)
+same_kind Check Audit e = let bad = octets_same 0 _ _ e in absurd (omega arith)
+same_kind Exercise Serve e = let bad = octets_same 0 _ _ e in absurd (omega arith)
+same_kind Exercise Check e = let bad = octets_same 0 _ _ e in absurd (omega arith)
+same_kind Exercise Exercise e = refl
+same_kind Exercise Audit e = let bad = octets_same 0 _ _ e in absurd (omega arith)
+same_kind Audit Serve e = let bad = octets_same 0 _ _ e in absurd (omega arith)
+same_kind Audit Check e = let bad = octets_same 0 _ _ e in absurd (omega arith)
+same_kind Audit Exercise e = let bad = octets_same 0 _ _ e in absurd (omega arith)
+same_kind Audit Audit e = refl
+
+module _ (words : List Text) (word : Text) (after : List Text) (first : words ≡ word ∷ after) where
+  -- the pieces of what the words say, and the command's word
+  pub said_pieces : (m : Meaning) → Says words m → (word ≡ word_of (kind_said m)) × ((ps : List LinePiece) × ArePieces ps after × Fits (places (kind_said m)) ps)
+  said_pieces m says =
+      let both : word ∷ after ≡ says.word ∷ says.rest = sym first ∙ says.first in
+      let same : word ≡ says.word = cc in
+      let rest : says.rest ≡ after = cc in
+      let P : List Text → Type 0 = λ ws. ArePieces says.pieces ws in (
+        same ∙ word_said says.word (with_pieces no_values says.pieces) m says.means,
+        (says.pieces, subst P rest says.spelled, said_fits says.pieces says.word m says.means),
+      )
+
+  -- a line that fits says something
+  pub line_said : (kind : Kind) (there : Places) → word ≡ word_of kind → there ≡ places kind → (ps : List LinePiece) × ArePieces ps after × Fits there ps → (m : Meaning) × Says words m
+  line_said kind there is are line =
+      let P : Places → Type 0 = λ q. Fits q line.0 in
+      let said = fits_said line.0 kind (subst P are line.2) in
+      (said.0, record { word = word_of kind; rest = after; pieces = line.0; first = first ∙ ap (λ (w : Text). w ∷ after) is; spelled = line.1; means = said.1 })
+
+  -- and the other way round
+  pub said_line : (kind : Kind) (there : Places) → word ≡ word_of kind → there ≡ places kind → (m : Meaning) × Says words m → (ps : List LinePiece) × ArePieces ps after × Fits there ps
+  said_line kind there is are said =
+      let line = said_pieces said.0 said.1 in
+      let same = same_kind (kind_said said.0) kind (sym line.0 ∙ is) in
+      let P : Kind → Type 0 = λ k. Fits (places k) line.1.0 in
+      let Q : Places → Type 0 = λ q. Fits q line.1.0 in
+      (line.1.0, line.1.1, subst Q (sym are) (subst P same line.1.2))
+
+  -- words of no command say nothing
+  pub never_said : ((k : Kind) → ¬ (word ≡ word_of k)) → (m : Meaning) → ¬ (Says words m)
+  never_said none m says = none (kind_said m) (said_pieces m says).0

@@ -167,6 +167,10 @@ pub some_texts : (words : List (String Global)) → 0 < length words → 0 < len
 some_texts [] some = some
 some_texts (w ∷ words) some = omega arith
 
+pub no_texts : (words : List (String Global)) → length words ≡ 0 → texts words ≡ []
+no_texts [] none = refl
+no_texts (w ∷ words) none = absurd (omega arith)
+
 -- words are read in one way
 pub one_line : (ps qs : List LinePiece) (words : List Text) → ArePieces ps words → ArePieces qs words → qs ≡ ps
 one_line [] [] words a b = refl
