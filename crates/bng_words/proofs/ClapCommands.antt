@@ -4,8 +4,8 @@ use Rattle.std.specs.Str.{bytes_eq}
 use Rattle.clap.specs.Walk.{Rule, arg_by_id, arg_by_index, arg_by_long}
 use Rattle.clap.specs.Simple.{App, Shape, built, filled, with_index}
 use Rattle.clap.specs.Takes.{value_passes}
-use Rattle.bng_words.specs.declared.kind.Kind.{Kind}
-use Rattle.bng_words.specs.declared.kind.Kind.TheVariants.{Serve, Check, Exercise, Audit}
+use Rattle.bng_words.specs.declared.command_name.CommandName.{CommandName}
+use Rattle.bng_words.specs.declared.command_name.CommandName.TheVariants.{Serve, Check, Exercise, Audit}
 use Rattle.bng_words.specs.declared.option.OptionName.{OptionName}
 use Rattle.bng_words.specs.declared.option.OptionName.TheVariants.{Trace, Rounds, Workers}
 use Rattle.bng_words.specs.declared.place.Place.TheVariants.{Closed}
@@ -17,7 +17,7 @@ use Rattle.bng_words.proofs.ClapSteps.{TakesOne, bare}
 use Rattle.bng_words.proofs.ClapLine.{IsLevel}
 
 -- the argument of a place, as it is once the command is built
-abbrev pub argument : Where → Kind → Rule
+abbrev pub argument : Where → CommandName → Rule
 argument None Serve = with_index 1 (filled (word_rule (codes "config")))
 argument None Check = with_index 1 (filled (word_rule (codes "config")))
 argument None Exercise = with_index 1 (filled (number_rule 4000 (word_rule (codes "subscribers"))))
@@ -26,14 +26,14 @@ argument (Some Trace) k = filled (option_rule (codes "trace"))
 argument (Some Rounds) k = filled (record (number_rule 1099511627776 (option_rule (codes "rounds"))) { defaults = codes "1099511627776" ∷ [] })
 argument (Some Workers) k = filled (record (number_rule 16 (option_rule (codes "workers"))) { defaults = codes "4" ∷ [] })
 
-abbrev pub arguments : Kind → List Rule
+abbrev pub arguments : CommandName → List Rule
 arguments Serve = argument None Serve ∷ argument (Some Trace) Serve ∷ argument (Some Rounds) Serve ∷ []
 arguments Check = argument None Check ∷ []
 arguments Exercise = argument None Exercise ∷ argument (Some Workers) Exercise ∷ []
 arguments Audit = argument None Audit ∷ []
 
 -- the command once it is built
-abbrev pub built_sub : Kind → Shape
+abbrev pub built_sub : CommandName → Shape
 built_sub k = record (sub k) {
   rules = arguments k;
   no_binary_name = true;
@@ -45,21 +45,21 @@ built_sub k = record (sub k) {
 pub built_subs : (built program_app).subs ≡ built_sub Serve ∷ built_sub Check ∷ built_sub Exercise ∷ built_sub Audit ∷ []
 built_subs = refl
 
-takes_one : (k : Where) (kind : Kind) → TakesOne (argument k kind)
+takes_one : (k : Where) (command : CommandName) → TakesOne (argument k command)
 takes_one None Serve = record { takes = refl; most = refl; least = refl; single = refl; set = refl; trailing = refl; own = refl }
 takes_one None Check = record { takes = refl; most = refl; least = refl; single = refl; set = refl; trailing = refl; own = refl }
 takes_one None Exercise = record { takes = refl; most = refl; least = refl; single = refl; set = refl; trailing = refl; own = refl }
 takes_one None Audit = record { takes = refl; most = refl; least = refl; single = refl; set = refl; trailing = refl; own = refl }
-takes_one (Some Trace) kind = record { takes = refl; most = refl; least = refl; single = refl; set = refl; trailing = refl; own = refl }
-takes_one (Some Rounds) kind = record { takes = refl; most = refl; least = refl; single = refl; set = refl; trailing = refl; own = refl }
-takes_one (Some Workers) kind = record { takes = refl; most = refl; least = refl; single = refl; set = refl; trailing = refl; own = refl }
+takes_one (Some Trace) command = record { takes = refl; most = refl; least = refl; single = refl; set = refl; trailing = refl; own = refl }
+takes_one (Some Rounds) command = record { takes = refl; most = refl; least = refl; single = refl; set = refl; trailing = refl; own = refl }
+takes_one (Some Workers) command = record { takes = refl; most = refl; least = refl; single = refl; set = refl; trailing = refl; own = refl }
 
-pub own_ids : (kind : Kind) (k : Where) → bytes_eq (argument k kind).id (argument k kind).id ≡ true
-own_ids kind k = (takes_one k kind).own
+pub own_ids : (command : CommandName) (k : Where) → bytes_eq (argument k command).id (argument k command).id ≡ true
+own_ids command k = (takes_one k command).own
 
 -- the word that is no option is under another id than the options
-name_apart : (x : OptionName) (kind : Kind)
-    → (bytes_eq (argument (Some x) kind).id (argument None kind).id ≡ false) × (bytes_eq (argument None kind).id (argument (Some x) kind).id ≡ false)
+name_apart : (x : OptionName) (command : CommandName)
+    → (bytes_eq (argument (Some x) command).id (argument None command).id ≡ false) × (bytes_eq (argument None command).id (argument (Some x) command).id ≡ false)
 name_apart Trace Serve = (refl, refl)
 name_apart Trace Check = (refl, refl)
 name_apart Trace Exercise = (refl, refl)
@@ -73,27 +73,27 @@ name_apart Workers Check = (refl, refl)
 name_apart Workers Exercise = (refl, refl)
 name_apart Workers Audit = (refl, refl)
 
-pub ids_apart : (kind : Kind) (k j : Where) → is_same k j ≡ false → bytes_eq (argument j kind).id (argument k kind).id ≡ false
-ids_apart kind None None e = absurd (true≢false e)
-ids_apart kind None (Some x) e = (name_apart x kind).0
-ids_apart kind (Some x) None e = (name_apart x kind).1
-ids_apart kind (Some Trace) (Some Trace) e = absurd (true≢false e)
-ids_apart kind (Some Trace) (Some Rounds) e = refl
-ids_apart kind (Some Trace) (Some Workers) e = refl
-ids_apart kind (Some Rounds) (Some Trace) e = refl
-ids_apart kind (Some Rounds) (Some Rounds) e = absurd (true≢false e)
-ids_apart kind (Some Rounds) (Some Workers) e = refl
-ids_apart kind (Some Workers) (Some Trace) e = refl
-ids_apart kind (Some Workers) (Some Rounds) e = refl
-ids_apart kind (Some Workers) (Some Workers) e = absurd (true≢false e)
+pub ids_apart : (command : CommandName) (k j : Where) → is_same k j ≡ false → bytes_eq (argument j command).id (argument k command).id ≡ false
+ids_apart command None None e = absurd (true≢false e)
+ids_apart command None (Some x) e = (name_apart x command).0
+ids_apart command (Some x) None e = (name_apart x command).1
+ids_apart command (Some Trace) (Some Trace) e = absurd (true≢false e)
+ids_apart command (Some Trace) (Some Rounds) e = refl
+ids_apart command (Some Trace) (Some Workers) e = refl
+ids_apart command (Some Rounds) (Some Trace) e = refl
+ids_apart command (Some Rounds) (Some Rounds) e = absurd (true≢false e)
+ids_apart command (Some Rounds) (Some Workers) e = refl
+ids_apart command (Some Workers) (Some Trace) e = refl
+ids_apart command (Some Workers) (Some Rounds) e = refl
+ids_apart command (Some Workers) (Some Workers) e = absurd (true≢false e)
 
-by_index : (kind : Kind) → arg_by_index (arguments kind) 1 ≡ Some (argument None kind)
+by_index : (command : CommandName) → arg_by_index (arguments command) 1 ≡ Some (argument None command)
 by_index Serve = refl
 by_index Check = refl
 by_index Exercise = refl
 by_index Audit = refl
 
-by_id : (kind : Kind) (k : Where) → ¬ (place_at (places kind) k ≡ Closed) → arg_by_id (arguments kind) (argument k kind).id ≡ Some (argument k kind)
+by_id : (command : CommandName) (k : Where) → ¬ (place_at (places command) k ≡ Closed) → arg_by_id (arguments command) (argument k command).id ≡ Some (argument k command)
 by_id Serve None free = refl
 by_id Serve (Some Trace) free = refl
 by_id Serve (Some Rounds) free = refl
@@ -111,7 +111,7 @@ by_id Audit (Some Trace) free = absurd (free refl)
 by_id Audit (Some Rounds) free = absurd (free refl)
 by_id Audit (Some Workers) free = absurd (free refl)
 
-by_long : (kind : Kind) (x : OptionName) → ¬ (place_at (places kind) (Some x) ≡ Closed) → arg_by_long (arguments kind) (bare x) ≡ Some (argument (Some x) kind)
+by_long : (command : CommandName) (x : OptionName) → ¬ (place_at (places command) (Some x) ≡ Closed) → arg_by_long (arguments command) (bare x) ≡ Some (argument (Some x) command)
 by_long Serve Trace free = refl
 by_long Serve Rounds free = refl
 by_long Serve Workers free = absurd (free refl)
@@ -125,7 +125,7 @@ by_long Audit Trace free = absurd (free refl)
 by_long Audit Rounds free = absurd (free refl)
 by_long Audit Workers free = absurd (free refl)
 
-value_taken : (kind : Kind) (k : Where) (value : Text) → Takes (place_at (places kind) k) value → value_passes (argument k kind) value ≡ true
+value_taken : (command : CommandName) (k : Where) (value : Text) → Takes (place_at (places command) k) value → value_passes (argument k command) value ≡ true
 value_taken Serve None value takes = refl
 value_taken Serve (Some Trace) value takes = refl
 value_taken Serve (Some Rounds) value takes = number_in 1099511627776 value takes.0 (lit< tt) takes.1
@@ -143,12 +143,12 @@ value_taken Audit (Some Trace) value takes = absurd takes
 value_taken Audit (Some Rounds) value takes = absurd takes
 value_taken Audit (Some Workers) value takes = absurd takes
 
-pub level : (kind : Kind) → IsLevel (built_sub kind) (λ k. argument k kind) (places kind)
-level kind = record {
-  one = λ k. takes_one k kind;
-  apart = ids_apart kind;
-  by_index = by_index kind;
-  by_id = by_id kind;
-  by_long = by_long kind;
-  passes = value_taken kind;
+pub level : (command : CommandName) → IsLevel (built_sub command) (λ k. argument k command) (places command)
+level command = record {
+  one = λ k. takes_one k command;
+  apart = ids_apart command;
+  by_index = by_index command;
+  by_id = by_id command;
+  by_long = by_long command;
+  passes = value_taken command;
 }

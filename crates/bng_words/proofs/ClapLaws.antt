@@ -9,8 +9,8 @@ use Rattle.clap.specs.Walk.{Row, first_of, nothing_held, one_of, row_text, rows_
 use Rattle.clap.specs.Simple.{subcommand_of}
 use Rattle.clap.specs.Takes.{default_passes, is_given, is_valid, level_passes, takes}
 use Rattle.clap.specs.declared.parser.matches.ValueSource.TheVariants.{CommandLine, DefaultValue}
-use Rattle.bng_words.specs.declared.kind.Kind.{Kind}
-use Rattle.bng_words.specs.declared.kind.Kind.TheVariants.{Serve, Check, Exercise, Audit}
+use Rattle.bng_words.specs.declared.command_name.CommandName.{CommandName}
+use Rattle.bng_words.specs.declared.command_name.CommandName.TheVariants.{Serve, Check, Exercise, Audit}
 use Rattle.bng_words.specs.declared.option.OptionName.{OptionName}
 use Rattle.bng_words.specs.declared.option.OptionName.TheVariants.{Trace, Rounds, Workers}
 use Rattle.bng_words.specs.Words.{Text}
@@ -19,7 +19,7 @@ use Rattle.bng_words.specs.Meaning.{Meaning, serve, check, exercise, audit, IsNu
 use Rattle.bng_words.specs.Place.{Where, Fits, places, values_at, word_of}
 use Rattle.bng_words.specs.Program.{program_app}
 use Rattle.bng_words.specs.Rows.{HasNumber, HasValues, SaysBy, Writes}
-use Rattle.bng_words.proofs.FitLaws.{kind_said, name_given, said_fits, values_are, word_said}
+use Rattle.bng_words.proofs.FitLaws.{command_said, name_given, said_fits, values_are, word_said}
 use Rattle.bng_words.proofs.NumberLaws.{number_writes, rounds_write, workers_write}
 use Rattle.bng_words.proofs.ClapRows.{find_at, find_default, find_others, has_id, no_default, row, rows_of}
 use Rattle.bng_words.proofs.ClapLine.{Walks, line}
@@ -27,12 +27,12 @@ use Rattle.bng_words.proofs.ClapCommands.{argument, arguments, built_sub, ids_ap
 use Rattle.bng_words.proofs.ClapProgram.{found_command, takes_command}
 
 -- the rows of a command's pieces
-abbrev pub pieces_rows : Kind → List LinePiece → List Row
-pieces_rows kind ps = rows_of (λ k. argument k kind) ps
+abbrev pub pieces_rows : CommandName → List LinePiece → List Row
+pieces_rows command ps = rows_of (λ k. argument k command) ps
 
 -- with the defaults
-abbrev pub final : Kind → List LinePiece → List Row
-final kind ps = fold with_default (pieces_rows kind ps) (arguments kind)
+abbrev pub final : CommandName → List LinePiece → List Row
+final command ps = fold with_default (pieces_rows command ps) (arguments command)
 
 module _ (ps : List LinePiece) where
   -- only an option with a default adds a row
@@ -50,11 +50,11 @@ module _ (ps : List LinePiece) where
   final_audit : final Audit ps ≡ pieces_rows Audit ps
   final_audit = no_default (argument None Audit) (pieces_rows Audit ps) refl
 
-  found_in : (kind : Kind) (k : Where) → find (has_id (argument k kind).id) (pieces_rows kind ps) ≡ option_map (row CommandLine (argument k kind)) (slice_get (values_at k ps) 0)
-  found_in kind k = find_at (λ j. argument j kind) (own_ids kind) (ids_apart kind) k ps
+  found_in : (command : CommandName) (k : Where) → find (has_id (argument k command).id) (pieces_rows command ps) ≡ option_map (row CommandLine (argument k command)) (slice_get (values_at k ps) 0)
+  found_in command k = find_at (λ j. argument j command) (own_ids command) (ids_apart command) k ps
 
   -- the row of each place at the end
-  pub found_name : (kind : Kind) → find (has_id (argument None kind).id) (final kind ps) ≡ option_map (row CommandLine (argument None kind)) (slice_get (values_at None ps) 0)
+  pub found_name : (command : CommandName) → find (has_id (argument None command).id) (final command ps) ≡ option_map (row CommandLine (argument None command)) (slice_get (values_at None ps) 0)
   found_name Serve =
       ap (find (has_id (argument None Serve).id)) final_serve
       ∙ find_others (argument None Serve).id (argument (Some Rounds) Serve) (codes "1099511627776") (pieces_rows Serve ps) refl refl ∙ found_in Serve None
@@ -83,14 +83,14 @@ module _ (ps : List LinePiece) where
 
   -- ---- the values
 
-  module _ (kind : Kind) (t : Text) (is : values_at None ps ≡ t ∷ []) where
-    name_row : find (has_id (argument None kind).id) (final kind ps) ≡ Some (row CommandLine (argument None kind) t)
-    name_row = found_name kind ∙ ap (λ (vs : List Text). option_map (row CommandLine (argument None kind)) (slice_get vs 0)) is
+  module _ (command : CommandName) (t : Text) (is : values_at None ps ≡ t ∷ []) where
+    name_row : find (has_id (argument None command).id) (final command ps) ≡ Some (row CommandLine (argument None command) t)
+    name_row = found_name command ∙ ap (λ (vs : List Text). option_map (row CommandLine (argument None command)) (slice_get vs 0)) is
 
-    name_text : first_of (argument None kind).id (final kind ps) ≡ Some t
+    name_text : first_of (argument None command).id (final command ps) ≡ Some t
     name_text = ap (option_and_then (λ (r : Row). slice_get r.values 0)) name_row
 
-    name_given_there : is_given (argument None kind).id (final kind ps) ≡ true
+    name_given_there : is_given (argument None command).id (final command ps) ≡ true
     name_given_there = rw name_row refl
 
   trace_text : (o : Option Text) → values_at (Some Trace) ps ≡ given o → first_of (codes "trace") (final Serve ps) ≡ o
@@ -128,7 +128,7 @@ module _ (ps : List LinePiece) where
       go (t ∷ u ∷ ts) is = absurd is
 
   -- the rows have what the command says
-  has_values : (word : Text) (m : Meaning) → Means word (with_pieces no_values ps) m → HasValues (kind_said m) (final (kind_said m) ps) m
+  has_values : (word : Text) (m : Meaning) → Means word (with_pieces no_values ps) m → HasValues (command_said m) (final (command_said m) ps) m
   has_values word (serve c t r) h =
       let P : List Text → Type 0 = λ vs. IsNumberOr 1099511627776 1099511627776 vs r in (
         name_text Serve c (values_are ps None ∙ h.1),
@@ -145,43 +145,43 @@ module _ (ps : List LinePiece) where
 
   -- ---- the line passes
 
-  valid : (kind : Kind) (t : Text) → values_at None ps ≡ t ∷ [] → is_valid (built_sub kind) (final kind ps) false ≡ true
+  valid : (command : CommandName) (t : Text) → values_at None ps ≡ t ∷ [] → is_valid (built_sub command) (final command ps) false ≡ true
   valid Serve t is = rw (name_given_there Serve t is) refl
   valid Check t is = rw (name_given_there Check t is) refl
   valid Exercise t is = rw (name_given_there Exercise t is) refl
   valid Audit t is = rw (name_given_there Audit t is) refl
 
-  defaults_pass : (kind : Kind) → list_all default_passes (arguments kind) ≡ true
+  defaults_pass : (command : CommandName) → list_all default_passes (arguments command) ≡ true
   defaults_pass Serve = refl
   defaults_pass Check = refl
   defaults_pass Exercise = refl
   defaults_pass Audit = refl
 
-  module _ (kind : Kind) (rest : List Text) (are : ArePieces ps rest) (fits : Fits (places kind) ps) where
-    walks : Walks (built_sub kind) (λ k. argument k kind) (places kind) (level kind) nothing_held 1 rest (pieces_rows kind ps)
-    walks = line (built_sub kind) (λ k. argument k kind) (places kind) (level kind) [] ps rest nothing_held are fits.each (record { settled = refl; passes = refl })
+  module _ (command : CommandName) (rest : List Text) (are : ArePieces ps rest) (fits : Fits (places command) ps) where
+    walks : Walks (built_sub command) (λ k. argument k command) (places command) (level command) nothing_held 1 rest (pieces_rows command ps)
+    walks = line (built_sub command) (λ k. argument k command) (places command) (level command) [] ps rest nothing_held are fits.each (record { settled = refl; passes = refl })
 
-    rows_are : rows_after (arguments kind) [] rest ≡ final kind ps
-    rows_are = ap (λ (rs : List Row). fold with_default rs (arguments kind)) walks.stands.settled
+    rows_are : rows_after (arguments command) [] rest ≡ final command ps
+    rows_are = ap (λ (rs : List Row). fold with_default rs (arguments command)) walks.stands.settled
 
-    line_passes : level_passes (built_sub kind) [] nothing_held rest false ≡ true
+    line_passes : level_passes (built_sub command) [] nothing_held rest false ≡ true
     line_passes =
-        let named = name_given ps kind fits in
-        let ends : is_valid (built_sub kind) (rows_after (arguments kind) [] rest) false ≡ true =
-        ap (λ (rs : List Row). is_valid (built_sub kind) rs false) rows_are ∙ valid kind named.0 named.1 in
-        ap₂ (λ a b. a && b) walks.passes (ap₂ (λ a b. a && b) walks.stands.passes (ap₂ (λ a b. a && b) (defaults_pass kind) ends))
+        let named = name_given ps command fits in
+        let ends : is_valid (built_sub command) (rows_after (arguments command) [] rest) false ≡ true =
+        ap (λ (rs : List Row). is_valid (built_sub command) rs false) rows_are ∙ valid command named.0 named.1 in
+        ap₂ (λ a b. a && b) walks.passes (ap₂ (λ a b. a && b) walks.stands.passes (ap₂ (λ a b. a && b) (defaults_pass command) ends))
 
 -- the law: `clap` takes the words of each command, and its matches say what the command says
 pub clap_says : (words : List Text) (m : Meaning) → Says words m → (takes program_app words ≡ true) × SaysBy (subcommand_of program_app words) m
 clap_says words m says =
-    let kind = kind_said m in
+    let command = command_said m in
     let fits = said_fits says.pieces says.word m says.means in
-    let is : words ≡ word_of kind ∷ says.rest = says.first ∙ ap (λ (w : Text). w ∷ says.rest) (word_said says.word (with_pieces no_values says.pieces) m says.means) in
+    let is : words ≡ word_of command ∷ says.rest = says.first ∙ ap (λ (w : Text). w ∷ says.rest) (word_said says.word (with_pieces no_values says.pieces) m says.means) in
     let P : List Text → Type 0 = λ ws. (takes program_app ws ≡ true) × SaysBy (subcommand_of program_app ws) m in
-    let H : List Row → Type 0 = λ rs. HasValues kind rs m in
+    let H : List Row → Type 0 = λ rs. HasValues command rs m in
     let Q : Option (Text × List Row) → Type 0 = λ o. SaysBy o m in
-    let values = subst H (sym (rows_are says.pieces kind says.rest says.spelled fits)) (has_values says.pieces says.word m says.means) in
+    let values = subst H (sym (rows_are says.pieces command says.rest says.spelled fits)) (has_values says.pieces says.word m says.means) in
     subst P (sym is) (
-      takes_command kind says.rest (line_passes says.pieces kind says.rest says.spelled fits),
-      subst Q (sym (found_command kind says.rest)) (kind, refl, values),
+      takes_command command says.rest (line_passes says.pieces command says.rest says.spelled fits),
+      subst Q (sym (found_command command says.rest)) (command, refl, values),
     )

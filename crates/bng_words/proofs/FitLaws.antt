@@ -1,8 +1,8 @@
 -- What a command says is what its places take.
 use Rattle.std.proofs.Common.{◌≡◌, ◌∙◌, ◌<◌, ◌≤◌, ℕ, Bool, cond, true, false, refl, sym, ap, ap₂, subst, arith, List, [], ◌∷◌, ◌++◌, length, append-nil, append_assoc, codes, Option, Some, None, inl, inr}
 use Rattle.std.specs.Prelude.{◌⊎◌, ⊤}
-use Rattle.bng_words.specs.declared.kind.Kind.{Kind}
-use Rattle.bng_words.specs.declared.kind.Kind.TheVariants.{Serve, Check, Exercise, Audit}
+use Rattle.bng_words.specs.declared.command_name.CommandName.{CommandName}
+use Rattle.bng_words.specs.declared.command_name.CommandName.TheVariants.{Serve, Check, Exercise, Audit}
 use Rattle.bng_words.specs.declared.option.OptionName.TheVariants.{Trace, Rounds, Workers}
 use Rattle.bng_words.specs.declared.place.Place.{Place}
 use Rattle.bng_words.specs.declared.place.Place.TheVariants.{Closed, Open, Number}
@@ -98,13 +98,13 @@ one_value place (t ∷ u ∷ ts) h some = absurd h
 -- ---- the two ways
 
 -- the command of what is said
-abbrev pub kind_said : Meaning → Kind
-kind_said (serve configuration trace rounds) = Serve
-kind_said (check configuration) = Check
-kind_said (exercise subscribers workers) = Exercise
-kind_said (audit file) = Audit
+abbrev pub command_said : Meaning → CommandName
+command_said (serve configuration trace rounds) = Serve
+command_said (check configuration) = Check
+command_said (exercise subscribers workers) = Exercise
+command_said (audit file) = Audit
 
-pub word_said : (word : Text) (v : Values) (m : Meaning) → Means word v m → word ≡ word_of (kind_said m)
+pub word_said : (word : Text) (v : Values) (m : Meaning) → Means word v m → word ≡ word_of (command_said m)
 word_said word v (serve c t r) h = h.0
 word_said word v (check c) h = h.0
 word_said word v (exercise n w) h = h.0
@@ -115,7 +115,7 @@ module _ (ps : List LinePiece) where
   some_name t is = omega (arith, ap length is)
 
   -- what is said fits the places of its command
-  pub said_fits : (word : Text) (m : Meaning) → Means word (with_pieces no_values ps) m → Fits (places (kind_said m)) ps
+  pub said_fits : (word : Text) (m : Meaning) → Means word (with_pieces no_values ps) m → Fits (places (command_said m)) ps
   said_fits word (serve c t r) h = record {
     each = λ k. elim k as (λ (j : Where). Holds (place_at (places Serve) j) (values_at j ps)) [
       | None ↦ holds_one Open _ c (values_are ps None ∙ h.1) tt
@@ -162,20 +162,20 @@ module _ (ps : List LinePiece) where
   }
 
   -- the name of a command that fits
-  pub name_given : (kind : Kind) → Fits (places kind) ps → (t : Text) × (values_at None ps ≡ t ∷ []) × Takes (places kind).name t
-  name_given kind fits = elim fits.name [
-    | inl closed ↦ absurd (never kind closed)
-    | inr some ↦ one_value (places kind).name (values_at None ps) (fits.each None) some
+  pub name_given : (command : CommandName) → Fits (places command) ps → (t : Text) × (values_at None ps ≡ t ∷ []) × Takes (places command).name t
+  name_given command fits = elim fits.name [
+    | inl closed ↦ absurd (never command closed)
+    | inr some ↦ one_value (places command).name (values_at None ps) (fits.each None) some
   ]
     where
-      never : (k : Kind) → (places k).name ≡ Closed → ⊥
+      never : (k : CommandName) → (places k).name ≡ Closed → ⊥
       never Serve e = absurd cc
       never Check e = absurd cc
       never Exercise e = absurd cc
       never Audit e = absurd cc
 
   -- and what fits is said
-  pub fits_said : (kind : Kind) → Fits (places kind) ps → (m : Meaning) × Means (word_of kind) (with_pieces no_values ps) m
+  pub fits_said : (command : CommandName) → Fits (places command) ps → (m : Meaning) × Means (word_of command) (with_pieces no_values ps) m
   fits_said Serve fits =
       let named = name_given Serve fits in
       let trace = open_given _ (fits.each (Some Trace)) in
@@ -228,27 +228,27 @@ module _ (ps : List LinePiece) where
 
 -- ---- the first word
 
-same_kind : (j k : Kind) → word_of j ≡ word_of k → j ≡ k
-same_kind Serve Serve e = refl
-same_kind Serve Check e = let bad = octets_same 0 _ _ e in absurd (omega arith)
-same_kind Serve Exercise e = let bad = octets_same 0 _ _ e in absurd (omega arith)
-same_kind Serve Audit e = let bad = octets_same 0 _ _ e in absurd (omega arith)
-same_kind Check Serve e = let bad = octets_same 0 _ _ e in absurd (omega arith)
-same_kind Check Check e = refl
-same_kind Check Exercise e = let bad = octets_same 0 _ _ e in absurd (omega arith)
-same_kind Check Audit e = let bad = octets_same 0 _ _ e in absurd (omega arith)
-same_kind Exercise Serve e = let bad = octets_same 0 _ _ e in absurd (omega arith)
-same_kind Exercise Check e = let bad = octets_same 0 _ _ e in absurd (omega arith)
-same_kind Exercise Exercise e = refl
-same_kind Exercise Audit e = let bad = octets_same 0 _ _ e in absurd (omega arith)
-same_kind Audit Serve e = let bad = octets_same 0 _ _ e in absurd (omega arith)
-same_kind Audit Check e = let bad = octets_same 0 _ _ e in absurd (omega arith)
-same_kind Audit Exercise e = let bad = octets_same 0 _ _ e in absurd (omega arith)
-same_kind Audit Audit e = refl
+same_command : (j k : CommandName) → word_of j ≡ word_of k → j ≡ k
+same_command Serve Serve e = refl
+same_command Serve Check e = let bad = octets_same 0 _ _ e in absurd (omega arith)
+same_command Serve Exercise e = let bad = octets_same 0 _ _ e in absurd (omega arith)
+same_command Serve Audit e = let bad = octets_same 0 _ _ e in absurd (omega arith)
+same_command Check Serve e = let bad = octets_same 0 _ _ e in absurd (omega arith)
+same_command Check Check e = refl
+same_command Check Exercise e = let bad = octets_same 0 _ _ e in absurd (omega arith)
+same_command Check Audit e = let bad = octets_same 0 _ _ e in absurd (omega arith)
+same_command Exercise Serve e = let bad = octets_same 0 _ _ e in absurd (omega arith)
+same_command Exercise Check e = let bad = octets_same 0 _ _ e in absurd (omega arith)
+same_command Exercise Exercise e = refl
+same_command Exercise Audit e = let bad = octets_same 0 _ _ e in absurd (omega arith)
+same_command Audit Serve e = let bad = octets_same 0 _ _ e in absurd (omega arith)
+same_command Audit Check e = let bad = octets_same 0 _ _ e in absurd (omega arith)
+same_command Audit Exercise e = let bad = octets_same 0 _ _ e in absurd (omega arith)
+same_command Audit Audit e = refl
 
 module _ (words : List Text) (word : Text) (after : List Text) (first : words ≡ word ∷ after) where
   -- the pieces of what the words say, and the command's word
-  pub said_pieces : (m : Meaning) → Says words m → (word ≡ word_of (kind_said m)) × ((ps : List LinePiece) × ArePieces ps after × Fits (places (kind_said m)) ps)
+  pub said_pieces : (m : Meaning) → Says words m → (word ≡ word_of (command_said m)) × ((ps : List LinePiece) × ArePieces ps after × Fits (places (command_said m)) ps)
   said_pieces m says =
       let both : word ∷ after ≡ says.word ∷ says.rest = sym first ∙ says.first in
       let same : word ≡ says.word = cc in
@@ -259,21 +259,21 @@ module _ (words : List Text) (word : Text) (after : List Text) (first : words �
       )
 
   -- a line that fits says something
-  pub line_said : (kind : Kind) (there : Places) → word ≡ word_of kind → there ≡ places kind → (ps : List LinePiece) × ArePieces ps after × Fits there ps → (m : Meaning) × Says words m
-  line_said kind there is are line =
+  pub line_said : (command : CommandName) (there : Places) → word ≡ word_of command → there ≡ places command → (ps : List LinePiece) × ArePieces ps after × Fits there ps → (m : Meaning) × Says words m
+  line_said command there is are line =
       let P : Places → Type 0 = λ q. Fits q line.0 in
-      let said = fits_said line.0 kind (subst P are line.2) in
-      (said.0, record { word = word_of kind; rest = after; pieces = line.0; first = first ∙ ap (λ (w : Text). w ∷ after) is; spelled = line.1; means = said.1 })
+      let said = fits_said line.0 command (subst P are line.2) in
+      (said.0, record { word = word_of command; rest = after; pieces = line.0; first = first ∙ ap (λ (w : Text). w ∷ after) is; spelled = line.1; means = said.1 })
 
   -- and the other way round
-  pub said_line : (kind : Kind) (there : Places) → word ≡ word_of kind → there ≡ places kind → (m : Meaning) × Says words m → (ps : List LinePiece) × ArePieces ps after × Fits there ps
-  said_line kind there is are said =
+  pub said_line : (command : CommandName) (there : Places) → word ≡ word_of command → there ≡ places command → (m : Meaning) × Says words m → (ps : List LinePiece) × ArePieces ps after × Fits there ps
+  said_line command there is are said =
       let line = said_pieces said.0 said.1 in
-      let same = same_kind (kind_said said.0) kind (sym line.0 ∙ is) in
-      let P : Kind → Type 0 = λ k. Fits (places k) line.1.0 in
+      let same = same_command (command_said said.0) command (sym line.0 ∙ is) in
+      let P : CommandName → Type 0 = λ k. Fits (places k) line.1.0 in
       let Q : Places → Type 0 = λ q. Fits q line.1.0 in
       (line.1.0, line.1.1, subst Q (sym are) (subst P same line.1.2))
 
   -- words of no command say nothing
-  pub never_said : ((k : Kind) → ¬ (word ≡ word_of k)) → (m : Meaning) → ¬ (Says words m)
-  never_said none m says = none (kind_said m) (said_pieces m says).0
+  pub never_said : ((k : CommandName) → ¬ (word ≡ word_of k)) → (m : Meaning) → ¬ (Says words m)
+  never_said none m says = none (command_said m) (said_pieces m says).0

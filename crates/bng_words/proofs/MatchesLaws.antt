@@ -9,7 +9,7 @@ use Rattle.clap.specs.declared.parser.matches.ArgMatches.{ArgMatches}
 use Rattle.clap.specs.declared.parser.matches.ArgMatches.TheViews.{out-ArgMatches}
 use Rattle.clap.specs.declared.parser.matches.Found.{Found}
 use Rattle.clap.proofs.WalkLemmas.{first_value-rows, one_text-rows}
-use Rattle.bng_words.specs.declared.kind.Kind.TheVariants.{Serve, Check, Exercise, Audit}
+use Rattle.bng_words.specs.declared.command_name.CommandName.TheVariants.{Serve, Check, Exercise, Audit}
 use Rattle.bng_words.specs.Words.{Text}
 use Rattle.bng_words.specs.Meaning.{Meaning, serve, check, exercise, audit}
 use Rattle.bng_words.specs.Rows.{HasNumber, HasValues, Writes}

@@ -1,7 +1,7 @@
 -- What may stand at the places of a command's line.
 use Rattle.std.specs.Prelude.{◌≡◌, ◌⊎◌, ℕ, ◌<◌, ⊤, Bool, true, false, List, [], ◌∷◌, length, codes, Option, None, Some, if◌then◌else◌}
-use Rattle.bng_words.specs.declared.kind.Kind.{Kind}
-use Rattle.bng_words.specs.declared.kind.Kind.TheVariants.{Serve, Check, Exercise, Audit}
+use Rattle.bng_words.specs.declared.command_name.CommandName.{CommandName}
+use Rattle.bng_words.specs.declared.command_name.CommandName.TheVariants.{Serve, Check, Exercise, Audit}
 use Rattle.bng_words.specs.declared.option.OptionName.{OptionName}
 use Rattle.bng_words.specs.declared.option.OptionName.TheVariants.{Trace, Rounds, Workers}
 use Rattle.bng_words.specs.declared.place.Place.{Place}
@@ -11,13 +11,13 @@ use Rattle.bng_words.specs.Words.{Text}
 use Rattle.bng_words.specs.Line.{LinePiece, name, option}
 use Rattle.bng_words.specs.Meaning.{IsNumber}
 
-abbrev pub word_of : Kind → Text
+abbrev pub word_of : CommandName → Text
 word_of Serve = codes "serve"
 word_of Check = codes "check"
 word_of Exercise = codes "exercise"
 word_of Audit = codes "audit"
 
-abbrev pub places : Kind → Places
+abbrev pub places : CommandName → Places
 places Serve = record { name = Open; trace = Open; rounds = Number 1099511627776; workers = Closed }
 places Check = record { name = Open; trace = Closed; rounds = Closed; workers = Closed }
 places Exercise = record { name = Number 4000; trace = Closed; rounds = Closed; workers = Number 16 }

@@ -5,8 +5,8 @@ use Rattle.clap.specs.Simple.{App, Shape, new_rule, new_shape, shape_of}
 use Rattle.clap.specs.declared.builder.command.Command.{Command}
 use Rattle.clap.specs.declared.builder.command.Command.TheViews.{out-Command}
 use Rattle.clap.specs.declared.builder.value_parser.ValueParser.TheVariants.{Unsigned}
-use Rattle.bng_words.specs.declared.kind.Kind.{Kind}
-use Rattle.bng_words.specs.declared.kind.Kind.TheVariants.{Serve, Check, Exercise, Audit}
+use Rattle.bng_words.specs.declared.command_name.CommandName.{CommandName}
+use Rattle.bng_words.specs.declared.command_name.CommandName.TheVariants.{Serve, Check, Exercise, Audit}
 use Rattle.bng_words.specs.Place.{word_of}
 
 -- a word that is no option and has to stand
@@ -20,7 +20,7 @@ option_rule name = record (new_rule name) { long = Some name }
 abbrev pub number_rule : ℕ → Rule → Rule
 number_rule most r = record r { parser = Some (Unsigned 1 most) }
 
-abbrev pub rules : Kind → List Rule
+abbrev pub rules : CommandName → List Rule
 rules Serve =
     word_rule (codes "config") ∷ option_rule (codes "trace")
     ∷ record (number_rule 1099511627776 (option_rule (codes "rounds"))) { defaults = codes "1099511627776" ∷ [] } ∷ []
@@ -30,11 +30,11 @@ rules Exercise =
     ∷ record (number_rule 16 (option_rule (codes "workers"))) { defaults = codes "4" ∷ [] } ∷ []
 rules Audit = word_rule (codes "file") ∷ []
 
-abbrev pub sub : Kind → Shape
+abbrev pub sub : CommandName → Shape
 sub k = record (new_shape (word_of k)) { rules = rules k }
 
 -- the command, with no argument that others share
-pub record IsSub (k : Kind) (c : Command) : Type 0 where
+pub record IsSub (k : CommandName) (c : Command) : Type 0 where
   pub shape : shape_of c ≡ sub k
   pub local : (out-Command c).has_globals ≡ false
 

@@ -5,8 +5,8 @@ use Rattle.clap.specs.Walk.{Row, first_of, one_of}
 use Rattle.bng_words.specs.declared.command.Command.{Command}
 use Rattle.bng_words.specs.declared.command.WordsError.{WordsError}
 use Rattle.bng_words.specs.declared.command.WordsError.TheVariants.{OutOfMemory}
-use Rattle.bng_words.specs.declared.kind.Kind.{Kind}
-use Rattle.bng_words.specs.declared.kind.Kind.TheVariants.{Serve, Check, Exercise, Audit}
+use Rattle.bng_words.specs.declared.command_name.CommandName.{CommandName}
+use Rattle.bng_words.specs.declared.command_name.CommandName.TheVariants.{Serve, Check, Exercise, Audit}
 use Rattle.bng_words.specs.Words.{Text}
 use Rattle.bng_words.specs.Place.{word_of}
 use Rattle.bng_words.specs.Meaning.{Meaning, serve, check, exercise, audit, meaning_of}
@@ -22,7 +22,7 @@ abbrev pub HasNumber : Text → List Row → ℕ → Type 0
 HasNumber id rows n = (text : Text) × (one_of id rows ≡ Some text) × Writes text n
 
 -- the rows of a command have the values of this meaning, which is one of the command's
-abbrev pub HasValues : Kind → List Row → Meaning → Type 0
+abbrev pub HasValues : CommandName → List Row → Meaning → Type 0
 HasValues Serve rows (serve configuration trace rounds) =
     (first_of (codes "config") rows ≡ Some configuration) × (first_of (codes "trace") rows ≡ trace) × HasNumber (codes "rounds") rows rounds
 HasValues Check rows (check configuration) = first_of (codes "config") rows ≡ Some configuration
@@ -34,7 +34,7 @@ HasValues _ rows m = ⊥
 -- the subcommand that was met, with its rows, says this
 abbrev pub SaysBy : Option (Text × List Row) → Meaning → Type 0
 SaysBy None m = ⊥
-SaysBy (Some met) m = (k : Kind) × (met.0 ≡ word_of k) × HasValues k met.1 m
+SaysBy (Some met) m = (k : CommandName) × (met.0 ≡ word_of k) × HasValues k met.1 m
 
 -- the command that says this, or no memory for it
 abbrev pub Commands : Meaning → Result Command WordsError → Type 0

@@ -4,9 +4,9 @@ ghost use Rattle.bng_words.specs.Line.{LinePiece, ArePieces};
 ghost use Rattle.bng_words.specs.Place.{Fits};
 ghost use Rattle.bng_words.specs.Meaning.{Meaning, Says};
 
-use crate::kind::kind_of;
+use crate::command_name::command_named;
 use crate::piece::front;
-use crate::place::{Place, Places, left, places_of};
+use crate::place::{Place, Places, places_left, places_of};
 
 /// Whether the words are a command.
 pub(crate) fn is_command(words: &[String]) -> bool
@@ -15,13 +15,13 @@ pub(crate) fn is_command(words: &[String]) -> bool
     let Some((word, after)) = words.split_first() else {
         return false;
     };
-    match kind_of(word.as_str()) {
-        Some(kind) => is_line(after, places_of(kind)),
+    match command_named(word.as_str()) {
+        Some(command) => is_line(after, places_of(command)),
         None => false,
     }
 }
 
-// Whether the words are pieces that give each of these places what may stand there, and the name.
+// Whether the words are pieces that give these places what may stand there, each at most once, and the name.
 fn is_line(words: &[String], places: Places) -> bool
     ensures { IsTrue result ↔ ((ps : List LinePiece) × ArePieces ps (texts words.now) × Fits places ps) }
 {
@@ -31,7 +31,7 @@ fn is_line(words: &[String], places: Places) -> bool
     let Some((piece, rest)) = front(words) else {
         return false;
     };
-    match left(places, piece) {
+    match places_left(places, piece) {
         Some(places) => is_line(rest, places),
         None => false,
     }

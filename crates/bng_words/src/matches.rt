@@ -1,11 +1,11 @@
 ghost use Rattle.std.specs.Prelude.{◌≡◌, IfOk, IfErr, option_map, string_bytes};
 ghost use Rattle.clap.specs.Words.{found_of, rows_of, subcommand_rows_of};
-ghost use Rattle.bng_words.specs.declared.kind.Kind.{Kind};
+ghost use Rattle.bng_words.specs.declared.command_name.CommandName.{CommandName};
 ghost use Rattle.bng_words.specs.Meaning.{Meaning};
 ghost use Rattle.bng_words.specs.Rows.{Commands, HasValues, SaysBy};
 
 use crate::command::{Command, WordsError};
-use crate::kind::{Kind, kind_of};
+use crate::command_name::{CommandName, command_named};
 use clap::ArgMatches;
 use std::alloc::Global;
 
@@ -16,17 +16,17 @@ pub(crate) fn command_of(alloc: Global, matches: &ArgMatches<'_>) -> Result<Comm
     let Some((word, given)) = matches.subcommand() else {
         return Err(WordsError::Refused);
     };
-    match kind_of(word) {
-        Some(Kind::Serve) => serve(alloc, given),
-        Some(Kind::Check) => check(alloc, given),
-        Some(Kind::Exercise) => exercise(given),
-        Some(Kind::Audit) => audit(alloc, given),
+    match command_named(word) {
+        Some(CommandName::Serve) => serve(alloc, given),
+        Some(CommandName::Check) => check(alloc, given),
+        Some(CommandName::Exercise) => exercise(given),
+        Some(CommandName::Audit) => audit(alloc, given),
         None => Err(WordsError::Refused),
     }
 }
 
 fn serve(alloc: Global, given: &ArgMatches<'_>) -> Result<Command, WordsError>
-    ensures { (m : Meaning) → HasValues Kind.Serve (rows_of (found_of given.now)) m → Commands m result }
+    ensures { (m : Meaning) → HasValues CommandName.Serve (rows_of (found_of given.now)) m → Commands m result }
 {
     let Some(configuration) = given.get_str("config") else {
         return Err(WordsError::Refused);
@@ -44,7 +44,7 @@ fn serve(alloc: Global, given: &ArgMatches<'_>) -> Result<Command, WordsError>
 }
 
 fn check(alloc: Global, given: &ArgMatches<'_>) -> Result<Command, WordsError>
-    ensures { (m : Meaning) → HasValues Kind.Check (rows_of (found_of given.now)) m → Commands m result }
+    ensures { (m : Meaning) → HasValues CommandName.Check (rows_of (found_of given.now)) m → Commands m result }
 {
     let Some(configuration) = given.get_str("config") else {
         return Err(WordsError::Refused);
@@ -54,7 +54,7 @@ fn check(alloc: Global, given: &ArgMatches<'_>) -> Result<Command, WordsError>
 }
 
 fn exercise(given: &ArgMatches<'_>) -> Result<Command, WordsError>
-    ensures { (m : Meaning) → HasValues Kind.Exercise (rows_of (found_of given.now)) m → Commands m result }
+    ensures { (m : Meaning) → HasValues CommandName.Exercise (rows_of (found_of given.now)) m → Commands m result }
 {
     let Some(subscribers) = given.get_one::<u64>("subscribers") else {
         return Err(WordsError::Refused);
@@ -69,7 +69,7 @@ fn exercise(given: &ArgMatches<'_>) -> Result<Command, WordsError>
 }
 
 fn audit(alloc: Global, given: &ArgMatches<'_>) -> Result<Command, WordsError>
-    ensures { (m : Meaning) → HasValues Kind.Audit (rows_of (found_of given.now)) m → Commands m result }
+    ensures { (m : Meaning) → HasValues CommandName.Audit (rows_of (found_of given.now)) m → Commands m result }
 {
     let Some(trace) = given.get_str("file") else {
         return Err(WordsError::Refused);

@@ -2,8 +2,8 @@ ghost use Rattle.std.specs.Prelude.{◌≡◌, ◌↔◌, IsTrue, MatchOption};
 ghost use Rattle.bng_words.specs.Place.{Takes, place_of, value_of, place_at, places, without};
 ghost use Rattle.bng_words.specs.View.{piece_of};
 
-use crate::kind::Kind;
-use crate::number::number;
+use crate::command_name::CommandName;
+use crate::number::is_number;
 use crate::option::OptionName;
 use crate::piece::Piece;
 
@@ -38,8 +38,8 @@ pub(crate) struct Places {
 }
 
 /// The places of a command's line.
-pub(crate) fn places_of(kind: Kind) -> Places
-    ensures { result ≡ places kind }
+pub(crate) fn places_of(command: CommandName) -> Places
+    ensures { result ≡ places command }
 {
     let plain = Places {
         name: Place::Open,
@@ -47,14 +47,14 @@ pub(crate) fn places_of(kind: Kind) -> Places
         rounds: Place::Closed,
         workers: Place::Closed,
     };
-    match kind {
-        Kind::Serve => Places {
+    match command {
+        CommandName::Serve => Places {
             trace: Place::Open,
             rounds: Place::Number(ROUNDS_MOST),
             ..plain
         },
-        Kind::Check | Kind::Audit => plain,
-        Kind::Exercise => Places {
+        CommandName::Check | CommandName::Audit => plain,
+        CommandName::Exercise => Places {
             name: Place::Number(SUBSCRIBERS_MOST),
             workers: Place::Number(WORKERS_MOST),
             ..plain
@@ -69,12 +69,12 @@ fn takes(place: Place, value: &str) -> bool
     match place {
         Place::Closed => false,
         Place::Open => true,
-        Place::Number(most) => number(value, most).is_some(),
+        Place::Number(most) => is_number(value, most),
     }
 }
 
 /// The places that are left after the piece, where it may stand at its own.
-pub(crate) fn left(places: Places, piece: Piece<'_>) -> Option<Places>
+pub(crate) fn places_left(places: Places, piece: Piece<'_>) -> Option<Places>
     ensures { let p = piece_of piece.entry in let place = place_at places (place_of p) in
         MatchOption result (¬ Takes place (value_of p)) (λ r. Takes place (value_of p) × (r ≡ without places (place_of p))) }
 {

@@ -1,7 +1,7 @@
 ghost use Rattle.std.specs.Prelude.{◌≡◌, IfOk, false};
 ghost use Rattle.clap.specs.Words.{app_of, rule_of};
 ghost use Rattle.bng_words.specs.Program.{IsSub, number_rule, option_rule, program_app, word_rule};
-ghost use Rattle.bng_words.specs.declared.kind.Kind.{Kind};
+ghost use Rattle.bng_words.specs.declared.command_name.CommandName.{CommandName};
 
 use crate::place::{ROUNDS_MOST, SUBSCRIBERS_MOST, WORKERS_MOST};
 use clap::builder::ValueParser;
@@ -24,7 +24,7 @@ pub(crate) fn program<'a>(alloc: Global) -> Result<Command<'a>, AllocError>
 }
 
 fn serve<'a>(alloc: Global) -> Result<Command<'a>, AllocError>
-    ensures { IfOk result (IsSub Kind.Serve) }
+    ensures { IfOk result (IsSub CommandName.Serve) }
 {
     let rounds = number(option(alloc, "rounds"), ROUNDS_MOST).default_value("1099511627776");
     Command::new(alloc, "serve")
@@ -34,13 +34,13 @@ fn serve<'a>(alloc: Global) -> Result<Command<'a>, AllocError>
 }
 
 fn check<'a>(alloc: Global) -> Result<Command<'a>, AllocError>
-    ensures { IfOk result (IsSub Kind.Check) }
+    ensures { IfOk result (IsSub CommandName.Check) }
 {
     Command::new(alloc, "check").arg(word(alloc, "config"))
 }
 
 fn exercise<'a>(alloc: Global) -> Result<Command<'a>, AllocError>
-    ensures { IfOk result (IsSub Kind.Exercise) }
+    ensures { IfOk result (IsSub CommandName.Exercise) }
 {
     let subscribers = number(word(alloc, "subscribers"), SUBSCRIBERS_MOST);
     let workers = number(option(alloc, "workers"), WORKERS_MOST).default_value("4");
@@ -50,7 +50,7 @@ fn exercise<'a>(alloc: Global) -> Result<Command<'a>, AllocError>
 }
 
 fn audit<'a>(alloc: Global) -> Result<Command<'a>, AllocError>
-    ensures { IfOk result (IsSub Kind.Audit) }
+    ensures { IfOk result (IsSub CommandName.Audit) }
 {
     Command::new(alloc, "audit").arg(word(alloc, "file"))
 }

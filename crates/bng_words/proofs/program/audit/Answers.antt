@@ -1,5 +1,5 @@
 use Rattle.std.proofs.lemmas.Result.{IfOk-weaker}
-use Rattle.bng_words.specs.declared.kind.Kind.TheVariants.{Audit}
+use Rattle.bng_words.specs.declared.command_name.CommandName.TheVariants.{Audit}
 use Rattle.bng_words.proofs.ProgramLaws.{is_sub, new_command, one_argument}
 use Rattle.bng_words.proofs.program.audit.Goals as goal
 

@@ -3,7 +3,7 @@ use Rattle.std.proofs.lemmas.Result.{IfOk-weaker}
 use Rattle.clap.specs.Words.{Rule, rule_of}
 use Rattle.clap.specs.declared.builder.arg.Arg.{Arg}
 use Rattle.bng_words.specs.Program.{number_rule, option_rule, word_rule}
-use Rattle.bng_words.specs.declared.kind.Kind.TheVariants.{Exercise}
+use Rattle.bng_words.specs.declared.command_name.CommandName.TheVariants.{Exercise}
 use Rattle.bng_words.proofs.ProgramLaws.{is_sub, new_command, one_argument}
 use Rattle.bng_words.proofs.program.exercise.Goals as goal
 
