@@ -1,2 +1,13 @@
 pub mod LineLaws
 pub mod MeaningLaws
+pub mod NumberLaws
+pub mod PlaceLaws
+pub mod FitLaws
+pub mod ClapSteps
+pub mod ClapRows
+pub mod ClapLine
+pub mod ClapCommands
+pub mod ClapProgram
+pub mod ClapLaws
+pub mod ProgramLaws
+pub mod MatchesLaws

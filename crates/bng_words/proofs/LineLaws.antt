@@ -6,9 +6,7 @@ use Rattle.bng_words.specs.declared.option.OptionName.{OptionName}
 use Rattle.bng_words.specs.declared.option.OptionName.TheVariants.{Trace, Rounds, Workers}
 use Rattle.bng_words.specs.Words.{Text, texts, IsName, IsValue, dashed}
 use Rattle.bng_words.specs.Line.{LinePiece, name, option, Begins, ArePieces, Values, no_values, with_piece, with_pieces, IsSingle}
-use Rattle.bng_words.specs.declared.order.Order.{Order}
 use Rattle.bng_words.specs.Meaning.{Meaning, Means, Says}
-use Rattle.bng_words.specs.View.{said_by}
 
 single_before : (v : Values) (p : LinePiece) → IsSingle (with_piece v p) → IsSingle v
 single_before v (name t) s = record { names = omega (arith, s.names, length-append v.names (t ∷ [])); trace = s.trace; rounds = s.rounds; workers = s.workers }
@@ -169,6 +167,10 @@ pub some_texts : (words : List (String Global)) → 0 < length words → 0 < len
 some_texts [] some = some
 some_texts (w ∷ words) some = omega arith
 
+pub no_texts : (words : List (String Global)) → length words ≡ 0 → texts words ≡ []
+no_texts [] none = refl
+no_texts (w ∷ words) none = absurd (omega arith)
+
 -- words are read in one way
 pub one_line : (ps qs : List LinePiece) (words : List Text) → ArePieces ps words → ArePieces qs words → qs ≡ ps
 one_line [] [] words a b = refl
@@ -176,22 +178,3 @@ one_line [] (q ∷ qs) words a b = let next = next_pieces q words b.0 [] b.1 a i
 one_line (p ∷ ps) qs words a b =
     let next = next_pieces p words a.0 qs a.1 b in
     next.1 ∙ ap (λ (rs : List LinePiece). p ∷ rs) (one_line ps next.0 a.0 a.2 next.2)
-
--- what the words say, by the values of their line
-pub says_by : (r : Option Order) (words : List Text) (word : Text) (after : List Text) (v : Values) → words ≡ word ∷ after
-    → (ps : List LinePiece) × ArePieces ps after × (v ≡ with_pieces no_values ps)
-    → MatchOption r ((m : Meaning) → ¬ (Means word v m)) (λ o. Means word v (said_by o))
-    → MatchOption r ((m : Meaning) → ¬ (Says words m)) (λ o. Says words (said_by o))
-says_by (Some o) words word after v first line h =
-    let P : Values → Type 0 = λ w. Means word w (said_by o) in
-    record { word = word; rest = after; pieces = line.0; first = first; spelled = line.1; means = subst P line.2 h }
-says_by None words word after v first line h = λ m s.
-    let both : word ∷ after ≡ s.word ∷ s.rest = sym first ∙ s.first in
-    let same : s.word ≡ word = cc in
-    let others : s.rest ≡ after = cc in
-    let P : List Text → Type 0 = λ ws. ArePieces s.pieces ws in
-    let pieces = one_line line.0 s.pieces after line.1 (subst P others s.spelled) in
-    let values : with_pieces no_values s.pieces ≡ v = ap (with_pieces no_values) pieces ∙ sym line.2 in
-    let Q : Values → Type 0 = λ w. Means s.word w m in
-    let R : Text → Type 0 = λ t. Means t v m in
-    h m (subst R same (subst Q values s.means))

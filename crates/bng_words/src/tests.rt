@@ -20,7 +20,7 @@ fn told(alloc: Global, texts: &[&str]) -> Result<String, AllocError> {
 #[test]
 fn reads_each_command(rt: HostRuntime) -> Result<(), Fail> {
     let alloc = rt.alloc();
-    let rows: [(&[&str], &str); 11] = [
+    let rows: [(&[&str], &str); 13] = [
         (
             &["serve", "a.toml"],
             "Ok(Serve { configuration: \"a.toml\", trace: None, rounds: 1099511627776 })",
@@ -67,6 +67,11 @@ fn reads_each_command(rt: HostRuntime) -> Result<(), Fail> {
         ),
         (&["check", ""], "Ok(Check { configuration: \"\" })"),
         (&["audit", "t"], "Ok(Audit { trace: \"t\" })"),
+        (&["check", "help"], "Ok(Check { configuration: \"help\" })"),
+        (
+            &["serve", "a.toml", "--trace", "audit"],
+            "Ok(Serve { configuration: \"a.toml\", trace: Some(\"audit\"), rounds: 1099511627776 })",
+        ),
         (
             &["serve", "serve"],
             "Ok(Serve { configuration: \"serve\", trace: None, rounds: 1099511627776 })",
@@ -81,7 +86,7 @@ fn reads_each_command(rt: HostRuntime) -> Result<(), Fail> {
 #[test]
 fn refuses_other_words(rt: HostRuntime) -> Result<(), Fail> {
     let alloc = rt.alloc();
-    let rows: [&[&str]; 21] = [
+    let rows: [&[&str]; 28] = [
         &[],
         &["serve"],
         &["serve", "a.toml", "--rounds=0"],
@@ -103,6 +108,13 @@ fn refuses_other_words(rt: HostRuntime) -> Result<(), Fail> {
         &["exercise", "4001"],
         &["exercise", "4", "--workers", "17"],
         &["--version"],
+        &["help"],
+        &["serv", "a.toml"],
+        &["serve", "a.toml", "-h"],
+        &["serve", "a.toml", "--"],
+        &["serve", "a.toml", "--round", "5"],
+        &["serve", "a.toml", "--rounds", "5", "6"],
+        &["--rounds", "5", "serve", "a.toml"],
     ];
     for texts in rows.iter() {
         assert_eq!(rt; told(alloc, *texts)?.as_str(), "Err(Refused)");

@@ -1,5 +1,0 @@
-use Rattle.std.proofs.Common.{length}
-use Rattle.bng_words.proofs.line.+line_of.Given as goal
-
-abbrev pub decreases-line_of : goal.decreases-line_of
-decreases-line_of l = length l.words.now
