@@ -1,12 +1,12 @@
 -- From one state and by one packet or verdict authentication goes on in one way.
-use Rattle.std.proofs.Common.{◌≡◌, ◌≤◌, ◌<◌, ℕ, Bool, true, false, List, Option, Some, None, length, refl, sym, ap, subst, ◌∙◌, arith}
+use Rattle.std.proofs.Common.{◌≡◌, ◌≤◌, ℕ, Bool, true, false, List, Option, Some, None, length, refl, sym, ap, subst, ◌∙◌, arith}
 use Rattle.std.specs.Prelude.{IsSome}
 use Rattle.bng_auth.specs.declared.credentials.Credentials.{Credentials}
 use Rattle.bng_auth.specs.declared.credentials.Proof.{Proof}
 use Rattle.bng_auth.specs.declared.credentials.Proof.TheVariants as proof
 use Rattle.bng_auth.specs.declared.step.AuthStep.{AuthStep}
 use Rattle.bng_auth.specs.declared.step.AuthStep.TheVariants.{Ask, Again, Refuse, Ignore}
-use Rattle.bng_auth.specs.Questions.{PapQuestion, ChapQuestion, Finding, IsPassword, IsProof, IsNamed, PapTakes, ChapTakes, PapSettles, ChapSettles}
+use Rattle.bng_auth.specs.Questions.{PapQuestion, ChapQuestion, Finding, IsPassword, IsProof, IsNamed, PapTakes, ChapTakes}
 use Rattle.bng_auth.specs.Replying.{Said as Reply, reply_of}
 use Rattle.bng_auth.specs.Requests.{IsPapRequest, IsResponse}
 use Rattle.bng_base.specs.declared.settings.AuthKind.TheVariants as kind

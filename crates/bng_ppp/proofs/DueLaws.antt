@@ -1,5 +1,5 @@
 -- Which of a link's timers is due.
-use Rattle.std.proofs.Common.{◌≡◌, ◌↔◌, ◌+◌, ◌≤◌, ◌<◌, ◌⊎◌, inl, inr, ℕ, Bool, true, false, Option, Some, None, min, option_map, arith}
+use Rattle.std.proofs.Common.{◌↔◌, ◌+◌, ◌≤◌, ◌⊎◌, inl, inr, ℕ, Option, Some, None, option_map, arith}
 use Rattle.std.specs.Prelude.{IsSomeAnd}
 use Rattle.std.proofs.lemmas.Bool.Decides.{leb_tells}
 use Rattle.bng_ppp.specs.LinkRelation.{earliest}

@@ -1,11 +1,11 @@
 -- From one state and by one packet IPCP goes on in one way.
-use Rattle.std.proofs.Common.{◌≡◌, ◌≤◌, ℕ, List, Option, length, inl, inr, refl, sym, ap, subst, ◌∙◌, arith}
+use Rattle.std.proofs.Common.{◌≡◌, ℕ, List, Option, inl, inr, refl, sym, ap, subst, ◌∙◌, arith}
 use Rattle.bng_automaton.specs.declared.action.Action.{Action}
 use Rattle.bng_automaton.specs.declared.event.Event.{Event}
 use Rattle.bng_automaton.specs.Machine.{Machine}
 use Rattle.bng_automaton.proofs.StepLaws.{Steps-one}
 use Rattle.bng_base.specs.declared.address.Ip4.{Ip4}
-use Rattle.bng_base.specs.PppGrammar.{PppOption, ControlPacket, AreOptions}
+use Rattle.bng_base.specs.PppGrammar.{PppOption, ControlPacket}
 use Rattle.bng_ppp_wire.specs.View.{options_of}
 use Rattle.bng_ipcp.specs.declared.judgement.IpcpRules.{IpcpRules}
 use Rattle.bng_ipcp.specs.declared.judgement.Judged.{Judged}

@@ -1,5 +1,5 @@
 -- What becomes of a reply to the gateway's Configure-Request of IPCP.
-use Rattle.std.proofs.Common.{◌≡◌, ℕ, ap}
+use Rattle.std.proofs.Common.{ℕ, ap}
 use Rattle.bng_automaton.specs.declared.event.Event.TheVariants.{Rcn}
 use Rattle.bng_base.specs.PppGrammar.{ControlPacket}
 use Rattle.bng_ipcp.specs.declared.taken.Taken.TheVariants.{Changed, Ignored}

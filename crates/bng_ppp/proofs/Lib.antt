@@ -11,3 +11,8 @@ pub mod IpcpOutcome
 pub mod AuthOutcome
 pub mod WholeOutcome
 pub mod DueLaws
+pub mod MessageLaws
+pub mod WholeOuts
+pub mod PhaseLaws
+pub mod LcpPhases
+pub mod WholePhases

@@ -1,8 +1,6 @@
 -- From one state and by one input LCP goes on in one way.
-use Rattle.std.proofs.Common.{◌≡◌, ◌≢◌, ◌<◌, ◌≤◌, ◌⊎◌, inl, inr, ℕ, Bool, true, false, List, Option, Some, None, length, refl, sym, ap, subst, ◌∙◌, arith}
-use Rattle.std.specs.Prelude.{IsTrue, IsFalse}
+use Rattle.std.proofs.Common.{◌≡◌, inl, inr, ℕ, Bool, true, false, List, Option, Some, refl, sym, ap, subst, ◌∙◌, arith}
 use Rattle.std.specs.List.{slice_get}
-use Rattle.byteorder.specs.Endian.{big_number}
 use Rattle.bng_automaton.specs.declared.action.Action.{Action}
 use Rattle.bng_automaton.specs.declared.event.Event.{Event}
 use Rattle.bng_automaton.specs.declared.event.Event.TheVariants.{Up, Open}
@@ -13,11 +11,9 @@ use Rattle.bng_base.specs.PppGrammar.{PppFrame, PppOption, ControlPacket, Option
 use Rattle.bng_base.proofs.PieceLaws.{one_list}
 use Rattle.bng_ppp_wire.proofs.OptionLaws.{is_code}
 use Rattle.bng_ppp_wire.specs.View.{packet_of, options_of}
-use Rattle.bng_ppp_wire.specs.declared.protocol.TheConstants as protocol
 use Rattle.bng_lcp.specs.declared.judgement.LcpRules.{LcpRules}
 use Rattle.bng_lcp.specs.declared.judgement.Judged.{Judged}
 use Rattle.bng_lcp.specs.declared.judgement.Judged.TheVariants as judged
-use Rattle.bng_lcp.specs.declared.asked.LcpOptions.{LcpOptions}
 use Rattle.bng_lcp.specs.declared.asked.SentRequest.{SentRequest}
 use Rattle.bng_lcp.specs.declared.taken.Taken.{Taken}
 use Rattle.bng_lcp.specs.declared.taken.Taken.TheVariants.{Accepted, Changed, Ignored, Unwilling}

@@ -1,5 +1,5 @@
 -- From one state and by one input a whole link goes on in one way.
-use Rattle.std.proofs.Common.{◌≡◌, ◌≤◌, ◌<◌, ◌⊎◌, ◌||◌, inl, inr, ℕ, Bool, true, false, List, [], Option, Some, None, length, refl, sym, ap, subst, ◌∙◌, arith}
+use Rattle.std.proofs.Common.{◌≡◌, ◌||◌, inl, inr, ℕ, Bool, true, false, List, [], Option, Some, None, refl, sym, ap, subst, ◌∙◌, arith}
 use Rattle.bng_auth.specs.declared.step.AuthStep.{AuthStep}
 use Rattle.bng_auth.specs.declared.step.AuthStep.TheVariants.{Ask, Again, Refuse, Ignore}
 use Rattle.bng_auth.specs.Replying.{Said as Reply, reply_of}
@@ -19,19 +19,19 @@ use Rattle.bng_ppp.specs.declared.way.Way.TheVariants as way
 use Rattle.bng_ppp.specs.declared.whole_input.WholeInput.{WholeInput}
 use Rattle.bng_ppp.specs.declared.whole_input.WholeInput.TheVariants as told
 use Rattle.bng_ppp.specs.Acts.{Doing}
-use Rattle.bng_ppp.specs.AuthRelation.{AuthSettles, reply_sent}
+use Rattle.bng_ppp.specs.AuthRelation.{reply_sent}
 use Rattle.bng_ppp.specs.Causes.{plain}
 use Rattle.bng_ppp.specs.Claims.{Claim, claim_of}
-use Rattle.bng_ppp.specs.IpcpActs.{IpcpDoing, IpcpWhy, ipcp_plain}
+use Rattle.bng_ppp.specs.IpcpActs.{IpcpWhy, ipcp_plain}
 use Rattle.bng_ppp.specs.IpcpState.{first_ask}
 use Rattle.bng_ppp.specs.IpcpRelation.{ipcp_kind_of}
 use Rattle.bng_ppp.specs.LinkState.{LinkState}
-use Rattle.bng_ppp.specs.Said.{Said, quiet}
+use Rattle.bng_ppp.specs.Said.{Said}
 use Rattle.bng_ppp.specs.PppState.{PppState, is_open, is_for_auth, is_for_ipcp}
-use Rattle.bng_ppp.specs.PppRelation.{Turn, PppSaid, begun, leaves, with_lcp, with_ipcp, ipcp_of, IpcpMoves, Above, LcpStep, LcpSteps, LcpCloses, lcp_told, lcp_hears, IsWay, HearsAuth, AuthDoes, Refuses, HearsIpcp, HearsIpcpWithin, HearsLcp, HearsWay, HearsOctets, with_auth, with_auth_until, AuthReminds, AboveReminds, PppReminds, Accepts, Settles, IsLossCause, PppGoes, PppSteps, said_of, after_turn, ended_by}
+use Rattle.bng_ppp.specs.PppRelation.{Turn, PppSaid, begun, leaves, with_lcp, with_ipcp, ipcp_of, IpcpMoves, Above, LcpStep, LcpSteps, LcpCloses, lcp_told, lcp_hears, IsWay, HearsAuth, AuthDoes, Refuses, HearsIpcp, HearsLcp, HearsWay, HearsOctets, with_auth, with_auth_until, AuthReminds, AboveReminds, PppReminds, Accepts, Settles, IsLossCause, PppGoes, PppSteps, said_of, after_turn, ended_by}
 use Rattle.bng_ppp.proofs.OneOutcome.{follows_one, frame_one, packet_one, hears_one, reminds_one, steps_one}
 use Rattle.bng_ppp.proofs.IpcpOutcome.{ipcp_follows_one, ipcp_kind_one}
-use Rattle.bng_ppp.proofs.AuthOutcome.{Seen, seen_of, asks, repeats, refuses, ignores, auth_takes_one, auth_settles_one}
+use Rattle.bng_ppp.proofs.AuthOutcome.{seen_of, auth_takes_one, auth_settles_one}
 
 true_false : (b : Bool) → b ≡ true → b ≡ false → ⊥
 true_false b e f = cc
@@ -158,7 +158,7 @@ module _ (r : LinkRules) (now : ℕ) (random : List ℕ) where
   hears_octets_one octets old a b x y = way_one octets old x.way y.way a b x.is y.is x.hears y.hears
 
   auth_reminds_one : (n : Authentication) (t a b : Turn) → AuthReminds n r now random t a → AuthReminds n r now random t b → a ≡ b
-  auth_reminds_one auth.Idle t a b x y = lcp_closes_one _ a b x y
+  auth_reminds_one auth.Idle t a b x y = absurd x
   auth_reminds_one (auth.Pap q) t a b x y = lcp_closes_one _ a b x y
   auth_reminds_one (auth.Chap q sent) t a b (inl (few, x)) (inl (few', y)) = x ∙ sym y
   auth_reminds_one (auth.Chap q sent) t a b (inl (few, x)) (inr (many, y)) = absurd (omega arith)

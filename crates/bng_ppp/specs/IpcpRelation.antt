@@ -20,7 +20,6 @@ use Rattle.bng_ipcp.specs.Reply.{Takes}
 use Rattle.bng_ppp.specs.declared.ipcp_kept.IpcpKept.{IpcpKept}
 use Rattle.bng_ppp.specs.declared.ipcp_kind.IpcpKind.{IpcpKind}
 use Rattle.bng_ppp.specs.declared.ipcp_kind.IpcpKind.TheVariants.{Request, Reply, Plain, Unknown}
-use Rattle.bng_ppp.specs.IpcpState.{IpcpState}
 use Rattle.bng_ppp.specs.IpcpActs.{IpcpWhy, IpcpDoing, IpcpFollows, ipcp_plain, ipcp_answering}
 use Rattle.bng_ppp.specs.LinkState.{more_naks}
 use Rattle.bng_ppp.specs.Packets.{rejects_code}

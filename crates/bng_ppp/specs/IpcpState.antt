@@ -1,5 +1,5 @@
 -- What a contract sees of IPCP on a link, and how its counters go on.
-use Rattle.std.specs.Prelude.{ℕ, true, Some, None}
+use Rattle.std.specs.Prelude.{true, Some, None}
 use Rattle.bng_automaton.specs.Machine.{Machine}
 use Rattle.bng_base.specs.declared.address.Ip4.{Ip4}
 use Rattle.bng_ipcp.specs.Ask.{Ask}

@@ -15,3 +15,5 @@ pub mod Claims
 pub mod AuthRelation
 pub mod PppRelation
 pub mod Working
+pub mod Messages
+pub mod Phases

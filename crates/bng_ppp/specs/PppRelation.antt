@@ -1,7 +1,6 @@
 -- What a step of a whole link is: LCP's own relation, and what comes of it for authentication and IPCP, by RFC 1661 section 3.
-use Rattle.std.specs.Prelude.{◌≡◌, ◌⊎◌, ℕ, ◌+◌, ◌≤◌, ◌<◌, Bool, true, false, ◌&&◌, ◌||◌, ◌==◌, not, List, [], ◌∷◌, length, Option, Some, None, IsSomeAnd, if◌then◌else◌, ⊤}
+use Rattle.std.specs.Prelude.{◌≡◌, ◌⊎◌, ℕ, ◌+◌, ◌≤◌, ◌<◌, Bool, true, false, ◌&&◌, ◌||◌, not, List, [], ◌∷◌, length, Option, Some, None, IsSomeAnd, if◌then◌else◌, ⊤}
 use Rattle.byteorder.specs.Endian.{big_number}
-use Rattle.bng_auth.specs.declared.credentials.Credentials.{Credentials}
 use Rattle.bng_auth.specs.declared.step.AuthStep.{AuthStep}
 use Rattle.bng_auth.specs.declared.step.AuthStep.TheVariants.{Ask, Again, Refuse, Ignore}
 use Rattle.bng_auth.specs.Questions.{ChapQuestion}
@@ -31,11 +30,11 @@ use Rattle.bng_ppp.specs.Causes.{plain}
 use Rattle.bng_ppp.specs.Claims.{Claim, claim_of}
 use Rattle.bng_ppp.specs.IpcpActs.{IpcpDoing, IpcpWhy, IpcpFollows, ipcp_plain, ipcp_by_timer}
 use Rattle.bng_ppp.specs.IpcpRelation.{IpcpHearsKind, ipcp_kind_of}
-use Rattle.bng_ppp.specs.IpcpState.{IpcpState, first_ask}
+use Rattle.bng_ppp.specs.IpcpState.{first_ask}
 use Rattle.bng_ppp.specs.LinkRelation.{LinkSteps, HearsFrame, is_opened}
 use Rattle.bng_ppp.specs.LinkState.{LinkState, next_of}
 use Rattle.bng_ppp.specs.Moves.{Follows}
-use Rattle.bng_ppp.specs.PppState.{PppState, is_open, is_accepted, is_for_auth, is_for_ipcp}
+use Rattle.bng_ppp.specs.PppState.{PppState, is_open, is_for_auth, is_for_ipcp}
 use Rattle.bng_ppp.specs.Said.{Said, quiet}
 
 -- A link in the middle of a step, with what the step did so far.
@@ -229,8 +228,9 @@ abbrev pub AuthIsDue : PppState → ℕ → Type 0
 AuthIsDue s now = IsSomeAnd s.auth_due (λ t. t ≤ now)
 
 -- The Challenge goes out again, the same one, ten times in all. Then, and where a peer's PAP was waited for, LCP does Close.
+-- Before authentication has begun no timer of it runs.
 abbrev pub AuthReminds : Authentication → LinkRules → ℕ → List ℕ → Turn → Turn → Type 0
-AuthReminds auth.Idle r now random t after = LcpCloses r now random (with_auth_until t auth.Idle None) after
+AuthReminds auth.Idle r now random t after = ⊥
 AuthReminds (auth.Pap q) r now random t after = LcpCloses r now random (with_auth_until t (auth.Pap q) None) after
 AuthReminds (auth.Chap q sent) r now random t after =
     ((sent < 10) × (after ≡ record (with_auth_until t (auth.Chap q (sent + 1)) (Some (now + 3000))) { outs = challenge_sent r.name.items q t.outs }))

@@ -1,5 +1,5 @@
 -- What a contract sees of a whole link, from LCP to IPCP.
-use Rattle.std.specs.Prelude.{ℕ, Bool, false, ◌&&◌, ◌==◌, Option, None}
+use Rattle.std.specs.Prelude.{◌≡◌, ℕ, Bool, false, ◌&&◌, ◌==◌, Option, None, ⊤}
 use Rattle.bng_auth.specs.Questions.{pap_is_open, chap_is_open, is_yes}
 use Rattle.bng_ppp_wire.specs.declared.protocol.TheConstants as protocol
 use Rattle.bng_ppp.specs.declared.authentication.Authentication.{Authentication}
@@ -21,6 +21,12 @@ pub record PppState : Type 0 where
   pub next_challenge : ℕ
   -- a term is live: the peer was accepted, and neither LCP left Opened nor IPCP finished since
   pub live : Bool
+
+-- authentication's timer runs only once authentication has begun
+abbrev pub IsTimed : Authentication → Option ℕ → Type 0
+IsTimed auth.Idle due = due ≡ None
+IsTimed (auth.Pap q) due = ⊤
+IsTimed (auth.Chap q sent) due = ⊤
 
 -- a question is open: it was asked, and the verdict is not there yet
 abbrev pub is_open : Authentication → Bool

@@ -45,7 +45,9 @@ mod work;
 pub use crate::authentication::Authentication;
 pub use crate::ipcp_kept::IpcpKept;
 pub use crate::kept::{ECHOES_UNANSWERED_MOST, Kept, NAKS_MOST};
-pub use crate::laws::{lcp_has_one_outcome, link_has_one_outcome};
+pub use crate::laws::{
+    frames_read_back, lcp_frames_read_back, lcp_has_one_outcome, link_has_one_outcome, phases_tell,
+};
 pub use crate::link::Link;
 pub use crate::rules::{Input, LinkKind, LinkRules};
 pub use crate::step::Steps;

@@ -10,7 +10,8 @@ ghost use Rattle.bng_ppp.specs.LinkRelation.{LinkSteps, Starts, Asks, is_down as
 use crate::cause::Cause;
 use crate::kept::{Kept, NAKS_MOST};
 use crate::rules::{Input, LinkKind, LinkRules, limit};
-use crate::step::{Steps, quiet};
+use crate::send::quiet;
+use crate::step::Steps;
 use arrayvec::ArrayVec;
 use bng_automaton::{Automaton, Event, State};
 use bng_base::AuthKind;

@@ -1,13 +1,25 @@
 //! Frames of LCP that go out.
 ghost use Rattle.std.specs.Prelude.{◌≡◌, ◌+◌, ◌-◌, ◌<◌, ◌≤◌, length, take, option_map};
 ghost use Rattle.bng_ppp_wire.specs.View.{packet_of};
-ghost use Rattle.bng_ppp.specs.Said.{said};
+ghost use Rattle.bng_ppp.specs.Said.{said, quiet as says_nothing};
 ghost use Rattle.bng_ppp.specs.Causes.{AnswerFits};
 ghost use Rattle.bng_ppp.specs.Sending.{sent_on, sent_text, sent, sent_some};
 
 use crate::step::Steps;
-use bng_base::{Frame, HEADROOM};
+use arrayvec::ArrayVec;
+use bng_base::{Frame, HEADROOM, ROOM};
 use bng_ppp_wire::{Packet, protocol};
+
+/// A step that does nothing.
+pub(crate) fn quiet() -> Steps
+    ensures { said result ≡ says_nothing }
+{
+    Steps {
+        outs: ArrayVec::new(),
+        opened: false,
+        finished: false,
+    }
+}
 
 /// The most octets that a packet's body has: with its header and its protocol it fits a frame of 4,096 octets.
 pub(crate) const BODY_MOST: usize = 4090;
@@ -20,6 +32,8 @@ pub(crate) fn send_on(number: u16, mut packet: Frame, steps: &mut Steps)
     ensures few { length steps.new.outs.items ≤ length steps.old.outs.items + 1 }
 {
     packet.put_front(&number.to_be_bytes());
+    let fits = packet.payload().len() <= ROOM;
+    prove!(fits);
     steps.outs.push(packet);
 }
 

@@ -1,5 +1,6 @@
-ghost use Rattle.std.specs.Prelude.{◌≡◌, []};
-ghost use Rattle.bng_ppp.specs.Said.{said, quiet as says_nothing};
+ghost use Rattle.std.specs.Prelude.{◌≤◌, length};
+ghost use Rattle.std.specs.List.{All};
+ghost use Rattle.bng_base.specs.Packet.{Packet};
 
 use arrayvec::ArrayVec;
 use bng_base::Frame;
@@ -7,21 +8,11 @@ use bng_base::Frame;
 /// What a step of a link gives.
 #[derive(Drop)]
 pub struct Steps {
-    /// PPP frames, from their protocol on, in the order of sending.
+    /// PPP frames, from their protocol on, in the order of sending. Each is short enough that it reads back whole.
     pub outs: ArrayVec<Frame, 4>,
     /// LCP came to Opened.
     pub opened: bool,
     /// LCP finished: the lower layer is needed no longer, or is gone.
     pub finished: bool,
-}
-
-/// A step that does nothing.
-pub(crate) fn quiet() -> Steps
-    ensures { said result ≡ says_nothing }
-{
-    Steps {
-        outs: ArrayVec::new(),
-        opened: false,
-        finished: false,
-    }
+    pub ghost fit: { All (λ (f : Packet). length f.payload ≤ 4160) outs.items },
 }

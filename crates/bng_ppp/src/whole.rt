@@ -5,6 +5,9 @@ ghost use Rattle.bng_ppp.specs.IpcpState.{ipcp_unused};
 ghost use Rattle.bng_automaton.specs.Timer.{TimerIsOut};
 ghost use Rattle.bng_ppp.specs.LinkRelation.{earliest as first_of, EchoIsDue};
 ghost use Rattle.bng_ppp.specs.LinkState.{IsFirstAsk, unused, kept_first, limit_of};
+ghost use Rattle.std.specs.List.{All};
+ghost use Rattle.bng_ppp.specs.Messages.{ReadsBack};
+ghost use Rattle.bng_ppp.specs.Phases.{KeepsPhases};
 ghost use Rattle.bng_ppp.specs.PppRelation.{AuthIsDue, PppSteps, PppGoes, lcp_told};
 ghost use Rattle.bng_ppp.specs.PppState.{passes as passes_in};
 ghost use Rattle.bng_ppp.specs.Working.{turn_of, IsFresh, ppp_said};
@@ -34,11 +37,13 @@ pub struct WholeLink {
 }
 
 impl Model for WholeLink {
-    ghost use Rattle.bng_ppp.specs.PppState.{PppState};
+    ghost use Rattle.bng_ppp.specs.PppState.{PppState, IsTimed};
 
     ghost Value = { PppState };
 
     ghost view = { λ l. record { lcp = l.lcp; auth = l.auth; auth_due = l.auth_due; ipcp = l.ipcp; next_challenge = l.next_challenge; live = l.live } };
+
+    ghost invariant = { λ l. IsTimed l.auth l.auth_due };
 }
 
 impl WholeLink {
@@ -52,6 +57,7 @@ impl WholeLink {
         ensures ipcp { result.ipcp ≡ ipcp_unused (record { 0 = 0 }) }
         ensures challenge { result.next_challenge ≡ 1 }
         ensures term { result.live ≡ false }
+        ensures phases { KeepsPhases result }
     {
         WholeLink {
             lcp: Link::new(kind, random, now),
@@ -79,7 +85,9 @@ impl WholeLink {
     ) -> WholeSteps
         requires moment { now < 2 ^ 60 }
         requires auth { 0 < length rules.now.auth.items }
-        ensures { PppSteps rules.now input.entry now random.now self.old (ppp_said result) self.new }
+        ensures steps { PppSteps rules.now input.entry now random.now self.old (ppp_said result) self.new }
+        ensures again { All (λ f. ReadsBack f.payload) result.outs.items }
+        ensures phases { KeepsPhases self.old → KeepsPhases self.new }
     {
         let mut work = fresh();
         let term_ended = self.go(rules, input, now, random, &mut work);

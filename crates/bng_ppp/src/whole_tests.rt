@@ -181,6 +181,88 @@ fn a_pppd_is_accepted_by_chap_and_gets_its_address(rt: HostRuntime) {
     assert!(rt; done.opened && link.passes());
 }
 
+// What a pppd says after LCP is Opened with PAP, and the frame that answers it, from its own Echo-Request on to the question
+// (RFC 1661 section 5.8, RFC 1334 section 2.2.1): IPCP before the verdict gets nothing, IPV6CP a Protocol-Reject.
+const BEFORE_PAP: [(&[u8], &[u8]); 3] = [
+    (
+        b"\xc0\x21\x09\x00\x00\x08\x11\x22\x33\x44",
+        b"\xc0\x21\x0a\x00\x00\x08\xa1\xb2\xc3\xd4",
+    ),
+    (
+        b"\x80\x57\x01\x01\x00\x0e\x01\x0a\x00\x00\x00\x00\x00\x00\x00\x01",
+        b"\xc0\x21\x08\x02\x00\x14\x80\x57\x01\x01\x00\x0e\x01\x0a\x00\x00\x00\x00\x00\x00\x00\x01",
+    ),
+    (b"\x80\x21\x01\x01\x00\x0a\x03\x06\x00\x00\x00\x00", b""),
+];
+
+// What it says once it was accepted, and the frame that answers it: the Authenticate-Request again (RFC 1334 section 2.2.2);
+// Van Jacobson's compression (RFC 1332 section 3.2), its address (section 3.3) and both servers (RFC 1877 sections 1.1 and
+// 1.3) in one request, of which the first is rejected and the others are naked; and its Ack of the gateway's address.
+const AFTER_PAP: [(&[u8], &[u8]); 4] = [
+    (
+        b"\xc0\x23\x01\x09\x00\x0c\x02u0\x04pass",
+        b"\xc0\x23\x02\x09\x00\x07\x02hi",
+    ),
+    (
+        b"\x80\x21\x01\x01\x00\x1c\x02\x06\x00\x2d\x0f\x01\x03\x06\x00\x00\x00\x00\x81\x06\x00\x00\x00\x00\x83\x06\x00\x00\x00\x00",
+        b"\x80\x21\x04\x01\x00\x0a\x02\x06\x00\x2d\x0f\x01",
+    ),
+    (
+        b"\x80\x21\x01\x02\x00\x16\x03\x06\x00\x00\x00\x00\x81\x06\x00\x00\x00\x00\x83\x06\x00\x00\x00\x00",
+        b"\x80\x21\x03\x02\x00\x16\x03\x06\x0a\x00\x00\x02\x81\x06\xc0\x00\x02\x35\x83\x06\xc0\x00\x02\x36",
+    ),
+    (b"\x80\x21\x02\x01\x00\x0a\x03\x06\x0a\x00\x00\x01", b""),
+];
+
+#[test]
+fn a_pppd_is_accepted_by_pap_and_gets_its_address_and_servers(rt: HostRuntime) {
+    let rules = rules(AuthKind::Pap, 0);
+    let mut link = WholeLink::new(LinkKind::Pppoe, &RANDOM, 0);
+    let asks = tell(&mut link, &rules, WholeInput::Start, 0);
+    assert_eq!(rt;
+        sent(&asks, 0),
+        b"\xc0\x21\x01\x01\x00\x12\x01\x04\x05\xd4\x03\x04\xc0\x23\x05\x06\xa1\xb2\xc3\xd4".as_slice()
+    );
+    let acks = hear(&mut link, &rules, REQUEST);
+    assert_eq!(rt;
+        sent(&acks, 0),
+        b"\xc0\x21\x02\x02\x00\x0e\x01\x04\x05\xd4\x05\x06\x11\x22\x33\x44".as_slice()
+    );
+    let up = hear(&mut link, &rules, PAP_ACK);
+    assert!(rt; up.outs.is_empty() && link.was_opened() && link.deadline() == Some(30_000));
+    for (heard, answer) in BEFORE_PAP {
+        assert_eq!(rt; sent(&hear(&mut link, &rules, heard), 0), answer);
+    }
+    let question = hear(&mut link, &rules, PAP_REQUEST);
+    assert!(rt; question.outs.is_empty() && link.deadline().is_none());
+    match &question.asked {
+        Some(claim) => assert_eq!(rt; claim.name.as_slice(), b"u0".as_slice()),
+        None => assert!(rt; false),
+    }
+    let repeated = hear(&mut link, &rules, PAP_REQUEST);
+    assert!(rt; repeated.outs.is_empty() && repeated.asked.is_none());
+    let yes = tell(&mut link, &rules, verdict(true, b"hi"), 0);
+    assert_eq!(rt; sent(&yes, 0), b"\xc0\x23\x02\x07\x00\x07\x02hi".as_slice());
+    assert_eq!(rt;
+        sent(&yes, 1),
+        b"\x80\x21\x01\x01\x00\x0a\x03\x06\x0a\x00\x00\x01".as_slice()
+    );
+    for (heard, answer) in AFTER_PAP {
+        assert!(rt; !link.passes());
+        assert_eq!(rt; sent(&hear(&mut link, &rules, heard), 0), answer);
+    }
+    let takes =
+        b"\x80\x21\x01\x03\x00\x16\x03\x06\x0a\x00\x00\x02\x81\x06\xc0\x00\x02\x35\x83\x06\xc0\x00\x02\x36";
+    let done = hear(&mut link, &rules, takes);
+    let ack =
+        b"\x80\x21\x02\x03\x00\x16\x03\x06\x0a\x00\x00\x02\x81\x06\xc0\x00\x02\x35\x83\x06\xc0\x00\x02\x36";
+    assert_eq!(rt; sent(&done, 0), ack.as_slice());
+    assert!(rt; done.opened && link.passes());
+    let end = hear(&mut link, &rules, b"\xc0\x21\x05\x04\x00\x04");
+    assert_eq!(rt; sent(&end, 0), b"\xc0\x21\x06\x04\x00\x04".as_slice());
+    assert!(rt; end.term_ended == Some(1) && !link.passes());
+}
+
 #[test]
 fn a_request_in_opened_ends_the_term_and_begins_anew(rt: HostRuntime) {
     let rules = rules(AuthKind::Chap, 0);

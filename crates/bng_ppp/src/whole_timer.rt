@@ -84,6 +84,7 @@ impl WholeLink {
     // The Challenge goes out again, or LCP does Close.
     fn remind_auth(&mut self, rules: &LinkRules, now: u64, random: &[u8; 16], work: &mut Work)
         requires moment { now < 2 ^ 60 }
+        requires due { AuthIsDue self.old now }
         requires room { length work.old.steps.outs.items ≤ 2 }
         ensures { AuthReminds self.old.auth rules.now now random.now (turn_of self.old work.old) (turn_of self.new work.new) }
     {

@@ -4,7 +4,8 @@ ghost use Rattle.bng_ppp.specs.PppState.{PppState};
 ghost use Rattle.bng_ppp.specs.PppRelation.{ended_by};
 ghost use Rattle.bng_ppp.specs.Working.{IsFresh};
 
-use crate::step::{Steps, quiet};
+use crate::send::quiet;
+use crate::step::Steps;
 use bng_auth::Credentials;
 
 /// What a step of a whole link has done so far.

@@ -1,5 +1,4 @@
 use Rattle.std.proofs.Common.{rules}
-use Rattle.bng_ppp.specs.Acts.{Doing}
 use Rattle.bng_ppp.specs.Said.{said}
 use Rattle.bng_ppp.proofs.whole.WholeLink.close.Goals as goal
 

@@ -2,7 +2,7 @@ use Rattle.std.proofs.Common.{ap, subst, refl, List, ℕ, Some, None}
 use Rattle.bng_auth.specs.declared.step.AuthStep.TheVariants.{Ask, Again, Ignore}
 use Rattle.bng_ppp_wire.specs.View.{packet_of}
 use Rattle.bng_ppp.specs.Claims.{claim_of}
-use Rattle.bng_ppp.specs.PppRelation.{Turn, HearsAuth, with_auth}
+use Rattle.bng_ppp.specs.PppRelation.{Turn, HearsAuth}
 use Rattle.bng_ppp.specs.PppState.{PppState}
 use Rattle.bng_ppp.specs.Said.{Said, payloads}
 use Rattle.bng_ppp.specs.Working.{turn_of}

@@ -1,5 +1,4 @@
 use Rattle.std.proofs.Common.{rules}
-use Rattle.bng_ppp.specs.IpcpActs.{IpcpDoing}
 use Rattle.bng_ppp.specs.Said.{said}
 use Rattle.bng_ppp.proofs.whole.WholeLink.hear_ipcp_within.Goals as goal
 
