@@ -68,13 +68,13 @@ rows_apart : (rows : List Row) (n : ℕ) (cs : List Static) → Same (row_keys r
 rows_apart rows n cs same apart =
     apart_where_once session_of_row rows
     (λ m.
-        omega (
-          arith,
-          sum_map (λ (r : Row). r.key) (λ (k : Key). one_if (eqb k.term.session.0 m)) rows,
-          same (λ (k : Key). one_if (eqb k.term.session.0 m)),
-          session_count m n cs,
-          once_where_apart session_in m cs apart,
-        ))
+    omega (
+      arith,
+      sum_map (λ (r : Row). r.key) (λ (k : Key). one_if (eqb k.term.session.0 m)) rows,
+      same (λ (k : Key). one_if (eqb k.term.session.0 m)),
+      session_count m n cs,
+      once_where_apart session_in m cs apart,
+    ))
 
 -- these are the shards from that number on
 abbrev Finds : List (ShardView ShardState Entry) → ℕ → List (ShardView ShardState Entry) → Type 0

@@ -40,8 +40,7 @@ none_with {X} f n (x ∷ xs) e =
 pub apart_where_once : {X : Type 0} (f : X → ℕ) (xs : List X) → ((n : ℕ) → count_by (λ x. eqb (f x) n) xs ≤ 1) → Apart f xs
 apart_where_once f [] h = tt
 apart_where_once {X} f (x ∷ xs) h =
-    let parts = λ (n : ℕ). sum_by-cons (λ (y : X). one_if (eqb (f y) n)) x xs in
-    (
+    let parts = λ (n : ℕ). sum_by-cons (λ (y : X). one_if (eqb (f y) n)) x xs in (
       none_with f (f x) xs (omega (arith, h (f x), parts (f x), ap one_if (eq-eqb (f x) (f x) refl))),
       apart_where_once f xs (λ n. omega (arith, h n, parts n)),
     )

@@ -44,13 +44,13 @@ pub compared_more : (one : SeatView) (others : List SeatView) (n : ℕ) (now : S
 compared_more one others n now after x x' now' c at same agreed is is' = let step : HasMoreNotes now now' = subst (HasMoreNotes now) (sym is') (more_told now x') in let other : HasMoreNotes x x' = subst (HasMoreNotes x) (sym is) (more_told x now) in
     let phase : now'.phase ≡ x.phase = ap (λ (z : SeatView). z.phase) (step.rest) ∙ (ap (λ (z : SeatView). z.phase) c.more.rest ∙ sym same) in
     let heard : (a : ℕ) → Holds x.held a → Notes now'.notes a x.number now'.phase = λ a h. subst (λ (z : SeatView × SeatView × ℕ). Notes z.0.notes a z.1.number z.2) (λ i. (sym is' i, is i, sym phase i))
-        (subst (λ z. Notes (told now x').notes a x'.number z) (ap (λ (z : SeatView). z.phase) is) (told_held now x' a (subst (λ (z : SeatView). Holds z.held a) (sym is) h))) in record {
+    (subst (λ z. Notes (told now x').notes a x'.number z) (ap (λ (z : SeatView). z.phase) is) (told_held now x' a (subst (λ (z : SeatView). Holds z.held a) (sym is) h))) in record {
       long = length-set after n x' ∙ c.long;
       more = more_more one now now' c.more step;
       done = λ j q low e. dite (ℕ_discrete j n)
           (λ here. let q_is : x ≡ q = some_same x q (sym at ∙ (ap (slice_get after) (sym here) ∙ (c.ahead j (omega arith) ∙ e))) in
           subst (λ (z : SeatView). AreAgreed one z × ((a : ℕ) → Holds z.held a → Notes now'.notes a z.number now'.phase) × ((r : SeatView) → slice_get (set after n x') j ≡ Some r → HasMoreNotes z r)) q_is
-              (agreed_less one now x x c.more (more_self x) agreed, heard, (λ r f. subst (HasMoreNotes x) (some_same x' r (sym (set_same after n x x' at) ∙ (ap (slice_get (set after n x')) (sym here) ∙ f))) other)))
+          (agreed_less one now x x c.more (more_self x) agreed, heard, (λ r f. subst (HasMoreNotes x) (some_same x' r (sym (set_same after n x x' at) ∙ (ap (slice_get (set after n x')) (sym here) ∙ f))) other)))
           (λ there. let d = c.done j q (omega arith) e in (d.0, (λ a h. subst (λ z. Notes now'.notes a q.number z) (sym (ap (λ (z : SeatView). z.phase) step.rest)) (step.notes a q.number now.phase (d.1 a h))), (λ r f. d.2 r (sym (set_other after n j x' there) ∙ f))));
       ahead = λ j h. set_other after n j x' (λ e. absurd (omega arith)) ∙ c.ahead j (omega arith);
     }

@@ -47,8 +47,12 @@ past seat a (w ∷ ws) = let t = past (looked_at seat a w) (suc a) ws in record 
 past_noted : (seat : SeatView) (a : ℕ) (ws : List ℕ) (i w : ℕ) → notes_now seat.full seat.phase ≡ true → slice_get ws i ≡ Some w → 0 < w → (m : ℕ) × (w ≡ suc m) × Notes (passed_over seat a ws).notes (a + i) m seat.phase
 past_noted seat a [] i w may e more = absurd (cc)
 past_noted seat a (zero ∷ ws) zero w may e more = let z : 0 ≡ w = some_same 0 w e in absurd (omega arith)
-past_noted seat a (suc m ∷ ws) zero w may e more = (m, sym (some_same (suc m) w e), (past (looked_at seat a (suc m)) (suc a) ws).notes (a + 0) m seat.phase
-    (subst (λ z. Notes (notes_after (notes_now seat.full seat.phase) a (suc m) seat.phase seat.notes) z m seat.phase) (let h : a ≡ a + 0 = omega arith in h) (noted_first (notes_now seat.full seat.phase) a m seat.phase seat.notes may)))
+past_noted seat a (suc m ∷ ws) zero w may e more = (
+  m,
+  sym (some_same (suc m) w e),
+  (past (looked_at seat a (suc m)) (suc a) ws).notes (a + 0) m seat.phase
+      (subst (λ z. Notes (notes_after (notes_now seat.full seat.phase) a (suc m) seat.phase seat.notes) z m seat.phase) (let h : a ≡ a + 0 = omega arith in h) (noted_first (notes_now seat.full seat.phase) a m seat.phase seat.notes may)),
+)
 past_noted seat a (v ∷ ws) (suc i) w may e more = let t = past_noted (looked_at seat a v) (suc a) ws i w may e more in
     (t.0, t.1, subst (λ z. Notes (passed_over (looked_at seat a v) (suc a) ws).notes z t.0 seat.phase) (let h : suc a + i ≡ a + suc i = omega arith in h) t.2)
 
@@ -195,7 +199,7 @@ module _ (pool : PoolView) (seats : List SeatView) (hand : AreInOneHand pool sea
       (λ h. let a : ℕ = first + length ws in let left = h.2 in let number : after.number ≡ before.number = ap (λ (z : SeatView). z.number) left ∙ p.number in let phase : after.phase ≡ before.phase = ap (λ (z : SeatView). z.phase) left ∙ p.phase in
       let held : after.held ≡ a ∷ before.held = ap (λ (z : SeatView). z.held) left ∙ ap (λ z. a ∷ z) p.held in let short = h.0 in let within : InRange r a = (omega arith, omega arith) in
       let t = taken a (ap (λ (z : SeatView). z.pool) left ∙ p.pool) number held (n, r, range, within)
-          (free_if_taken pool seats hand before after of_pool own_at number agreed a h.3 (subst (λ z. Holds z a) (sym held) (0, refl))) in
+      (free_if_taken pool seats hand before after of_pool own_at number agreed a h.3 (subst (λ z. Holds z a) (sym held) (0, refl))) in
       let below = taken_below of_pool round number phase agreed first ws s.taken (ap (λ (z : SeatView). z.notes) left) in
       (t.0, inl (record { 0 = a }, h.1, within, below, t.1))) s.ended
 
@@ -219,7 +223,7 @@ same_tables (x ∷ xs) (y ∷ ys) e h = let here = h 0 x y refl refl in (λ i. e
 
 pub all_keep_table : AllKeepTable
 all_keep_table pool seats next hand long same = let was : (k : ℕ) (q : SeatView) → slice_get next k ≡ Some q → (p : SeatView) × (slice_get seats k ≡ Some p) =
-        λ k q e. (get_or seats k q, slice_get-get_or seats k q (let within = slice_get_within next k q e in let h : k < length seats = omega arith in h)) in
+    λ k q e. (get_or seats k q, slice_get-get_or seats k q (let within = slice_get_within next k q e in let h : k < length seats = omega arith in h)) in
     let back : (a k : ℕ) → HasHolder next a k → HasHolder seats a k = λ a k h. let p = was k h.0 h.1 in (p.0, p.1, subst (λ z. Holds z a) (same k p.0 h.0 p.1 h.1).2 h.2) in (
       record {
         all = long ∙ hand.all;

@@ -41,7 +41,12 @@ pub(crate) fn scan(pool: &Pool, seats: &mut [PoolSeat], shard: usize, range: u8)
 }
 
 // The looker is a worker's seat.
-pub(crate) fn look(pool: &Pool, looker: &mut PoolSeat, seats: &mut [PoolSeat], a: Ip4) -> Option<u16>
+pub(crate) fn look(
+    pool: &Pool,
+    looker: &mut PoolSeat,
+    seats: &mut [PoolSeat],
+    a: Ip4,
+) -> Option<u16>
     requires hand { AreInOneHand pool.now seats.old }
     requires round { AreInRound looker.old.phase seats.old × IsInRound looker.old }
     requires looker { (looker.old.pool ≡ pool.now) × (looker.old.number ≡ pool.now.shards) }

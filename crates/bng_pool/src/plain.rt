@@ -78,12 +78,7 @@ impl Plain {
         ensures table { result ≡ entry self.old.1 a.0 }
         ensures rest { self.new ≡ self.old }
     {
-        look(
-            &self.pool,
-            &mut self.looker,
-            self.seats.as_mut_slice(),
-            a,
-        )
+        look(&self.pool, &mut self.looker, self.seats.as_mut_slice(), a)
     }
 
     fn give_back<R: Wait>(&mut self, rt: &R, shard: usize, a: Ip4)

@@ -40,7 +40,10 @@ deal-fate-requires-clause-low_books c k d lt i within q input =
     let was = c.loop-item.invariant in
     let number = ap (λ (is : List Item). length is) was.whole in
     omega (
-      arith, number, length-append c.loop-item.yielded c.loop-item.item-iterator.rest.items, c.requires.items.few,
+      arith,
+      number,
+      length-append c.loop-item.yielded c.loop-item.item-iterator.rest.items,
+      c.requires.items.few,
       dealt_books c.args.rules.now c.args.pool.now c.args.now c.loop-item.yielded c.args.shards.now c.loop-item.shards c.loop-item.loose.items c.args.drops.now c.loop-item.drops c.args.tally.now c.loop-item.tally was.deals (2 ^ 62 + 2 ^ 61) c.requires.low_books k d lt i within q input,
     )
 

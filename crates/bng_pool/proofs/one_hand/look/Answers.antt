@@ -11,7 +11,7 @@ pub compare_each-requires-2-clause-beside : goal.compare_each-requires-2-clause-
 compare_each-requires-2-clause-beside c = let hand = (noted_hand c.seats_in_one_hand_are_a_table.ensures.all_keep c.args.pool.now c.args.seats.now c.compare_each.new.others c.requires.hand c.compare_each.ensures.others).0 in
     let rest = c.look-holder.ensures.rest in let more = c.compare_each.ensures.one.rest in let phase : c.look-holder.new.seat.phase ≡ c.args.looker.now.phase = ap (λ (z : SeatView). z.phase) rest ∙ ap (λ (z : SeatView). z.phase) more in
     looker_beside c.args.pool.now c.compare_each.new.others c.look-holder.new.seat hand (ap (λ (z : SeatView). z.pool) rest ∙ (ap (λ (z : SeatView). z.pool) more ∙ c.requires.looker.0)) (ap (λ (z : SeatView). z.number) rest ∙ (ap (λ (z : SeatView). z.number) more ∙ c.requires.looker.1))
-        (subst (λ z. AreInRound z c.compare_each.new.others) (sym phase) (noted_round c.args.seats.now c.compare_each.new.others c.args.looker.now.phase c.compare_each.ensures.others c.requires.round.0))
+    (subst (λ z. AreInRound z c.compare_each.new.others) (sym phase) (noted_round c.args.seats.now c.compare_each.new.others c.args.looker.now.phase c.compare_each.ensures.others c.requires.round.0))
 
 pub returns-clause-table : goal.returns-clause-table
 returns-clause-table c = looked_in_hand c.seats_in_one_hand_are_a_table.ensures.looks c.seats_in_one_hand_are_a_table.ensures.all_keep c.args.pool.now c.args.seats.now c.compare_each.new.others c.args.looker.now c.compare_each.new.one c.look-holder.new.seat c.args.a.0 c.look-holder.result
@@ -26,6 +26,8 @@ returns-clause-hand c = let keep = c.seats_in_one_hand_are_a_table.ensures.all_k
     (noted_hand keep c.args.pool.now c.compare_each.new.others c.compare_each-2.new.others one.0 c.compare_each-2.ensures.others).0
 
 pub returns-clause-round : goal.returns-clause-round
-returns-clause-round c = let rest = c.look-holder.ensures.rest in let more = c.compare_each.ensures.one.rest in let more' = c.compare_each-2.ensures.one.rest in
-    (noted_round c.compare_each.new.others c.compare_each-2.new.others c.args.looker.now.phase c.compare_each-2.ensures.others (noted_round c.args.seats.now c.compare_each.new.others c.args.looker.now.phase c.compare_each.ensures.others c.requires.round.0),
-    subst IsInRound (sym more') (subst IsInRound (sym rest) (subst IsInRound (sym more) c.requires.round.1)), ap (λ (z : SeatView). z.phase) more' ∙ (ap (λ (z : SeatView). z.phase) rest ∙ ap (λ (z : SeatView). z.phase) more))
+returns-clause-round c = let rest = c.look-holder.ensures.rest in let more = c.compare_each.ensures.one.rest in let more' = c.compare_each-2.ensures.one.rest in (
+  noted_round c.compare_each.new.others c.compare_each-2.new.others c.args.looker.now.phase c.compare_each-2.ensures.others (noted_round c.args.seats.now c.compare_each.new.others c.args.looker.now.phase c.compare_each.ensures.others c.requires.round.0),
+  subst IsInRound (sym more') (subst IsInRound (sym rest) (subst IsInRound (sym more) c.requires.round.1)),
+  ap (λ (z : SeatView). z.phase) more' ∙ (ap (λ (z : SeatView). z.phase) rest ∙ ap (λ (z : SeatView). z.phase) more),
+)

@@ -13,14 +13,17 @@ compare_at-requires-clause-round c = let before : SeatView = get_or c.args.seats
     (c.requires.round.0, changed_round c.args.pool.now c.args.seats.now c.requires.hand c.args.shard before c.scan-answer.new.seat (slice_get-get_or c.args.seats.now c.args.shard c.index-seats-shard.result (omega arith)) (scan_same _ _ _ _ _ c.scan-answer.ensures.2) c.requires.round.0 c.requires.round.1)
 
 pub returns-clause-table : goal.returns-clause-table
-returns-clause-table c = let before : SeatView = get_or c.args.seats.now c.args.shard c.index-seats-shard.result in let all = c.requires.hand.all in let low = c.requires.shard in
-    (c.scan-answer.ensures.0, c.scan-answer.ensures.1, (scanned_in_hand c.seats_in_one_hand_are_a_table.ensures.all_keep c.args.pool.now c.args.seats.now c.compare_at.new.seats c.requires.hand c.args.shard before c.scan-answer.new.seat (slice_get-get_or c.args.seats.now c.args.shard c.index-seats-shard.result (omega arith)) c.requires.round
-        c.compare_at.ensures.agreed c.compare_at.ensures.seats c.seats_in_one_hand_are_a_table.ensures.scans c.scan-answer.ensures.0 c.args.range c.scan-answer.result c.scan-answer.ensures.1 c.scan-answer.ensures.2).1)
+returns-clause-table c = let before : SeatView = get_or c.args.seats.now c.args.shard c.index-seats-shard.result in let all = c.requires.hand.all in let low = c.requires.shard in (
+  c.scan-answer.ensures.0,
+  c.scan-answer.ensures.1,
+  (scanned_in_hand c.seats_in_one_hand_are_a_table.ensures.all_keep c.args.pool.now c.args.seats.now c.compare_at.new.seats c.requires.hand c.args.shard before c.scan-answer.new.seat (slice_get-get_or c.args.seats.now c.args.shard c.index-seats-shard.result (omega arith)) c.requires.round
+      c.compare_at.ensures.agreed c.compare_at.ensures.seats c.seats_in_one_hand_are_a_table.ensures.scans c.scan-answer.ensures.0 c.args.range c.scan-answer.result c.scan-answer.ensures.1 c.scan-answer.ensures.2).1,
+)
 
 pub returns-clause-hand : goal.returns-clause-hand
 returns-clause-hand c = let before : SeatView = get_or c.args.seats.now c.args.shard c.index-seats-shard.result in let all = c.requires.hand.all in let low = c.requires.shard in
     (scanned_in_hand c.seats_in_one_hand_are_a_table.ensures.all_keep c.args.pool.now c.args.seats.now c.compare_at.new.seats c.requires.hand c.args.shard before c.scan-answer.new.seat (slice_get-get_or c.args.seats.now c.args.shard c.index-seats-shard.result (omega arith)) c.requires.round
-        c.compare_at.ensures.agreed c.compare_at.ensures.seats c.seats_in_one_hand_are_a_table.ensures.scans c.scan-answer.ensures.0 c.args.range c.scan-answer.result c.scan-answer.ensures.1 c.scan-answer.ensures.2).0
+    c.compare_at.ensures.agreed c.compare_at.ensures.seats c.seats_in_one_hand_are_a_table.ensures.scans c.scan-answer.ensures.0 c.args.range c.scan-answer.result c.scan-answer.ensures.1 c.scan-answer.ensures.2).0
 
 pub returns-clause-round : goal.returns-clause-round
 returns-clause-round c phase round = let before : SeatView = get_or c.args.seats.now c.args.shard c.index-seats-shard.result in let all = c.requires.hand.all in let low = c.requires.shard in

@@ -12,7 +12,7 @@ invariant_of-result c = let did = c.in_ok-pool.ensures in let shards = did.pool.
       opens.0,
       (
         (λ k q e. let within = slice_get_within c.in_ok-pool.seats.items k q e in let is = same_Some (new_seat c.in_ok-pool.pool k) q (sym (did.shard_seats k (omega arith)) ∙ e) in
-        (subst IsInRound is (refl, refl), ap (λ (z : SeatView). z.phase) (sym is) ∙ sym phase)),
+            (subst IsInRound is (refl, refl), ap (λ (z : SeatView). z.phase) (sym is) ∙ sym phase)),
         subst IsInRound (sym looker) (refl, refl),
       ),
       (ap (λ (z : SeatView). z.pool) looker, omega arith),
