@@ -11,3 +11,5 @@ pub mod FateOf
 pub mod Roles
 pub mod PppGrammar
 pub mod PppoeGrammar
+pub mod Books
+pub mod Listed
