@@ -1,5 +1,3 @@
 pub mod Exclusive
 pub mod Trimmed
-pub mod Tables
-pub mod Places
-pub mod Passing
+pub mod Readings

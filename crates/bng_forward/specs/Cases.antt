@@ -2,7 +2,7 @@
 use Rattle.std.specs.Prelude.{◌≡◌, ◌⊎◌, List, [], ◌∷◌}
 use Rattle.bng_base.specs.declared.fate.DropCause.{DropCause}
 use Rattle.bng_base.specs.declared.fate.Fate.{Fate}
-use Rattle.bng_base.specs.declared.fate.Fate.TheVariants.{Consumed, Dropped}
+use Rattle.bng_base.specs.declared.fate.Fate.TheVariants.{Dropped}
 
 -- a case of a table: when it holds, and the fate that it gives
 pub record Case : Type 1 where
@@ -16,6 +16,3 @@ drops cause holds = record { holds = holds; fate = Dropped cause }
 abbrev pub FirstOf : List Case → Fate → Fate → Type 0
 FirstOf [] last fate = fate ≡ last
 FirstOf (c ∷ cs) last fate = (c.holds × (fate ≡ c.fate)) ⊎ ((¬ c.holds) × FirstOf cs last fate)
-
-abbrev pub consumes : Type 0 → Case
-consumes holds = record { holds = holds; fate = Consumed }

@@ -86,8 +86,9 @@ pub fn names_session(frame: &Pppoe<'_>) -> bool
     !frame.discovery || frame.code == code::PADT
 }
 
-// The octets that stand where a frame has its IPv4 packet.
-pub(crate) fn carried<'a>(frame: &Pppoe<'a>) -> Option<&'a [u8]>
+/// The octets that stand where a frame has its IPv4 packet, the information of a PPP frame of protocol 0021 (RFC 1332).
+/// None exactly where it is of the discovery stage or carries another protocol.
+pub fn carried<'a>(frame: &Pppoe<'a>) -> Option<&'a [u8]>
     ensures found { IfSome result (λ info. Carries (frame_of frame.now) info.now) }
     ensures none { IfNone result ((info : List ℕ) → ¬ (Carries (frame_of frame.now) info)) }
 {

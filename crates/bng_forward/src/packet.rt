@@ -1,18 +1,19 @@
-ghost use Rattle.std.specs.Prelude.{◌≡◌, ℕ, ◌≤◌, List, IfOk};
-ghost use Rattle.bng_base.specs.declared.ipv4.Ipv4.{Ipv4 as Header};
+ghost use Rattle.std.specs.Prelude.{◌≡◌, ◌≤◌, ℕ, List, true, IfOk};
 ghost use Rattle.bng_base.specs.Ipv4Grammar.{IsIpv4};
-ghost use Rattle.bng_forward.specs.Packets.{UpFate, DownFate, IsPassedOn, fate_of};
+ghost use Rattle.bng_forward.specs.Packets.{IsPassedOn, MayPassUp, MayPassDown, fate_of};
+ghost use Rattle.bng_forward.specs.Fates.{UpFate, DownFate, Holders};
 
 use crate::view::TermView;
 use bng_base::{DropCause, Frame, Ipv4};
 use bng_ipv4::{lower_ttl, read};
 
-// The packet from the circuit, where it may pass.
-pub(crate) fn from_circuit(view: &TermView, bytes: &[u8]) -> Result<Ipv4, DropCause>
-    ensures fate { UpFate view.now bytes.now (fate_of result) }
-    ensures found { IfOk result (λ v. IsIpv4 v bytes.now) }
+// The packet of a live term, where it may pass.
+fn from_term(view: TermView, bytes: &[u8]) -> Result<Ipv4, DropCause>
+    ensures fate { UpFate (Some (Some view)) bytes.now (fate_of result) }
+    ensures read { IfOk result (λ v. IsIpv4 v bytes.now) }
+    ensures opened { IfOk result (λ v. view.opened ≡ true) }
     ensures alive { IfOk result (λ v. 2 ≤ v.ttl) }
-    ensures source { IfOk result (λ v. v.src ≡ view.now.lease) }
+    ensures source { IfOk result (λ v. v.src ≡ view.lease) }
 {
     if !view.opened {
         return Err(DropCause::NotOpen);
@@ -29,31 +30,38 @@ pub(crate) fn from_circuit(view: &TermView, bytes: &[u8]) -> Result<Ipv4, DropCa
     Ok(packet)
 }
 
-// The packet of the core that says this, for the holder of its destination, where it may pass.
-pub(crate) fn to_holder(holder: &TermView, header: Ipv4) -> Result<Ipv4, DropCause>
-    ensures fate { (bytes : List ℕ) → IsIpv4 header bytes → DownFate holder.now bytes (fate_of result) }
-    ensures same { IfOk result (λ v. v ≡ header) }
-    ensures alive { IfOk result (λ v. 2 ≤ v.ttl) }
+// The packet from the circuit, where it may pass.
+pub(crate) fn from_circuit(
+    found: Option<Option<TermView>>,
+    bytes: &[u8],
+) -> Result<Ipv4, DropCause>
+    ensures fate { UpFate found bytes.now (fate_of result) }
+    ensures read { IfOk result (λ v. IsIpv4 v bytes.now) }
+    ensures may { IfOk result (λ v. MayPassUp found v) }
 {
-    if !holder.opened {
+    match found {
+        None => Err(DropCause::NoSession),
+        Some(None) => Err(DropCause::NotOpen),
+        Some(Some(view)) => from_term(view, bytes),
+    }
+}
+
+// The packet of the core that says this, where it may pass to the holder of its destination.
+pub(crate) fn to_holder(holder: Option<TermView>, header: Ipv4) -> Result<Ipv4, DropCause>
+    ensures fate { (holders : Holders) (bytes : List ℕ) → IsIpv4 header bytes → holders header.dst ≡ holder → DownFate holders bytes (fate_of result) }
+    ensures same { IfOk result (λ v. v ≡ header) }
+    ensures may { IfOk result (λ v. MayPassDown holder header) }
+{
+    let Some(term) = holder else {
+        return Err(DropCause::NoSession);
+    };
+    if !term.opened {
         return Err(DropCause::NotOpen);
     }
     if header.ttl < 2 {
         return Err(DropCause::Expired);
     }
     Ok(header)
-}
-
-// The packet from the core for the holder of its destination, where it may pass.
-pub(crate) fn from_core(holder: &TermView, bytes: &[u8]) -> Result<Ipv4, DropCause>
-    ensures fate { DownFate holder.now bytes.now (fate_of result) }
-    ensures found { IfOk result (λ v. IsIpv4 v bytes.now) }
-    ensures alive { IfOk result (λ v. 2 ≤ v.ttl) }
-{
-    match read(bytes) {
-        Ok(header) => to_holder(holder, header),
-        Err(_) => Err(DropCause::Malformed),
-    }
 }
 
 // Makes of a packet the one that is to be sent: the octets past its total length are padding.

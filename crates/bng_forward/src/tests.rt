@@ -1,11 +1,11 @@
 ghost use Rattle.std.specs.Prelude.{◌≡◌, ◌≤◌, length};
 
 use crate::{
-    Arrived, Opened, TermView, access_fate, core_fate, down, open_frame, open_packet, put_in_frame,
-    up,
+    Arrived, TermView, carried, down, frame_at, names_session, packet_from, put_in_frame,
+    take_from_frame, up,
 };
-use arrayvec::ArrayVec;
-use bng_base::{AccessPort, DropCause, Fate, Frame, Ip4, Mac, Peer, SessionNo, Static};
+use bng_base::{AccessPort, DropCause, Fate, Frame, Ip4, Mac, Peer, SessionNo};
+use bng_ipv4::read;
 use std::process::Abort;
 
 // from 10.0.0.2 to 192.0.2.1 with TTL 2, and the same forwarded
@@ -69,58 +69,87 @@ const OTHER: TermView = TermView {
 
 fn frame_of(octets: &[u8]) -> Frame
     requires { length octets.now ≤ 64 }
-    ensures { result.headroom ≡ 64 }
+    ensures octets { result.payload ≡ octets.now }
+    ensures headroom { result.headroom ≡ 64 }
 {
     let mut frame = Frame::new();
     frame.set(octets);
     frame
 }
 
-fn goes_up(rt: &impl Abort, mut view: TermView, octets: &[u8], fate: Fate, after: &[u8])
+fn goes_up(
+    rt: &impl Abort,
+    found: Option<Option<TermView>>,
+    octets: &[u8],
+    fate: Fate,
+    after: &[u8],
+)
     requires { length octets.now ≤ 64 }
 {
     let mut frame = frame_of(octets);
-    assert_eq!(rt; up(&mut view, 0, &mut frame), fate);
+    assert_eq!(rt; up(found, &mut frame), fate);
     assert_eq!(rt; frame.payload(), after);
 }
 
-fn goes_down(rt: &impl Abort, mut view: TermView, octets: &[u8], fate: Fate, after: &[u8])
+fn goes_down(
+    rt: &impl Abort,
+    holder: Option<TermView>,
+    octets: &[u8],
+    fate: Fate,
+    after: &[u8],
+)
     requires { length octets.now ≤ 64 }
 {
     let mut frame = frame_of(octets);
-    assert_eq!(rt; down(&mut view, 0, &mut frame), fate);
-    assert_eq!(rt; frame.payload(), after);
+    match read(octets) {
+        Ok(header) => {
+            assert_eq!(rt; down(holder, header, &mut frame), fate);
+            assert_eq!(rt; frame.payload(), after);
+        }
+        Err(_) => assert!(rt; false),
+    }
 }
 
 #[test]
 fn a_packet_of_the_subscriber_is_passed_on_or_left_as_it_is(rt: HostRuntime) {
     let mut padded = [0; 46];
     padded[..20].copy_from_slice(&UP);
-    goes_up(&rt, OPEN, &UP, Fate::Forwarded, &UP_SENT);
-    goes_up(&rt, OPEN, &padded, Fate::Forwarded, &UP_SENT);
-    let expired = Fate::Dropped(DropCause::Expired);
-    goes_up(&rt, OPEN, &UP_SENT, expired, &UP_SENT);
-    let spoofed = Fate::Dropped(DropCause::Spoofed);
-    goes_up(&rt, OTHER, &UP, spoofed, &UP);
-    goes_up(&rt, OTHER, &UP_SENT, expired, &UP_SENT);
-    let malformed = Fate::Dropped(DropCause::Malformed);
-    goes_up(&rt, OPEN, &UP[..19], malformed, &UP[..19]);
+    let short = &UP[..19];
+    let open = Some(Some(OPEN));
+    let other = Some(Some(OTHER));
+    goes_up(&rt, open, &UP, Fate::Forwarded, &UP_SENT);
+    goes_up(&rt, open, &padded, Fate::Forwarded, &UP_SENT);
+    let no_session = Fate::Dropped(DropCause::NoSession);
+    goes_up(&rt, None, &UP, no_session, &UP);
+    goes_up(&rt, None, short, no_session, short);
     let not_open = Fate::Dropped(DropCause::NotOpen);
-    goes_up(&rt, CLOSED, &UP[..19], not_open, &UP[..19]);
+    goes_up(&rt, Some(None), &UP, not_open, &UP);
+    goes_up(&rt, Some(None), short, not_open, short);
+    goes_up(&rt, Some(Some(CLOSED)), &UP, not_open, &UP);
+    goes_up(&rt, Some(Some(CLOSED)), short, not_open, short);
+    let malformed = Fate::Dropped(DropCause::Malformed);
+    goes_up(&rt, open, short, malformed, short);
+    let expired = Fate::Dropped(DropCause::Expired);
+    goes_up(&rt, open, &UP_SENT, expired, &UP_SENT);
+    goes_up(&rt, other, &UP_SENT, expired, &UP_SENT);
+    let spoofed = Fate::Dropped(DropCause::Spoofed);
+    goes_up(&rt, other, &UP, spoofed, &UP);
 }
 
 #[test]
 fn a_packet_of_the_core_is_passed_on_or_left_as_it_is(rt: HostRuntime) {
     let mut padded = [0; 46];
     padded[..20].copy_from_slice(&DOWN);
-    goes_down(&rt, OPEN, &DOWN, Fate::Forwarded, &DOWN_SENT);
-    goes_down(&rt, OPEN, &padded, Fate::Forwarded, &DOWN_SENT);
-    let expired = Fate::Dropped(DropCause::Expired);
-    goes_down(&rt, OPEN, &DOWN_SENT, expired, &DOWN_SENT);
+    goes_down(&rt, Some(OPEN), &DOWN, Fate::Forwarded, &DOWN_SENT);
+    goes_down(&rt, Some(OPEN), &padded, Fate::Forwarded, &DOWN_SENT);
+    let no_session = Fate::Dropped(DropCause::NoSession);
+    goes_down(&rt, None, &DOWN, no_session, &DOWN);
+    goes_down(&rt, None, &DOWN_SENT, no_session, &DOWN_SENT);
     let not_open = Fate::Dropped(DropCause::NotOpen);
-    goes_down(&rt, CLOSED, &DOWN_SENT, not_open, &DOWN_SENT);
-    let malformed = Fate::Dropped(DropCause::Malformed);
-    goes_down(&rt, CLOSED, &DOWN[..19], malformed, &DOWN[..19]);
+    goes_down(&rt, Some(CLOSED), &DOWN, not_open, &DOWN);
+    goes_down(&rt, Some(CLOSED), &DOWN_SENT, not_open, &DOWN_SENT);
+    let expired = Fate::Dropped(DropCause::Expired);
+    goes_down(&rt, Some(OPEN), &DOWN_SENT, expired, &DOWN_SENT);
 }
 
 fn port_end(port: u16) -> Peer {
@@ -130,16 +159,7 @@ fn port_end(port: u16) -> Peer {
     }
 }
 
-fn circuits() -> [Static; 1] {
-    [Static {
-        port: 1,
-        mac: Mac([2, 0, 0, 0, 0, 1]),
-        session: SessionNo(1025),
-        address: SUBSCRIBER,
-        user: ArrayVec::new(),
-        profile: 0,
-    }]
-}
+const MAC: Mac = Mac([2, 0, 0, 0, 0, 1]);
 
 fn access_port() -> AccessPort {
     AccessPort {
@@ -149,14 +169,28 @@ fn access_port() -> AccessPort {
     }
 }
 
-// the fate of octets from the other end of the access port, whose packet was sent
-fn fate_at_access(octets: &[u8]) -> Fate {
-    let arrived = Arrived {
-        from: port_end(9011),
-        cut: false,
-        octets,
+// The fate of a datagram of the access port, where one circuit has a session: MAC's, of number 1025.
+fn goes_to_core(cut: bool, frame: &mut Frame) -> Fate {
+    let octets = frame.payload();
+    let from = port_end(9011);
+    let ports = [access_port()];
+    let Some(came) = frame_at(&ports, 1, &Arrived { from, cut, octets }) else {
+        return Fate::Dropped(DropCause::Malformed);
     };
-    access_fate(&[access_port()], &circuits(), 1, &arrived, true)
+    let found = if came.src == MAC && came.session == 1025 {
+        Some(Some(OPEN))
+    } else {
+        None
+    };
+    let Some(info) = carried(&came) else {
+        if found.is_none() && names_session(&came) {
+            return Fate::Dropped(DropCause::NoSession);
+        }
+        return Fate::Consumed;
+    };
+    let size = info.len();
+    take_from_frame(frame, size);
+    up(found, frame)
 }
 
 #[test]
@@ -181,13 +215,41 @@ fn each_datagram_of_an_access_port_has_its_fate(rt: HostRuntime) {
         if place < 60 {
             bytes[place] = octet;
         }
-        assert_eq!(rt; fate_at_access(&bytes), fate);
+        let mut frame = frame_of(&bytes);
+        assert_eq!(rt; goes_to_core(false, &mut frame), fate);
     }
-    assert_eq!(rt; fate_at_access(&PADI), Fate::Consumed);
-    assert_eq!(rt; fate_at_access(&PADT), Fate::Consumed);
     let mut unknown = PADT;
     unknown[17] = 2;
-    assert_eq!(rt; fate_at_access(&unknown), no_session);
+    let mut frame = frame_of(&FRAME);
+    assert_eq!(rt; goes_to_core(true, &mut frame), malformed);
+    frame.set(&PADI);
+    assert_eq!(rt; goes_to_core(false, &mut frame), Fate::Consumed);
+    assert_eq!(rt; goes_to_core(true, &mut frame), malformed);
+    frame.set(&PADT);
+    assert_eq!(rt; goes_to_core(false, &mut frame), Fate::Consumed);
+    frame.set(&unknown);
+    assert_eq!(rt; goes_to_core(false, &mut frame), no_session);
+}
+
+#[test]
+fn a_padded_frame_is_opened_to_its_packet(rt: HostRuntime) {
+    let mut frame = frame_of(&FRAME);
+    assert_eq!(rt; goes_to_core(false, &mut frame), Fate::Forwarded);
+    assert_eq!(rt; frame.payload(), UP_SENT.as_slice());
+}
+
+// The fate of a datagram of the core, where one address has a holder.
+fn goes_to_circuit(from: Peer, cut: bool, frame: &mut Frame) -> Fate {
+    let octets = frame.payload();
+    let Some(header) = packet_from(port_end(9001), &Arrived { from, cut, octets }) else {
+        return Fate::Dropped(DropCause::Malformed);
+    };
+    let holder = if header.dst == SUBSCRIBER {
+        Some(OPEN)
+    } else {
+        None
+    };
+    down(holder, header, frame)
 }
 
 #[test]
@@ -196,56 +258,38 @@ fn each_datagram_of_the_core_has_its_fate(rt: HostRuntime) {
     let stranger = port_end(9002);
     let malformed = Fate::Dropped(DropCause::Malformed);
     let no_session = Fate::Dropped(DropCause::NoSession);
-    let failed = Fate::Dropped(DropCause::LinkFailed);
     let expired = Fate::Dropped(DropCause::Expired);
+    let mut damaged = DOWN;
+    damaged[19] = 3;
     let cases = [
-        (core, false, DOWN, true, Fate::Forwarded),
-        (core, false, DOWN, false, failed),
-        (core, false, DOWN_SENT, true, expired),
-        (core, false, UP, true, no_session),
-        (core, true, DOWN, true, malformed),
-        (stranger, false, DOWN, true, malformed),
+        (core, false, DOWN, Fate::Forwarded),
+        (core, false, DOWN_SENT, expired),
+        (core, false, UP, no_session),
+        (core, false, damaged, malformed),
+        (core, true, DOWN, malformed),
+        (stranger, false, DOWN, malformed),
     ];
-    for (from, cut, packet, sent, fate) in cases {
-        let arrived = Arrived {
-            from,
-            cut,
-            octets: &packet,
-        };
-        assert_eq!(rt; core_fate(core, &circuits(), &arrived, sent), fate);
+    for (from, cut, packet, fate) in cases {
+        let mut frame = frame_of(&packet);
+        assert_eq!(rt; goes_to_circuit(from, cut, &mut frame), fate);
     }
-}
-
-const PASSES: Opened = Opened::Passes {
-    place: 0,
-    octets: 20,
-};
-
-#[test]
-fn a_padded_frame_is_opened_to_its_packet(rt: HostRuntime) {
-    let mut frame = frame_of(&FRAME);
-    let ports = [access_port()];
-    let opened = open_frame(&ports, &circuits(), 1, port_end(9011), false, &mut frame);
-    assert_eq!(rt; opened, PASSES);
-    assert_eq!(rt; frame.payload(), UP_SENT.as_slice());
-    frame.set(&PADI);
-    let opened = open_frame(&ports, &circuits(), 1, port_end(9011), false, &mut frame);
-    assert_eq!(rt; opened, Opened::Ends(Fate::Consumed));
-    let opened = open_frame(&ports, &circuits(), 1, port_end(9011), true, &mut frame);
-    assert_eq!(rt; opened, Opened::Ends(Fate::Dropped(DropCause::Malformed)));
 }
 
 #[test]
 fn a_packet_of_the_core_becomes_a_frame_of_its_circuit(rt: HostRuntime) {
     let core = port_end(9001);
     let mut frame = frame_of(&DOWN);
-    let opened = open_packet(core, &circuits(), core, false, &mut frame);
-    assert_eq!(rt; opened, PASSES);
+    match read(&DOWN) {
+        Ok(header) => {
+            assert_eq!(rt; down(Some(OPEN), header, &mut frame), Fate::Forwarded);
+        }
+        Err(_) => assert!(rt; false),
+    }
     assert_eq!(rt; frame.payload(), DOWN_SENT.as_slice());
-    let [circuit] = circuits();
-    put_in_frame(&access_port(), &circuit, &mut frame);
+    put_in_frame(&access_port(), MAC, SessionNo(1025), &mut frame);
     assert_eq!(rt; frame.payload(), FRAME_SENT.as_slice());
     frame.set(&DOWN_SENT);
-    let opened = open_packet(core, &circuits(), core, false, &mut frame);
-    assert_eq!(rt; opened, Opened::Ends(Fate::Dropped(DropCause::Expired)));
+    let expired = Fate::Dropped(DropCause::Expired);
+    assert_eq!(rt; goes_to_circuit(core, false, &mut frame), expired);
+    assert_eq!(rt; frame.payload(), DOWN_SENT.as_slice());
 }
