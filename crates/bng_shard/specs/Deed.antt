@@ -25,7 +25,7 @@ pub record Deed : Type 0 where
 
 -- whose outs they are: an entry of a shard
 abbrev pub at_of : State → Entry → At
-at_of s e = record { shard = s.number; seat = e.seat; place = e.place }
+at_of s e = record { shard = s.sessions.shard; seat = e.seat; place = e.place }
 
 -- a datagram that an entry has to send
 abbrev pub out : At → Role → Peer → List ℕ → Option Charge → OutRecord

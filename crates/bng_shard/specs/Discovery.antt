@@ -1,10 +1,11 @@
 -- Frames of the discovery stage, by RFC 2516 section 5.
-use Rattle.std.specs.Prelude.{◌≡◌, ◌⊎◌, ℕ, ◌≤◌, ◌==◌, Bool, true, false, not, ◌&&◌, List, [], ◌∷◌, ◌++◌, Option, Some, None, length, is_some, slice_get, position, option_map}
+use Rattle.std.specs.Prelude.{◌≡◌, ℕ, ◌≤◌, Bool, true, false, not, ◌&&◌, List, [], ◌∷◌, ◌++◌, Option, Some, None, IsSome, length, find, is_some, option_map}
 use Rattle.std.specs.Str.{bytes_eq}
 use Rattle.bng_base.specs.declared.address.Mac.{Mac}
 use Rattle.bng_base.specs.declared.item.Entry.{Entry}
 use Rattle.bng_base.specs.declared.item.OutRecord.{OutRecord}
 use Rattle.bng_base.specs.declared.settings.AccessPort.{AccessPort}
+use Rattle.bng_base.specs.declared.settings.AuthKind.TheVariants.{Chap}
 use Rattle.bng_base.specs.PppoeGrammar.{PppoeTag, PppoeFrame, AreTags}
 use Rattle.bng_pppoe_wire.specs.declared.kind.TheConstants.{HOST_UNIQ}
 use Rattle.bng_discovery.specs.declared.answers.Answer.{Answer}
@@ -15,9 +16,13 @@ use Rattle.bng_discovery.specs.Request.{first_tag}
 use Rattle.bng_discovery.specs.Table.{table, first_row}
 use Rattle.bng_ppp.specs.declared.rules.Input.TheVariants.{Start}
 use Rattle.bng_ppp.specs.LinkState.{LinkState, IsFirstAsk, unused, kept_first}
-use Rattle.bng_base.specs.declared.settings.AuthKind.TheVariants.{Chap}
+use Rattle.bng_slots.specs.Sessions.{IsLowestVacant, IsNumberOf, value_at}
+use Rattle.bng_slots.specs.Listed.{values}
 use Rattle.bng_shard.specs.declared.rules.Rules.{Rules}
-use Rattle.bng_shard.specs.State.{State, Session, vacant, port_at, offers_at}
+use Rattle.bng_shard.specs.declared.session.Service.{Service}
+use Rattle.bng_shard.specs.declared.session.Service.TheVariants.{Provisioned, Discovered}
+use Rattle.bng_shard.specs.declared.session.Session.{Session}
+use Rattle.bng_shard.specs.State.{State, is_on, port_at, offers_at, with_session}
 use Rattle.bng_shard.specs.Deed.{Deed, at_of, frame_outs, ignored, handled}
 use Rattle.bng_shard.specs.Link.{Drives, told}
 
@@ -33,12 +38,16 @@ host_uniq_of tags = option_map (λ t. t.value) (first_tag HOST_UNIQ tags)
 
 -- The session was made by a PADR of the same host with the same Host-Uniq on the same port, so with the same AC-Cookie; it has
 -- not ended, and its LCP was never Opened.
-abbrev pub is_repeated : ℕ → Mac → Option (List ℕ) → Session → Bool
-is_repeated port mac host_uniq x =
-    (x.port == port) && (bytes_eq x.mac.0 mac.0 && (same_option x.host_uniq host_uniq && (not x.ended && not x.link.kept.was_opened)))
+abbrev pub is_repeated_in : Option (List ℕ) → Service → Bool
+is_repeated_in host_uniq (Provisioned l) = false
+is_repeated_in host_uniq (Discovered m) = same_option m.host_uniq host_uniq && (not m.ended && not m.link.kept.was_opened)
 
-abbrev pub repeated_at : State → ℕ → Mac → Option (List ℕ) → Option ℕ
-repeated_at s port mac host_uniq = position (is_repeated port mac host_uniq) s.sessions
+abbrev pub is_repeated : ℕ → Mac → Option (List ℕ) → Session → Bool
+is_repeated port mac host_uniq x = is_on port mac x && is_repeated_in host_uniq x.service
+
+-- the session that was made for the same request before: of several, the one with the lowest number
+abbrev pub repeated : State → ℕ → Mac → Option (List ℕ) → Option Session
+repeated s port mac host_uniq = find (is_repeated port mac host_uniq) (values s.sessions)
 
 -- a link that was told nothing
 pub record IsNewLink (random : List ℕ) (l : LinkState) : Type 0 where
@@ -46,24 +55,35 @@ pub record IsNewLink (random : List ℕ) (l : LinkState) : Type 0 where
   pub ask : IsFirstAsk 1492 (Chap ∷ []) random l.ask
   pub kept : l.kept ≡ kept_first 1492
 
+abbrev pub new_session : ℕ → ℕ → Mac → Option (List ℕ) → LinkState → Session
+new_session number port mac host_uniq link = record {
+  number = record { 0 = number };
+  port = port;
+  mac = mac;
+  service = Discovered (record { host_uniq = host_uniq; link = link; ended = false });
+}
+
+-- which number a new session gets: the lowest that is not used, if there is one
+abbrev pub IsVacancy : State → Option ℕ → Type 0
+IsVacancy s None = (n : ℕ) → IsNumberOf s.sessions.shard n → IsSome (value_at s.sessions n)
+IsVacancy s (Some n) = IsLowestVacant s.sessions n
+
 -- a session is made, and its LCP is told Open and Up
 pub record Makes (r : Rules) (s : State) (e : Entry) (number : ℕ) (port : AccessPort) (offers : PortRules) (p : PppoeFrame) (tags : List PppoeTag) (d : Deed) : Type 0 where
   pub session : ℕ
-  pub is_vacant : vacant s ≡ Some session
+  pub vacant : IsLowestVacant s.sessions session
   pub link : LinkState
   pub new : IsNewLink e.item.random link
   pub outs : List OutRecord
   pub x : Session
-  pub starts : Drives r (at_of s e) (record { number = session; port = number; mac = p.src; host_uniq = host_uniq_of tags; link = link; ended = false }) (told r e Start) outs x
-  pub done : d ≡ handled s e (frame_outs (at_of s e) number port (pads_of offers p.src session tags) ++ outs) (record s { sessions = s.sessions ++ x ∷ [] })
+  pub starts : Drives r (at_of s e) (new_session session number p.src (host_uniq_of tags) link) (told r e Start) outs x
+  pub done : d ≡ handled s e (frame_outs (at_of s e) number port (pads_of offers p.src session tags) ++ outs) (with_session s session x)
 
 -- the PADS of the session that was made for the same request before
 pub record Repeats (s : State) (e : Entry) (number : ℕ) (port : AccessPort) (offers : PortRules) (p : PppoeFrame) (tags : List PppoeTag) (d : Deed) : Type 0 where
-  pub place : ℕ
-  pub found : repeated_at s number p.src (host_uniq_of tags) ≡ Some place
   pub x : Session
-  pub at : slice_get s.sessions place ≡ Some x
-  pub done : d ≡ handled s e (frame_outs (at_of s e) number port (pads_of offers p.src x.number tags)) s
+  pub found : repeated s number p.src (host_uniq_of tags) ≡ Some x
+  pub done : d ≡ handled s e (frame_outs (at_of s e) number port (pads_of offers p.src x.number.0 tags)) s
 
 -- what an answer does
 abbrev pub Answers : Answer → Rules → State → Entry → ℕ → AccessPort → PortRules → PppoeFrame → List PppoeTag → Deed → Type 0
@@ -80,10 +100,13 @@ Answers Ignore r s e number port offers p tags d = d ≡ ignored s e
 pub record Discovers (r : Rules) (s : State) (e : Entry) (number : ℕ) (p : PppoeFrame) (d : Deed) : Type 0 where
   pub port : AccessPort
   pub its_port : port_at r.access number ≡ Some port
+  pub offers : PortRules
+  pub its_offers : offers_at r.offers number ≡ Some offers
   pub tags : List PppoeTag
   pub listed : AreTags tags p.payload
   pub few : length tags ≤ 64
-  pub does : ((offers : PortRules) × (offers_at r.offers number ≡ Some offers) × (answer : Answer)
-      × (Some answer ≡ first_row (table offers p tags (is_some (repeated_at s number p.src (host_uniq_of tags))) (is_some (vacant s))))
-      × Answers answer r s e number port offers p tags d)
-      ⊎ ((offers_at r.offers number ≡ None) × (d ≡ ignored s e))
+  pub vacancy : Option ℕ
+  pub is_vacancy : IsVacancy s vacancy
+  pub answer : Answer
+  pub is_answer : Some answer ≡ first_row (table offers p tags (is_some (repeated s number p.src (host_uniq_of tags))) (is_some vacancy))
+  pub does : Answers answer r s e number port offers p tags d

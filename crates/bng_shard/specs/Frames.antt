@@ -1,33 +1,39 @@
 -- Datagrams of the access ports and of the core.
-use Rattle.std.specs.Prelude.{◌≡◌, ◌⊎◌, ℕ, ◌+◌, Bool, true, false, List, [], ◌∷◌, Option, Some, None, IsTrue, IsFalse, slice_get, position}
-use Rattle.bng_base.specs.declared.circuit.Circuit.TheVariants.{Pppoe}
-use Rattle.bng_base.specs.declared.fate.DropCause.TheVariants.{Malformed, NoSession, NotOpen}
+use Rattle.std.specs.Prelude.{◌≡◌, ◌≢◌, ◌⊎◌, ℕ, Bool, true, false, List, [], ◌∷◌, Option, Some, None, IsTrue, IsFalse}
+use Rattle.std.specs.Option.{option_map, option_and_then}
+use Rattle.bng_base.specs.declared.address.Ip4.{Ip4}
+use Rattle.bng_base.specs.declared.fate.DropCause.TheVariants.{Malformed, NoSession}
 use Rattle.bng_base.specs.declared.fate.Fate.{Fate}
 use Rattle.bng_base.specs.declared.fate.Fate.TheVariants.{Forwarded}
+use Rattle.bng_base.specs.declared.ipv4.Ipv4.{Ipv4}
 use Rattle.bng_base.specs.declared.item.Charge.{Charge}
 use Rattle.bng_base.specs.declared.item.Entry.{Entry}
 use Rattle.bng_base.specs.declared.item.OutRecord.{OutRecord}
 use Rattle.bng_base.specs.declared.outside.Role.TheVariants.{Access, Core}
 use Rattle.bng_base.specs.declared.settings.AccessPort.{AccessPort}
-use Rattle.bng_base.specs.declared.settings.Static.{Static}
 use Rattle.bng_base.specs.PppoeGrammar.{PppoeFrame}
-use Rattle.bng_base.specs.PppGrammar.{PppFrame, IsPpp}
-use Rattle.bng_forward.specs.Fates.{IsFrame, NamesSession, circuit_of, EndsUp, EndsDown}
+use Rattle.bng_forward.specs.declared.view.TermView.{TermView}
+use Rattle.bng_forward.specs.Fates.{IsFrame, IsCorePacket, NamesSession, Carries, UpFate, DownFate}
 use Rattle.bng_forward.specs.Framed.{circuit_frame, IsFrameTo}
-use Rattle.bng_forward.specs.Opened.{PassesUp, PassesDown}
+use Rattle.bng_forward.specs.Packets.{IsPassedOn}
+use Rattle.bng_shard.specs.Made.{Made}
 use Rattle.bng_shard.specs.declared.rules.Rules.{Rules}
-use Rattle.bng_shard.specs.State.{State, Session, is_circuit, port_at}
+use Rattle.bng_shard.specs.declared.session.Lease.{Lease}
+use Rattle.bng_shard.specs.declared.session.Service.TheVariants.{Provisioned, Discovered}
+use Rattle.bng_shard.specs.declared.session.Service.{Service}
+use Rattle.bng_shard.specs.declared.session.Session.{Session}
+use Rattle.bng_shard.specs.State.{State, circuit_of, session_of, holder_of, view_of, with_session, port_at}
 use Rattle.bng_shard.specs.Deed.{Deed, at_of, out, only, ignored, dropped, handled, arrival_in}
-use Rattle.bng_shard.specs.Link.{Drives, hears, with_session}
+use Rattle.bng_shard.specs.Link.{Drives, ended, hears}
 use Rattle.bng_shard.specs.Discovery.{Discovers}
 
--- whose packet passes: the term of the circuit at this place, which has the number after the place
-abbrev pub charge_of : Static → ℕ → Bool → ℕ → Charge
-charge_of c place input octets = record {
-  term = record { session = c.session; serial = place + 1 };
-  profile = c.profile;
-  circuit = Pppoe c.port c.mac c.session;
-  address = c.address;
+-- whose packet passes: the session's term
+abbrev pub charge_of : Session → Lease → Bool → ℕ → Charge
+charge_of x l input octets = record {
+  term = record { session = x.number; serial = l.serial };
+  profile = l.profile;
+  circuit = circuit_of x;
+  address = l.address;
   input = input;
   octets = octets;
 }
@@ -35,50 +41,56 @@ charge_of c place input octets = record {
 abbrev pub forwarded : State → Entry → OutRecord → Deed
 forwarded s e o = record { entry = e; fate = Forwarded; outs = o ∷ []; next = s }
 
--- the packet of a provisioned circuit's frame goes to the core
-pub record GoesUp (r : Rules) (s : State) (e : Entry) (number : ℕ) (d : Deed) : Type 0 where
-  pub place : ℕ
-  pub octets : ℕ
+-- what is known of the session of a frame: whether there is one, and its term's view, where a term is live
+abbrev pub found_up : State → ℕ → PppoeFrame → Option (Option TermView)
+found_up s number p = option_map view_of (session_of s number p.src p.session)
+
+-- the view of the term whose address this is
+abbrev pub found_down : State → Ip4 → Option TermView
+found_down s a = option_and_then view_of (holder_of s a)
+
+-- the packet of a session's frame goes to the core
+pub record GoesUp (r : Rules) (s : State) (e : Entry) (number : ℕ) (p : PppoeFrame) (info : List ℕ) (d : Deed) : Type 0 where
+  pub x : Session
+  pub found : session_of s number p.src p.session ≡ Some x
+  pub lease : Lease
+  pub service : x.service ≡ Provisioned lease
+  pub header : Ipv4
   pub packet : List ℕ
-  pub passes : PassesUp r.access s.statics number (arrival_in e) place octets packet
-  pub circuit : Static
-  pub at : slice_get s.statics place ≡ Some circuit
-  pub done : d ≡ forwarded s e (out (at_of s e) Core r.core_peer packet (Some (charge_of circuit place true octets)))
+  pub source : header.src ≡ lease.address
+  pub passed : IsPassedOn header info packet
+  pub done : d ≡ forwarded s e (out (at_of s e) Core r.core_peer packet (Some (charge_of x lease true header.total)))
 
--- a frame of a provisioned circuit has its fate, or its packet goes to the core
-abbrev pub HearsCircuit : Rules → State → Entry → ℕ → Deed → Type 0
-HearsCircuit r s e number d =
-    GoesUp r s e number d ⊎ ((fate : Fate) × EndsUp r.access s.statics number (arrival_in e) fate × (d ≡ only s e fate))
+-- A frame with an IPv4 packet: the first case that holds of the table of fates.
+abbrev pub HearsData : Rules → State → Entry → ℕ → PppoeFrame → List ℕ → Deed → Type 0
+HearsData r s e number p info d = (fate : Fate) × UpFate (found_up s number p) info fate
+    × (((fate ≡ Forwarded) × GoesUp r s e number p info d) ⊎ ((fate ≢ Forwarded) × (d ≡ only s e fate)))
 
--- the session of a frame that names one
-abbrev pub session_at : State → ℕ → PppoeFrame → Option ℕ
-session_at s number p = position (is_circuit number p.src p.session) s.sessions
+-- A session frame without an IPv4 packet. Where the session has ended it does nothing, and where it has not its link hears it.
+abbrev pub HearsPpp : Rules → State → Entry → Session → Made → PppoeFrame → Deed → Type 0
+HearsPpp r s e x made p d =
+    (IsTrue made.ended × (d ≡ ignored s e))
+    ⊎ (IsFalse made.ended × (outs : List OutRecord) × (x' : Session) × Drives r (at_of s e) x (hears r e p.payload) outs x'
+    × (d ≡ handled s e outs (with_session s x.number.0 x')))
 
--- A session frame of a session. Its data is NotOpen; where the session has ended all else does nothing, and where it has not its
--- link hears the frame.
-abbrev pub HearsPpp : Rules → State → Entry → ℕ → Session → PppoeFrame → Deed → Type 0
-HearsPpp r s e i x p d = (f : PppFrame) × IsPpp f p.payload
-    × (((f.protocol ≡ 33) × (d ≡ dropped s e NotOpen))
-    ⊎ (((¬ (f.protocol ≡ 33)) × IsTrue x.ended × (d ≡ ignored s e))
-    ⊎ ((¬ (f.protocol ≡ 33)) × IsFalse x.ended × (outs : List OutRecord) × (x' : Session) × Drives r (at_of s e) x (hears r e p.payload) outs x' × (d ≡ handled s e outs (with_session s i x')))))
+-- A PADT ends a session that discovery made, which gets none back. A provisioned circuit ignores all but data.
+abbrev pub HearsControl : Service → Rules → State → Entry → Session → PppoeFrame → Deed → Type 0
+HearsControl (Provisioned l) r s e x p d = d ≡ ignored s e
+HearsControl (Discovered made) r s e x p d =
+    ((p.discovery ≡ true) × (d ≡ handled s e [] (with_session s x.number.0 (ended x))))
+    ⊎ ((p.discovery ≡ false) × HearsPpp r s e x made p d)
 
--- A PADT ends a session, which gets none back.
-abbrev pub HearsPadt : State → Entry → ℕ → Session → Deed → Type 0
-HearsPadt s e i x d = d ≡ handled s e [] (with_session s i (record x { ended = true }))
+abbrev pub HearsIn : Option Session → Rules → State → Entry → PppoeFrame → Deed → Type 0
+HearsIn None r s e p d = d ≡ dropped s e NoSession
+HearsIn (Some x) r s e p d = HearsControl x.service r s e x p d
 
--- the frame names the session at this place
-abbrev pub HearsSession : Rules → State → Entry → ℕ → PppoeFrame → Deed → Type 0
-HearsSession r s e i p d = (x : Session) × (slice_get s.sessions i ≡ Some x)
-    × (((p.discovery ≡ true) × HearsPadt s e i x d) ⊎ ((p.discovery ≡ false) × HearsPpp r s e i x p d))
-
--- A frame that came to the port with this number: of a provisioned circuit, of a session, of neither, or of the discovery
--- stage before a session.
+-- A frame that came to the port with this number: one with an IPv4 packet, another one that names a session, or one of the
+-- discovery stage before a session.
 abbrev pub HearsFrame : Rules → State → Entry → ℕ → PppoeFrame → Deed → Type 0
 HearsFrame r s e number p d =
-    ((c : Static) × NamesSession p × (circuit_of s.statics number p ≡ Some c) × HearsCircuit r s e number d)
-    ⊎ ((NamesSession p × (circuit_of s.statics number p ≡ None) × (i : ℕ) × (session_at s number p ≡ Some i) × HearsSession r s e i p d)
-    ⊎ ((NamesSession p × (circuit_of s.statics number p ≡ None) × (session_at s number p ≡ None) × (d ≡ dropped s e NoSession))
-    ⊎ ((¬ (NamesSession p)) × Discovers r s e number p d)))
+    ((info : List ℕ) × Carries p info × HearsData r s e number p info d)
+    ⊎ ((NamesSession p × ((info : List ℕ) → ¬ (Carries p info)) × HearsIn (session_of s number p.src p.session) r s e p d)
+    ⊎ ((¬ (NamesSession p)) × Discovers r s e number p d))
 
 -- a datagram of the access port with this number
 abbrev pub HearsAccess : Rules → State → Entry → ℕ → Deed → Type 0
@@ -86,23 +98,28 @@ HearsAccess r s e number d =
     (((p : PppoeFrame) → ¬ (IsFrame r.access number (arrival_in e) p)) × (d ≡ dropped s e Malformed))
     ⊎ ((p : PppoeFrame) × IsFrame r.access number (arrival_in e) p × HearsFrame r s e number p d)
 
--- The packet of the core goes on the circuit whose address is its destination, in a frame that anyone reads as the circuit's. One
--- on a port that is not there goes nowhere.
-abbrev pub SendsDown : State → Entry → ℕ → ℕ → List ℕ → Static → Option AccessPort → Deed → Type 0
-SendsDown s e place octets packet c None d = d ≡ dropped s e NoSession
-SendsDown s e place octets packet c (Some port) d =
-    IsFrameTo port c packet (circuit_frame port c packet)
-    × (d ≡ forwarded s e (out (at_of s e) (Access c.port) port.peer (circuit_frame port c packet) (Some (charge_of c place false octets))))
-
-pub record GoesDown (r : Rules) (s : State) (e : Entry) (d : Deed) : Type 0 where
-  pub place : ℕ
-  pub octets : ℕ
+-- The packet of the core goes on the circuit whose address is its destination, in a frame that anyone reads as the
+-- circuit's.
+pub record GoesDown (r : Rules) (s : State) (e : Entry) (v : Ipv4) (d : Deed) : Type 0 where
+  pub x : Session
+  pub found : holder_of s v.dst ≡ Some x
+  pub lease : Lease
+  pub service : x.service ≡ Provisioned lease
+  pub address : v.dst ≡ lease.address
+  pub port : AccessPort
+  pub its_port : port_at r.access x.port ≡ Some port
   pub packet : List ℕ
-  pub passes : PassesDown r.core_peer s.statics (arrival_in e) place octets packet
-  pub circuit : Static
-  pub at : slice_get s.statics place ≡ Some circuit
-  pub sends : SendsDown s e place octets packet circuit (port_at r.access circuit.port) d
+  pub passed : IsPassedOn v e.item.frame.payload packet
+  pub again : IsFrameTo port x.mac x.number.0 packet (circuit_frame port x.mac x.number.0 packet)
+  pub done : d ≡ forwarded s e (out (at_of s e) (Access x.port) port.peer (circuit_frame port x.mac x.number.0 packet) (Some (charge_of x lease false v.total)))
+
+-- A packet of the core: the first case that holds of the table of fates.
+abbrev pub HearsPacket : Rules → State → Entry → Ipv4 → Deed → Type 0
+HearsPacket r s e v d = (fate : Fate) × DownFate (found_down s) e.item.frame.payload fate
+    × (((fate ≡ Forwarded) × GoesDown r s e v d) ⊎ ((fate ≢ Forwarded) × (d ≡ only s e fate)))
 
 -- a datagram of the core
 abbrev pub HearsCore : Rules → State → Entry → Deed → Type 0
-HearsCore r s e d = GoesDown r s e d ⊎ ((fate : Fate) × EndsDown r.core_peer s.statics (arrival_in e) fate × (d ≡ only s e fate))
+HearsCore r s e d =
+    (((v : Ipv4) → ¬ (IsCorePacket r.core_peer (arrival_in e) v)) × (d ≡ dropped s e Malformed))
+    ⊎ ((v : Ipv4) × IsCorePacket r.core_peer (arrival_in e) v × HearsPacket r s e v d)

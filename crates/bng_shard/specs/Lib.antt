@@ -1,4 +1,9 @@
+pub mod Made
 pub mod State
+pub mod Indexed
+pub mod Serving
+pub mod Opening
+pub mod Controlling
 pub mod Deed
 pub mod Link
 pub mod Discovery
@@ -19,6 +24,3 @@ pub mod Driven
 pub mod Timed
 pub mod Replying
 pub mod Making
-pub mod Choice
-pub mod Marking
-pub mod Resting

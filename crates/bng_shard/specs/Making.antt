@@ -1,13 +1,9 @@
 -- A session that was just made.
-use Rattle.std.specs.Prelude.{◌≡◌, ℕ, false, List, Option}
+use Rattle.std.specs.Prelude.{◌≡◌, ℕ, List, Option}
 use Rattle.bng_base.specs.declared.address.Mac.{Mac}
 use Rattle.bng_ppp.specs.LinkState.{LinkState}
-use Rattle.bng_shard.specs.State.{Session}
-use Rattle.bng_shard.specs.Discovery.{IsNewLink}
-
-abbrev pub new_session : ℕ → ℕ → Mac → Option (List ℕ) → LinkState → Session
-new_session number port mac host_uniq link =
-    record { number = number; port = port; mac = mac; host_uniq = host_uniq; link = link; ended = false }
+use Rattle.bng_shard.specs.declared.session.Session.{Session}
+use Rattle.bng_shard.specs.Discovery.{IsNewLink, new_session}
 
 -- its link was told nothing
 abbrev pub IsNewSession : ℕ → ℕ → Mac → Option (List ℕ) → List ℕ → Session → Type 0

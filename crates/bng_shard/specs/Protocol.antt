@@ -1,7 +1,7 @@
 -- The protocol of a shard, as the engine reads it.
-use Rattle.std.specs.Prelude.{◌≡◌, ℕ, ◌+◌, ◌≤◌, ◌==◌, Bool, false, List, [], ◌∷◌, Option, length, map, find}
+use Rattle.std.specs.Prelude.{◌≡◌, ℕ, ◌≤◌, ◌==◌, Bool, false, List, [], ◌∷◌, Option, length, map, find}
+use Rattle.std.specs.List.{flat_map}
 use Rattle.bng_base.specs.declared.book.Book.{Book}
-use Rattle.bng_base.specs.declared.circuit.Circuit.TheVariants.{Pppoe}
 use Rattle.bng_base.specs.declared.fate.Fate.{Fate}
 use Rattle.bng_base.specs.declared.item.Claim.{Claim}
 use Rattle.bng_base.specs.declared.item.Claim.TheVariants.{NoClaim, Claimed, Held, Exhausted}
@@ -16,10 +16,16 @@ use Rattle.bng_engine.specs.Sums.{passed_sum}
 use Rattle.bng_engine.specs.Terms.{Term, keys}
 use Rattle.bng_engine.specs.Views.{ShardView, Row, new_row}
 use Rattle.bng_shard.specs.declared.rules.Rules.{Rules}
-use Rattle.bng_shard.specs.State.{State, settled}
+use Rattle.bng_slots.specs.Listed.{values}
+use Rattle.bng_shard.specs.declared.session.Lease.{Lease}
+use Rattle.bng_shard.specs.declared.session.Service.{Service}
+use Rattle.bng_shard.specs.declared.session.Service.TheVariants.{Provisioned, Discovered}
+use Rattle.bng_shard.specs.declared.session.Session.{Session}
+use Rattle.bng_shard.specs.State.{State, circuit_of, made_in, settled}
 use Rattle.bng_shard.specs.Deed.{Deed}
 use Rattle.bng_shard.specs.Due.{due_of}
 use Rattle.bng_shard.specs.Hearing.{outs_most}
+use Rattle.bng_shard.specs.Opening.{opened_slots}
 use Rattle.bng_shard.specs.Reader.{pppoe_reader, tells_pppoe}
 use Rattle.bng_shard.specs.Step.{Step}
 use Rattle.bng_shard.specs.Sums.{Rises}
@@ -34,30 +40,33 @@ pub record Handled : Type 0 where
   pub deed : Deed
   pub limited : Bool
 
--- the term of a provisioned circuit, with this number in its shard
-abbrev pub term_of : Static → ℕ → Term
-term_of c serial = record {
-  key = record { term = record { session = c.session; serial = serial }; circuit = Pppoe c.port c.mac c.session; lease = c.address };
-  profile = c.profile;
+-- the term of a session with this lease
+abbrev pub term_of : Session → Lease → Term
+term_of x l = record {
+  key = record { term = record { session = x.number; serial = l.serial }; circuit = circuit_of x; lease = l.address };
+  profile = l.profile;
   ended = false;
   cause = 0;
 }
 
--- the terms of these circuits, numbered on after n
-abbrev pub terms_after : ℕ → List Static → List Term
-terms_after n [] = []
-terms_after n (c ∷ cs) = term_of c (n + 1) ∷ terms_after (n + 1) cs
+abbrev pub terms_in : Session → Service → List Term
+terms_in x (Provisioned l) = term_of x l ∷ []
+terms_in x (Discovered m) = []
 
--- Each provisioned circuit has a term from the opening on, which does not end. No session has one.
+abbrev pub terms_at : Session → List Term
+terms_at x = terms_in x x.service
+
+-- The terms of a shard, by rising session number. Each provisioned circuit has one from the opening on, which does not end. No
+-- session that discovery made has one.
 abbrev pub terms_of : ShardState → List Term
-terms_of s = terms_after 0 s.slots.statics
+terms_of s = flat_map terms_at (values s.slots.sessions)
 
 -- the earliest deadline of its sessions, if one has a deadline, and how many sessions discovery made that are still there
 abbrev pub deadline_of : ShardState → Option ℕ
 deadline_of s = due_of s.slots
 
 abbrev pub sessions_of : ShardState → ℕ
-sessions_of s = length s.slots.sessions
+sessions_of s = made_in s.slots
 
 abbrev pub claimed_by : Claim → List ℕ
 claimed_by NoClaim = []
@@ -79,7 +88,7 @@ profiles_there = 1
 abbrev pub pppoe : Protocol ShardState Handled
 pppoe = record {
   terms = terms_of;
-  begun = λ s. length s.slots.statics;
+  begun = λ s. s.slots.begun;
   settled = λ s. record s { slots = settled s.slots };
   entry = λ h. h.deed.entry;
   limited = λ h. h.limited;
@@ -110,12 +119,12 @@ pub record Handles (v v' : ShardView ShardState Entry) (e : Entry) (fate : Fate)
   pub few : length shown.effect.deed.outs ≤ outs_most e.item.kind
   pub tallied : Rises tally shown.effect.deed.outs tally'
 
--- a shard with these circuits, in which nothing has happened
+-- a shard with these circuits, in which nothing has happened; their terms are numbered by rising session number
 abbrev pub opened : ℕ → Rules → List Static → ShardView ShardState Entry
-opened number rules statics = record {
+opened number rules circuits = record {
   number = number;
-  state = record { rules = rules; slots = record { number = number; statics = statics; sessions = [] } };
-  rows = map new_row (keys (terms_after 0 statics));
+  state = record { rules = rules; slots = opened_slots number circuits };
+  rows = map new_row (keys (terms_of (record { rules = rules; slots = opened_slots number circuits })));
   books = empty_book ∷ [];
   allowance = 0;
   journal = [];

@@ -1,10 +1,11 @@
 -- The sums of the terms as a shard keeps them.
-use Rattle.std.specs.Prelude.{ℕ, List, map}
-use Rattle.bng_base.specs.declared.settings.Static.{Static}
-use Rattle.bng_base.specs.declared.circuit.Circuit.TheVariants.{Pppoe}
-use Rattle.bng_engine.specs.Quantities.{empty_book}
+use Rattle.std.specs.Prelude.{List, map}
+use Rattle.bng_base.specs.Books.{empty_book}
 use Rattle.bng_engine.specs.Views.{Row}
 use Rattle.bng_shard.specs.declared.running.Running.{Running}
+use Rattle.bng_shard.specs.declared.session.Lease.{Lease}
+use Rattle.bng_shard.specs.declared.session.Session.{Session}
+use Rattle.bng_shard.specs.State.{circuit_of}
 
 abbrev pub row_from : Running → Row
 row_from r = record { key = record { term = r.term; circuit = r.circuit; lease = r.lease }; carried = r.carried }
@@ -12,6 +13,6 @@ row_from r = record { key = record { term = r.term; circuit = r.circuit; lease =
 abbrev pub rows_in : List Running → List Row
 rows_in running = map row_from running
 
--- the term of a circuit that takes this number, with nothing carried
-abbrev pub begun : Static → ℕ → Running
-begun c serial = record { term = record { session = c.session; serial = serial }; circuit = Pppoe c.port c.mac c.session; lease = c.address; carried = empty_book }
+-- the term of a session with this lease, with nothing carried
+abbrev pub begun : Session → Lease → Running
+begun x l = record { term = record { session = x.number; serial = l.serial }; circuit = circuit_of x; lease = l.address; carried = empty_book }

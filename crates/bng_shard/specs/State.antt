@@ -1,28 +1,30 @@
--- What a shard holds: its provisioned circuits and the sessions that discovery made.
-use Rattle.std.specs.Prelude.{ℕ, ◌+◌, ◌*◌, ◌-◌, ◌==◌, Bool, not, ◌&&◌, ◌||◌, nat_lt, length, List, Option, None, filter, find, slice_get, if◌then◌else◌}
-use Rattle.std.specs.List.{list_any, range_with_len}
+-- What a shard serves: its sessions by number, each on a provisioned circuit or made by discovery.
+use Rattle.std.specs.Prelude.{◌≡◌, ◌≢◌, ℕ, ◌-◌, ◌≤◌, ◌==◌, Bool, true, false, not, ◌&&◌, List, [], ◌∷◌, Option, Some, None, filter, find, slice_get, sum_by, cond, if◌then◌else◌}
+use Rattle.std.specs.List.{flat_map}
+use Rattle.std.specs.Ordering.{nat_cmp}
+use Rattle.std.specs.FinMap as map
 use Rattle.std.specs.Str.{bytes_eq}
+use Rattle.bng_base.specs.declared.address.Ip4.{Ip4}
 use Rattle.bng_base.specs.declared.address.Mac.{Mac}
+use Rattle.bng_base.specs.declared.circuit.Circuit.{Circuit}
+use Rattle.bng_base.specs.declared.circuit.Circuit.TheVariants.{Pppoe}
 use Rattle.bng_base.specs.declared.settings.AccessPort.{AccessPort}
-use Rattle.bng_base.specs.declared.settings.Static.{Static}
 use Rattle.bng_discovery.specs.declared.port.PortRules.{PortRules}
+use Rattle.bng_engine.specs.Terms.{Term}
+use Rattle.bng_forward.specs.declared.view.TermView.{TermView}
 use Rattle.bng_ppp.specs.LinkState.{LinkState}
+use Rattle.bng_slots.specs.Sessions.{Sessions, value_at, with_value}
+use Rattle.bng_slots.specs.Listed.{values}
+use Rattle.bng_shard.specs.Made.{Made}
+use Rattle.bng_shard.specs.declared.session.Lease.{Lease}
+use Rattle.bng_shard.specs.declared.session.Service.{Service}
+use Rattle.bng_shard.specs.declared.session.Service.TheVariants.{Provisioned, Discovered}
+use Rattle.bng_shard.specs.declared.session.Session.{Session}
 
--- A session of the subscriber at this MAC on the port with this number: its SESSION_ID, the Host-Uniq with which it was made,
--- if it had one, its link, and whether it has ended. One that has ended keeps its place until the round is settled.
-pub record Session : Type 0 where
-  pub number : ℕ
-  pub port : ℕ
-  pub mac : Mac
-  pub host_uniq : Option (List ℕ)
-  pub link : LinkState
-  pub ended : Bool
-
--- The shard's number, its provisioned circuits, and its sessions in the order in which they were made.
+-- The shard's number with its sessions, and how many terms began in it.
 pub record State : Type 0 where
-  pub number : ℕ
-  pub statics : List Static
-  pub sessions : List Session
+  pub sessions : Sessions Session
+  pub begun : ℕ
 
 -- the access port with this number, from 1 on, and what it offers
 abbrev pub port_at : List AccessPort → ℕ → Option AccessPort
@@ -31,26 +33,70 @@ port_at ports number = if number == 0 then None else slice_get ports (number - 1
 abbrev pub offers_at : List PortRules → ℕ → Option PortRules
 offers_at ports number = if number == 0 then None else slice_get ports (number - 1)
 
--- a session or a circuit of the shard has this number
-abbrev pub is_used : State → ℕ → Bool
-is_used s n = list_any (λ (x : Session). x.number == n) s.sessions || list_any (λ (c : Static). c.session.0 == n) s.statics
+-- a session's circuit: its port, the MAC of its subscriber and its SESSION_ID (RFC 2516)
+abbrev pub circuit_of : Session → Circuit
+circuit_of x = Pppoe x.port x.mac x.number
 
--- the most sessions of a shard
-abbrev pub sessions_most : ℕ
-sessions_most = 1022
+-- the session is on this port, of this MAC
+abbrev pub is_on : ℕ → Mac → Session → Bool
+is_on port mac x = (x.port == port) && bytes_eq x.mac.0 mac.0
 
--- the session numbers of a shard: the shard's number times 1,024, and an index of 1 to 1,022
-abbrev pub numbers_of : ℕ → List ℕ
-numbers_of shard = range_with_len (shard * 1024 + 1) sessions_most
-
--- the lowest number that is not used, where there may be one session more
-abbrev pub vacant : State → Option ℕ
-vacant s = if nat_lt (length s.sessions) sessions_most then find (λ n. not (is_used s n)) (numbers_of s.number) else None
+abbrev pub where_on : ℕ → Mac → Option Session → Option Session
+where_on port mac None = None
+where_on port mac (Some x) = if is_on port mac x then Some x else None
 
 -- the session of a frame: its port, its SOURCE_ADDR and its SESSION_ID
-abbrev pub is_circuit : ℕ → Mac → ℕ → Session → Bool
-is_circuit port mac number x = (x.port == port) && (bytes_eq x.mac.0 mac.0 && (x.number == number))
+abbrev pub session_of : State → ℕ → Mac → ℕ → Option Session
+session_of s port mac n = where_on port mac (value_at s.sessions n)
+
+-- what a session's lease is, where its term is live: a provisioned circuit has one from the opening on
+abbrev pub lease_in : Service → Option Lease
+lease_in (Provisioned l) = Some l
+lease_in (Discovered m) = None
+
+abbrev pub lease_of : Session → Option Lease
+lease_of x = lease_in x.service
+
+-- what forwarding looks at of a session's term; a provisioned circuit has no LCP and counts as Opened
+abbrev pub view_in : Service → Option TermView
+view_in (Provisioned l) = Some (record { lease = l.address; opened = true })
+view_in (Discovered m) = None
+
+abbrev pub view_of : Session → Option TermView
+view_of x = view_in x.service
+
+-- the session has this address
+abbrev pub leases_in : Service → Ip4 → Bool
+leases_in (Provisioned l) a = l.address.0 == a.0
+leases_in (Discovered m) a = false
+
+abbrev pub leases : Ip4 → Session → Bool
+leases a x = leases_in x.service a
+
+-- the session that has an address
+abbrev pub holder_of : State → Ip4 → Option Session
+holder_of s a = find (leases a) (values s.sessions)
+
+-- a session of this number is another one, or a new one
+abbrev pub with_session : State → ℕ → Session → State
+with_session s n x = record s { sessions = with_value s.sessions n x }
+
+abbrev pub made_one : Service → ℕ
+made_one (Provisioned l) = 0
+made_one (Discovered m) = 1
+
+-- how many sessions discovery made that are still there
+abbrev pub made_in : State → ℕ
+made_in s = sum_by (λ x. made_one x.service) (values s.sessions)
+
+-- the session has ended, and leaves when the round is settled
+abbrev pub leaves_in : Service → Bool
+leaves_in (Provisioned l) = false
+leaves_in (Discovered m) = m.ended
+
+abbrev pub leaves : Session → Bool
+leaves x = leaves_in x.service
 
 -- a session stays until the round is settled in which it ended
 abbrev pub settled : State → State
-settled s = record s { sessions = filter (λ (x : Session). not x.ended) s.sessions }
+settled s = record s { sessions = record s.sessions { by_number = map.from_sorted (filter (λ e. not (leaves e.1)) (map.entries s.sessions.by_number)) } }

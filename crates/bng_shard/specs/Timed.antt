@@ -1,29 +1,31 @@
 -- What a Tick and an End leave.
-use Rattle.std.specs.Prelude.{◌≡◌, ℕ, ◌≤◌, Bool, true, false, List, ◌++◌, length}
+use Rattle.std.specs.Prelude.{◌≡◌, ℕ, ◌≤◌, Bool, true, false, List, ◌++◌, Some, length}
 use Rattle.bng_base.specs.declared.item.Entry.{Entry}
 use Rattle.bng_base.specs.declared.item.OutRecord.{OutRecord}
 use Rattle.bng_ppp.specs.declared.rules.Input.TheVariants.{Timer}
+use Rattle.bng_slots.specs.Sessions.{value_at}
 use Rattle.bng_shard.specs.declared.rules.Rules.{Rules}
 use Rattle.bng_shard.specs.declared.sending.At.{At}
-use Rattle.bng_shard.specs.State.{State, Session}
+use Rattle.bng_shard.specs.declared.session.Session.{Session}
+use Rattle.bng_shard.specs.State.{State, with_session}
 use Rattle.bng_shard.specs.Deed.{at_of}
-use Rattle.bng_shard.specs.Link.{ends_outs, with_session}
+use Rattle.bng_shard.specs.Link.{EndsWith, ended}
 use Rattle.bng_shard.specs.Driven.{Driven}
-use Rattle.bng_shard.specs.Timers.{Ticks, Ends, IsFirstDue, NoneIsDue, IsLowest, AllEnded}
+use Rattle.bng_shard.specs.Timers.{Ticks, Ends, IsFirstDue, NoneIsDue, IsLowest, NoneLives}
 
 -- The due deadline that comes first was handled; or none is due, and all is as before.
 abbrev pub TickedOnce : Bool → Rules → At → ℕ → List ℕ → State → State → List OutRecord → List OutRecord → Type 0
-TickedOnce false r a now random s s' outs outs' = NoneIsDue now s.sessions × (s' ≡ s) × (outs' ≡ outs)
+TickedOnce false r a now random s s' outs outs' = NoneIsDue s now × (s' ≡ s) × (outs' ≡ outs)
 TickedOnce true r a now random s s' outs outs' =
-    (place : ℕ) × (x : Session) × IsFirstDue now s.sessions place x
-    × (x' : Session) × Driven r a Timer now random x x' outs outs' × (s' ≡ with_session s place x')
+    (n : ℕ) × IsFirstDue s now n × (x x' : Session) × (value_at s.sessions n ≡ Some x)
+    × Driven r a Timer now random x x' outs outs' × (s' ≡ with_session s n x')
 
 -- The session with the lowest number ended; or all had ended, and all is as before.
 abbrev pub EndedOnce : Bool → Rules → At → State → State → List OutRecord → List OutRecord → Type 0
-EndedOnce false r a s s' outs outs' = AllEnded s.sessions × (s' ≡ s) × (outs' ≡ outs)
+EndedOnce false r a s s' outs outs' = NoneLives s × (s' ≡ s) × (outs' ≡ outs)
 EndedOnce true r a s s' outs outs' =
-    (place : ℕ) × (x : Session) × IsLowest s.sessions place x
-    × (s' ≡ with_session s place (record x { ended = true })) × (outs' ≡ outs ++ ends_outs r a x)
+    (n : ℕ) × IsLowest s n × (x : Session) × (value_at s.sessions n ≡ Some x)
+    × (padt : List OutRecord) × EndsWith r a x padt × (s' ≡ with_session s n (ended x)) × (outs' ≡ outs ++ padt)
 
 -- So many due deadlines at most were handled: what that sends stands after what was to be sent.
 pub record Ticked (most : ℕ) (r : Rules) (a : At) (now : ℕ) (random : List ℕ) (s s' : State) (outs outs' : List OutRecord) : Type 0 where

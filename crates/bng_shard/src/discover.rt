@@ -1,5 +1,5 @@
 //! Frames of the discovery stage (RFC 2516 section 5).
-ghost use Rattle.std.specs.Prelude.{◌≡◌, ◌<◌, ◌≤◌, ◌+◌, ◌^◌, ◌∷◌, ◌++◌, [], List, Some, IfSome, length, option_map, slice_get, vec_capacity};
+ghost use Rattle.std.specs.Prelude.{◌≡◌, ◌<◌, ◌≤◌, ◌+◌, ◌^◌, List, Some, IfSome, length, option_map, vec_capacity};
 ghost use Rattle.bng_base.specs.declared.settings.AccessPort.{AccessPort as Port};
 ghost use Rattle.bng_base.specs.PppoeGrammar.{PppoeTag, AreTags, IsDiscovery};
 ghost use Rattle.bng_pppoe_wire.specs.View.{frame_of};
@@ -7,16 +7,18 @@ ghost use Rattle.bng_shard.specs.Discovery.{host_uniq_of, Discovers};
 ghost use Rattle.bng_shard.specs.Doing.{DoesWith};
 ghost use Rattle.bng_shard.specs.Driven.{Driven};
 ghost use Rattle.bng_shard.specs.Making.{IsNewSession};
-ghost use Rattle.bng_shard.specs.State.{Session as Seen, vacant, port_at};
+ghost use Rattle.bng_shard.specs.declared.session.Session.{Session as Seen};
+ghost use Rattle.bng_shard.specs.State.{port_at, with_session};
+ghost use Rattle.bng_slots.specs.Sessions.{IsLowestVacant};
 
 use crate::answering::{Reply, reply_to};
 use crate::drive::{drive, offers_of, port_of};
-use crate::repeats::host_uniq;
+use crate::host_uniq::host_uniq;
 use crate::replies::{send_offer, send_refusal, send_session};
 use crate::rules::Rules;
 use crate::sending::At;
-use crate::session::Session;
-use crate::slots::Slots;
+use crate::session::{Made, Service, Session};
+use crate::served::Served;
 use arrayvec::ArrayVec;
 use bng_base::{Fate, Item, Mac, OutRecord, SessionNo};
 use bng_ppp::{Input, Link, LinkKind};
@@ -59,33 +61,17 @@ fn new_session(
         number,
         port,
         mac,
-        host_uniq: kept(asked),
-        link: Link::new(LinkKind::Pppoe, random, now),
-        ended: false,
+        service: Service::Discovered(Made {
+            host_uniq: kept(asked),
+            link: Link::new(LinkKind::Pppoe, random, now),
+            ended: false,
+        }),
     }
-}
-
-// Adds a session to those of a shard that may have one more.
-fn add(slots: &mut Slots, session: Session)
-    requires { length slots.old.sessions < 1022 }
-    ensures { slots.new ≡ record slots.old { sessions = slots.old.sessions ++ session ∷ [] } }
-{
-    slots.rest = None;
-    slots.sessions.push_reserved(session);
-}
-
-// The number of the session at this place, from 0.
-fn number_at(slots: &Slots, place: usize) -> SessionNo
-    requires { place < length slots.now.sessions }
-    ensures { (x : Seen) × (slice_get slots.now.sessions place ≡ Some x) × (x.number ≡ result.0) }
-{
-    let session = &slots.sessions[place];
-    session.number
 }
 
 // Makes a session, and tells its link Open and Up.
 fn make(
-    slots: &mut Slots,
+    served: &mut Served,
     rules: &Rules,
     at: At,
     now: u64,
@@ -98,21 +84,23 @@ fn make(
     requires moment { now < 2 ^ 60 }
     requires auth { 0 < length rules.now.link.auth.items }
     requires room { length outs.old.items + 5 ≤ vec_capacity outs.old }
-    requires few { length slots.old.sessions < 1022 }
+    requires vacant { IsLowestVacant served.old.sessions session.0 }
+    requires offers { length rules.now.offers ≡ length rules.now.access }
+    requires placed { (port : Port) × (port_at rules.now.access number ≡ Some port) }
     requires tags { (ts : List PppoeTag) × AreTags ts frame.now.payload.now × (length ts ≤ 64) × IfSome (host_uniq_of ts) (λ h. length h ≤ 64) }
-    ensures made { (ts : List PppoeTag) → AreTags ts frame.now.payload.now → (new : Seen) × (x : Seen) × IsNewSession session.0 number frame.now.src (host_uniq_of ts) random.now new × Driven rules.now at Input.Start now random.now new x outs.old.items outs.new.items × (slots.new ≡ record slots.old { sessions = slots.old.sessions ++ x ∷ [] }) }
+    ensures made { (ts : List PppoeTag) → AreTags ts frame.now.payload.now → (new : Seen) × (x : Seen) × IsNewSession session.0 number frame.now.src (host_uniq_of ts) random.now new × Driven rules.now at Input.Start now random.now new x outs.old.items outs.new.items × (served.new ≡ with_session served.old session.0 x) }
     ensures capacity { vec_capacity outs.new ≡ vec_capacity outs.old }
     ensures few { length outs.new.items ≤ length outs.old.items + 5 }
 {
     let asked = host_uniq(frame);
     let mut made = new_session(session, number, frame.src, asked, random, now);
     drive(&mut made, rules, at, Input::Start, now, random, outs);
-    add(slots, made);
+    served.put(made);
 }
 
 /// Handles a frame of the discovery stage that is no PADT and came to the port with this number.
 pub(crate) fn hear_discovery(
-    slots: &mut Slots,
+    served: &mut Served,
     rules: &Rules,
     at: At,
     now: u64,
@@ -123,29 +111,27 @@ pub(crate) fn hear_discovery(
 ) -> Fate
     requires moment { now < 2 ^ 60 }
     requires auth { 0 < length rules.now.link.auth.items }
-    requires here { at.shard ≡ slots.old.number }
+    requires offers { length rules.now.offers ≡ length rules.now.access }
+    requires here { at.shard ≡ served.old.sessions.shard }
     requires room { length outs.old.items + 6 ≤ vec_capacity outs.old }
     requires port { (port : Port) × (port_at rules.now.access number ≡ Some port) }
     requires is { IsDiscovery (frame_of frame.now) }
     requires few { (ts : List PppoeTag) × AreTags ts frame.now.payload.now × (length ts ≤ 64) }
-    ensures does { DoesWith (λ e d. Discovers rules.now slots.old e number (frame_of frame.now) d) 6 slots.old slots.new outs.old.items outs.new.items at now item.now result }
+    ensures does { DoesWith (λ e d. Discovers rules.now served.old e number (frame_of frame.now) d) 6 served.old served.new outs.old.items outs.new.items at now item.now result }
     ensures capacity { vec_capacity outs.new ≡ vec_capacity outs.old }
 {
     let Some(port) = port_of(rules, number) else {
-        return Fate::Consumed;
+        unreachable!();
     };
     let Some(offers) = offers_of(rules, number) else {
-        return Fate::Consumed;
+        unreachable!();
     };
-    match reply_to(slots, number, offers, frame) {
-        Reply::Offer => {
-            send_offer(outs, at, number, &port, offers, frame);
-            Fate::Consumed
-        }
+    match reply_to(served, number, offers, frame) {
+        Reply::Offer => send_offer(outs, at, number, &port, offers, frame),
         Reply::Make(session) => {
             send_session(outs, at, number, &port, offers, frame, session);
             make(
-                slots,
+                served,
                 rules,
                 at,
                 now,
@@ -155,17 +141,12 @@ pub(crate) fn hear_discovery(
                 &item.random,
                 outs,
             );
-            Fate::Consumed
         }
-        Reply::Again(place) => {
-            let session = number_at(slots, place);
+        Reply::Again(session) => {
             send_session(outs, at, number, &port, offers, frame, session);
-            Fate::Consumed
         }
-        Reply::Refuse(error) => {
-            send_refusal(outs, at, number, &port, offers, frame, error);
-            Fate::Consumed
-        }
-        Reply::Nothing => Fate::Consumed,
+        Reply::Refuse(error) => send_refusal(outs, at, number, &port, offers, frame, error),
+        Reply::Nothing => {}
     }
+    Fate::Consumed
 }

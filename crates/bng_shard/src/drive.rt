@@ -1,11 +1,13 @@
 //! What a step of a session's link sends.
-ghost use Rattle.std.specs.Prelude.{◌≡◌, true, ◌+◌, ◌<◌, ◌≤◌, ◌^◌, ◌++◌, IfSome, IfNone, None as Nothing, length, vec_capacity};
+ghost use Rattle.std.specs.Prelude.{◌≡◌, List, Some, true, ◌+◌, ◌<◌, ◌≤◌, ◌^◌, ◌++◌, IfSome, IfNone, None as Nothing, length, vec_capacity};
 ghost use Rattle.bng_base.specs.PppoeGrammar.{PppoeFrame, pppoe_text};
 ghost use Rattle.bng_pppoe_wire.specs.View.{frame_of};
 ghost use Rattle.bng_ppp.specs.Said.{payloads};
-ghost use Rattle.bng_shard.specs.State.{port_at, offers_at};
+ghost use Rattle.bng_base.specs.declared.item.OutRecord.{OutRecord as OutRecordOf};
+ghost use Rattle.bng_base.specs.declared.settings.AccessPort.{AccessPort as Port};
+ghost use Rattle.bng_shard.specs.State.{made_one, offers_at, port_at};
 ghost use Rattle.bng_shard.specs.Deed.{has_macs, frame_outs};
-ghost use Rattle.bng_shard.specs.Link.{ppp_outs, ends_outs};
+ghost use Rattle.bng_shard.specs.Link.{ppp_outs, EndsWith};
 ghost use Rattle.bng_discovery.specs.Reply.{padt_of};
 ghost use Rattle.bng_shard.specs.Driven.{Driven};
 
@@ -15,7 +17,7 @@ use crate::session::Session;
 use arrayvec::ArrayVec;
 use bng_base::{AccessPort, Frame, HEADROOM, LONGEST, Mac, OutRecord, Role, Written};
 use bng_discovery::{PortRules, terminate};
-use bng_ppp::Input;
+use bng_ppp::{Input, Steps};
 use bng_pppoe_wire::{Pppoe, code};
 
 /// The access port with this number, from 1 on.
@@ -96,13 +98,14 @@ fn send_frames(
     frames: &ArrayVec<Frame, 4>,
     outs: &mut Vec<OutRecord>,
 )
+    requires placed { (port : Port) × (port_at rules.now.access session.now.port ≡ Some port) }
     requires room { length outs.old.items + 4 ≤ vec_capacity outs.old }
-    ensures items { outs.new.items ≡ outs.old.items ++ ppp_outs at session.now (port_at rules.now.access session.now.port) (payloads frames.now.items) }
+    ensures items { (port : Port) → port_at rules.now.access session.now.port ≡ Some port → outs.new.items ≡ outs.old.items ++ ppp_outs at session.now port (payloads frames.now.items) }
     ensures capacity { vec_capacity outs.new ≡ vec_capacity outs.old }
     ensures few { length outs.new.items ≤ length outs.old.items + 4 }
 {
     let Some(port) = port_of(rules, session.port) else {
-        return;
+        unreachable!();
     };
     for frame in frames.as_slice() {
         let wrapped = Pppoe {
@@ -126,7 +129,7 @@ fn push_padt(
     offers: &PortRules,
 )
     requires room { length outs.old.items < vec_capacity outs.old }
-    ensures items { outs.new.items ≡ outs.old.items ++ frame_outs at session.now.port port.now (padt_of offers.now session.now.mac session.now.number) }
+    ensures items { outs.new.items ≡ outs.old.items ++ frame_outs at session.now.port port.now (padt_of offers.now session.now.mac session.now.number.0) }
     ensures capacity { vec_capacity outs.new ≡ vec_capacity outs.old }
     ensures few { length outs.new.items ≤ length outs.old.items + 1 }
 {
@@ -138,16 +141,18 @@ fn push_padt(
 
 /// Appends the PADT of a session (RFC 2516 section 5.5).
 pub(crate) fn send_padt(rules: &Rules, at: At, session: &Session, outs: &mut Vec<OutRecord>)
+    requires offers { length rules.now.offers ≡ length rules.now.access }
+    requires placed { (port : Port) × (port_at rules.now.access session.now.port ≡ Some port) }
     requires room { length outs.old.items < vec_capacity outs.old }
-    ensures items { outs.new.items ≡ outs.old.items ++ ends_outs rules.now at session.now }
+    ensures items { (padt : List OutRecordOf) × EndsWith rules.now at session.now padt × (outs.new.items ≡ outs.old.items ++ padt) }
     ensures capacity { vec_capacity outs.new ≡ vec_capacity outs.old }
     ensures few { length outs.new.items ≤ length outs.old.items + 1 }
 {
     let Some(port) = port_of(rules, session.port) else {
-        return;
+        unreachable!();
     };
     let Some(offers) = offers_of(rules, session.port) else {
-        return;
+        unreachable!();
     };
     push_padt(outs, at, session, &port, offers);
 }
@@ -165,13 +170,16 @@ pub(crate) fn drive(
 )
     requires moment { now < 2 ^ 60 }
     requires auth { 0 < length rules.now.link.auth.items }
+    requires offers { length rules.now.offers ≡ length rules.now.access }
+    requires placed { (port : Port) × (port_at rules.now.access session.old.port ≡ Some port) }
+    requires made { made_one session.old.service ≡ 1 }
     requires room { length outs.old.items + 5 ≤ vec_capacity outs.old }
     ensures driven { Driven rules.now at input.entry now random.now session.old session.new outs.old.items outs.new.items }
     ensures capacity { vec_capacity outs.new ≡ vec_capacity outs.old }
     ensures few { length outs.new.items ≤ length outs.old.items + 5 }
 {
-    let steps = session.link.step(&rules.link, input, now, random);
-    session.ended = steps.finished;
+    let mut steps = Steps::new();
+    session.step(&rules.link, input, now, random, &mut steps);
     send_frames(rules, at, session, &steps.outs, outs);
     if steps.finished {
         send_padt(rules, at, session, outs);

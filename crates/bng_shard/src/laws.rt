@@ -5,7 +5,7 @@ ghost use Rattle.bng_engine.specs.Protocol.{StepLaws, StillLaws};
 ghost use Rattle.std.specs.List.{AllByRecursion};
 ghost use Rattle.bng_shard.specs.declared.rules.Rules.{Rules};
 ghost use Rattle.bng_shard.specs.Deed.{Deed, is_forwarded};
-ghost use Rattle.bng_shard.specs.Protocol.{ShardState, Handled, pppoe, packet_octets, sessions_of};
+ghost use Rattle.bng_shard.specs.Protocol.{ShardState, Handled, pppoe, packet_octets, sessions_of, terms_of};
 ghost use Rattle.bng_shard.specs.Reader.{IsWhole};
 ghost use Rattle.bng_shard.specs.State.{State};
 ghost use Rattle.bng_shard.specs.Step.{Step};
@@ -13,13 +13,14 @@ ghost use Rattle.bng_shard.specs.Step.{Step};
 /// The steps of a shard meet the laws on which the accounts of a run rest: no term ends while its circuit is there, each packet
 /// that is charged is of a live term, on its circuit and with its address, and the octets of each datagram are read as its charge
 /// says. No step claims an address, and no term ends. Each datagram is a whole IPv4 packet as its charge says, or no packet of a
-/// subscriber. A step changes no circuit. An End leaves no session, or 64 fewer. Of a datagram of at most 4,096 octets it sends at most 4,160 octets of packets. It sends
-/// one packet where the fate is Forwarded, and else none.
+/// subscriber. A step changes no term. An End leaves no session, or 64 fewer. Of a datagram of at most 4,096 octets it sends at most
+/// 4,160 octets of packets. It sends one packet where the fate is Forwarded, and else none.
 pub fn steps_meet_laws()
     ensures laws { StepLaws pppoe }
     ensures still { StillLaws pppoe }
     ensures whole { (r : Rules) (s : State) (d : Deed) → Step r s d → AllByRecursion IsWhole d.outs }
-    ensures circuits { (r : Rules) (s : State) (d : Deed) → Step r s d → d.next.statics ≡ s.statics }
+    ensures terms { (r : Rules) (s : State) (d : Deed) → Step r s d → (d.next.begun ≡ s.begun)
+        × (terms_of (record { rules = r; slots = d.next }) ≡ terms_of (record { rules = r; slots = s })) }
     ensures fewer { (s : ShardState) (h : Handled) → (pppoe).is_step s h → h.deed.entry.item.kind ≡ End
         → (sessions_of ((pppoe).settled ((pppoe).next s h)) ≡ 0) ⊎ (sessions_of ((pppoe).settled ((pppoe).next s h)) + 64 ≤ sessions_of s) }
     ensures light { (r : Rules) (s : State) (d : Deed) → Step r s d → length d.entry.item.frame.payload ≤ 4096 → packet_octets d.outs ≤ 4160 }

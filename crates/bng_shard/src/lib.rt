@@ -5,25 +5,23 @@
 #![tactic(auto)]
 
 mod answering;
-mod choice;
-mod circuits;
+mod data;
 mod discover;
 mod drive;
 mod frames;
 mod hear;
+mod host_uniq;
 mod laws;
 mod pool;
-mod repeats;
 mod replies;
 mod rules;
 mod running;
 mod sending;
+mod served;
 mod session;
 mod shard;
-mod slots;
 mod sums;
 mod timers;
-mod vacancy;
 mod whose;
 
 pub use crate::laws::steps_meet_laws;

@@ -2,7 +2,7 @@ use bng_base::{AccessPort, Listed, Peer};
 use bng_discovery::PortRules;
 use bng_ppp::LinkRules;
 
-/// By what all shards of a gateway work. They are the same at each call.
+/// By what all shards of a gateway work. A shard has them from its opening on.
 #[derive(Drop)]
 pub struct Rules {
     /// How many shards there are, 1 to 64.

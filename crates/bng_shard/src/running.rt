@@ -7,12 +7,15 @@ ghost use Rattle.bng_engine.specs.Lists.{AnyOf};
 ghost use Rattle.bng_engine.specs.Protocol.{AreNumbered, HasKey, IsOwned};
 ghost use Rattle.bng_engine.specs.Terms.{keys};
 ghost use Rattle.bng_engine.specs.Views.{new_row, row_keys};
-ghost use Rattle.bng_shard.specs.Protocol.{row_at, terms_after};
+ghost use Rattle.bng_shard.specs.Protocol.{row_at, terms_of};
+ghost use Rattle.bng_shard.specs.declared.rules.Rules.{Rules as Ways};
 ghost use Rattle.bng_shard.specs.Running.{begun, row_from, rows_in};
 ghost use Rattle.bng_shard.specs.Sums.{charged_as, traffic_in, AreCovered, Has, IsLow, IsMore, RowsAreLow, Rises};
 
+use crate::served::Served;
+use crate::session::{Lease, Session};
 use crate::sums::{Charged, Traffic};
-use bng_base::{Book, Charge, Circuit, Ip4, OutRecord, SessionNo, Static, TermId};
+use bng_base::{Book, Charge, Circuit, Ip4, OutRecord, SessionNo, TermId};
 use std::alloc::{AllocError, Global};
 
 /// A term, its circuit and its address, with what its packets from the subscriber and towards it carried.
@@ -24,44 +27,43 @@ pub(crate) struct Running {
     pub(crate) carried: Book,
 }
 
-/// A book in which nothing stands.
-pub(crate) const EMPTY: Book = Book {
-    input: 0,
-    output: 0,
-    input_packets: 0,
-    output_packets: 0,
-};
-
-// The row of the term of a circuit that begins.
-fn begun(circuit: &Static, serial: u64) -> Running
-    ensures { result ≡ begun circuit.now serial }
+// The row of the term of a session that begins.
+fn begun(session: &Session, lease: Lease) -> Running
+    ensures { result ≡ begun session.now lease }
 {
     Running {
         term: TermId {
-            session: circuit.session,
-            serial,
+            session: session.number,
+            serial: lease.serial,
         },
         circuit: Circuit::Pppoe {
-            port: circuit.port,
-            mac: circuit.mac,
-            session: circuit.session,
+            port: session.port,
+            mac: session.mac,
+            session: session.number,
         },
-        lease: circuit.address,
-        carried: EMPTY,
+        lease: lease.address,
+        carried: Book::empty(),
     }
 }
 
-/// The rows of the terms of these circuits, which are numbered from 1 on.
-pub(crate) fn rows_of(alloc: Global, circuits: &[Static]) -> Result<Vec<Running>, AllocError>
-    requires few { length circuits.now ≤ 1024 }
-    ensures { IfOk result (λ rows. rows_in rows.items ≡ map new_row (keys (terms_after 0 circuits.now))) }
+/// The rows of the terms of a shard that was opened, by rising session number.
+pub(crate) fn rows_of(alloc: Global, served: &Served) -> Result<Vec<Running>, AllocError>
+    ensures { (r : Ways) → IfOk result (λ rows. rows_in rows.items ≡ map new_row (keys (terms_of (record { rules = r; slots = served.now })))) }
 {
-    let mut rows = Vec::with_capacity(alloc, circuits.len())?;
-    for (place, circuit) in circuits.iter().enumerate() {
-        rows.push_reserved(begun(circuit, place as u64 + 1));
+    let mut rows = Vec::with_capacity(alloc, NUMBERS)?;
+    let first = served.shard() * 1024 + 1;
+    for n in first..first + 1022 {
+        if let Some(session) = served.sessions.get(SessionNo(n)) {
+            if let Some(lease) = session.lease() {
+                rows.push_reserved(begun(session, lease));
+            }
+        }
     }
     Ok(rows)
 }
+
+/// The most sessions of a shard.
+const NUMBERS: usize = 1022;
 
 // The row with this session number.
 fn row_at(rows: &[Running], session: SessionNo) -> Option<Running>
@@ -102,14 +104,7 @@ fn enter(book: &mut Book, input: bool, octets: u16)
     ensures more { IsMore book.old input octets book.new }
     ensures few { (most : ℕ) → IsLow most book.old → IsLow (most + 2 ^ 16) book.new }
 {
-    let octets = u64::from(octets);
-    if input {
-        book.input += octets;
-        book.input_packets += 1;
-    } else {
-        book.output += octets;
-        book.output_packets += 1;
-    }
+    book.enter(input, octets);
 }
 
 // Takes one off.
@@ -117,14 +112,7 @@ fn take_off(book: &mut Book, input: bool, octets: u16)
     requires there { Has book.old input octets }
     ensures { IsMore book.new input octets book.old }
 {
-    let octets = u64::from(octets);
-    if input {
-        book.input -= octets;
-        book.input_packets -= 1;
-    } else {
-        book.output -= octets;
-        book.output_packets -= 1;
-    }
+    book.take_off(input, octets);
 }
 
 // Enters the packet of an out, if it has one, in a tally.

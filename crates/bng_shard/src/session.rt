@@ -1,25 +1,213 @@
+//! A session: its circuit, and what serves it.
+ghost use Rattle.std.specs.Prelude.{◌≡◌, ◌<◌, ◌^◌, Some, length, option_map};
+ghost use Rattle.bng_shard.specs.Discovery.{is_repeated, same_option};
+ghost use Rattle.bng_ppp.specs.LinkRelation.{LinkSteps};
+ghost use Rattle.bng_ppp.specs.LinkState.{LinkState};
+ghost use Rattle.bng_ppp.specs.Said.{said};
+ghost use Rattle.bng_shard.specs.Link.{ended, with_link};
+ghost use Rattle.bng_shard.specs.Made.{Made as DiscoveredMade};
+ghost use Rattle.bng_shard.specs.State.{circuit_of, is_on, leaves, lease_of, made_one, view_of};
+ghost use Rattle.bng_shard.specs.Timers.{deadline_of, lives_in};
+ghost use Rattle.bng_shard.specs.Indexed.{address_of, term_of};
+
 use arrayvec::ArrayVec;
-use bng_base::{Mac, SessionNo};
-use bng_ppp::Link;
+use bng_base::{Circuit, Ip4, Mac, SessionNo, TermId};
+use bng_forward::TermView;
+use bng_ppp::{Input, Link, LinkRules, Steps};
+use bng_slots::Slotted;
 use std::marker::Model;
 
-/// A session that discovery made (RFC 2516): its SESSION_ID, the port and the MAC of its subscriber, the Host-Uniq with which it
-/// was asked for, its link, and whether it has ended.
+/// A term's number in its shard, from 1 on, its address, and the place of its profile.
+#[derive(Clone, Copy, PartialEq, Eq, Debug)]
+pub struct Lease {
+    pub(crate) serial: u64,
+    pub(crate) address: Ip4,
+    pub(crate) profile: u8,
+}
+
+/// A session that discovery made (RFC 2516): the Host-Uniq with which it was asked for, its link, and whether it has ended.
 #[derive(Drop)]
-pub struct Session {
-    pub(crate) number: SessionNo,
-    pub(crate) port: u8,
-    pub(crate) mac: Mac,
+pub struct Made {
     pub(crate) host_uniq: Option<ArrayVec<u8, 64>>,
     pub(crate) link: Link,
     pub(crate) ended: bool,
 }
 
-impl Model for Session {
+impl Model for Made {
     ghost use Rattle.std.specs.Prelude.{option_map};
-    ghost use Rattle.bng_shard.specs.State.{Session as Seen};
+    ghost use Rattle.bng_shard.specs.Made.{Made as Seen};
 
     ghost Value = { Seen };
 
-    ghost view = { λ x. record { number = x.number.0; port = x.port; mac = x.mac; host_uniq = option_map (λ h. h.items) x.host_uniq; link = x.link; ended = x.ended } };
+    ghost view = { λ m. record { host_uniq = option_map (λ h. h.items) m.host_uniq; link = m.link; ended = m.ended } };
+}
+
+/// What serves a session: a provisioned circuit has a term from the opening on and no link; a session that discovery made has a
+/// link.
+#[derive(Drop)]
+pub enum Service {
+    Provisioned(Lease),
+    Discovered(Made),
+}
+
+/// A session, on the circuit of its port, the MAC of its subscriber and its SESSION_ID.
+#[derive(Drop)]
+pub struct Session {
+    pub(crate) number: SessionNo,
+    pub(crate) port: u8,
+    pub(crate) mac: Mac,
+    pub(crate) service: Service,
+}
+
+impl Slotted for Session {
+    ghost circuit = { λ x. Some (circuit_of x) };
+
+    ghost address = { address_of };
+
+    ghost term = { term_of };
+
+    ghost deadline = { deadline_of };
+
+    fn circuit(&self) -> Option<Circuit> {
+        Some(Circuit::Pppoe {
+            port: self.port,
+            mac: self.mac,
+            session: self.number,
+        })
+    }
+
+    fn address(&self) -> Option<Ip4> {
+        match &self.service {
+            Service::Provisioned(lease) => Some(lease.address),
+            Service::Discovered(_) => None,
+        }
+    }
+
+    fn term(&self) -> Option<TermId> {
+        match &self.service {
+            Service::Provisioned(lease) => Some(TermId {
+                session: self.number,
+                serial: lease.serial,
+            }),
+            Service::Discovered(_) => None,
+        }
+    }
+
+    fn deadline(&self) -> Option<u64> {
+        match &self.service {
+            Service::Provisioned(_) => None,
+            Service::Discovered(made) => made.deadline(),
+        }
+    }
+}
+
+impl Made {
+    ghost use Rattle.bng_shard.specs.Timers.{made_deadline};
+
+    /// The first moment in milliseconds at which its link's Timer does something; none once it has ended.
+    pub(crate) fn deadline(&self) -> Option<u64>
+        ensures { result ≡ made_deadline self.now }
+    {
+        if self.ended {
+            return None;
+        }
+        self.link.deadline()
+    }
+}
+
+fn is_same(kept: &Option<ArrayVec<u8, 64>>, asked: Option<&[u8]>) -> bool
+    ensures { result ≡ same_option (option_map (λ h. h.items) kept.now) (option_map (λ o. o.now) asked.entry) }
+{
+    match (kept, asked) {
+        (None, None) => true,
+        (Some(kept), Some(asked)) => kept.as_slice() == asked,
+        (None, Some(_)) | (Some(_), None) => false,
+    }
+}
+
+impl Session {
+    /// Whether it is on this port, of this MAC.
+    pub(crate) fn is_on(&self, port: u8, mac: Mac) -> bool
+        ensures { result ≡ is_on port mac self.now }
+    {
+        self.port == port && self.mac.0.as_slice() == mac.0.as_slice()
+    }
+
+    /// Whether it was made for the same request before (RFC 2516 section 5.4).
+    pub(crate) fn is_repeated(&self, port: u8, mac: Mac, asked: Option<&[u8]>) -> bool
+        ensures { result ≡ is_repeated port mac (option_map (λ o. o.now) asked.entry) self.now }
+    {
+        self.is_on(port, mac)
+            && match &self.service {
+                Service::Provisioned(_) => false,
+                Service::Discovered(made) => {
+                    is_same(&made.host_uniq, asked) && !made.ended && !made.link.was_opened()
+                }
+            }
+    }
+
+    /// Whether discovery made it, and it has not ended.
+    pub(crate) fn lives(&self) -> bool
+        ensures { result ≡ lives_in self.now.service }
+    {
+        match &self.service {
+            Service::Provisioned(_) => false,
+            Service::Discovered(made) => !made.ended,
+        }
+    }
+
+    /// Whether it has ended, and leaves at the settlement.
+    pub(crate) fn has_ended(&self) -> bool
+        ensures { result ≡ leaves self.now }
+    {
+        match &self.service {
+            Service::Provisioned(_) => false,
+            Service::Discovered(made) => made.ended,
+        }
+    }
+
+    /// Ends it, where discovery made it.
+    pub(crate) fn end(&mut self)
+        ensures { self.new ≡ ended self.old }
+    {
+        if let Service::Discovered(made) = &mut self.service {
+            made.ended = true;
+        }
+    }
+
+    /// Tells its link an input, where discovery made it. Where LCP finished it has ended.
+    pub(crate) fn step(&mut self, rules: &LinkRules, input: Input<'_>, now: u64, random: &[u8; 16], steps: &mut Steps)
+        requires moment { now < 2 ^ 60 }
+        requires auth { 0 < length rules.now.auth.items }
+        requires made { made_one self.old.service ≡ 1 }
+        ensures { (made : DiscoveredMade) × (link : LinkState) × (self.old.service ≡ Service.Discovered made) × LinkSteps rules.now input.entry now random.now made.link (said steps.new) link × (self.new ≡ with_link self.old made link steps.new.finished) }
+    {
+        if let Service::Discovered(made) = &mut self.service {
+            made.link.step(rules, input, now, random, steps);
+            made.ended = steps.finished;
+        }
+    }
+
+    /// What its lease is, where its term is live.
+    pub(crate) fn lease(&self) -> Option<Lease>
+        ensures { result ≡ lease_of self.now }
+    {
+        match &self.service {
+            Service::Provisioned(lease) => Some(*lease),
+            Service::Discovered(_) => None,
+        }
+    }
+
+    /// What forwarding looks at of its term. A provisioned circuit has no LCP, and counts as Opened.
+    pub(crate) fn view(&self) -> Option<TermView>
+        ensures { result ≡ view_of self.now }
+    {
+        match &self.service {
+            Service::Provisioned(lease) => Some(TermView {
+                lease: lease.address,
+                opened: true,
+            }),
+            Service::Discovered(_) => None,
+        }
+    }
 }

@@ -1,23 +1,23 @@
 //! One shard.
-ghost use Rattle.std.specs.Prelude.{◌≡◌, ◌≤◌, ◌<◌, ◌+◌, ◌*◌, ◌^◌, ◌++◌, ◌∷◌, [], true, IfOk, OnOk, length, map, option_map, vec_capacity};
+ghost use Rattle.std.specs.Prelude.{◌≡◌, ◌≢◌, ◌≤◌, ◌<◌, ◌+◌, ◌*◌, ◌^◌, [], true, IfOk, OnOk, length, option_map, vec_capacity};
 ghost use Rattle.bng_engine.specs.Books.{book_at};
 ghost use Rattle.bng_engine.specs.Calls.{Kept, IsReady};
 ghost use Rattle.bng_engine.specs.Protocol.{IsOwned};
 ghost use Rattle.bng_engine.specs.Showing.{ChargesShown};
 ghost use Rattle.bng_engine.specs.Terms.{keys};
-ghost use Rattle.bng_engine.specs.Views.{new_row, row_keys};
-ghost use Rattle.bng_shard.specs.Protocol.{Handles, deadline_of, entry_of, opened, pppoe, profiles_there, row_at, sessions_of, terms_after, terms_of};
+ghost use Rattle.bng_engine.specs.Views.{row_keys};
+ghost use Rattle.bng_shard.specs.Protocol.{Handles, deadline_of, entry_of, opened, pppoe, profiles_there, row_at, sessions_of, terms_of};
 ghost use Rattle.bng_shard.specs.Room.{Admits};
-ghost use Rattle.bng_shard.specs.Running.{rows_in};
-ghost use Rattle.bng_shard.specs.State.{sessions_most, settled};
+ghost use Rattle.bng_slots.specs.Sessions.{IsNumberOf};
+ghost use Rattle.std.specs.List.{All, AllPairs};
+ghost use Rattle.bng_shard.specs.State.{settled};
 ghost use Rattle.bng_shard.specs.Sums.{charged_as, traffic_in, AreCovered, AreLow, IsLow, RowsAreLow};
 
 use crate::hear::hear;
 use crate::rules::Rules;
-use crate::running::{EMPTY, Running, book, carried_by, charged_as, rows_of, settle, tally};
+use crate::running::{Running, book, carried_by, charged_as, rows_of, settle, tally};
 use crate::sending::At;
-use crate::session::Session;
-use crate::slots::Slots;
+use crate::served::Served;
 use crate::sums::{Charged, Traffic};
 use bng_base::{Book, Claim, Entry, Fate, Item, LONGEST, OutRecord, SessionNo, Static};
 use std::alloc::{AllocError, Global};
@@ -36,7 +36,7 @@ pub enum ShardError {
 #[derive(Drop)]
 pub struct Shard {
     rules: Rules,
-    slots: Slots,
+    served: Served,
     rows: Vec<Running>,
     passed: Book,
     allowance: u32,
@@ -56,31 +56,15 @@ impl Model for Shard {
     ghost use Rattle.bng_shard.specs.Running.{rows_in};
     ghost use Rattle.bng_shard.specs.Fits.{Fits};
 
-    ghost view = { λ a. record { number = a.slots.number; state = record { rules = a.rules; slots = a.slots }; rows = rows_in a.rows.items; books = a.passed ∷ []; allowance = a.allowance; journal = a.journal.items; outs = a.outs.items; sends = []; stops = []; starts = []; room = a.room } };
+    ghost view = { λ a. record { number = a.served.sessions.shard; state = record { rules = a.rules; slots = a.served }; rows = rows_in a.rows.items; books = a.passed ∷ []; allowance = a.allowance; journal = a.journal.items; outs = a.outs.items; sends = []; stops = []; starts = []; room = a.room } };
 
     ghost invariant = { Fits };
 }
 
-/// How many sessions a shard has at most.
-const SESSIONS: usize = 1022;
 /// How many outs an item has at most, a Tick and an End aside.
 const OUTS: usize = 10;
 /// How many a Tick and an End have in all.
 const TIMED_OUTS: usize = 640;
-
-// What a shard has at its opening.
-fn memory_for(
-    alloc: Global,
-    circuits: &[Static],
-) -> Result<(Vec<Session>, Vec<Running>), AllocError>
-    requires few { length circuits.now ≤ 1024 }
-    ensures sessions { IfOk result (λ m. (m.0.items ≡ []) × (sessions_most ≤ vec_capacity m.0)) }
-    ensures rows { IfOk result (λ m. rows_in m.1.items ≡ map new_row (keys (terms_after 0 circuits.now))) }
-{
-    let sessions = Vec::with_capacity(alloc, SESSIONS)?;
-    let rows = rows_of(alloc, circuits)?;
-    Ok((sessions, rows))
-}
 
 /// For how many items a round makes room at first: as many as a turn of the desk has at most, so that no later round makes the lists
 /// anew. Of the room only what is used is touched.
@@ -115,32 +99,37 @@ fn reserve_amply(journal: &mut Vec<Entry>, outs: &mut Vec<OutRecord>, items: usi
 }
 
 impl Shard {
-    /// A shard with this number, at most 63, that works by these rules, and these circuits, whose session numbers are the shard's. It
-    /// has no session. The rules name a way to authenticate.
+    /// A shard with this number, at most 63, that works by these rules, and these circuits. It has no other session. The rules name a
+    /// way to authenticate, and what each access port offers. The circuits' session numbers are the shard's, no two have the same
+    /// number or the same address, and each is on an access port that is there and has the first profile. Their terms are numbered
+    /// from 1 on, by rising session number.
     pub fn open(
         alloc: Global,
         number: u16,
         rules: Rules,
-        statics: Vec<Static>,
+        circuits: &[Static],
     ) -> Result<Shard, ShardError>
         requires number { number < 64 }
-        requires few { length statics.items ≤ 1024 }
         requires auth { 0 < length rules.link.auth.items }
-        ensures { IfOk result (λ s. s ≡ opened number rules statics.items) }
+        requires offers { length rules.offers ≡ length rules.access }
+        requires own { All (λ c. IsNumberOf number c.session.0) circuits.now }
+        requires sessions { AllPairs (λ a b. a.session ≢ b.session) circuits.now }
+        requires addresses { AllPairs (λ a b. a.address ≢ b.address) circuits.now }
+        requires ports { All (λ c. (1 ≤ c.port) × (c.port ≤ length rules.access)) circuits.now }
+        requires profiles { All (λ c. c.profile < profiles_there) circuits.now }
+        ensures { IfOk result (λ s. s ≡ opened number rules circuits.now) }
     {
-        let Ok((sessions, rows)) = memory_for(alloc, &statics) else {
+        let Ok(served) = Served::open(alloc, number, circuits) else {
+            return Err(ShardError::OutOfMemory);
+        };
+        let Ok(rows) = rows_of(alloc, &served) else {
             return Err(ShardError::OutOfMemory);
         };
         Ok(Shard {
             rules,
-            slots: Slots {
-                number,
-                statics,
-                sessions,
-                rest: None,
-            },
+            served,
             rows,
-            passed: EMPTY,
+            passed: Book::empty(),
             allowance: 0,
             journal: Vec::new(alloc),
             outs: Vec::new(alloc),
@@ -157,7 +146,7 @@ impl Shard {
         ensures ready { OnOk result (IsReady items allowance self.new) }
         ensures empty { (self.new.journal ≡ []) × (self.new.outs ≡ []) }
         ensures fit { row_keys self.new.rows ≡ keys (terms_of self.new.state) }
-        ensures few { sessions_of self.new.state ≤ sessions_most }
+        ensures few { sessions_of self.new.state ≤ 1022 }
     {
         let items = usize::from(items);
         self.room = 0;
@@ -183,12 +172,12 @@ impl Shard {
     {
         prove!(item.frame.payload().len() <= LONGEST);
         let at = At {
-            shard: self.slots.number(),
+            shard: self.served.shard(),
             seat,
             place,
         };
         let before = self.outs.as_slice().len();
-        let fate = hear(&mut self.slots, &self.rules, at, now, &item, &mut self.outs);
+        let fate = hear(&mut self.served, &self.rules, at, now, &item, &mut self.outs);
         let sends = &self.outs.as_slice()[before..];
         book(&mut self.passed, sends);
         tally(ledger, sends);
@@ -218,10 +207,11 @@ impl Shard {
 
     /// Ends a round: lets the sessions that ended leave. It is called once its outs were sent and charged.
     pub fn settle(&mut self)
+        ensures few { sessions_of self.new.state ≤ 1022 }
         ensures { self.new ≡ record self.old { state = record self.old.state { slots = settled self.old.state.slots }; room = 0 } }
     {
         self.room = 0;
-        self.slots.settle();
+        self.served.settle();
     }
 
     /// Keeps an empty list for the journals of the rounds to come, as one that `drain` handed out: its room serves again. No round
@@ -262,14 +252,14 @@ impl Shard {
     pub fn due(&self) -> Option<u64>
         ensures { result ≡ deadline_of self.now.state }
     {
-        self.slots.due()
+        self.served.due()
     }
 
     /// How many sessions discovery made that are still there.
     pub fn sessions(&self) -> u32
         ensures { result ≡ sessions_of self.now.state }
     {
-        self.slots.count()
+        self.served.made()
     }
 
     /// What passed under this profile, from 0, and was not taken off. There is one profile.

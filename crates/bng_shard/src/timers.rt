@@ -1,13 +1,14 @@
 //! Ticks and Ends.
 ghost use Rattle.std.specs.Prelude.{◌≡◌, ◌+◌, ◌<◌, ◌≤◌, ◌^◌, ◌++◌, length, vec_capacity};
+ghost use Rattle.bng_shard.specs.Fits.{ArePlaced};
 ghost use Rattle.bng_shard.specs.Timed.{TickedOnce, EndedOnce, Ticked, Ended};
 ghost use Rattle.bng_shard.specs.Timers.{at_once};
 
-use crate::choice::{first_due, lowest};
-use crate::drive::{drive, send_padt};
+use crate::drive::send_padt;
+use crate::frames::drive_at;
 use crate::rules::Rules;
 use crate::sending::At;
-use crate::slots::Slots;
+use crate::served::Served;
 use bng_base::OutRecord;
 use bng_ppp::Input;
 
@@ -16,7 +17,7 @@ const AT_ONCE: u8 = 64;
 
 // Handles the due deadline that comes first, and says whether one is due.
 fn tick_once(
-    slots: &mut Slots,
+    served: &mut Served,
     rules: &Rules,
     at: At,
     now: u64,
@@ -25,41 +26,54 @@ fn tick_once(
 ) -> bool
     requires moment { now < 2 ^ 60 }
     requires auth { 0 < length rules.now.link.auth.items }
+    requires offers { length rules.now.offers ≡ length rules.now.access }
+    requires placed { ArePlaced rules.now served.old.sessions }
     requires room { length outs.old.items + 5 ≤ vec_capacity outs.old }
-    ensures ticked { TickedOnce result rules.now at now random.now slots.old slots.new outs.old.items outs.new.items }
+    ensures ticked { TickedOnce result rules.now at now random.now served.old served.new outs.old.items outs.new.items }
+    ensures placed { ArePlaced rules.now served.new.sessions }
     ensures capacity { vec_capacity outs.new ≡ vec_capacity outs.old }
     ensures few { length outs.new.items ≤ length outs.old.items + 5 }
 {
-    let Some(place) = first_due(slots.sessions.as_slice(), now) else {
+    let Some(session) = served.first_due(now) else {
         return false;
     };
-    slots.rest = None;
-    let session = &mut slots.sessions[place];
-    drive(session, rules, at, Input::Timer, now, random, outs);
+    drive_at(
+        served,
+        session,
+        rules,
+        at,
+        Input::Timer,
+        now,
+        random,
+        outs,
+    );
     true
 }
 
 // Ends the session with the lowest number, and says whether one has not ended.
-fn end_once(slots: &mut Slots, rules: &Rules, at: At, outs: &mut Vec<OutRecord>) -> bool
+fn end_once(served: &mut Served, rules: &Rules, at: At, outs: &mut Vec<OutRecord>) -> bool
+    requires offers { length rules.now.offers ≡ length rules.now.access }
+    requires placed { ArePlaced rules.now served.old.sessions }
     requires room { length outs.old.items < vec_capacity outs.old }
-    ensures ended { EndedOnce result rules.now at slots.old slots.new outs.old.items outs.new.items }
+    ensures ended { EndedOnce result rules.now at served.old served.new outs.old.items outs.new.items }
+    ensures placed { ArePlaced rules.now served.new.sessions }
     ensures capacity { vec_capacity outs.new ≡ vec_capacity outs.old }
     ensures few { length outs.new.items ≤ length outs.old.items + 1 }
 {
-    let Some(place) = lowest(slots.sessions.as_slice()) else {
+    let Some(number) = served.lowest_live() else {
         return false;
     };
-    slots.rest = None;
-    let session = &mut slots.sessions[place];
-    send_padt(rules, at, session, outs);
-    session.ended = true;
+    let mut session = served.take(number);
+    send_padt(rules, at, &session, outs);
+    session.end();
+    served.put(session);
     true
 }
 
 /// Handles the deadlines that are due at this moment in milliseconds, the earliest first, and of equal ones that of the lower
 /// session number first: at most 64. Each time the session's link takes Timer.
 pub(crate) fn tick(
-    slots: &mut Slots,
+    served: &mut Served,
     rules: &Rules,
     at: At,
     now: u64,
@@ -68,25 +82,29 @@ pub(crate) fn tick(
 )
     requires moment { now < 2 ^ 60 }
     requires auth { 0 < length rules.now.link.auth.items }
+    requires offers { length rules.now.offers ≡ length rules.now.access }
+    requires placed { ArePlaced rules.now served.old.sessions }
     requires room { length outs.old.items + 320 ≤ vec_capacity outs.old }
-    ensures ticked { Ticked at_once rules.now at now random.now slots.old slots.new outs.old.items outs.new.items }
+    ensures ticked { Ticked at_once rules.now at now random.now served.old served.new outs.old.items outs.new.items }
     ensures capacity { vec_capacity outs.new ≡ vec_capacity outs.old }
 {
     for _ in 0..AT_ONCE {
-        if !tick_once(slots, rules, at, now, random, outs) {
+        if !tick_once(served, rules, at, now, random, outs) {
             return;
         }
     }
 }
 
 /// Ends the sessions with the lowest numbers, by rising number, each with a PADT: at most 64.
-pub(crate) fn end(slots: &mut Slots, rules: &Rules, at: At, outs: &mut Vec<OutRecord>)
+pub(crate) fn end(served: &mut Served, rules: &Rules, at: At, outs: &mut Vec<OutRecord>)
+    requires offers { length rules.now.offers ≡ length rules.now.access }
+    requires placed { ArePlaced rules.now served.old.sessions }
     requires room { length outs.old.items + 320 ≤ vec_capacity outs.old }
-    ensures ended { Ended at_once rules.now at slots.old slots.new outs.old.items outs.new.items }
+    ensures ended { Ended at_once rules.now at served.old served.new outs.old.items outs.new.items }
     ensures capacity { vec_capacity outs.new ≡ vec_capacity outs.old }
 {
     for _ in 0..AT_ONCE {
-        if !end_once(slots, rules, at, outs) {
+        if !end_once(served, rules, at, outs) {
             return;
         }
     }

@@ -1,0 +1,38 @@
+-- A shard at its opening: the sessions of its provisioned circuits.
+use Rattle.std.specs.Prelude.{ℕ, ◌+◌, ◌*◌, ◌==◌, List, [], ◌∷◌, length, filter}
+use Rattle.std.specs.List.{flat_map, range_with_len}
+use Rattle.std.specs.FinMap.{from_sorted}
+use Rattle.bng_base.specs.declared.settings.Static.{Static}
+use Rattle.bng_shard.specs.declared.session.Lease.{Lease}
+use Rattle.bng_shard.specs.declared.session.Service.TheVariants.{Provisioned}
+use Rattle.bng_shard.specs.declared.session.Session.{Session}
+use Rattle.bng_shard.specs.State.{State}
+
+-- the session of a provisioned circuit, whose term has this number
+abbrev pub provisioned : Static → ℕ → Session
+provisioned c serial = record {
+  number = c.session;
+  port = c.port;
+  mac = c.mac;
+  service = Provisioned (record { serial = serial; address = c.address; profile = c.profile });
+}
+
+-- these, by their session numbers, with their terms numbered on after n
+abbrev pub numbered_after : ℕ → List Static → List (ℕ × Session)
+numbered_after n [] = []
+numbered_after n (c ∷ cs) = (c.session.0, provisioned c (n + 1)) ∷ numbered_after (n + 1) cs
+
+-- the circuit with this session number, if there is one
+abbrev pub circuit_at : List Static → ℕ → List Static
+circuit_at circuits n = filter (λ c. c.session.0 == n) circuits
+
+-- those of a shard's session numbers, by rising number
+abbrev pub in_order : ℕ → List Static → List Static
+in_order shard circuits = flat_map (circuit_at circuits) (range_with_len (shard * 1024 + 1) 1022)
+
+-- what stands in a shard at its opening
+abbrev pub opened_slots : ℕ → List Static → State
+opened_slots number circuits = record {
+  sessions = record { shard = number; by_number = from_sorted (numbered_after 0 (in_order number circuits)) };
+  begun = length circuits;
+}

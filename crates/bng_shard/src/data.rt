@@ -1,0 +1,169 @@
+//! Packets of the sessions' terms: from a circuit to the core, and from the core to a circuit.
+ghost use Rattle.std.specs.Prelude.{◌≡◌, ◌<◌, ℕ, List, length, vec_capacity, option_map};
+ghost use Rattle.std.specs.Option.{option_copied};
+ghost use Rattle.bng_base.specs.FateOf.{arrival_of};
+ghost use Rattle.bng_pppoe_wire.specs.View.{frame_of};
+ghost use Rattle.bng_forward.specs.Fates.{Carries, IsCorePacket, IsFrame};
+ghost use Rattle.bng_shard.specs.Doing.{DoesWith};
+ghost use Rattle.bng_shard.specs.Fits.{ArePlaced};
+ghost use Rattle.bng_shard.specs.Frames.{charge_of as charged_to, HearsCore, HearsData, HearsPacket};
+ghost use Rattle.bng_shard.specs.State.{view_of as viewed};
+
+use crate::drive::port_of;
+use crate::rules::Rules;
+use crate::sending::{At, push_out};
+use crate::served::Served;
+use crate::session::{Lease, Session};
+use bng_base::{Charge, Circuit, DropCause, Fate, Frame, Ipv4, Item, OutRecord, Role, SessionNo, TermId};
+use bng_forward::{Arrived, TermView, down, packet_from, put_in_frame, take_from_frame, up};
+use bng_pppoe_wire::Pppoe;
+
+// The octets of a datagram, apart from its item.
+fn copied(frame: &Frame) -> Frame
+    ensures payload { result.payload ≡ frame.now.payload }
+    ensures headroom { result.headroom ≡ 64 }
+{
+    let mut copy = Frame::new();
+    copy.set(frame.payload());
+    copy
+}
+
+// Whose packet it is: the session's term.
+fn charge_of(session: &Session, lease: Lease, input: bool, octets: u16) -> Charge
+    ensures { result ≡ charged_to session.now lease input octets }
+{
+    Charge {
+        term: TermId {
+            session: session.number,
+            serial: lease.serial,
+        },
+        profile: lease.profile,
+        circuit: Circuit::Pppoe {
+            port: session.port,
+            mac: session.mac,
+            session: session.number,
+        },
+        address: lease.address,
+        input,
+        octets,
+    }
+}
+
+// The view of a session's term, if there is a session.
+fn view_of(session: Option<&Session>) -> Option<Option<TermView>>
+    ensures { result ≡ option_map viewed (option_copied session) }
+{
+    match session {
+        Some(session) => Some(session.view()),
+        None => None,
+    }
+}
+
+/// Handles a frame that came to the port with this number and carries an IPv4 packet of so many octets.
+pub(crate) fn hear_data(
+    served: &Served,
+    rules: &Rules,
+    at: At,
+    number: u8,
+    frame: &Pppoe<'_>,
+    size: usize,
+    item: &Item,
+    outs: &mut Vec<OutRecord>,
+) -> Fate
+    requires whole { item.now.frame.headroom ≡ 64 }
+    requires here { at.shard ≡ served.now.sessions.shard }
+    requires room { length outs.old.items < vec_capacity outs.old }
+    requires came { IsFrame rules.now.access number (arrival_of item.now) (frame_of frame.now) }
+    requires carries { (info : List ℕ) × Carries (frame_of frame.now) info × (length info ≡ size) }
+    ensures does { (moment : ℕ) (info : List ℕ) → Carries (frame_of frame.now) info → DoesWith (λ e d. HearsData rules.now served.now e number (frame_of frame.now) info d) 1 served.now served.now outs.old.items outs.new.items at moment item.now result }
+    ensures capacity { vec_capacity outs.new ≡ vec_capacity outs.old }
+{
+    let session = served.session_of(number, frame.src, SessionNo(frame.session));
+    let mut packet = copied(&item.frame);
+    take_from_frame(&mut packet, size);
+    let fate = up(view_of(session), &mut packet);
+    if fate != Fate::Forwarded {
+        return fate;
+    }
+    let Some(session) = session else {
+        unreachable!();
+    };
+    let Some(lease) = session.lease() else {
+        unreachable!();
+    };
+    let octets = packet.payload().len() as u16;
+    let charge = charge_of(session, lease, true, octets);
+    push_out(outs, at, Role::Core, rules.core_peer, packet, Some(charge));
+    Fate::Forwarded
+}
+
+// Handles a packet of the core that says this.
+fn hear_packet(
+    served: &Served,
+    rules: &Rules,
+    at: At,
+    header: Ipv4,
+    item: &Item,
+    outs: &mut Vec<OutRecord>,
+) -> Fate
+    requires whole { item.now.frame.headroom ≡ 64 }
+    requires here { at.shard ≡ served.now.sessions.shard }
+    requires placed { ArePlaced rules.now served.now.sessions }
+    requires room { length outs.old.items < vec_capacity outs.old }
+    requires came { IsCorePacket rules.now.core_peer (arrival_of item.now) header }
+    ensures does { (moment : ℕ) → DoesWith (λ e d. HearsPacket rules.now served.now e header d) 1 served.now served.now outs.old.items outs.new.items at moment item.now result }
+    ensures capacity { vec_capacity outs.new ≡ vec_capacity outs.old }
+{
+    let holder = served.holder_of(header.dst);
+    let mut packet = copied(&item.frame);
+    let fate = down(view_of(holder).flatten(), header, &mut packet);
+    if fate != Fate::Forwarded {
+        return fate;
+    }
+    let Some(session) = holder else {
+        unreachable!();
+    };
+    let Some(lease) = session.lease() else {
+        unreachable!();
+    };
+    let Some(port) = port_of(rules, session.port) else {
+        unreachable!();
+    };
+    put_in_frame(&port, session.mac, session.number, &mut packet);
+    let charge = charge_of(session, lease, false, header.total);
+    push_out(
+        outs,
+        at,
+        Role::Access(session.port),
+        port.peer,
+        packet,
+        Some(charge),
+    );
+    Fate::Forwarded
+}
+
+/// Handles a datagram of the core.
+pub(crate) fn hear_core(
+    served: &Served,
+    rules: &Rules,
+    at: At,
+    item: &Item,
+    outs: &mut Vec<OutRecord>,
+) -> Fate
+    requires whole { item.now.frame.headroom ≡ 64 }
+    requires here { at.shard ≡ served.now.sessions.shard }
+    requires placed { ArePlaced rules.now served.now.sessions }
+    requires room { length outs.old.items < vec_capacity outs.old }
+    ensures does { (moment : ℕ) → DoesWith (λ e d. HearsCore rules.now served.now e d) 1 served.now served.now outs.old.items outs.new.items at moment item.now result }
+    ensures capacity { vec_capacity outs.new ≡ vec_capacity outs.old }
+{
+    let arrived = Arrived {
+        from: item.from,
+        cut: item.cut,
+        octets: item.frame.payload(),
+    };
+    match packet_from(rules.core_peer, &arrived) {
+        Some(header) => hear_packet(served, rules, at, header, item, outs),
+        None => Fate::Dropped(DropCause::Malformed),
+    }
+}

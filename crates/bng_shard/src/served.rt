@@ -1,0 +1,229 @@
+//! The sessions of a shard.
+ghost use Rattle.std.specs.Prelude.{◌≡◌, ◌≢◌, ◌<◌, ◌∷◌, [], Some, None as Nothing, true, IfOk, IfSome, IfNone, option_map};
+ghost use Rattle.std.specs.List.{AllPairs, All};
+ghost use Rattle.std.specs.Option.{option_copied};
+ghost use Rattle.bng_slots.specs.Sessions.{value_at, without, IsNumberOf};
+ghost use Rattle.bng_shard.specs.Discovery.{IsVacancy, repeated};
+ghost use Rattle.bng_shard.specs.Due.{due_of};
+ghost use Rattle.bng_shard.specs.Opening.{circuit_at, opened_slots, provisioned as provisioned_at};
+ghost use Rattle.bng_shard.specs.State.{holder_of, made_in, made_one, session_of, settled, with_session};
+ghost use Rattle.bng_shard.specs.Timers.{IsFirstDue, IsLowest, NoneIsDue, NoneLives, lives_at};
+
+use crate::session::{Lease, Service, Session};
+use bng_base::{Ip4, Mac, SessionNo, Static};
+use bng_slots::Slots;
+use std::alloc::{AllocError, Global};
+use std::marker::Model;
+
+/// The sessions of a shard by number, provisioned circuits among them; how many terms began, how many sessions discovery made, and
+/// the numbers of those that have ended and leave at the settlement.
+#[derive(Drop)]
+pub struct Served {
+    pub(crate) sessions: Slots<Session>,
+    pub(crate) begun: u64,
+    pub(crate) made: u32,
+    pub(crate) leaving: Vec<SessionNo>,
+}
+
+impl Model for Served {
+    ghost use Rattle.bng_shard.specs.State.{State};
+    ghost use Rattle.bng_shard.specs.Serving.{Keeps};
+
+    ghost Value = { State };
+
+    ghost view = { λ a. record { sessions = a.sessions; begun = a.begun } };
+
+    ghost invariant = { Keeps };
+}
+
+/// So many session numbers are a shard's, from 1 past 1,024 times the shard's number on (`SessionNo`).
+const NUMBERS: u16 = 1022;
+
+// The circuit with this session number.
+fn circuit_with(circuits: &[Static], session: SessionNo) -> Option<Static>
+    requires apart { AllPairs (λ a b. a.session ≢ b.session) circuits.now }
+    ensures found { IfSome result (λ c. circuit_at circuits.now session.0 ≡ c ∷ []) }
+    ensures none { IfNone result (circuit_at circuits.now session.0 ≡ []) }
+{
+    circuits.iter().copied().find(|c| c.session.0 == session.0)
+}
+
+// The session of a provisioned circuit, whose term has this number.
+fn provisioned(circuit: &Static, serial: u64) -> Session
+    ensures { result ≡ provisioned_at circuit.now serial }
+{
+    Session {
+        number: circuit.session,
+        port: circuit.port,
+        mac: circuit.mac,
+        service: Service::Provisioned(Lease {
+            serial,
+            address: circuit.address,
+            profile: circuit.profile,
+        }),
+    }
+}
+
+impl Served {
+    /// The sessions of these circuits, whose numbers are the shard's. Their terms are numbered from 1 on, by rising session number.
+    pub(crate) fn open(
+        alloc: Global,
+        number: u16,
+        circuits: &[Static],
+    ) -> Result<Served, AllocError>
+        requires number { number < 64 }
+        requires own { All (λ c. IsNumberOf number c.session.0) circuits.now }
+        requires sessions { AllPairs (λ a b. a.session ≢ b.session) circuits.now }
+        requires addresses { AllPairs (λ a b. a.address ≢ b.address) circuits.now }
+        ensures { IfOk result (λ s. s ≡ opened_slots number circuits.now) }
+    {
+        let Ok(mut sessions) = Slots::open(alloc, number) else {
+            return Err(AllocError);
+        };
+        let leaving = Vec::with_capacity(alloc, usize::from(NUMBERS) + 1)?;
+        let mut begun = 0;
+        let first = number * 1024 + 1;
+        for n in first..first + NUMBERS {
+            if let Some(circuit) = circuit_with(circuits, SessionNo(n)) {
+                begun += 1;
+                sessions.put(SessionNo(n), provisioned(&circuit, begun));
+            }
+        }
+        Ok(Served {
+            sessions,
+            begun,
+            made: 0,
+            leaving,
+        })
+    }
+
+    pub(crate) fn shard(&self) -> u16
+        ensures number { result ≡ self.now.sessions.shard }
+        ensures range { result < 64 }
+    {
+        self.sessions.shard()
+    }
+
+    /// How many sessions discovery made that are still there.
+    pub(crate) fn made(&self) -> u32
+        ensures { result ≡ made_in self.now }
+    {
+        self.made
+    }
+
+    /// The earliest deadline of the sessions, in milliseconds; none exactly where no session has one.
+    pub(crate) fn due(&self) -> Option<u64>
+        ensures { result ≡ due_of self.now }
+    {
+        let (deadline, _) = self.sessions.earliest()?;
+        Some(deadline)
+    }
+
+    /// The session whose deadline comes first among those that are due; none exactly where none is due.
+    pub(crate) fn first_due(&self, now: u64) -> Option<SessionNo>
+        ensures found { IfSome result (λ n. IsFirstDue self.now now n.0) }
+        ensures none { IfNone result (NoneIsDue self.now now) }
+    {
+        let (deadline, number) = self.sessions.earliest()?;
+        if deadline <= now { Some(number) } else { None }
+    }
+
+    /// The session of a frame: on this port, of this MAC, with this number.
+    pub(crate) fn session_of(&self, port: u8, mac: Mac, number: SessionNo) -> Option<&Session>
+        ensures { option_copied result ≡ session_of self.now port mac number.0 }
+    {
+        let session = self.sessions.get(number)?;
+        if session.is_on(port, mac) {
+            Some(session)
+        } else {
+            None
+        }
+    }
+
+    /// The session that has an address.
+    pub(crate) fn holder_of(&self, address: Ip4) -> Option<&Session>
+        ensures { option_copied result ≡ holder_of self.now address }
+    {
+        let number = self.sessions.by_address(address)?;
+        self.sessions.get(number)
+    }
+
+    /// The lowest number that is not used.
+    pub(crate) fn vacant(&self) -> Option<SessionNo>
+        ensures { IsVacancy self.now (option_map (λ n. n.0) result) }
+    {
+        self.sessions.vacant()
+    }
+
+    /// The number of the session that was made for the same request before (RFC 2516 section 5.4).
+    pub(crate) fn repeated(&self, port: u8, mac: Mac, asked: Option<&[u8]>) -> Option<SessionNo>
+        ensures { result ≡ option_map (λ x. x.number) (repeated self.now port mac (option_map (λ o. o.now) asked.entry)) }
+    {
+        let first = self.sessions.shard() * 1024 + 1;
+        for n in first..first + NUMBERS {
+            let number = SessionNo(n);
+            if let Some(session) = self.sessions.get(number) {
+                if session.is_repeated(port, mac, asked) {
+                    return Some(session.number);
+                }
+            }
+        }
+        None
+    }
+
+    /// The lowest number of the sessions that discovery made and that have not ended; none exactly where there is no such session.
+    pub(crate) fn lowest_live(&self) -> Option<SessionNo>
+        ensures found { IfSome result (λ n. IsLowest self.now n.0) }
+        ensures none { IfNone result (NoneLives self.now) }
+    {
+        let first = self.sessions.shard() * 1024 + 1;
+        for n in first..first + NUMBERS {
+            let number = SessionNo(n);
+            if let Some(session) = self.sessions.get(number) {
+                if session.lives() {
+                    return Some(number);
+                }
+            }
+        }
+        None
+    }
+
+    /// Takes a session that lives out.
+    pub(crate) fn take(&mut self, number: SessionNo) -> Session
+        requires { lives_at self.old number.0 ≡ true }
+        ensures value { Some result ≡ value_at self.old.sessions number.0 }
+        ensures after { self.new ≡ record self.old { sessions = without self.old.sessions number.0 } }
+    {
+        let Some(session) = self.sessions.remove(number) else {
+            unreachable!()
+        };
+        self.made -= 1;
+        session
+    }
+
+    /// Puts a session that discovery made at its number, which is the shard's and not used.
+    pub(crate) fn put(&mut self, session: Session)
+        requires number { IsNumberOf self.old.sessions.shard session.number.0 }
+        requires vacant { value_at self.old.sessions session.number.0 ≡ Nothing }
+        requires made { made_one session.service ≡ 1 }
+        ensures { self.new ≡ with_session self.old session.number.0 session }
+    {
+        let number = session.number;
+        if session.has_ended() {
+            self.leaving.push_reserved(number);
+        }
+        self.sessions.put(number, session);
+        self.made += 1;
+    }
+
+    /// Lets the sessions that ended leave.
+    pub(crate) fn settle(&mut self)
+        ensures { self.new ≡ settled self.old }
+    {
+        while let Some(number) = self.leaving.pop() {
+            if self.sessions.remove(number).is_some() {
+                self.made -= 1;
+            }
+        }
+    }
+}
