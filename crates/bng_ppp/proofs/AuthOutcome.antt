@@ -13,7 +13,7 @@ use Rattle.bng_base.specs.declared.settings.AuthKind.TheVariants as kind
 use Rattle.bng_base.specs.PppGrammar.{ControlPacket}
 use Rattle.bng_ppp.specs.declared.authentication.Authentication.{Authentication}
 use Rattle.bng_ppp.specs.declared.authentication.Authentication.TheVariants as auth
-use Rattle.bng_ppp.specs.AuthRelation.{AuthTakes, AuthSettles}
+use Rattle.bng_ppp.specs.Authentication.{AuthTakes, AuthSettles}
 use Rattle.bng_ppp.specs.Claims.{Claim, Shown, password, response, shown_of, claim_of}
 
 -- what is to be done at a packet, without where it lies in memory

@@ -16,11 +16,12 @@ use Rattle.bng_ipcp.specs.Judgement.{IsJudgement}
 use Rattle.bng_ipcp.specs.Made.{all_made_of}
 use Rattle.bng_ipcp.specs.Ask.{Ask}
 use Rattle.bng_ipcp.specs.Reply.{Acks, Naks, Rejects, Takes}
-use Rattle.bng_ppp.specs.declared.ipcp_kept.IpcpKept.{IpcpKept}
-use Rattle.bng_ppp.specs.declared.ipcp_kind.IpcpKind.{IpcpKind}
-use Rattle.bng_ppp.specs.declared.ipcp_kind.IpcpKind.TheVariants.{Request, Reply, Plain, Unknown}
-use Rattle.bng_ppp.specs.IpcpActs.{IpcpWhy, IpcpDoing, IpcpFollows, all_ipcp_acted}
-use Rattle.bng_ppp.specs.IpcpRelation.{IpcpJudges, IpcpReplies, IpcpAfterReply, IpcpHearsKind, ipcp_rules_of, ipcp_event_of, ipcp_answer_of}
+use Rattle.bng_ppp.specs.declared.ipcp_counters.IpcpKept.{IpcpKept}
+use Rattle.bng_ppp.specs.declared.ipcp_codes.IpcpKind.{IpcpKind}
+use Rattle.bng_ppp.specs.declared.ipcp_codes.IpcpKind.TheVariants.{Request, Reply, Plain, Unknown}
+use Rattle.bng_ppp.specs.IpcpAutomaton.{IpcpWhy, IpcpDoing, IpcpFollows, all_ipcp_acted}
+use Rattle.bng_ppp.specs.IpcpConfigureRequest.{IpcpJudges, ipcp_rules_of, ipcp_event_of, ipcp_answer_of}
+use Rattle.bng_ppp.specs.IpcpPacket.{IpcpReplies, IpcpAfterReply, IpcpHearsKind}
 use Rattle.bng_ppp.proofs.OneOutcome.{options_one}
 
 pub ipcp_follows_one : (event : Event) (c : IpcpWhy) (now : ℕ) (before a b : IpcpDoing) → IpcpFollows event c now before a → IpcpFollows event c now before b → a ≡ b

@@ -8,7 +8,7 @@ use Rattle.bng_ipcp.specs.declared.judgement.IpcpRules.{IpcpRules}
 use Rattle.bng_ipcp.specs.declared.judgement.Judged.{Judged}
 use Rattle.bng_ipcp.specs.declared.judgement.Judged.TheVariants as judged
 use Rattle.bng_ipcp.specs.Judgement.{IsJudgement, rejected, is_reject, class_of}
-use Rattle.bng_ppp.specs.IpcpRelation.{IpcpIsSpellable}
+use Rattle.bng_ppp.specs.IpcpConfigureRequest.{IpcpIsSpellable}
 use Rattle.bng_ppp.proofs.RejectLaws.{kept_fit, kept_short, each_fits}
 
 pub ipcp_spellable : (r : IpcpRules) (request : List PppOption) (body : List ℕ) (j : Judged) → AreOptions request body → length body ≤ 4090 → IsJudgement r request j → IpcpIsSpellable j

@@ -6,8 +6,8 @@ use Rattle.bng_ipcp.specs.declared.taken.Taken.TheVariants.{Changed, Ignored}
 use Rattle.bng_ipcp.specs.Ask.{Ask}
 use Rattle.bng_ipcp.specs.Reply.{Takes}
 use Rattle.bng_ppp.specs.IpcpState.{IpcpState}
-use Rattle.bng_ppp.specs.IpcpActs.{IpcpDoing, IpcpFollows, ipcp_plain}
-use Rattle.bng_ppp.specs.IpcpRelation.{IpcpReplies, ipcp_taken}
+use Rattle.bng_ppp.specs.IpcpAutomaton.{IpcpDoing, IpcpFollows, ipcp_plain}
+use Rattle.bng_ppp.specs.IpcpPacket.{IpcpReplies, ipcp_taken}
 use Rattle.bng_ppp.specs.Said.{Said}
 
 -- IPCP, after what the step did so far

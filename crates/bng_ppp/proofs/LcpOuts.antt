@@ -15,23 +15,28 @@ use Rattle.bng_lcp.specs.Asked.{asked}
 use Rattle.bng_ppp_wire.specs.View.{packet_of}
 use Rattle.bng_ppp_wire.specs.declared.code.TheConstants.{CONFIGURE_REQUEST, TERMINATE_REQUEST, TERMINATE_ACK, ECHO_REQUEST}
 use Rattle.bng_ppp_wire.specs.declared.protocol.TheConstants as protocol
-use Rattle.bng_ppp.specs.declared.kept.Kept.{Kept}
-use Rattle.bng_ppp.specs.declared.kind.Kind.{Kind}
-use Rattle.bng_ppp.specs.declared.kind.Kind.TheVariants.{Request, Reply, Plain, Echo, Mute, EchoReply, Unknown}
-use Rattle.bng_ppp.specs.declared.heard.Heard.{Heard}
-use Rattle.bng_ppp.specs.declared.heard.Heard.TheVariants.{NoFrame, NoPacket, Long, Lcp, Other}
+use Rattle.bng_ppp.specs.declared.counters.Kept.{Kept}
+use Rattle.bng_ppp.specs.declared.codes.Kind.{Kind}
+use Rattle.bng_ppp.specs.declared.codes.Kind.TheVariants.{Request, Reply, Plain, Echo, Mute, EchoReply, Unknown}
+use Rattle.bng_ppp.specs.declared.frame.Heard.{Heard}
+use Rattle.bng_ppp.specs.declared.frame.Heard.TheVariants.{NoFrame, NoPacket, Long, Lcp, Other}
 use Rattle.bng_ppp.specs.declared.rules.Input.{Input}
 use Rattle.bng_ppp.specs.declared.rules.Input.TheVariants as input
 use Rattle.bng_ppp.specs.declared.rules.LinkRules.{LinkRules}
 use Rattle.bng_ppp.specs.LinkState.{LinkState}
 use Rattle.bng_ppp.specs.Said.{Said, quiet}
-use Rattle.bng_ppp.specs.Sending.{sent, sent_some}
-use Rattle.bng_ppp.specs.Causes.{Why}
-use Rattle.bng_ppp.specs.Acts.{Doing, requested, ending, acted, all_acted}
+use Rattle.bng_ppp.specs.Encapsulation.{sent, sent_some}
+use Rattle.bng_ppp.specs.Automaton.{Why, Doing, acted, all_acted, Follows, Moves, Rests}
+use Rattle.bng_ppp.specs.Identifiers.{requested, ending}
 use Rattle.bng_ppp.specs.Messages.{is_lcp_code}
-use Rattle.bng_ppp.specs.Moves.{Follows, Moves, Rests, Loses}
-use Rattle.bng_ppp.specs.Packets.{kind_of, own_magic, protocol_reject, answer_of}
-use Rattle.bng_ppp.specs.LinkRelation.{Judges, AfterReply, HearsKind, Hears, hears_other, is_rejected, Reminds, HearsFrame, LinkSteps}
+use Rattle.bng_ppp.specs.LowerLayer.{Loses}
+use Rattle.bng_ppp.specs.Codes.{kind_of}
+use Rattle.bng_ppp.specs.Echo.{own_magic}
+use Rattle.bng_ppp.specs.ProtocolReject.{protocol_reject, hears_other, is_rejected}
+use Rattle.bng_ppp.specs.ConfigureRequest.{answer_of, Judges}
+use Rattle.bng_ppp.specs.ConfigureReply.{AfterReply}
+use Rattle.bng_ppp.specs.LinkRelation.{HearsKind, Hears, HearsFrame, LinkSteps}
+use Rattle.bng_ppp.specs.Timers.{Reminds}
 
 -- a frame of LCP, and the packet that it is the text of
 pub record IsLcp (octets : List ℕ) : Type 0 where

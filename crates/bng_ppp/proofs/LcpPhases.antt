@@ -9,19 +9,22 @@ use Rattle.bng_lcp.specs.declared.taken.Taken.{Taken}
 use Rattle.bng_lcp.specs.declared.taken.Taken.TheVariants.{Accepted, Changed, Ignored, Unwilling}
 use Rattle.bng_lcp.specs.Ask.{Ask}
 use Rattle.bng_ppp_wire.specs.View.{packet_of}
-use Rattle.bng_ppp.specs.declared.kind.Kind.{Kind}
-use Rattle.bng_ppp.specs.declared.kind.Kind.TheVariants.{Request, Reply, Plain, Echo, Mute, EchoReply, Unknown}
-use Rattle.bng_ppp.specs.declared.heard.Heard.{Heard}
-use Rattle.bng_ppp.specs.declared.heard.Heard.TheVariants.{NoFrame, NoPacket, Long, Lcp, Other}
+use Rattle.bng_ppp.specs.declared.codes.Kind.{Kind}
+use Rattle.bng_ppp.specs.declared.codes.Kind.TheVariants.{Request, Reply, Plain, Echo, Mute, EchoReply, Unknown}
+use Rattle.bng_ppp.specs.declared.frame.Heard.{Heard}
+use Rattle.bng_ppp.specs.declared.frame.Heard.TheVariants.{NoFrame, NoPacket, Long, Lcp, Other}
 use Rattle.bng_ppp.specs.declared.rules.Input.{Input}
 use Rattle.bng_ppp.specs.declared.rules.Input.TheVariants as input
 use Rattle.bng_ppp.specs.declared.rules.LinkRules.{LinkRules}
-use Rattle.bng_ppp.specs.Acts.{Doing}
-use Rattle.bng_ppp.specs.Causes.{Why}
-use Rattle.bng_ppp.specs.LinkRelation.{is_opened, Judges, AfterReply, HearsKind, Hears, hears_other, is_rejected, Starts, Reminds, HearsFrame, LinkSteps}
-use Rattle.bng_ppp.specs.LinkState.{LinkState}
-use Rattle.bng_ppp.specs.Moves.{Moves, Rests, Loses}
-use Rattle.bng_ppp.specs.Packets.{kind_of}
+use Rattle.bng_ppp.specs.Automaton.{Doing, Why, Moves, Rests}
+use Rattle.bng_ppp.specs.LinkState.{is_opened, LinkState}
+use Rattle.bng_ppp.specs.ConfigureRequest.{Judges}
+use Rattle.bng_ppp.specs.ConfigureReply.{AfterReply}
+use Rattle.bng_ppp.specs.LinkRelation.{HearsKind, Hears, HearsFrame, LinkSteps}
+use Rattle.bng_ppp.specs.ProtocolReject.{hears_other, is_rejected}
+use Rattle.bng_ppp.specs.LowerLayer.{Starts, Loses}
+use Rattle.bng_ppp.specs.Timers.{Reminds}
+use Rattle.bng_ppp.specs.Codes.{kind_of}
 use Rattle.bng_ppp.specs.Said.{Said, quiet}
 use Rattle.bng_ppp.proofs.PhaseLaws.{never, comes, follows_open, follows_calm}
 

@@ -11,7 +11,7 @@ use Rattle.bng_lcp.specs.declared.judgement.LcpRules.{LcpRules}
 use Rattle.bng_lcp.specs.declared.judgement.Class.{Class}
 use Rattle.bng_lcp.specs.declared.judgement.Class.TheVariants.{Ack, Nak, Reject}
 use Rattle.bng_lcp.specs.Judgement.{class_of, is_mru, is_mru_within, not_good}
-use Rattle.bng_ppp.specs.Packets.{mru_with, mru_of}
+use Rattle.bng_ppp.specs.MaximumReceiveUnit.{mru_with, mru_of}
 
 not_acked : (r : LcpRules) → not_good r ≡ Ack → ⊥
 not_acked r e = by_test r.no_more_naks e

@@ -21,21 +21,24 @@ use Rattle.bng_lcp.specs.Judgement.{IsJudgement}
 use Rattle.bng_lcp.specs.Made.{all_made_of}
 use Rattle.bng_lcp.specs.Ask.{Ask}
 use Rattle.bng_lcp.specs.Reply.{Acks, Naks, Rejects, Takes}
-use Rattle.bng_ppp.specs.declared.kept.Kept.{Kept}
-use Rattle.bng_ppp.specs.declared.kind.Kind.{Kind}
-use Rattle.bng_ppp.specs.declared.kind.Kind.TheVariants.{Request, Reply, Plain, Echo, Mute, EchoReply, Unknown}
-use Rattle.bng_ppp.specs.declared.heard.Heard.{Heard}
-use Rattle.bng_ppp.specs.declared.heard.Heard.TheVariants.{NoFrame, NoPacket, Long, Lcp, Other}
+use Rattle.bng_ppp.specs.declared.counters.Kept.{Kept}
+use Rattle.bng_ppp.specs.declared.codes.Kind.{Kind}
+use Rattle.bng_ppp.specs.declared.codes.Kind.TheVariants.{Request, Reply, Plain, Echo, Mute, EchoReply, Unknown}
+use Rattle.bng_ppp.specs.declared.frame.Heard.{Heard}
+use Rattle.bng_ppp.specs.declared.frame.Heard.TheVariants.{NoFrame, NoPacket, Long, Lcp, Other}
 use Rattle.bng_ppp.specs.declared.rules.Input.{Input}
 use Rattle.bng_ppp.specs.declared.rules.Input.TheVariants as input
 use Rattle.bng_ppp.specs.declared.rules.LinkRules.{LinkRules}
-use Rattle.bng_ppp.specs.LinkState.{LinkState, IsFirstAsk}
+use Rattle.bng_ppp.specs.LinkState.{LinkState, IsFirstAsk, is_down}
 use Rattle.bng_ppp.specs.Said.{Said, quiet}
-use Rattle.bng_ppp.specs.Causes.{Why, plain}
-use Rattle.bng_ppp.specs.Acts.{Doing, all_acted}
-use Rattle.bng_ppp.specs.Moves.{Follows, Moves, Rests, Loses, finishes}
-use Rattle.bng_ppp.specs.Packets.{IsHeard, kind_of, rules_of, event_of, answer_of}
-use Rattle.bng_ppp.specs.LinkRelation.{is_down, Asks, Starts, Judges, AfterReply, Replies, HearsKind, Hears, Reminds, HearsFrame, LinkSteps}
+use Rattle.bng_ppp.specs.Automaton.{Why, plain, Doing, all_acted, Follows, Moves, Rests}
+use Rattle.bng_ppp.specs.LowerLayer.{Loses, finishes, Asks, Starts}
+use Rattle.bng_ppp.specs.Frame.{IsHeard}
+use Rattle.bng_ppp.specs.Codes.{kind_of}
+use Rattle.bng_ppp.specs.ConfigureRequest.{rules_of, event_of, answer_of, Judges}
+use Rattle.bng_ppp.specs.ConfigureReply.{AfterReply, Replies}
+use Rattle.bng_ppp.specs.LinkRelation.{HearsKind, Hears, HearsFrame, LinkSteps}
+use Rattle.bng_ppp.specs.Timers.{Reminds}
 
 -- Events ----------------------------------------------------------------------------------------------------------------
 

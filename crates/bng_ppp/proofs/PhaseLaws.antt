@@ -11,11 +11,9 @@ use Rattle.bng_automaton.specs.Table.{Transition, row, table}
 use Rattle.bng_automaton.specs.Machine.{Machine}
 use Rattle.bng_automaton.specs.Steps.{Steps}
 use Rattle.bng_automaton.proofs.TableLaws.{passes}
-use Rattle.bng_ppp.specs.Acts.{Doing, acted, all_acted}
-use Rattle.bng_ppp.specs.Causes.{Why}
-use Rattle.bng_ppp.specs.IpcpActs.{IpcpWhy, IpcpDoing, IpcpFollows, ipcp_acted, all_ipcp_acted}
-use Rattle.bng_ppp.specs.LinkRelation.{is_down, is_opened}
-use Rattle.bng_ppp.specs.Moves.{Follows}
+use Rattle.bng_ppp.specs.Automaton.{Doing, acted, all_acted, Why, Follows}
+use Rattle.bng_ppp.specs.IpcpAutomaton.{IpcpWhy, IpcpDoing, IpcpFollows, ipcp_acted, all_ipcp_acted}
+use Rattle.bng_ppp.specs.LinkState.{is_down, is_opened}
 
 -- Tests -----------------------------------------------------------------------------------------------------------------
 

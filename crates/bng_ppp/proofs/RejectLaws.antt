@@ -8,7 +8,7 @@ use Rattle.bng_lcp.specs.declared.judgement.LcpRules.{LcpRules}
 use Rattle.bng_lcp.specs.declared.judgement.Judged.{Judged}
 use Rattle.bng_lcp.specs.declared.judgement.Judged.TheVariants as judged
 use Rattle.bng_lcp.specs.Judgement.{IsJudgement, rejected, is_reject, class_of}
-use Rattle.bng_ppp.specs.Packets.{IsSpellable}
+use Rattle.bng_ppp.specs.ConfigureRequest.{IsSpellable}
 
 pub kept_fit : (p : PppOption → Bool) (xs : List PppOption) → AllByRecursion OptionFits xs → AllByRecursion OptionFits (filter p xs)
 kept_fit p [] h = tt

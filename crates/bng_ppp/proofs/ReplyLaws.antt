@@ -7,9 +7,8 @@ use Rattle.bng_lcp.specs.Ask.{Ask}
 use Rattle.bng_lcp.specs.Reply.{Takes}
 use Rattle.bng_ppp.specs.LinkState.{LinkState}
 use Rattle.bng_ppp.specs.Said.{Said, quiet}
-use Rattle.bng_ppp.specs.Causes.{plain}
-use Rattle.bng_ppp.specs.Moves.{Moves}
-use Rattle.bng_ppp.specs.LinkRelation.{Replies, taken}
+use Rattle.bng_ppp.specs.Automaton.{plain, Moves}
+use Rattle.bng_ppp.specs.ConfigureReply.{Replies, taken}
 
 pub changed : (p : ControlPacket) (echo now : ℕ) (random : List ℕ) (old : LinkState) (ask : Ask) (says : Said) (new : LinkState) → Takes Changed old.ask p random ask → Moves Rcn (plain old.kept p.id) echo now (taken old ask) says new → Replies p echo now random old says new
 changed p echo now random old ask says new takes moves = record { answer = Changed; ask = ask; takes = takes; after = moves }

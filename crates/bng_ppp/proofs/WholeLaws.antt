@@ -6,14 +6,16 @@ use Rattle.bng_automaton.specs.declared.event.Event.TheVariants.{Up, Open}
 use Rattle.bng_base.specs.declared.address.Ip4.{Ip4}
 use Rattle.bng_base.specs.PppGrammar.{PppFrame, IsControlPacket}
 use Rattle.bng_ppp.specs.declared.authentication.Authentication.{Authentication}
-use Rattle.bng_ppp.specs.declared.heard.Heard.{Heard}
-use Rattle.bng_ppp.specs.declared.heard.Heard.TheVariants.{NoFrame, NoPacket, Long, Lcp, Other}
+use Rattle.bng_ppp.specs.declared.frame.Heard.{Heard}
+use Rattle.bng_ppp.specs.declared.frame.Heard.TheVariants.{NoFrame, NoPacket, Long, Lcp, Other}
 use Rattle.bng_ppp.specs.declared.rules.LinkRules.{LinkRules}
-use Rattle.bng_ppp.specs.AuthRelation.{AuthSettles, reply_sent}
-use Rattle.bng_ppp.specs.IpcpActs.{ipcp_plain}
+use Rattle.bng_ppp.specs.Authentication.{AuthSettles, reply_sent}
+use Rattle.bng_ppp.specs.IpcpAutomaton.{ipcp_plain}
 use Rattle.bng_ppp.specs.IpcpState.{IpcpState, first_ask}
-use Rattle.bng_ppp.specs.Packets.{IsHeard}
-use Rattle.bng_ppp.specs.PppRelation.{Turn, begun, with_auth_until, LcpCloses, Refuses, Accepts, IpcpMoves, RejectsIpcp}
+use Rattle.bng_ppp.specs.Frame.{IsHeard}
+use Rattle.bng_ppp.specs.Layers.{Turn, begun, with_auth_until, LcpCloses, IpcpMoves}
+use Rattle.bng_ppp.specs.Verdict.{Refuses, Accepts}
+use Rattle.bng_ppp.specs.WholeFrame.{RejectsIpcp}
 use Rattle.bng_ppp.specs.PppState.{PppState}
 use Rattle.bng_ppp.proofs.OneOutcome.{frame_one}
 

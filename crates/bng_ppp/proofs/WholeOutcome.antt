@@ -14,21 +14,24 @@ use Rattle.bng_ppp.specs.declared.authentication.Authentication.TheVariants as a
 use Rattle.bng_ppp.specs.declared.rules.Input.{Input}
 use Rattle.bng_ppp.specs.declared.rules.Input.TheVariants as input
 use Rattle.bng_ppp.specs.declared.rules.LinkRules.{LinkRules}
-use Rattle.bng_ppp.specs.declared.way.Way.{Way}
-use Rattle.bng_ppp.specs.declared.way.Way.TheVariants as way
+use Rattle.bng_ppp.specs.declared.whole_frame.Way.{Way}
+use Rattle.bng_ppp.specs.declared.whole_frame.Way.TheVariants as way
 use Rattle.bng_ppp.specs.declared.whole_input.WholeInput.{WholeInput}
 use Rattle.bng_ppp.specs.declared.whole_input.WholeInput.TheVariants as told
-use Rattle.bng_ppp.specs.Acts.{Doing}
-use Rattle.bng_ppp.specs.AuthRelation.{reply_sent}
-use Rattle.bng_ppp.specs.Causes.{plain}
+use Rattle.bng_ppp.specs.Automaton.{Doing, plain}
+use Rattle.bng_ppp.specs.Authentication.{reply_sent}
 use Rattle.bng_ppp.specs.Claims.{Claim, claim_of}
-use Rattle.bng_ppp.specs.IpcpActs.{IpcpWhy, ipcp_plain}
+use Rattle.bng_ppp.specs.IpcpAutomaton.{IpcpWhy, ipcp_plain}
 use Rattle.bng_ppp.specs.IpcpState.{first_ask}
-use Rattle.bng_ppp.specs.IpcpRelation.{ipcp_kind_of}
+use Rattle.bng_ppp.specs.IpcpCodes.{ipcp_kind_of}
 use Rattle.bng_ppp.specs.LinkState.{LinkState}
 use Rattle.bng_ppp.specs.Said.{Said}
 use Rattle.bng_ppp.specs.PppState.{PppState, is_open, is_for_auth, is_for_ipcp}
-use Rattle.bng_ppp.specs.PppRelation.{Turn, PppSaid, begun, leaves, with_lcp, with_ipcp, ipcp_of, IpcpMoves, Above, LcpStep, LcpSteps, LcpCloses, lcp_told, lcp_hears, IsWay, HearsAuth, AuthDoes, Refuses, HearsIpcp, HearsLcp, HearsWay, HearsOctets, with_auth, with_auth_until, AuthReminds, AboveReminds, PppReminds, Accepts, Settles, IsLossCause, PppGoes, PppSteps, said_of, after_turn, ended_by}
+use Rattle.bng_ppp.specs.Layers.{Turn, begun, leaves, with_lcp, with_ipcp, ipcp_of, IpcpMoves, Above, LcpStep, LcpSteps, LcpCloses, lcp_told, lcp_hears, with_auth, with_auth_until}
+use Rattle.bng_ppp.specs.PppRelation.{PppSaid, PppGoes, PppSteps, said_of, after_turn, ended_by}
+use Rattle.bng_ppp.specs.WholeFrame.{IsWay, HearsAuth, AuthDoes, HearsIpcp, HearsLcp, HearsWay, HearsOctets}
+use Rattle.bng_ppp.specs.Verdict.{Refuses, Accepts, Settles}
+use Rattle.bng_ppp.specs.WholeTimers.{AuthReminds, AboveReminds, PppReminds, IsLossCause}
 use Rattle.bng_ppp.proofs.OneOutcome.{follows_one, frame_one, packet_one, hears_one, reminds_one, steps_one}
 use Rattle.bng_ppp.proofs.IpcpOutcome.{ipcp_follows_one, ipcp_kind_one}
 use Rattle.bng_ppp.proofs.AuthOutcome.{seen_of, auth_takes_one, auth_settles_one}

@@ -23,27 +23,34 @@ use Rattle.bng_ppp_wire.specs.declared.code.TheConstants.{CONFIGURE_REQUEST, TER
 use Rattle.bng_ppp_wire.specs.declared.protocol.TheConstants as protocol
 use Rattle.bng_ppp.specs.declared.authentication.Authentication.{Authentication}
 use Rattle.bng_ppp.specs.declared.authentication.Authentication.TheVariants as auth
-use Rattle.bng_ppp.specs.declared.ipcp_kept.IpcpKept.{IpcpKept}
-use Rattle.bng_ppp.specs.declared.ipcp_kind.IpcpKind.{IpcpKind}
-use Rattle.bng_ppp.specs.declared.ipcp_kind.IpcpKind.TheVariants.{Request, Reply as Replied, Plain, Unknown}
+use Rattle.bng_ppp.specs.declared.ipcp_counters.IpcpKept.{IpcpKept}
+use Rattle.bng_ppp.specs.declared.ipcp_codes.IpcpKind.{IpcpKind}
+use Rattle.bng_ppp.specs.declared.ipcp_codes.IpcpKind.TheVariants.{Request, Reply as Replied, Plain, Unknown}
 use Rattle.bng_ppp.specs.declared.rules.Input.{Input}
 use Rattle.bng_ppp.specs.declared.rules.Input.TheVariants as input
 use Rattle.bng_ppp.specs.declared.rules.LinkRules.{LinkRules}
-use Rattle.bng_ppp.specs.declared.way.Way.{Way}
-use Rattle.bng_ppp.specs.declared.way.Way.TheVariants as way
+use Rattle.bng_ppp.specs.declared.whole_frame.Way.{Way}
+use Rattle.bng_ppp.specs.declared.whole_frame.Way.TheVariants as way
 use Rattle.bng_ppp.specs.declared.whole_input.WholeInput.{WholeInput}
 use Rattle.bng_ppp.specs.declared.whole_input.WholeInput.TheVariants as told
-use Rattle.bng_ppp.specs.AuthRelation.{reply_sent, challenge_of, challenge_sent}
-use Rattle.bng_ppp.specs.Causes.{plain}
-use Rattle.bng_ppp.specs.IpcpActs.{IpcpWhy, IpcpDoing, IpcpFollows, ipcp_sent, ipcp_sent_some, ipcp_requested, ipcp_ending, ipcp_acted, all_ipcp_acted}
-use Rattle.bng_ppp.specs.IpcpRelation.{IpcpHearsKind, IpcpJudges, IpcpAfterReply, ipcp_kind_of, ipcp_answer_of}
-use Rattle.bng_ppp.specs.LinkRelation.{protocol_of}
+use Rattle.bng_ppp.specs.Authentication.{reply_sent, challenge_of, challenge_sent}
+use Rattle.bng_ppp.specs.Automaton.{plain}
+use Rattle.bng_ppp.specs.IpcpAutomaton.{IpcpWhy, IpcpDoing, IpcpFollows, ipcp_sent, ipcp_sent_some, ipcp_acted, all_ipcp_acted}
+use Rattle.bng_ppp.specs.IpcpCounters.{ipcp_requested, ipcp_ending}
+use Rattle.bng_ppp.specs.IpcpPacket.{IpcpHearsKind, IpcpAfterReply}
+use Rattle.bng_ppp.specs.IpcpConfigureRequest.{IpcpJudges, ipcp_answer_of}
+use Rattle.bng_ppp.specs.IpcpCodes.{ipcp_kind_of}
+use Rattle.bng_ppp.specs.ProtocolReject.{protocol_of}
 use Rattle.bng_ppp.specs.LinkState.{LinkState}
 use Rattle.bng_ppp.specs.Messages.{is_written, is_lcp_code, is_ipcp_code}
-use Rattle.bng_ppp.specs.PppRelation.{Turn, PppSaid, begun, IpcpMoves, ipcp_of, authenticates, Above, LcpStep, LcpSteps, LcpCloses, lcp_told, lcp_hears, AuthDoes, Refuses, HearsIpcp, HearsWay, with_auth, AuthReminds, AboveReminds, Settles, PppGoes, PppSteps}
+use Rattle.bng_ppp.specs.Layers.{Turn, begun, IpcpMoves, ipcp_of, authenticates, Above, LcpStep, LcpSteps, LcpCloses, lcp_told, lcp_hears, with_auth}
+use Rattle.bng_ppp.specs.PppRelation.{PppSaid, PppGoes, PppSteps}
+use Rattle.bng_ppp.specs.WholeFrame.{AuthDoes, HearsIpcp, HearsWay}
+use Rattle.bng_ppp.specs.Verdict.{Refuses, Settles}
+use Rattle.bng_ppp.specs.WholeTimers.{AuthReminds, AboveReminds}
 use Rattle.bng_ppp.specs.PppState.{PppState, is_open}
 use Rattle.bng_ppp.specs.Said.{Said, quiet}
-use Rattle.bng_ppp.specs.Sending.{sent_on}
+use Rattle.bng_ppp.specs.Encapsulation.{sent_on}
 use Rattle.bng_ppp.proofs.LcpOuts.{IsLcp, AreLcp, follows_says, hears_lcp, steps_lcp}
 use Rattle.bng_ppp.proofs.MessageLaws.{IsWritten, AreWritten}
 

@@ -20,16 +20,19 @@ use Rattle.bng_ppp.specs.declared.authentication.Authentication.TheVariants as a
 use Rattle.bng_ppp.specs.declared.rules.Input.{Input}
 use Rattle.bng_ppp.specs.declared.rules.Input.TheVariants as input
 use Rattle.bng_ppp.specs.declared.rules.LinkRules.{LinkRules}
-use Rattle.bng_ppp.specs.declared.way.Way.{Way}
-use Rattle.bng_ppp.specs.declared.way.Way.TheVariants as way
+use Rattle.bng_ppp.specs.declared.whole_frame.Way.{Way}
+use Rattle.bng_ppp.specs.declared.whole_frame.Way.TheVariants as way
 use Rattle.bng_ppp.specs.declared.whole_input.WholeInput.{WholeInput}
 use Rattle.bng_ppp.specs.declared.whole_input.WholeInput.TheVariants as told
-use Rattle.bng_ppp.specs.AuthRelation.{AuthTakes, AuthSettles, reply_sent}
-use Rattle.bng_ppp.specs.IpcpActs.{IpcpWhy}
-use Rattle.bng_ppp.specs.LinkRelation.{is_down, is_opened}
-use Rattle.bng_ppp.specs.LinkState.{LinkState}
+use Rattle.bng_ppp.specs.Authentication.{AuthTakes, AuthSettles, reply_sent}
+use Rattle.bng_ppp.specs.IpcpAutomaton.{IpcpWhy}
+use Rattle.bng_ppp.specs.LinkState.{is_down, is_opened, LinkState}
 use Rattle.bng_ppp.specs.Phases.{is_begun, KeepsPhases}
-use Rattle.bng_ppp.specs.PppRelation.{Turn, begun, leaves, ipcp_of, IpcpMoves, Above, authenticates, silenced, LcpStep, LcpSteps, LcpCloses, lcp_told, lcp_hears, IsWay, HearsAuth, AuthDoes, Refuses, HearsWay, with_auth, with_auth_until, AuthReminds, AboveReminds, Accepts, Settles, PppGoes, PppSaid, PppSteps, after_turn}
+use Rattle.bng_ppp.specs.Layers.{Turn, begun, leaves, ipcp_of, IpcpMoves, Above, authenticates, silenced, LcpStep, LcpSteps, LcpCloses, lcp_told, lcp_hears, with_auth, with_auth_until}
+use Rattle.bng_ppp.specs.WholeFrame.{IsWay, HearsAuth, AuthDoes, HearsWay}
+use Rattle.bng_ppp.specs.Verdict.{Refuses, Accepts, Settles}
+use Rattle.bng_ppp.specs.WholeTimers.{AuthReminds, AboveReminds}
+use Rattle.bng_ppp.specs.PppRelation.{PppGoes, PppSaid, PppSteps, after_turn}
 use Rattle.bng_ppp.specs.PppState.{PppState, is_open, is_accepted, passes, is_for_ipcp}
 use Rattle.bng_ppp.specs.Said.{Said, quiet}
 use Rattle.bng_ppp.proofs.PhaseLaws.{comes, is_up, follows_open, ipcp_stays_down, ipcp_goes_down}

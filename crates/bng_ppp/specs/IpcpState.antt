@@ -1,10 +1,10 @@
--- What a contract sees of IPCP on a link, and how its counters go on.
-use Rattle.std.specs.Prelude.{true, Some, None}
+-- What a contract sees of IPCP on a link, and of one that was told nothing.
+use Rattle.std.specs.Prelude.{Some, None, true}
 use Rattle.bng_automaton.specs.Machine.{Machine}
 use Rattle.bng_base.specs.declared.address.Ip4.{Ip4}
 use Rattle.bng_ipcp.specs.Ask.{Ask}
-use Rattle.bng_ppp.specs.declared.ipcp_kept.IpcpKept.{IpcpKept}
 use Rattle.bng_ppp.specs.LinkState.{unused}
+use Rattle.bng_ppp.specs.declared.ipcp_counters.IpcpKept.{IpcpKept}
 
 pub record IpcpState : Type 0 where
   -- the automaton of IPCP, by RFC 1332 section 2

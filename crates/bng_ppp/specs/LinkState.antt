@@ -1,14 +1,15 @@
--- What a contract sees of a link, and how its counters go on.
-use Rattle.std.specs.Prelude.{◌≡◌, ℕ, ◌+◌, ◌*◌, ◌%◌, true, false, nat_lt, ◌==◌, if◌then◌else◌, Option, Some, None, List, [], ◌∷◌, slice_get}
-use Rattle.bng_automaton.specs.declared.state.State.TheVariants.{Initial}
+-- What a contract sees of a link, and of one that was told nothing.
+use Rattle.std.specs.Prelude.{ℕ, None, true, false, List, [], ◌∷◌, ◌≡◌, Some, slice_get, Bool}
+use Rattle.byteorder.specs.Endian.{big_number}
 use Rattle.bng_automaton.specs.Machine.{Machine}
+use Rattle.bng_automaton.specs.declared.state.State.{State}
+use Rattle.bng_automaton.specs.declared.state.State.TheVariants.{Initial, Starting, Closed, Stopped, Closing, Stopping, ReqSent, AckRcvd, AckSent, Opened}
 use Rattle.bng_base.specs.declared.settings.AuthKind.{AuthKind}
 use Rattle.bng_lcp.specs.Ask.{Ask}
 use Rattle.bng_lcp.specs.Judgement.{magic_from}
-use Rattle.bng_ppp.specs.declared.kept.Kept.{Kept}
+use Rattle.bng_ppp.specs.declared.counters.Kept.{Kept}
 use Rattle.bng_ppp.specs.declared.rules.LinkKind.{LinkKind}
 use Rattle.bng_ppp.specs.declared.rules.LinkKind.TheVariants.{Pppoe, L2tp}
-use Rattle.byteorder.specs.Endian.{big_number}
 
 pub record LinkState : Type 0 where
   -- the automaton of LCP, by RFC 1661 section 4
@@ -21,18 +22,6 @@ pub record LinkState : Type 0 where
 abbrev pub limit_of : LinkKind → ℕ
 limit_of Pppoe = 1492
 limit_of L2tp = 1500
-
--- identifiers rise by one, modulo 256
-abbrev pub next_of : ℕ → ℕ
-next_of id = (id + 1) % 256
-
--- the moment of the next Echo-Request, where they go out every so many seconds
-abbrev pub echo_after : ℕ → ℕ → Option ℕ
-echo_after echo now = if echo == 0 then None else Some (now + 1000 * echo)
-
--- one Configure-Nak more without a Configure-Ack between: after the fifth (Max-Failure, RFC 1661 section 4.6) none is counted
-abbrev pub more_naks : ℕ → ℕ
-more_naks naks = if nat_lt naks 5 then naks + 1 else naks
 
 -- the automaton of a link that was told nothing: Max-Configure 10, Max-Terminate 2 and Max-Failure 5
 abbrev pub unused : Machine
@@ -68,3 +57,28 @@ pub record IsFirstAsk (limit : ℕ) (auth : List AuthKind) (random : List ℕ) (
   pub first : slice_get auth 0 ≡ Some ask.wanted.auth
   pub magic : ask.wanted.magic ≡ Some (magic_from (big_number 4 random))
   pub unsent : ask.sent ≡ None
+
+-- the states in which the lower layer is down
+abbrev pub is_down : State → Bool
+is_down Initial = true
+is_down Starting = true
+is_down Closed = false
+is_down Stopped = false
+is_down Closing = false
+is_down Stopping = false
+is_down ReqSent = false
+is_down AckRcvd = false
+is_down AckSent = false
+is_down Opened = false
+
+abbrev pub is_opened : State → Bool
+is_opened Initial = false
+is_opened Starting = false
+is_opened Closed = false
+is_opened Stopped = false
+is_opened Closing = false
+is_opened Stopping = false
+is_opened ReqSent = false
+is_opened AckRcvd = false
+is_opened AckSent = false
+is_opened Opened = true

@@ -2,7 +2,7 @@
 use Rattle.std.specs.Prelude.{◌≡◌, Bool, true, false}
 use Rattle.bng_ppp.specs.declared.authentication.Authentication.{Authentication}
 use Rattle.bng_ppp.specs.declared.authentication.Authentication.TheVariants as auth
-use Rattle.bng_ppp.specs.LinkRelation.{is_down, is_opened}
+use Rattle.bng_ppp.specs.LinkState.{is_down, is_opened}
 use Rattle.bng_ppp.specs.PppState.{PppState, is_accepted}
 
 -- the peer's authentication has begun

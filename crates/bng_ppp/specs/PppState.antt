@@ -4,8 +4,7 @@ use Rattle.bng_auth.specs.Questions.{pap_is_open, chap_is_open, is_yes}
 use Rattle.bng_ppp_wire.specs.declared.protocol.TheConstants as protocol
 use Rattle.bng_ppp.specs.declared.authentication.Authentication.{Authentication}
 use Rattle.bng_ppp.specs.declared.authentication.Authentication.TheVariants as auth
-use Rattle.bng_ppp.specs.LinkState.{LinkState}
-use Rattle.bng_ppp.specs.LinkRelation.{is_opened}
+use Rattle.bng_ppp.specs.LinkState.{LinkState, is_opened}
 use Rattle.bng_ppp.specs.IpcpState.{IpcpState}
 
 pub record PppState : Type 0 where

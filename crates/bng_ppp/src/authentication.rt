@@ -1,11 +1,16 @@
 //! The peer's authentication: by PAP (RFC 1334) or CHAP (RFC 1994), as LCP agreed.
-ghost use Rattle.std.specs.Prelude.{◌≡◌, ◌≤◌, length, option_map};
-ghost use Rattle.bng_auth.specs.Replying.{reply_of};
-ghost use Rattle.bng_ppp_wire.specs.View.{packet_of};
-ghost use Rattle.bng_ppp.specs.AuthRelation.{AuthTakes, AuthSettles};
+ghost use Rattle.std.specs.Prelude.{◌≡◌, ◌≤◌, length, option_map, ◌+◌, ◌<◌};
 ghost use Rattle.bng_ppp.specs.PppState.{is_open as open_in, is_accepted as accepted_in, takes_protocol as protocol_in};
+ghost use Rattle.bng_ppp_wire.specs.View.{packet_of};
+ghost use Rattle.bng_ppp.specs.Authentication.{AuthTakes, AuthSettles, challenge_sent, reply_sent};
+ghost use Rattle.bng_auth.specs.Replying.{reply_of};
+ghost use Rattle.bng_ppp.specs.Said.{said};
 
+use crate::encapsulation::put_protocol;
+use crate::protocol_reject::protocol_of;
+use crate::step::Steps;
 use bng_auth::{AuthStep, Chap, Pap, Reply};
+use bng_base::Frame;
 use bng_ppp_wire::{Packet, protocol};
 
 /// How far a peer's authentication has come.
@@ -74,5 +79,32 @@ impl Authentication {
             Authentication::Pap(peer) => Some(peer.on_verdict(yes, text)),
             Authentication::Chap(peer, _) => Some(peer.on_verdict(yes, text)),
         }
+    }
+}
+
+/// Sends a Challenge with the gateway's name.
+pub(crate) fn send_challenge(peer: &Chap, name: &[u8], steps: &mut Steps)
+    requires name { length name.now ≤ 64 }
+    requires room { length steps.old.outs.items < 4 }
+    ensures said { said steps.new ≡ record (said steps.old) { outs = challenge_sent name.now peer.now (said steps.old).outs } }
+    ensures few { length steps.new.outs.items ≤ length steps.old.outs.items + 1 }
+{
+    let mut text = Frame::new();
+    peer.challenge(name, &mut text);
+    put_protocol(protocol::CHAP, &mut text);
+    steps.outs.push(text);
+}
+
+// Sends the reply to a peer that authenticates itself, where there is one.
+pub(crate) fn send_reply(reply: &Option<Reply>, steps: &mut Steps)
+    requires room { length steps.old.outs.items < 4 }
+    ensures said { said steps.new ≡ record (said steps.old) { outs = reply_sent (option_map reply_of reply.now) (said steps.old).outs } }
+    ensures few { length steps.new.outs.items ≤ length steps.old.outs.items + 1 }
+{
+    if let Some(reply) = reply {
+        let mut text = Frame::new();
+        reply.write(&mut text);
+        put_protocol(protocol_of(reply.kind), &mut text);
+        steps.outs.push(text);
     }
 }

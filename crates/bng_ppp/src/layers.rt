@@ -1,59 +1,23 @@
 //! The layers of a link, and what one going up or down is to those above it.
-ghost use Rattle.std.specs.Prelude.{◌≡◌, ◌+◌, ◌<◌, ◌≤◌, ◌^◌, ◌||◌, ◌&&◌, not, length, None, option_map};
-ghost use Rattle.bng_auth.specs.Replying.{reply_of};
-ghost use Rattle.bng_ppp.specs.AuthRelation.{reply_sent, challenge_sent};
-ghost use Rattle.bng_ppp.specs.IpcpActs.{ipcp_plain};
-ghost use Rattle.bng_ppp.specs.LinkRelation.{is_opened as opened_in};
-ghost use Rattle.bng_ppp.specs.PppRelation.{Above, authenticates, IpcpMoves, LcpSteps, LcpCloses, Refuses, lcp_told};
+ghost use Rattle.std.specs.Prelude.{◌<◌, ◌≤◌, ◌^◌, length, ◌≡◌, None, ◌+◌, ◌||◌, ◌&&◌, not};
+ghost use Rattle.bng_ppp.specs.Layers.{LcpSteps, lcp_told, LcpCloses, Above, authenticates, IpcpMoves};
+ghost use Rattle.bng_ppp.specs.WholeStep.{turn_of, IsFresh};
+ghost use Rattle.bng_ppp.specs.LinkState.{is_opened as opened_in};
+ghost use Rattle.bng_ppp.specs.IpcpAutomaton.{ipcp_plain};
 ghost use Rattle.bng_ppp.specs.Room.{most_of};
-ghost use Rattle.bng_ppp.specs.Said.{said};
-ghost use Rattle.bng_ppp.specs.Working.{turn_of, IsFresh};
 
-use crate::authentication::Authentication;
-use crate::kept::next_id;
+use crate::authentication::{Authentication, send_challenge};
+use crate::identifiers::next_id;
 use crate::rules::{Input, LinkRules};
-use crate::send::send_on;
-use crate::step::Steps;
-use crate::whole::WholeLink;
-use crate::work::Work;
-use bng_auth::{Chap, Pap, Reply};
+use crate::whole_link::WholeLink;
+use crate::whole_step::WholeSteps;
+use crate::whole_timers::CHALLENGE_AFTER;
+use bng_auth::{Chap, Pap};
 use bng_automaton::Event;
-use bng_base::{AuthKind, Frame};
-use bng_ppp_wire::protocol;
-
-/// After so many milliseconds a Challenge that was not answered goes out again.
-pub(crate) const CHALLENGE_AFTER: u64 = 3000;
+use bng_base::AuthKind;
 
 /// So many milliseconds a peer's PAP is waited for.
 const PAP_WITHIN: u64 = 30_000;
-
-/// Sends a Challenge with the gateway's name.
-pub(crate) fn send_challenge(peer: &Chap, name: &[u8], steps: &mut Steps)
-    requires name { length name.now ≤ 64 }
-    requires room { length steps.old.outs.items < 4 }
-    ensures said { said steps.new ≡ record (said steps.old) { outs = challenge_sent name.now peer.now (said steps.old).outs } }
-    ensures few { length steps.new.outs.items ≤ length steps.old.outs.items + 1 }
-{
-    let mut text = Frame::new();
-    peer.challenge(name, &mut text);
-    send_on(protocol::CHAP, text, steps);
-}
-
-// Sends the reply to a peer that authenticates itself, where there is one.
-pub(crate) fn send_reply(reply: &Option<Reply>, steps: &mut Steps)
-    requires room { length steps.old.outs.items < 4 }
-    ensures said { said steps.new ≡ record (said steps.old) { outs = reply_sent (option_map reply_of reply.now) (said steps.old).outs } }
-    ensures few { length steps.new.outs.items ≤ length steps.old.outs.items + 1 }
-{
-    if let Some(reply) = reply {
-        let mut text = Frame::new();
-        reply.write(&mut text);
-        match reply.kind {
-            AuthKind::Pap => send_on(protocol::PAP, text, steps),
-            AuthKind::Chap => send_on(protocol::CHAP, text, steps),
-        }
-    }
-}
 
 impl WholeLink {
     /// A step of LCP alone, with which the step of the link begins, and what it is to the layers above.
@@ -63,18 +27,18 @@ impl WholeLink {
         input: Input<'_>,
         now: u64,
         random: &[u8; 16],
-        work: &mut Work,
+        steps: &mut WholeSteps,
     )
         requires moment { now < 2 ^ 60 }
         requires auth { 0 < length rules.now.auth.items }
-        requires fresh { IsFresh self.old work.old }
-        ensures steps { LcpSteps rules.now (lcp_told rules.now input.entry now random.now) now random.now self.old (turn_of self.new work.new) }
-        ensures few { length work.new.steps.outs.items ≤ 3 }
+        requires fresh { IsFresh self.old steps.old }
+        ensures steps { LcpSteps rules.now (lcp_told rules.now input.entry now random.now) now random.now self.old (turn_of self.new steps.new) }
+        ensures few { length steps.new.layer.outs.items ≤ 3 }
     {
         let was = self.lcp.is_opened();
         self.lcp
-            .take_input(rules, input, now, random, &mut work.steps);
-        self.after_lcp(was, rules, now, random, work);
+            .take_input(rules, input, now, random, &mut steps.layer);
+        self.after_lcp(was, rules, now, random, steps);
     }
 
     /// The same, by a caller who knows the cause with which a live term ends.
@@ -84,32 +48,38 @@ impl WholeLink {
         input: Input<'_>,
         now: u64,
         random: &[u8; 16],
-        work: &mut Work,
+        steps: &mut WholeSteps,
     ) -> Option<u8>
         requires moment { now < 2 ^ 60 }
         requires auth { 0 < length rules.now.auth.items }
-        requires fresh { IsFresh self.old work.old }
-        ensures steps { LcpSteps rules.now (lcp_told rules.now input.entry now random.now) now random.now self.old (turn_of self.new work.new) }
+        requires fresh { IsFresh self.old steps.old }
+        ensures steps { LcpSteps rules.now (lcp_told rules.now input.entry now random.now) now random.now self.old (turn_of self.new steps.new) }
         ensures none { result ≡ None }
     {
-        self.tell_lcp_alone(rules, input, now, random, work);
+        self.tell_lcp_alone(rules, input, now, random, steps);
         None
     }
 
     /// LCP does Close after what the step did so far.
-    pub(crate) fn close(&mut self, rules: &LinkRules, now: u64, random: &[u8; 16], work: &mut Work)
+    pub(crate) fn close(
+        &mut self,
+        rules: &LinkRules,
+        now: u64,
+        random: &[u8; 16],
+        steps: &mut WholeSteps,
+    )
         requires moment { now < 2 ^ 60 }
-        requires room { length work.old.steps.outs.items ≤ 2 }
-        ensures closes { LcpCloses rules.now now random.now (turn_of self.old work.old) (turn_of self.new work.new) }
-        ensures few { length work.new.steps.outs.items ≤ length work.old.steps.outs.items + 2 }
+        requires room { length steps.old.layer.outs.items ≤ 2 }
+        ensures closes { LcpCloses rules.now now random.now (turn_of self.old steps.old) (turn_of self.new steps.new) }
+        ensures few { length steps.new.layer.outs.items ≤ length steps.old.layer.outs.items + 2 }
     {
-        work.steps.opened = false;
-        work.steps.finished = false;
+        steps.layer.opened = false;
+        steps.layer.finished = false;
         let was = self.lcp.is_opened();
         let cause = self.lcp.plain_cause(0);
         self.lcp
-            .follow(Event::Close, &cause, rules.echo, now, &mut work.steps);
-        self.after_lcp(was, rules, now, random, work);
+            .follow(Event::Close, &cause, rules.echo, now, &mut steps.layer);
+        self.after_lcp(was, rules, now, random, steps);
     }
 
     /// What LCP said is counted, and taken to the layers above. `was` says whether LCP was Opened before.
@@ -119,21 +89,21 @@ impl WholeLink {
         rules: &LinkRules,
         now: u64,
         random: &[u8; 16],
-        work: &mut Work,
+        steps: &mut WholeSteps,
     )
         requires moment { now < 2 ^ 60 }
-        requires room { length work.old.steps.outs.items ≤ 3 }
+        requires room { length steps.old.layer.outs.items ≤ 3 }
         ensures above { let leaves = was && not (opened_in self.old.lcp.lcp.state) in
-            Above work.old.steps.opened leaves rules.now now random.now
-            (record (turn_of self.old work.old) { left = work.old.left || leaves; finished = work.old.finished || work.old.steps.finished })
-            (turn_of self.new work.new) }
-        ensures few { length work.new.steps.outs.items ≤ length work.old.steps.outs.items + 1 }
+            Above steps.old.layer.opened leaves rules.now now random.now
+            (record (turn_of self.old steps.old) { left = steps.old.left || leaves; finished = steps.old.finished || steps.old.layer.finished })
+            (turn_of self.new steps.new) }
+        ensures few { length steps.new.layer.outs.items ≤ length steps.old.layer.outs.items + 1 }
     {
-        let came = work.steps.opened;
+        let came = steps.layer.opened;
         let left = was && !self.lcp.is_opened();
-        work.left = work.left || left;
-        work.finished = work.finished || work.steps.finished;
-        self.above(came, left, rules, now, random, work);
+        steps.left = steps.left || left;
+        steps.finished = steps.finished || steps.layer.finished;
+        self.above(came, left, rules, now, random, steps);
     }
 
     // What becomes of the layers above LCP, once it has come to Opened, has left it, or neither.
@@ -144,29 +114,29 @@ impl WholeLink {
         rules: &LinkRules,
         now: u64,
         random: &[u8; 16],
-        work: &mut Work,
+        steps: &mut WholeSteps,
     )
         requires moment { now < 2 ^ 60 }
-        requires room { length work.old.steps.outs.items ≤ 3 }
-        ensures above { Above came left rules.now now random.now (turn_of self.old work.old) (turn_of self.new work.new) }
-        ensures few { length work.new.steps.outs.items ≤ length work.old.steps.outs.items + 1 }
+        requires room { length steps.old.layer.outs.items ≤ 3 }
+        ensures above { Above came left rules.now now random.now (turn_of self.old steps.old) (turn_of self.new steps.new) }
+        ensures few { length steps.new.layer.outs.items ≤ length steps.old.layer.outs.items + 1 }
     {
         if came {
-            self.authenticate(rules.name.as_slice(), now, random, work);
+            self.authenticate(rules.name.as_slice(), now, random, steps);
         } else if left {
             self.auth = Authentication::Idle;
             self.auth_due = None;
-            self.tell_ipcp(Event::Down, now, work);
+            self.tell_ipcp(Event::Down, now, steps);
         }
     }
 
     // The peer is to authenticate itself, as LCP agreed.
-    fn authenticate(&mut self, name: &[u8], now: u64, random: &[u8; 16], work: &mut Work)
+    fn authenticate(&mut self, name: &[u8], now: u64, random: &[u8; 16], steps: &mut WholeSteps)
         requires moment { now < 2 ^ 60 }
         requires name { length name.now ≤ 64 }
-        requires room { length work.old.steps.outs.items ≤ 3 }
-        ensures begins { turn_of self.new work.new ≡ authenticates self.old.lcp.ask.wanted.auth name.now now random.now (turn_of self.old work.old) }
-        ensures few { length work.new.steps.outs.items ≤ length work.old.steps.outs.items + 1 }
+        requires room { length steps.old.layer.outs.items ≤ 3 }
+        ensures begins { turn_of self.new steps.new ≡ authenticates self.old.lcp.ask.wanted.auth name.now now random.now (turn_of self.old steps.old) }
+        ensures few { length steps.new.layer.outs.items ≤ length steps.old.layer.outs.items + 1 }
     {
         match self.lcp.auth() {
             AuthKind::Pap => {
@@ -175,7 +145,7 @@ impl WholeLink {
             }
             AuthKind::Chap => {
                 let peer = Chap::ask(random, self.next_challenge);
-                send_challenge(&peer, name, &mut work.steps);
+                send_challenge(&peer, name, &mut steps.layer);
                 self.auth = Authentication::Chap(peer, 1);
                 self.auth_due = Some(now + CHALLENGE_AFTER);
                 self.next_challenge = next_id(self.next_challenge);
@@ -184,37 +154,16 @@ impl WholeLink {
     }
 
     /// One event of IPCP, whose actions answer no packet.
-    pub(crate) fn tell_ipcp(&mut self, event: Event, now: u64, work: &mut Work)
+    pub(crate) fn tell_ipcp(&mut self, event: Event, now: u64, steps: &mut WholeSteps)
         requires moment { now < 2 ^ 60 }
-        requires room { length work.old.steps.outs.items + most_of event ≤ 4 }
-        ensures moves { IpcpMoves event (ipcp_plain self.old.ipcp.kept 0) now (turn_of self.old work.old) (turn_of self.new work.new) }
-        ensures few { length work.new.steps.outs.items ≤ length work.old.steps.outs.items + most_of event }
+        requires room { length steps.old.layer.outs.items + most_of event ≤ 4 }
+        ensures moves { IpcpMoves event (ipcp_plain self.old.ipcp.kept 0) now (turn_of self.old steps.old) (turn_of self.new steps.new) }
+        ensures few { length steps.new.layer.outs.items ≤ length steps.old.layer.outs.items + most_of event }
     {
-        work.steps.opened = false;
-        work.steps.finished = false;
-        self.ipcp.plainly(event, 0, now, &mut work.steps);
-        work.opened = work.opened || work.steps.opened;
-        work.ended = work.ended || work.steps.finished;
-    }
-
-    /// A refusal: the reply goes out, and LCP does Close.
-    pub(crate) fn refuse(
-        &mut self,
-        rules: &LinkRules,
-        text: &[u8],
-        now: u64,
-        random: &[u8; 16],
-        work: &mut Work,
-    )
-        requires moment { now < 2 ^ 60 }
-        requires text { length text.now ≤ 253 }
-        requires room { length work.old.steps.outs.items ≤ 1 }
-        ensures refuses { Refuses rules.now now random.now text.now (turn_of self.old work.old) (turn_of self.new work.new) }
-        ensures few { length work.new.steps.outs.items ≤ length work.old.steps.outs.items + 3 }
-    {
-        let reply = self.auth.settle(false, text);
-        self.auth_due = None;
-        send_reply(&reply, &mut work.steps);
-        self.close(rules, now, random, work);
+        steps.layer.opened = false;
+        steps.layer.finished = false;
+        self.ipcp.plainly(event, 0, now, &mut steps.layer);
+        steps.opened = steps.opened || steps.layer.opened;
+        steps.ended = steps.ended || steps.layer.finished;
     }
 }

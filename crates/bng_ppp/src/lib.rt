@@ -1,6 +1,6 @@
 //! One PPP link, by RFC 1661: it has no clock, no socket and takes no memory.
 //!
-//! [`WholeLink::step`] takes an input and a moment in milliseconds and answers the frames that are to be sent, and what came
+//! [`WholeLink::step`] takes an input and a moment in milliseconds and writes the frames that are to be sent, and what came
 //! of the input: a question who the peer is, that data may pass, the end of a term, the end of the link. It joins LCP to the
 //! peer's authentication by PAP (RFC 1334) or CHAP (RFC 1994), and that to IPCP (RFC 1332). Its contract is a relation
 //! between the link before, the input, what is told and the link after, with one outcome.
@@ -10,46 +10,54 @@
 //! unanswered Echo-Requests. While LCP is Opened it passes frames of authentication, IPCP and IPv4 over.
 #![tactic(auto)]
 
-mod act;
 mod authentication;
-mod cause;
-mod hear;
-mod heard;
+mod automaton;
+mod code_reject;
+mod codes;
+mod configure_reply;
+mod configure_request;
+mod counters;
+mod echo;
+mod encapsulation;
+mod frame;
+mod identifiers;
 mod ipcp;
-mod ipcp_cause;
-mod ipcp_frame;
-mod ipcp_kept;
-mod ipcp_kind;
-mod kept;
-mod kind;
+mod ipcp_automaton;
+mod ipcp_codes;
+mod ipcp_configure_request;
+mod ipcp_counters;
+mod ipcp_packet;
 mod laws;
 mod layers;
 mod link;
-mod remind;
-mod request;
+mod lower_layer;
+mod maximum_receive_unit;
+mod protocol_reject;
 mod rules;
-mod send;
 mod step;
+mod terminate;
 #[cfg(test)]
 mod tests;
+mod timers;
 mod verdict;
-mod way;
-mod whole;
 mod whole_frame;
 mod whole_input;
+mod whole_link;
+mod whole_step;
 #[cfg(test)]
 mod whole_tests;
-mod whole_timer;
-mod work;
+mod whole_timers;
 
 pub use crate::authentication::Authentication;
-pub use crate::ipcp_kept::IpcpKept;
-pub use crate::kept::{ECHOES_UNANSWERED_MOST, Kept, NAKS_MOST};
+pub use crate::counters::{ECHOES_UNANSWERED_MOST, Kept, NAKS_MOST};
+pub use crate::ipcp_counters::IpcpKept;
 pub use crate::laws::{
-    frames_read_back, lcp_frames_read_back, lcp_has_one_outcome, link_has_one_outcome, phases_tell,
+    frames_read_back, lcp_frames_read_back, lcp_has_one_outcome, link_frames_read_back,
+    link_has_one_outcome, phases_tell, steps_keep_phases,
 };
 pub use crate::link::Link;
 pub use crate::rules::{Input, LinkKind, LinkRules};
 pub use crate::step::Steps;
-pub use crate::whole::WholeLink;
-pub use crate::whole_input::{WholeInput, WholeSteps};
+pub use crate::whole_input::WholeInput;
+pub use crate::whole_link::WholeLink;
+pub use crate::whole_step::WholeSteps;

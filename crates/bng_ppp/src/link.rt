@@ -1,18 +1,16 @@
-ghost use Rattle.std.specs.Prelude.{◌≡◌, ◌<◌, ◌≤◌, ◌^◌, ◌↔◌, ◌⊎◌, ℕ, IfSome, IsTrue, IsNone, length, option_map, ◌+◌, ◌∷◌, []};
-ghost use Rattle.bng_automaton.specs.Timer.{TimerIsOut};
+//! One PPP link, as far as LCP goes (RFC 1661).
+ghost use Rattle.std.specs.Prelude.{◌≤◌, ◌≡◌, ◌∷◌, [], ◌<◌, ◌^◌, length, ◌↔◌, ◌⊎◌, ℕ, IfSome, IsNone, option_map, ◌+◌};
+ghost use Rattle.bng_ppp.specs.LinkState.{IsFirstAsk, is_opened as opened_in};
 ghost use Rattle.bng_ppp.specs.Said.{said, quiet as says_nothing};
-ghost use Rattle.bng_ppp.specs.LinkState.{IsFirstAsk};
-ghost use Rattle.bng_ppp.specs.Causes.{why, plain, AnswerFits};
-ghost use Rattle.bng_ppp.specs.Room.{most_of};
-ghost use Rattle.bng_ppp.specs.Moves.{Follows, Moves};
-ghost use Rattle.bng_ppp.specs.LinkRelation.{LinkSteps, Starts, Asks, is_down as down_in, is_opened as opened_in, EchoIsDue, earliest as first_of};
+ghost use Rattle.bng_ppp.specs.LinkRelation.{LinkSteps, earliest as first_of};
+ghost use Rattle.bng_ppp.specs.Echo.{EchoIsDue};
+ghost use Rattle.bng_automaton.specs.Timer.{TimerIsOut};
 
-use crate::cause::Cause;
-use crate::kept::{Kept, NAKS_MOST};
+use crate::counters::{Kept, NAKS_MOST};
+use crate::lower_layer::first_ask;
 use crate::rules::{Input, LinkKind, LinkRules, limit};
-use crate::send::quiet;
 use crate::step::Steps;
-use arrayvec::ArrayVec;
+use crate::timers::earliest;
 use bng_automaton::{Automaton, Event, State};
 use bng_base::AuthKind;
 use bng_lcp::LcpAsk;
@@ -44,43 +42,6 @@ impl Model for Link {
     ghost invariant = { λ l. (l.kept.limit ≤ 1500) × (l.kept.mru ≤ 1500) };
 }
 
-// The gateway's own side of LCP, which has asked for nothing yet.
-fn first_ask(limit: u16, auth: &[AuthKind], random: &[u8; 16]) -> LcpAsk
-    requires some { 0 < length auth.now }
-    requires few { length auth.now ≤ 2 }
-    ensures { IsFirstAsk limit auth.now random.now result }
-{
-    let auth = match auth {
-        [first, second] => [*first, *second],
-        [first, ..] => [*first, *first],
-        [] => unreachable!(),
-    };
-    let magic = u32::from_be_bytes([random[0], random[1], random[2], random[3]]);
-    LcpAsk::new(limit, magic, ArrayVec::from(auth))
-}
-
-// Whether the lower layer is down.
-fn is_down(state: State) -> bool
-    ensures { result ≡ down_in state }
-{
-    match state {
-        State::Initial | State::Starting => true,
-        State::Closed | State::Stopped | State::Closing | State::Stopping => false,
-        State::ReqSent | State::AckRcvd | State::AckSent | State::Opened => false,
-    }
-}
-
-// The earlier of two moments.
-pub(crate) fn earliest(a: Option<u64>, b: Option<u64>) -> Option<u64>
-    ensures { result ≡ first_of a b }
-{
-    match (a, b) {
-        (Some(a), Some(b)) => Some(a.min(b)),
-        (Some(a), None) => Some(a),
-        (None, b) => b,
-    }
-}
-
 impl Link {
     ghost use Rattle.bng_ppp.specs.LinkState.{unused, kept_first, limit_of};
 
@@ -109,8 +70,9 @@ impl Link {
         }
     }
 
-    /// Takes an input at a moment in milliseconds, below 2^60, and answers what is to be sent (RFC 1661 sections 4 to 6).
-    /// The rules are equal at each step of a link. `random` are octets of which magic numbers are made.
+    /// Takes an input at a moment in milliseconds, below 2^60, and writes what is to be sent (RFC 1661 sections 4 to 6) into
+    /// `steps`, of which what stood there before is gone. The rules are equal at each step of a link. `random` are octets of
+    /// which magic numbers are made.
     ///
     /// Octets that are no frame, packets that are malformed, an Echo-Request without a magic number, a Configure-Request
     /// of more than 64 options and a reply to another request than the last are ignored. While LCP is Opened a frame of
@@ -122,14 +84,14 @@ impl Link {
         input: Input<'_>,
         now: u64,
         random: &[u8; 16],
-    ) -> Steps
+        steps: &mut Steps,
+    )
         requires moment { now < 2 ^ 60 }
         requires auth { 0 < length rules.now.auth.items }
-        ensures { LinkSteps rules.now input.entry now random.now self.old (said result) self.new }
+        ensures { LinkSteps rules.now input.entry now random.now self.old (said steps.new) self.new }
     {
-        let mut steps = quiet();
-        self.take_input(rules, input, now, random, &mut steps);
-        steps
+        steps.clear();
+        self.take_input(rules, input, now, random, steps);
     }
 
     // Takes an input, and writes what is to be sent where nothing stands yet.
@@ -196,105 +158,5 @@ impl Link {
         ensures none { IsNone result ↔ (IsNone self.now.lcp.started × IsNone self.now.kept.next_echo) }
     {
         earliest(self.lcp.deadline(), self.kept.next_echo)
-    }
-
-    // Open, and then Up.
-    fn start(
-        &mut self,
-        auth: &[AuthKind],
-        echo: u16,
-        now: u64,
-        random: &[u8; 16],
-        steps: &mut Steps,
-    )
-        requires moment { now < 2 ^ 60 }
-        requires some { 0 < length auth.now }
-        requires two { length auth.now ≤ 2 }
-        requires quiet { said steps.old ≡ says_nothing }
-        ensures starts { Starts auth.now random.now echo now self.old (said steps.new) self.new }
-        ensures few { length steps.new.outs.items ≤ 2 }
-    {
-        self.begin(auth, random);
-        let open = self.plain_cause(0);
-        self.follow(Event::Open, &open, echo, now, steps);
-        let up = self.plain_cause(0);
-        self.follow(Event::Up, &up, echo, now, steps);
-    }
-
-    // The gateway's own side begins anew where the lower layer is down.
-    fn begin(&mut self, auth: &[AuthKind], random: &[u8; 16])
-        requires some { 0 < length auth.now }
-        requires few { length auth.now ≤ 2 }
-        ensures asks { Asks (down_in self.old.lcp.state) auth.now random.now self.old self.new.ask }
-        ensures rest { self.new ≡ record self.old { ask = self.new.ask } }
-    {
-        if is_down(self.lcp.state()) {
-            self.ask = first_ask(self.kept.limit, auth, random);
-        }
-    }
-
-    // What an event without an answer causes.
-    pub(crate) fn plain_cause(&self, id: u8) -> Cause<'static>
-        ensures why { why result ≡ plain self.now.kept id }
-        ensures answer { AnswerFits result.answer }
-        ensures mru { result.mru ≤ 1500 }
-    {
-        Cause {
-            timed: false,
-            id,
-            answer: None,
-            mru: self.kept.mru,
-            naks: self.kept.naks,
-        }
-    }
-
-    // One event and its actions, after what the step did before.
-    pub(crate) fn follow(
-        &mut self,
-        event: Event,
-        cause: &Cause<'_>,
-        echo: u16,
-        now: u64,
-        steps: &mut Steps,
-    )
-        requires moment { now < 2 ^ 60 }
-        requires answer { AnswerFits cause.now.answer }
-        requires mru { cause.now.mru ≤ 1500 }
-        requires room { length steps.old.outs.items + most_of event ≤ 4 }
-        ensures few { length steps.new.outs.items ≤ length steps.old.outs.items + most_of event }
-        ensures follows { Follows event (why cause.now) echo now (record { link = self.old; said = said steps.old }) (record { link = self.new; said = said steps.new }) }
-    {
-        let actions = self.lcp.step(event, now);
-        self.perform(actions.as_slice(), cause, echo, now, steps);
-    }
-
-    // An event whose actions answer a packet at most by a Terminate-Ack.
-    pub(crate) fn plainly(&mut self, event: Event, id: u8, echo: u16, now: u64, steps: &mut Steps)
-        requires moment { now < 2 ^ 60 }
-        requires quiet { said steps.old ≡ says_nothing }
-        ensures moves { Moves event (plain self.old.kept id) echo now self.old (said steps.new) self.new }
-        ensures few { length steps.new.outs.items ≤ most_of event }
-    {
-        let cause = self.plain_cause(id);
-        self.react(event, &cause, echo, now, steps)
-    }
-
-    // An event alone.
-    pub(crate) fn react(
-        &mut self,
-        event: Event,
-        cause: &Cause<'_>,
-        echo: u16,
-        now: u64,
-        steps: &mut Steps,
-    )
-        requires moment { now < 2 ^ 60 }
-        requires answer { AnswerFits cause.now.answer }
-        requires mru { cause.now.mru ≤ 1500 }
-        requires quiet { said steps.old ≡ says_nothing }
-        ensures moves { Moves event (why cause.now) echo now self.old (said steps.new) self.new }
-        ensures few { length steps.new.outs.items ≤ most_of event }
-    {
-        self.follow(event, cause, echo, now, steps);
     }
 }

@@ -1,3 +1,4 @@
+//! What a step of a link gives.
 ghost use Rattle.std.specs.Prelude.{◌≤◌, length};
 ghost use Rattle.std.specs.List.{All};
 ghost use Rattle.bng_base.specs.Packet.{Packet};
@@ -15,4 +16,29 @@ pub struct Steps {
     /// LCP finished: the lower layer is needed no longer, or is gone.
     pub finished: bool,
     pub ghost fit: { All (λ (f : Packet). length f.payload ≤ 4160) outs.items },
+}
+
+impl Steps {
+    ghost use Rattle.std.specs.Prelude.{◌≡◌};
+    ghost use Rattle.bng_ppp.specs.Said.{said, quiet as says_nothing};
+
+    /// A place for what steps give, in which nothing stands yet. One serves for all the steps of a caller.
+    pub fn new() -> Steps
+        ensures { said result ≡ says_nothing }
+    {
+        Steps {
+            outs: ArrayVec::new(),
+            opened: false,
+            finished: false,
+        }
+    }
+
+    /// Nothing stands in it any longer.
+    pub(crate) fn clear(&mut self)
+        ensures { said self.new ≡ says_nothing }
+    {
+        self.outs.clear();
+        self.opened = false;
+        self.finished = false;
+    }
 }

@@ -42,20 +42,26 @@ fn only(steps: &Steps) -> &[u8] {
 fn start(link: &mut Link, rules: &LinkRules) -> Steps
     requires { 0 < length rules.now.auth.items }
 {
-    link.step(rules, Input::Start, 0, &RANDOM)
+    let mut steps = Steps::new();
+    link.step(rules, Input::Start, 0, &RANDOM, &mut steps);
+    steps
 }
 
 fn hear(link: &mut Link, rules: &LinkRules, octets: &[u8]) -> Steps
     requires { 0 < length rules.now.auth.items }
 {
-    link.step(rules, Input::Frame(octets), 0, &RANDOM)
+    let mut steps = Steps::new();
+    link.step(rules, Input::Frame(octets), 0, &RANDOM, &mut steps);
+    steps
 }
 
 fn at(link: &mut Link, rules: &LinkRules, now: u64) -> Steps
     requires moment { now < 2 ^ 60 }
     requires some { 0 < length rules.now.auth.items }
 {
-    link.step(rules, Input::Timer, now, &RANDOM)
+    let mut steps = Steps::new();
+    link.step(rules, Input::Timer, now, &RANDOM, &mut steps);
+    steps
 }
 
 fn opened(rules: &LinkRules) -> Link
@@ -193,7 +199,9 @@ fn the_end_of_a_link_is_told(rt: HostRuntime) {
     assert_eq!(rt; only(&hear(&mut link, &rules, &request)), ack.as_slice());
     assert!(rt; at(&mut link, &rules, 3000).finished);
     let mut closed = opened(&rules);
-    let close = closed.step(&rules, Input::Close, 0, &RANDOM);
-    assert_eq!(rt; only(&close), [0xc0, 0x21, 5, 2, 0, 4].as_slice());
-    assert!(rt; closed.step(&rules, Input::Lost, 0, &RANDOM).finished);
+    let mut steps = Steps::new();
+    closed.step(&rules, Input::Close, 0, &RANDOM, &mut steps);
+    assert_eq!(rt; only(&steps), [0xc0, 0x21, 5, 2, 0, 4].as_slice());
+    closed.step(&rules, Input::Lost, 0, &RANDOM, &mut steps);
+    assert!(rt; steps.finished && steps.outs.is_empty());
 }

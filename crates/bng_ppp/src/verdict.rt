@@ -1,13 +1,13 @@
 //! The verdict on a peer.
-ghost use Rattle.std.specs.Prelude.{◌≡◌, ◌<◌, ◌≤◌, ◌^◌, None, length};
-ghost use Rattle.bng_ppp.specs.PppRelation.{Settles, Accepts};
+ghost use Rattle.std.specs.Prelude.{◌≡◌, ◌<◌, ◌≤◌, ◌^◌, None, length, ◌+◌};
+ghost use Rattle.bng_ppp.specs.Verdict.{Settles, Accepts, Refuses};
 ghost use Rattle.bng_ppp.specs.PppState.{is_open as open_in};
-ghost use Rattle.bng_ppp.specs.Working.{turn_of, IsFresh};
+ghost use Rattle.bng_ppp.specs.WholeStep.{turn_of, IsFresh};
 
-use crate::layers::send_reply;
+use crate::authentication::send_reply;
 use crate::rules::LinkRules;
-use crate::whole::WholeLink;
-use crate::work::Work;
+use crate::whole_link::WholeLink;
+use crate::whole_step::WholeSteps;
 use bng_automaton::Event;
 use bng_base::Ip4;
 
@@ -21,37 +21,65 @@ impl WholeLink {
         text: &[u8],
         now: u64,
         random: &[u8; 16],
-        work: &mut Work,
+        steps: &mut WholeSteps,
     ) -> Option<u8>
         requires moment { now < 2 ^ 60 }
         requires text { length text.now ≤ 253 }
-        requires fresh { IsFresh self.old work.old }
-        ensures settles { Settles (open_in self.old.auth) yes rules.now lease text.now now random.now self.old (turn_of self.new work.new) }
+        requires fresh { IsFresh self.old steps.old }
+        ensures settles { Settles (open_in self.old.auth) yes rules.now lease text.now now random.now self.old (turn_of self.new steps.new) }
         ensures none { result ≡ None }
     {
         if self.auth.is_open() {
             if yes {
-                self.accept(rules, lease, text, now, work);
+                self.accept(rules, lease, text, now, steps);
             } else {
-                self.refuse(rules, text, now, random, work);
+                self.refuse(rules, text, now, random, steps);
             }
         }
         None
     }
 
     // The peer is accepted: the reply goes out, and IPCP does Open and Up for this lease.
-    fn accept(&mut self, rules: &LinkRules, lease: Ip4, text: &[u8], now: u64, work: &mut Work)
+    fn accept(
+        &mut self,
+        rules: &LinkRules,
+        lease: Ip4,
+        text: &[u8],
+        now: u64,
+        steps: &mut WholeSteps,
+    )
         requires moment { now < 2 ^ 60 }
         requires text { length text.now ≤ 253 }
-        requires fresh { IsFresh self.old work.old }
-        ensures { Accepts rules.now lease text.now now self.old (turn_of self.new work.new) }
+        requires fresh { IsFresh self.old steps.old }
+        ensures { Accepts rules.now lease text.now now self.old (turn_of self.new steps.new) }
     {
         let reply = self.auth.settle(true, text);
         self.auth_due = None;
         self.live = true;
         self.ipcp.begin(rules.address, lease);
-        send_reply(&reply, &mut work.steps);
-        self.tell_ipcp(Event::Open, now, work);
-        self.tell_ipcp(Event::Up, now, work);
+        send_reply(&reply, &mut steps.layer);
+        self.tell_ipcp(Event::Open, now, steps);
+        self.tell_ipcp(Event::Up, now, steps);
+    }
+
+    /// A refusal: the reply goes out, and LCP does Close.
+    pub(crate) fn refuse(
+        &mut self,
+        rules: &LinkRules,
+        text: &[u8],
+        now: u64,
+        random: &[u8; 16],
+        steps: &mut WholeSteps,
+    )
+        requires moment { now < 2 ^ 60 }
+        requires text { length text.now ≤ 253 }
+        requires room { length steps.old.layer.outs.items ≤ 1 }
+        ensures refuses { Refuses rules.now now random.now text.now (turn_of self.old steps.old) (turn_of self.new steps.new) }
+        ensures few { length steps.new.layer.outs.items ≤ length steps.old.layer.outs.items + 3 }
+    {
+        let reply = self.auth.settle(false, text);
+        self.auth_due = None;
+        send_reply(&reply, &mut steps.layer);
+        self.close(rules, now, random, steps);
     }
 }

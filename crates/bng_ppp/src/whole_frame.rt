@@ -1,21 +1,35 @@
-//! Frames of the peer: which layer each one is for.
-ghost use Rattle.std.specs.Prelude.{◌≡◌, ◌+◌, ◌<◌, ◌≤◌, ◌^◌, ◌↔◌, ◌||◌, length, IsTrue};
-ghost use Rattle.bng_ppp_wire.specs.View.{packet_of};
-ghost use Rattle.bng_ppp.specs.PppRelation.{IsWay, IsWayShort, HearsOctets, HearsAuth, HearsIpcp, HearsIpcpWithin, HearsLcp, LcpSteps, RejectsIpcp, lcp_hears, ended_by, begun};
+//! A frame of the peer: which layer it is for.
+ghost use Rattle.std.specs.Prelude.{◌↔◌, IsTrue, ◌≡◌, ◌<◌, ◌^◌, ◌||◌, ◌≤◌, length};
+ghost use Rattle.bng_ppp.specs.WholeFrame.{RejectsIpcp, HearsOctets, IsWay, IsWayShort, HearsAuth, HearsIpcp, HearsIpcpWithin, HearsLcp};
+ghost use Rattle.bng_ppp.specs.PppRelation.{ended_by};
+ghost use Rattle.bng_ppp.specs.Layers.{LcpSteps, lcp_hears};
+ghost use Rattle.bng_ppp.specs.WholeStep.{turn_of, IsFresh};
 ghost use Rattle.bng_ppp.specs.PppState.{is_for_auth as for_auth, is_for_ipcp as for_ipcp};
-ghost use Rattle.bng_ppp.specs.Working.{turn_of, IsFresh};
+ghost use Rattle.bng_ppp_wire.specs.View.{packet_of};
 
-use crate::heard::{Heard, frame_at};
-use crate::layers::send_reply;
+use crate::authentication::send_reply;
+use crate::frame::{Heard, frame_at};
 use crate::rules::LinkRules;
-use crate::way::Way;
-use crate::whole::WholeLink;
-use crate::work::{Work, cause_of};
+use crate::whole_link::WholeLink;
+use crate::whole_step::{WholeSteps, cause_of};
 use bng_auth::AuthStep;
 use bng_automaton::Event;
 use bng_base::LONGEST;
 use bng_ppp_wire::code::PROTOCOL_REJECT;
 use bng_ppp_wire::{Packet, Ppp, protocol};
+
+/// Whose the octets of a frame are, and what they are there.
+#[derive(Clone, Copy, Debug)]
+pub(crate) enum Way<'a> {
+    /// A packet of the authentication that was agreed.
+    Auth(Packet<'a>),
+    /// A packet of IPCP.
+    Ipcp(Packet<'a>),
+    /// A frame of one of these that holds no packet.
+    NoPacket,
+    /// Any other octets: they are LCP's, which passes over or rejects what is not its own.
+    Lcp,
+}
 
 /// The text of the reply to a peer without a name, or with a name or a password of more than 128 octets.
 const NO_NAME: &[u8; 7] = b"no name";
@@ -43,15 +57,15 @@ impl WholeLink {
         octets: &[u8],
         now: u64,
         random: &[u8; 16],
-        work: &mut Work,
+        steps: &mut WholeSteps,
     ) -> Option<u8>
         requires moment { now < 2 ^ 60 }
-        requires fresh { IsFresh self.old work.old }
-        ensures hears { HearsOctets rules.now octets.now now random.now self.old (turn_of self.new work.new) }
-        ensures cause { result ≡ ended_by self.new.live work.new.left work.new.ended 1 }
+        requires fresh { IsFresh self.old steps.old }
+        ensures hears { HearsOctets rules.now octets.now now random.now self.old (turn_of self.new steps.new) }
+        ensures cause { result ≡ ended_by self.new.live steps.new.left steps.new.ended 1 }
     {
-        self.hear(rules, octets, now, random, work);
-        cause_of(self.live, work.left, work.ended, 1)
+        self.hear(rules, octets, now, random, steps);
+        cause_of(self.live, steps.left, steps.ended, 1)
     }
 
     // Takes the octets of a frame.
@@ -61,17 +75,17 @@ impl WholeLink {
         octets: &[u8],
         now: u64,
         random: &[u8; 16],
-        work: &mut Work,
+        steps: &mut WholeSteps,
     )
         requires moment { now < 2 ^ 60 }
-        requires fresh { IsFresh self.old work.old }
-        ensures { HearsOctets rules.now octets.now now random.now self.old (turn_of self.new work.new) }
+        requires fresh { IsFresh self.old steps.old }
+        ensures { HearsOctets rules.now octets.now now random.now self.old (turn_of self.new steps.new) }
     {
         match self.way(octets) {
-            Way::Auth(packet) => self.hear_auth(rules, &packet, now, random, work),
-            Way::Ipcp(packet) => self.hear_ipcp(rules, &packet, now, work),
+            Way::Auth(packet) => self.hear_auth(rules, &packet, now, random, steps),
+            Way::Ipcp(packet) => self.hear_ipcp(rules, &packet, now, steps),
             Way::NoPacket => {}
-            Way::Lcp => self.hear_lcp(rules, octets, now, random, work),
+            Way::Lcp => self.hear_lcp(rules, octets, now, random, steps),
         }
     }
 
@@ -127,32 +141,38 @@ impl WholeLink {
         packet: &Packet<'_>,
         now: u64,
         random: &[u8; 16],
-        work: &mut Work,
+        steps: &mut WholeSteps,
     )
         requires moment { now < 2 ^ 60 }
-        requires room { length work.old.steps.outs.items ≤ 0 }
-        ensures { HearsAuth rules.now (packet_of packet.now) now random.now (turn_of self.old work.old) (turn_of self.new work.new) }
+        requires room { length steps.old.layer.outs.items ≤ 0 }
+        ensures { HearsAuth rules.now (packet_of packet.now) now random.now (turn_of self.old steps.old) (turn_of self.new steps.new) }
     {
         match self.auth.take(packet) {
             AuthStep::Ask(credentials) => {
-                work.asked = Some(credentials);
+                steps.asked = Some(credentials);
                 self.auth_due = None;
             }
-            AuthStep::Again(reply) => send_reply(&Some(reply), &mut work.steps),
-            AuthStep::Refuse => self.refuse(rules, NO_NAME, now, random, work),
+            AuthStep::Again(reply) => send_reply(&Some(reply), &mut steps.layer),
+            AuthStep::Refuse => self.refuse(rules, NO_NAME, now, random, steps),
             AuthStep::Ignore => {}
         }
     }
 
     // A packet of IPCP.
-    fn hear_ipcp(&mut self, rules: &LinkRules, packet: &Packet<'_>, now: u64, work: &mut Work)
+    fn hear_ipcp(
+        &mut self,
+        rules: &LinkRules,
+        packet: &Packet<'_>,
+        now: u64,
+        steps: &mut WholeSteps,
+    )
         requires moment { now < 2 ^ 60 }
         requires body { length packet.now.body.now ≤ 4090 }
-        requires room { length work.old.steps.outs.items ≤ 0 }
-        ensures { HearsIpcp rules.now (packet_of packet.now) now (turn_of self.old work.old) (turn_of self.new work.new) }
+        requires room { length steps.old.layer.outs.items ≤ 0 }
+        ensures { HearsIpcp rules.now (packet_of packet.now) now (turn_of self.old steps.old) (turn_of self.new steps.new) }
     {
         let mru = self.lcp.mru();
-        self.hear_ipcp_within(mru, rules, packet, now, work);
+        self.hear_ipcp_within(mru, rules, packet, now, steps);
     }
 
     // A packet of IPCP, to a peer with this Maximum-Receive-Unit.
@@ -162,20 +182,20 @@ impl WholeLink {
         rules: &LinkRules,
         packet: &Packet<'_>,
         now: u64,
-        work: &mut Work,
+        steps: &mut WholeSteps,
     )
         requires moment { now < 2 ^ 60 }
         requires body { length packet.now.body.now ≤ 4090 }
         requires mru { mru ≤ 1500 }
-        requires room { length work.old.steps.outs.items ≤ 0 }
-        ensures { HearsIpcpWithin mru rules.now (packet_of packet.now) now (turn_of self.old work.old) (turn_of self.new work.new) }
+        requires room { length steps.old.layer.outs.items ≤ 0 }
+        ensures { HearsIpcpWithin mru rules.now (packet_of packet.now) now (turn_of self.old steps.old) (turn_of self.new steps.new) }
     {
-        work.steps.opened = false;
-        work.steps.finished = false;
+        steps.layer.opened = false;
+        steps.layer.finished = false;
         self.ipcp
-            .hear(packet, &rules.dns, mru, now, &mut work.steps);
-        work.opened = work.opened || work.steps.opened;
-        work.ended = work.ended || work.steps.finished;
+            .hear(packet, &rules.dns, mru, now, &mut steps.layer);
+        steps.opened = steps.opened || steps.layer.opened;
+        steps.ended = steps.ended || steps.layer.finished;
     }
 
     // A frame that is LCP's. A Protocol-Reject of IPCP is IPCP's event as well.
@@ -185,16 +205,16 @@ impl WholeLink {
         octets: &[u8],
         now: u64,
         random: &[u8; 16],
-        work: &mut Work,
+        steps: &mut WholeSteps,
     )
         requires moment { now < 2 ^ 60 }
-        requires fresh { IsFresh self.old work.old }
-        ensures { HearsLcp rules.now octets.now now random.now self.old (turn_of self.new work.new) }
+        requires fresh { IsFresh self.old steps.old }
+        ensures { HearsLcp rules.now octets.now now random.now self.old (turn_of self.new steps.new) }
     {
         let rejected = rejects_ipcp(octets);
-        self.hear_lcp_alone(rules, octets, now, random, work);
+        self.hear_lcp_alone(rules, octets, now, random, steps);
         if rejected {
-            self.tell_ipcp(Event::RxjMinus, now, work);
+            self.tell_ipcp(Event::RxjMinus, now, steps);
         }
     }
 
@@ -205,16 +225,16 @@ impl WholeLink {
         octets: &[u8],
         now: u64,
         random: &[u8; 16],
-        work: &mut Work,
+        steps: &mut WholeSteps,
     )
         requires moment { now < 2 ^ 60 }
-        requires fresh { IsFresh self.old work.old }
-        ensures steps { LcpSteps rules.now (lcp_hears rules.now octets.now now random.now) now random.now self.old (turn_of self.new work.new) }
-        ensures few { length work.new.steps.outs.items ≤ 3 }
+        requires fresh { IsFresh self.old steps.old }
+        ensures steps { LcpSteps rules.now (lcp_hears rules.now octets.now now random.now) now random.now self.old (turn_of self.new steps.new) }
+        ensures few { length steps.new.layer.outs.items ≤ 3 }
     {
         let was = self.lcp.is_opened();
         self.lcp
-            .hear(octets, rules.echo, now, random, &mut work.steps);
-        self.after_lcp(was, rules, now, random, work);
+            .hear(octets, rules.echo, now, random, &mut steps.layer);
+        self.after_lcp(was, rules, now, random, steps);
     }
 }

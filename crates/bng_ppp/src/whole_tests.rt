@@ -47,7 +47,7 @@ fn rules(auth: AuthKind, echo: u16) -> LinkRules
 
 // The octets of a frame that a step sends, none where it sends fewer.
 fn sent(steps: &WholeSteps, place: usize) -> &[u8] {
-    match steps.outs.as_slice().get(place) {
+    match steps.outs().get(place) {
         Some(frame) => frame.payload(),
         None => &[],
     }
@@ -57,13 +57,15 @@ fn tell(link: &mut WholeLink, rules: &LinkRules, input: WholeInput<'_>, now: u64
     requires moment { now < 2 ^ 60 }
     requires some { 0 < length rules.now.auth.items }
 {
-    link.step(rules, input, now, &RANDOM)
+    let mut steps = WholeSteps::new();
+    link.step(rules, input, now, &RANDOM, &mut steps);
+    steps
 }
 
 fn hear(link: &mut WholeLink, rules: &LinkRules, octets: &[u8]) -> WholeSteps
     requires { 0 < length rules.now.auth.items }
 {
-    link.step(rules, WholeInput::Frame(octets), 0, &RANDOM)
+    tell(link, rules, WholeInput::Frame(octets), 0)
 }
 
 fn verdict(yes: bool, octets: &[u8]) -> WholeInput<'static> {
@@ -135,7 +137,7 @@ fn a_pppd_is_accepted_by_chap_and_gets_its_address(rt: HostRuntime) {
         &rules,
         b"\x80\x21\x01\x01\x00\x0a\x03\x06\x00\x00\x00\x00",
     );
-    assert!(rt; early.outs.is_empty());
+    assert!(rt; early.outs().is_empty());
     let ccp = hear(&mut link, &rules, b"\x80\xfd\x01\x01\x00\x04");
     assert_eq!(rt;
         sent(&ccp, 0),
@@ -144,13 +146,13 @@ fn a_pppd_is_accepted_by_chap_and_gets_its_address(rt: HostRuntime) {
     let again = tell(&mut link, &rules, WholeInput::Timer, 3000);
     assert_eq!(rt; sent(&again, 0), CHALLENGE);
     let question = hear(&mut link, &rules, RESPONSE);
-    assert!(rt; question.outs.is_empty() && link.deadline().is_none());
+    assert!(rt; question.outs().is_empty() && link.deadline().is_none());
     match &question.asked {
         Some(claim) => assert_eq!(rt; claim.name.as_slice(), b"u0".as_slice()),
         None => assert!(rt; false),
     }
     let repeated = hear(&mut link, &rules, RESPONSE);
-    assert!(rt; repeated.outs.is_empty() && repeated.asked.is_none());
+    assert!(rt; repeated.outs().is_empty() && repeated.asked.is_none());
     let yes = tell(&mut link, &rules, verdict(true, b"hi"), 3000);
     assert_eq!(rt; sent(&yes, 0), b"\xc2\x23\x03\x01\x00\x06hi".as_slice());
     assert_eq!(rt;
@@ -158,7 +160,7 @@ fn a_pppd_is_accepted_by_chap_and_gets_its_address(rt: HostRuntime) {
         b"\x80\x21\x01\x01\x00\x0a\x03\x06\x0a\x00\x00\x01".as_slice()
     );
     let second = tell(&mut link, &rules, verdict(false, b"no"), 3000);
-    assert!(rt; second.outs.is_empty());
+    assert!(rt; second.outs().is_empty());
     let after = hear(&mut link, &rules, RESPONSE);
     assert_eq!(rt; sent(&after, 0), b"\xc2\x23\x03\x01\x00\x06hi".as_slice());
     let wants =
@@ -229,18 +231,18 @@ fn a_pppd_is_accepted_by_pap_and_gets_its_address_and_servers(rt: HostRuntime) {
         b"\xc0\x21\x02\x02\x00\x0e\x01\x04\x05\xd4\x05\x06\x11\x22\x33\x44".as_slice()
     );
     let up = hear(&mut link, &rules, PAP_ACK);
-    assert!(rt; up.outs.is_empty() && link.was_opened() && link.deadline() == Some(30_000));
+    assert!(rt; up.outs().is_empty() && link.was_opened() && link.deadline() == Some(30_000));
     for (heard, answer) in BEFORE_PAP {
         assert_eq!(rt; sent(&hear(&mut link, &rules, heard), 0), answer);
     }
     let question = hear(&mut link, &rules, PAP_REQUEST);
-    assert!(rt; question.outs.is_empty() && link.deadline().is_none());
+    assert!(rt; question.outs().is_empty() && link.deadline().is_none());
     match &question.asked {
         Some(claim) => assert_eq!(rt; claim.name.as_slice(), b"u0".as_slice()),
         None => assert!(rt; false),
     }
     let repeated = hear(&mut link, &rules, PAP_REQUEST);
-    assert!(rt; repeated.outs.is_empty() && repeated.asked.is_none());
+    assert!(rt; repeated.outs().is_empty() && repeated.asked.is_none());
     let yes = tell(&mut link, &rules, verdict(true, b"hi"), 0);
     assert_eq!(rt; sent(&yes, 0), b"\xc0\x23\x02\x07\x00\x07\x02hi".as_slice());
     assert_eq!(rt;
@@ -347,7 +349,7 @@ fn a_silent_peer_is_given_up(rt: HostRuntime) {
     let mut waited = opened(&pap, PAP_ACK);
     assert!(rt;
         tell(&mut waited, &pap, WholeInput::Timer, 29_999)
-            .outs
+            .outs()
             .is_empty()
     );
     let closed = tell(&mut waited, &pap, WholeInput::Timer, 30_000);

@@ -1,7 +1,7 @@
 use Rattle.std.proofs.Common.{◌≡◌, ◌+◌, ◌≤◌, length, take}
 use Rattle.std.specs.List.{sum_by}
 use Rattle.bng_ppp.specs.Said.{said}
-use Rattle.bng_ppp.specs.IpcpActs.{IpcpDoing, ipcp_why, all_ipcp_acted}
+use Rattle.bng_ppp.specs.IpcpAutomaton.{IpcpDoing, ipcp_why, all_ipcp_acted}
 use Rattle.bng_ppp.specs.Room.{sends}
 use Rattle.bng_ppp.proofs.ipcp.Ipcp.perform.Given as goal
 

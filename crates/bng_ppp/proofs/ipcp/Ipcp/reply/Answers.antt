@@ -1,7 +1,7 @@
 use Rattle.std.proofs.Common.{subst}
 use Rattle.bng_ppp_wire.specs.View.{packet_of}
 use Rattle.bng_ppp.specs.IpcpState.{IpcpState}
-use Rattle.bng_ppp.specs.IpcpRelation.{IpcpReplies}
+use Rattle.bng_ppp.specs.IpcpPacket.{IpcpReplies}
 use Rattle.bng_ppp.specs.Said.{said}
 use Rattle.bng_ppp.proofs.IpcpReplyLaws.{so_far, ipcp_changed, ipcp_ignored}
 use Rattle.bng_ppp.proofs.ipcp.Ipcp.reply.Goals as goal

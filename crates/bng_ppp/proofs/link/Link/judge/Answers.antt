@@ -1,7 +1,7 @@
 use Rattle.std.proofs.Common.{◌≡◌, sym, ap, ◌∙◌, arith, rules}
 use Rattle.bng_ppp_wire.specs.View.{options_of}
 use Rattle.bng_lcp.specs.declared.judgement.LcpRules.{LcpRules}
-use Rattle.bng_ppp.specs.Packets.{mru_of}
+use Rattle.bng_ppp.specs.MaximumReceiveUnit.{mru_of}
 use Rattle.bng_ppp.proofs.MruLaws.{mru_low}
 use Rattle.bng_ppp.proofs.RejectLaws.{spellable}
 use Rattle.bng_ppp.proofs.link.Link.judge.Goals as goal

@@ -1,8 +1,7 @@
 use Rattle.std.proofs.Common.{◌≡◌, ◌+◌, ◌≤◌, length, take}
 use Rattle.std.specs.List.{sum_by}
 use Rattle.bng_ppp.specs.Said.{said}
-use Rattle.bng_ppp.specs.Causes.{why}
-use Rattle.bng_ppp.specs.Acts.{Doing, all_acted}
+use Rattle.bng_ppp.specs.Automaton.{why, Doing, all_acted}
 use Rattle.bng_ppp.specs.Room.{sends}
 use Rattle.bng_ppp.proofs.link.Link.perform.Given as goal
 

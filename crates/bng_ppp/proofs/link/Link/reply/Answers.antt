@@ -2,7 +2,7 @@ use Rattle.std.proofs.Common.{refl, subst}
 use Rattle.bng_ppp_wire.specs.View.{packet_of}
 use Rattle.bng_ppp.specs.LinkState.{LinkState}
 use Rattle.bng_ppp.specs.Said.{said}
-use Rattle.bng_ppp.specs.LinkRelation.{Replies}
+use Rattle.bng_ppp.specs.ConfigureReply.{Replies}
 use Rattle.bng_ppp.proofs.ReplyLaws.{changed, ignored}
 use Rattle.bng_ppp.proofs.link.Link.reply.Goals as goal
 

@@ -1,0 +1,169 @@
+//! The events and actions of IPCP's automaton (RFC 1332 section 2), and the packets without a body that it sends.
+ghost use Rattle.std.specs.Prelude.{◌≡◌, ◌+◌, ◌<◌, ◌≤◌, length, option_map, [], ◌^◌};
+ghost use Rattle.bng_ppp_wire.specs.View.{packet_of};
+ghost use Rattle.bng_ppp.specs.IpcpAutomaton.{ipcp_sent, ipcp_sent_some, ipcp_why, ipcp_plain, IpcpFollows, all_ipcp_acted, ipcp_acted, ipcp_terminated};
+ghost use Rattle.bng_ppp.specs.Said.{said};
+ghost use Rattle.bng_ppp.specs.Automaton.{AnswerFits};
+ghost use Rattle.bng_ppp.specs.Room.{most_of, sends};
+ghost use Rattle.std.specs.List.{sum_by};
+
+use crate::encapsulation::put_protocol;
+use crate::identifiers::next_id;
+use crate::ipcp::Ipcp;
+use crate::ipcp_counters::ending;
+use crate::step::Steps;
+use bng_automaton::{Action, Event};
+use bng_base::Frame;
+use bng_ppp_wire::code::{TERMINATE_ACK, TERMINATE_REQUEST};
+use bng_ppp_wire::{Packet, protocol};
+
+/// What the actions of an event of IPCP send and keep.
+#[derive(Clone, Copy, Debug)]
+pub(crate) struct IpcpCause<'a> {
+    /// The restart timer is the cause.
+    pub timed: bool,
+    /// The Identifier of a Terminate-Ack.
+    pub id: u8,
+    /// A Configure-Ack, -Nak or -Reject, or a Code-Reject.
+    pub answer: Option<Packet<'a>>,
+    /// How many Configure-Naks have gone out without a Configure-Ack between, once the peer's Configure-Request is answered.
+    pub naks: u8,
+}
+
+// Sends a packet of IPCP.
+fn send(packet: &Packet<'_>, steps: &mut Steps)
+    requires fits { length packet.now.body.now ≤ 4090 }
+    requires room { length steps.old.outs.items < 4 }
+    ensures said { said steps.new ≡ record (said steps.old) { outs = ipcp_sent (packet_of packet.now) (said steps.old).outs } }
+    ensures few { length steps.new.outs.items ≤ length steps.old.outs.items + 1 }
+{
+    let mut text = Frame::new();
+    let _done = packet.write(&mut text);
+    put_protocol(protocol::IPCP, &mut text);
+    steps.outs.push(text);
+}
+
+// Sends a packet of IPCP, where there is one.
+fn send_some(packet: &Option<Packet<'_>>, steps: &mut Steps)
+    requires fits { AnswerFits packet.now }
+    requires room { length steps.old.outs.items < 4 }
+    ensures said { said steps.new ≡ record (said steps.old) { outs = ipcp_sent_some (option_map packet_of packet.now) (said steps.old).outs } }
+    ensures few { length steps.new.outs.items ≤ length steps.old.outs.items + 1 }
+{
+    if let Some(packet) = packet {
+        send(packet, steps);
+    }
+}
+
+// Sends a packet of IPCP without a body.
+fn bare(code: u8, id: u8, steps: &mut Steps)
+    requires room { length steps.old.outs.items < 4 }
+    ensures said { said steps.new ≡ record (said steps.old) { outs = ipcp_sent (record { code = code; id = id; body = [] }) (said steps.old).outs } }
+    ensures few { length steps.new.outs.items ≤ length steps.old.outs.items + 1 }
+{
+    let packet = Packet {
+        code,
+        id,
+        body: &[],
+    };
+    send(&packet, steps);
+}
+
+impl Ipcp {
+    // What an event without an answer causes.
+    fn plain_cause(&self, id: u8) -> IpcpCause<'static>
+        ensures why { ipcp_why result ≡ ipcp_plain self.now.kept id }
+        ensures answer { AnswerFits result.answer }
+    {
+        IpcpCause {
+            timed: false,
+            id,
+            answer: None,
+            naks: self.kept.naks,
+        }
+    }
+
+    /// An event whose actions answer a packet at most by a Terminate-Ack.
+    pub(crate) fn plainly(&mut self, event: Event, id: u8, now: u64, steps: &mut Steps)
+        requires moment { now < 2 ^ 60 }
+        requires room { length steps.old.outs.items + most_of event ≤ 4 }
+        ensures few { length steps.new.outs.items ≤ length steps.old.outs.items + most_of event }
+        ensures follows { IpcpFollows event (ipcp_plain self.old.kept id) now (record { ipcp = self.old; said = said steps.old }) (record { ipcp = self.new; said = said steps.new }) }
+    {
+        let cause = self.plain_cause(id);
+        self.follow(event, &cause, now, steps);
+    }
+
+    /// One event and its actions, after what the step did before.
+    pub(crate) fn follow(
+        &mut self,
+        event: Event,
+        cause: &IpcpCause<'_>,
+        now: u64,
+        steps: &mut Steps,
+    )
+        requires moment { now < 2 ^ 60 }
+        requires answer { AnswerFits cause.now.answer }
+        requires room { length steps.old.outs.items + most_of event ≤ 4 }
+        ensures few { length steps.new.outs.items ≤ length steps.old.outs.items + most_of event }
+        ensures follows { IpcpFollows event (ipcp_why cause.now) now (record { ipcp = self.old; said = said steps.old }) (record { ipcp = self.new; said = said steps.new }) }
+    {
+        let actions = self.machine.step(event, now);
+        self.perform(actions.as_slice(), cause, steps);
+    }
+
+    // Does the actions of a cell in their order.
+    fn perform(&mut self, actions: &[Action], cause: &IpcpCause<'_>, steps: &mut Steps)
+        requires answer { AnswerFits cause.now.answer }
+        requires room { length steps.old.outs.items + sum_by sends actions.now ≤ 4 }
+        ensures few { length steps.new.outs.items ≤ length steps.old.outs.items + sum_by sends actions.now }
+        ensures after { self.new ≡ (all_ipcp_acted (ipcp_why cause.now) (record { ipcp = self.old; said = said steps.old }) actions.now).ipcp }
+        ensures said { said steps.new ≡ (all_ipcp_acted (ipcp_why cause.now) (record { ipcp = self.old; said = said steps.old }) actions.now).said }
+    {
+        for action in actions {
+            self.act(*action, cause, steps);
+        }
+    }
+
+    // Does one action.
+    fn act(&mut self, action: Action, cause: &IpcpCause<'_>, steps: &mut Steps)
+        requires answer { AnswerFits cause.now.answer }
+        requires room { length steps.old.outs.items + sends action ≤ 4 }
+        ensures few { length steps.new.outs.items ≤ length steps.old.outs.items + sends action }
+        ensures after { self.new ≡ (ipcp_acted (ipcp_why cause.now) (record { ipcp = self.old; said = said steps.old }) action).ipcp }
+        ensures said { said steps.new ≡ (ipcp_acted (ipcp_why cause.now) (record { ipcp = self.old; said = said steps.old }) action).said }
+    {
+        match action {
+            Action::Tlu => {
+                steps.opened = true;
+            }
+            Action::Tlf => {
+                steps.finished = true;
+            }
+            Action::Tld | Action::Tls | Action::Irc | Action::Zrc => {}
+            Action::Scr => self.configure(cause, steps),
+            Action::Sca | Action::Scn => {
+                self.kept.naks = cause.naks;
+                send_some(&cause.answer, steps);
+            }
+            Action::Str => self.terminate(cause, steps),
+            Action::Sta => bare(TERMINATE_ACK, cause.id, steps),
+            Action::Scj => {
+                self.kept.next_id = next_id(self.kept.next_id);
+                send_some(&cause.answer, steps);
+            }
+            Action::Ser => send_some(&cause.answer, steps),
+        }
+    }
+
+    // Sends a Terminate-Request.
+    fn terminate(&mut self, cause: &IpcpCause<'_>, steps: &mut Steps)
+        requires room { length steps.old.outs.items < 4 }
+        ensures few { length steps.new.outs.items ≤ length steps.old.outs.items + 1 }
+        ensures after { self.new ≡ (ipcp_terminated (ipcp_why cause.now) (record { ipcp = self.old; said = said steps.old })).ipcp }
+        ensures said { said steps.new ≡ (ipcp_terminated (ipcp_why cause.now) (record { ipcp = self.old; said = said steps.old })).said }
+    {
+        self.kept = ending(self.kept, cause.timed);
+        bare(TERMINATE_REQUEST, self.kept.terminate_id, steps);
+    }
+}
