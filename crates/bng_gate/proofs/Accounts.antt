@@ -9,7 +9,8 @@ use Rattle.bng_base.specs.declared.item.Entry.{Entry}
 use Rattle.bng_base.specs.declared.settings.Static.{Static}
 use Rattle.bng_config.specs.declared.config.Config.{Config}
 use Rattle.bng_config.specs.Rules.{KeepsRules}
-use Rattle.bng_engine.specs.Lists.{Same, one_if}
+use Rattle.bng_base.specs.Listed.{Same}
+use Rattle.bng_engine.specs.Lists.{one_if}
 use Rattle.bng_engine.specs.Quantities.{in_book, Octets}
 use Rattle.bng_engine.specs.Terms.{Key, keys}
 use Rattle.bng_engine.specs.Views.{ShardView, Row, row_keys, rows_where}

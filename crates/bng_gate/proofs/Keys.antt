@@ -13,7 +13,8 @@ use Rattle.bng_engine.specs.Calls.{Kept, Moves}
 use Rattle.bng_engine.specs.Histories.{ShardTurn, ShardHistory, sends_in, stops_in}
 use Rattle.bng_engine.specs.Journals.{after, outs_of, unsent, AreSteps}
 use Rattle.bng_engine.specs.Laws.{TurnBy, sends_of, stops_of}
-use Rattle.bng_engine.specs.Lists.{AnyOf, Same}
+use Rattle.bng_base.specs.Listed.{Same}
+use Rattle.bng_engine.specs.Lists.{AnyOf}
 use Rattle.bng_engine.specs.Protocol.{HasKey, IsOwned}
 use Rattle.bng_engine.specs.Terms.{Key, Stop, keys, key_in}
 use Rattle.bng_engine.specs.Turns.{Tells}

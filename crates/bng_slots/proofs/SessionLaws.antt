@@ -1,12 +1,13 @@
 -- What a caller may use of a shard's sessions: what a number has after a change, and how the list of sessions changes.
-use Rattle.std.proofs.Common.{◌≡◌, ◌≢◌, ℕ, ◌+◌, List, [], ◌∷◌, map, length, Option, Some, None, is_some, cond, refl, sym, ap, ◌∙◌, arith, add_comm}
+use Rattle.std.proofs.Common.{◌≡◌, ◌≢◌, ℕ, Bool, true, false, ◌+◌, List, [], ◌∷◌, map, length, Option, Some, None, is_some, cond, refl, sym, ap, ◌∙◌, arith, add_comm}
 use Rattle.std.specs.List.{sum_by}
-use Rattle.std.specs.Ordering.{nat_cmp}
+use Rattle.std.specs.Ordering.{nat_cmp, eq_by_cmp}
 use Rattle.std.specs.Cmp.{nat_cmp_total}
 use Rattle.std.proofs.lemmas.List.Sums.{sum_by-cons}
-use Rattle.std.specs.FinMap.{nat_cmp-IsAntisymmetric, get, entries, len, get-insert, get-remove, len-insert, len-entries}
+use Rattle.std.specs.FinMap.{nat_cmp-IsAntisymmetric, same_map, get, entries, len, get-insert, get-remove, len-insert, len-entries}
 use Rattle.bng_slots.specs.Sessions.{Sessions, value_at, used, with_value, without}
-use Rattle.bng_slots.specs.Listed.{Same, values}
+use Rattle.bng_base.specs.Listed.{Same}
+use Rattle.bng_slots.specs.Listed.{values}
 use Rattle.bng_slots.proofs.Numbered.{same_number, other_number}
 use Rattle.bng_slots.proofs.MapSums.{sum-insert, sum-remove}
 
@@ -27,6 +28,11 @@ ones {X} (x ∷ xs) =
     let left = sum_by-cons one x xs in
     omega (arith, rest, left)
 
+-- what stands under a test that failed before
+same_branch : {A : Type 0} (b : Bool) (x y z : A) → cond b x (cond b y z) ≡ cond b x z
+same_branch true x y z = refl
+same_branch false x y z = refl
+
 module _ {V : Type 0} (s : Sessions V) (n : ℕ) where
   pub value_at-with_value : (v : V) → value_at (with_value s n v) n ≡ Some v
   value_at-with_value v = get-insert nat_cmp_total s.by_number n v n ∙ ap (λ b. cond b (Some v) (get s.by_number n)) (same_number n n refl)
@@ -39,6 +45,15 @@ module _ {V : Type 0} (s : Sessions V) (n : ℕ) where
 
   pub value_at-without_other : (m : ℕ) → m ≢ n → value_at (without s n) m ≡ value_at s m
   value_at-without_other m differ = get-remove nat_cmp_total s.by_number n m ∙ ap (λ b. cond b None (get s.by_number m)) (other_number m n differ)
+
+  pub with_value-without : (v : V) → with_value (without s n) n v ≡ with_value s n v
+  with_value-without v =
+      let each : (q : ℕ) → get (with_value (without s n) n v).by_number q ≡ get (with_value s n v).by_number q = λ q.
+          get-insert nat_cmp_total (without s n).by_number n v q
+          ∙ ap (λ o. cond (eq_by_cmp nat_cmp q n) (Some v) o) (get-remove nat_cmp_total s.by_number n q)
+          ∙ same_branch (eq_by_cmp nat_cmp q n) (Some v) None (get s.by_number q)
+          ∙ sym (get-insert nat_cmp_total s.by_number n v q) in
+      ap (λ m. record { shard = s.shard; by_number = m }) (same_map nat_cmp-IsAntisymmetric (with_value (without s n) n v).by_number (with_value s n v).by_number each)
 
   pub used-with_value : (v : V) → value_at s n ≡ None → used (with_value s n v) ≡ used s + 1
   used-with_value v none = len-insert nat_cmp_total s.by_number n v ∙ ap (λ (o : Option V). cond (is_some o) (len s.by_number) (len s.by_number + 1)) none

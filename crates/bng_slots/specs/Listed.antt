@@ -1,11 +1,7 @@
 -- The sessions of a shard as a list, for sums and counts over them.
-use Rattle.std.specs.Prelude.{◌≡◌, ℕ, List, sum_by}
+use Rattle.std.specs.Prelude.{ℕ, List}
 use Rattle.std.specs.FinMap as map
 use Rattle.bng_slots.specs.Sessions.{Sessions}
-
--- the same elements, each as often, in whatever order: whatever is summed of them, it is the same
-abbrev pub Same : {X : Type 0} → List X → List X → Type 0
-Same {X} xs ys = (f : X → ℕ) → sum_by f xs ≡ sum_by f ys
 
 module _ {V : Type 0} where
   -- the used session numbers with their values, by rising number

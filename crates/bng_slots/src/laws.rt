@@ -2,7 +2,8 @@
 ghost use Rattle.std.specs.Prelude.{◌≡◌, ◌≢◌, ◌+◌, ◌∷◌, ℕ, Some, None};
 ghost use Rattle.std.specs.List.{sum_by};
 ghost use Rattle.bng_slots.specs.Sessions.{Sessions, value_at, used, with_value, without};
-ghost use Rattle.bng_slots.specs.Listed.{Same, values};
+ghost use Rattle.bng_base.specs.Listed.{Same};
+ghost use Rattle.bng_slots.specs.Listed.{values};
 
 use crate::slotted::Slotted;
 
@@ -12,6 +13,7 @@ pub fn numbers_keep_their_values<V: Slotted>()
     ensures others_put { (s : Sessions V) (n : ℕ) (v : V) (m : ℕ) → m ≢ n → value_at (with_value s n v) m ≡ value_at s m }
     ensures removed { (s : Sessions V) (n : ℕ) → value_at (without s n) n ≡ None }
     ensures others_removed { (s : Sessions V) (n m : ℕ) → m ≢ n → value_at (without s n) m ≡ value_at s m }
+    ensures replaced { (s : Sessions V) (n : ℕ) (v : V) → with_value (without s n) n v ≡ with_value s n v }
 {}
 
 /// The list of values by rising number has a value more where one was put, and one less where one was removed. So each sum and

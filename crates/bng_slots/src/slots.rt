@@ -78,10 +78,11 @@ impl<V: Slotted> Slots<V> {
         })
     }
 
-    /// The shard's number.
+    /// The shard's number. Each session number that is used is one of the shard's.
     pub fn shard(&self) -> u16
         ensures number { result ≡ self.now.shard }
         ensures range { result < 64 }
+        ensures own { (n : ℕ) → IsSome (value_at self.now n) → IsNumberOf self.now.shard n }
     {
         self.shard
     }

@@ -1,4 +1,4 @@
-use Rattle.bng_slots.proofs.SessionLaws.{value_at-with_value, value_at-with_other, value_at-without, value_at-without_other}
+use Rattle.bng_slots.proofs.SessionLaws.{value_at-with_value, value_at-with_other, value_at-without, value_at-without_other, with_value-without}
 use Rattle.bng_slots.proofs.laws.numbers_keep_their_values.Goals as goal
 
 pub returns-clause-put : goal.returns-clause-put
@@ -12,3 +12,6 @@ returns-clause-removed g c = λ s n. value_at-without s n
 
 pub returns-clause-others_removed : goal.returns-clause-others_removed
 returns-clause-others_removed g c = λ s n m differ. value_at-without_other s n m differ
+
+pub returns-clause-replaced : goal.returns-clause-replaced
+returns-clause-replaced g c = λ s n v. with_value-without s n v
