@@ -8,13 +8,17 @@ use Rattle.bng_shard.specs.declared.session.Service.TheVariants.{Provisioned}
 use Rattle.bng_shard.specs.declared.session.Session.{Session}
 use Rattle.bng_shard.specs.State.{State}
 
+-- what a circuit leases, by a term with this number
+abbrev pub lease_from : Static → ℕ → Lease
+lease_from c serial = record { serial = serial; address = c.address; profile = c.profile }
+
 -- the session of a provisioned circuit, whose term has this number
 abbrev pub provisioned : Static → ℕ → Session
 provisioned c serial = record {
   number = c.session;
   port = c.port;
   mac = c.mac;
-  service = Provisioned (record { serial = serial; address = c.address; profile = c.profile });
+  service = Provisioned (lease_from c serial);
 }
 
 -- these, by their session numbers, with their terms numbered on after n

@@ -1,5 +1,5 @@
 -- The protocol of a shard, as the engine reads it.
-use Rattle.std.specs.Prelude.{◌≡◌, ℕ, ◌≤◌, ◌==◌, Bool, false, List, [], ◌∷◌, Option, length, map, find}
+use Rattle.std.specs.Prelude.{◌≡◌, ℕ, ◌+◌, ◌≤◌, ◌==◌, Bool, false, List, [], ◌∷◌, Option, length, map, find}
 use Rattle.std.specs.List.{flat_map}
 use Rattle.bng_base.specs.declared.book.Book.{Book}
 use Rattle.bng_base.specs.declared.fate.Fate.{Fate}
@@ -25,7 +25,7 @@ use Rattle.bng_shard.specs.State.{State, circuit_of, made_in, settled}
 use Rattle.bng_shard.specs.Deed.{Deed}
 use Rattle.bng_shard.specs.Due.{due_of}
 use Rattle.bng_shard.specs.Hearing.{outs_most}
-use Rattle.bng_shard.specs.Opening.{opened_slots}
+use Rattle.bng_shard.specs.Opening.{in_order, lease_from, opened_slots, provisioned}
 use Rattle.bng_shard.specs.Reader.{pppoe_reader, tells_pppoe}
 use Rattle.bng_shard.specs.Step.{Step}
 use Rattle.bng_shard.specs.Sums.{Rises}
@@ -60,6 +60,15 @@ terms_at x = terms_in x x.service
 -- session that discovery made has one.
 abbrev pub terms_of : ShardState → List Term
 terms_of s = flat_map terms_at (values s.slots.sessions)
+
+-- the terms of these circuits, numbered on after n
+abbrev pub terms_after : ℕ → List Static → List Term
+terms_after n [] = []
+terms_after n (c ∷ cs) = term_of (provisioned c (n + 1)) (lease_from c (n + 1)) ∷ terms_after (n + 1) cs
+
+-- the terms of a shard's circuits at its opening: numbered from 1 on, by rising session number
+abbrev pub terms_of_circuits : ℕ → List Static → List Term
+terms_of_circuits shard circuits = terms_after 0 (in_order shard circuits)
 
 -- the earliest deadline of its sessions, if one has a deadline, and how many sessions discovery made that are still there
 abbrev pub deadline_of : ShardState → Option ℕ
