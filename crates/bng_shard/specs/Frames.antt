@@ -71,13 +71,13 @@ abbrev pub HearsPpp : Rules → State → Entry → Session → Made → PppoeFr
 HearsPpp r s e x made p d =
     (IsTrue made.ended × (d ≡ ignored s e))
     ⊎ (IsFalse made.ended × (outs : List OutRecord) × (x' : Session) × Drives r (at_of s e) x (hears r e p.payload) outs x'
-    × (d ≡ handled s e outs (with_session s x.number.0 x')))
+    × (d ≡ handled s e outs (with_session s p.session x')))
 
 -- A PADT ends a session that discovery made, which gets none back. A provisioned circuit ignores all but data.
 abbrev pub HearsControl : Service → Rules → State → Entry → Session → PppoeFrame → Deed → Type 0
 HearsControl (Provisioned l) r s e x p d = d ≡ ignored s e
 HearsControl (Discovered made) r s e x p d =
-    ((p.discovery ≡ true) × (d ≡ handled s e [] (with_session s x.number.0 (ended x))))
+    ((p.discovery ≡ true) × (d ≡ handled s e [] (with_session s p.session (ended x))))
     ⊎ ((p.discovery ≡ false) × HearsPpp r s e x made p d)
 
 abbrev pub HearsIn : Option Session → Rules → State → Entry → PppoeFrame → Deed → Type 0
