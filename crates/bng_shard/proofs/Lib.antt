@@ -24,3 +24,4 @@ pub mod Framing
 pub mod ByKind
 pub mod Vacant
 pub mod Leaving
+pub mod InOrder
