@@ -40,12 +40,12 @@ impl Model for Served {
 const NUMBERS: u16 = 1022;
 
 // The circuit with this session number.
-fn circuit_with(circuits: &[Static], session: SessionNo) -> Option<Static>
+fn circuit_with(circuits: &[Static], session: SessionNo) -> Option<&Static>
     requires apart { AllPairs (λ a b. a.session ≢ b.session) circuits.now }
-    ensures found { IfSome result (λ c. circuit_at circuits.now session.0 ≡ c ∷ []) }
+    ensures found { IfSome result (λ c. circuit_at circuits.now session.0 ≡ c.now ∷ []) }
     ensures none { IfNone result (circuit_at circuits.now session.0 ≡ []) }
 {
-    circuits.iter().copied().find(|c| c.session.0 == session.0)
+    circuits.iter().find(|c| c.session.0 == session.0)
 }
 
 // The session of a provisioned circuit, whose term has this number.
@@ -86,7 +86,7 @@ impl Served {
         for n in first..first + NUMBERS {
             if let Some(circuit) = circuit_with(circuits, SessionNo(n)) {
                 begun += 1;
-                sessions.put(SessionNo(n), provisioned(&circuit, begun));
+                sessions.put(SessionNo(n), provisioned(circuit, begun));
             }
         }
         Ok(Served {

@@ -208,7 +208,7 @@ impl Shard {
     /// Ends a round: lets the sessions that ended leave. It is called once its outs were sent and charged.
     pub fn settle(&mut self)
         ensures few { sessions_of self.new.state ≤ 1022 }
-        ensures { self.new ≡ record self.old { state = record self.old.state { slots = settled self.old.state.slots }; room = 0 } }
+        ensures after { self.new ≡ record self.old { state = record self.old.state { slots = settled self.old.state.slots }; room = 0 } }
     {
         self.room = 0;
         self.served.settle();
