@@ -28,15 +28,15 @@ use Rattle.bng_engine.proofs.Journals.{run_seated}
 use Rattle.bng_shard.specs.declared.pool.Holder.{Holder}
 use Rattle.bng_shard.specs.declared.rules.Rules.{Rules}
 use Rattle.bng_shard.specs.declared.whose.Whose.{Whose}
-use Rattle.bng_shard.specs.Protocol.{ShardState, Handled, pppoe, entry_of}
+use Rattle.bng_shard.specs.Protocol.{ShardState, Handled, pppoe, entry_of, sessions_of}
 use Rattle.bng_shard.specs.Sums.{AreLow, RowsAreLow}
 use Rattle.bng_shard.proofs.StepLaws.{pppoe_laws, pppoe_still}
 use Rattle.bng_desk.specs.declared.drops.Drops.{Drops}
 use Rattle.bng_desk.specs.declared.holding.Named.{Named}
 use Rattle.bng_desk.specs.Counting.{plus, drops_of}
 use Rattle.bng_desk.specs.Items.{entries_in, loose_in, all_loose, stands_in}
-use Rattle.bng_desk.specs.Round.{Round, AreParts, views_of, held_by, entries_of, of_seat, is_failed, with_failed, fates_in}
-use Rattle.bng_desk.specs.Taking.{AreDealt, Deals, IsPlain, IsTurning, AllTurn, SettlesAll, RoundHeld}
+use Rattle.bng_desk.specs.Round.{Round, AreParts, StandsWithin, views_of, held_by, entries_of, of_seat, is_failed, with_failed, fates_in}
+use Rattle.bng_desk.specs.Taking.{HasFewSessions, AreDealt, Deals, IsPlain, IsTurning, AllTurn, SettlesAll, RoundHeld}
 use Rattle.bng_desk.proofs.Dealing.{Seens}
 use Rattle.bng_desk.proofs.DropLaws.{same}
 use Rattle.bng_desk.proofs.OneMore.{dealt_count}
@@ -59,6 +59,9 @@ low_wider m n vs le low k d lt q input = omega (arith, le, low k d lt q input)
 
 pub books_wider : (m n : ℕ) (vs : Shards) → m ≤ n → All (HasLowBooks m) vs → All (HasLowBooks n) vs
 books_wider m n vs le low k d lt i within q input = omega (arith, le, low k d lt i within q input)
+
+pub sessions_kept : (vs ws : Shards) → AllZip Kept vs ws → All HasFewSessions vs → All HasFewSessions ws
+sessions_kept vs ws kept few = all_onward Kept HasFewSessions (λ x y k here. subst (λ (s : ShardState). sessions_of s ≤ 1022) (sym k.state) here) vs ws kept few
 
 pub low_kept : (most : ℕ) (vs ws : Shards) → AllZip Kept vs ws → All (HasLow most) vs → All (HasLow most) ws
 low_kept most vs ws kept low = all_onward Kept (HasLow most) (λ x y k here. subst (λ (rs : List Row). RowsAreLow most rs) (sym k.rows) here) vs ws kept low
@@ -185,7 +188,7 @@ carries was now xs s a = absurd s
 
 -- Parts -----------------------------------------------------------------------------------------------------------------
 
-abbrev OfSeat : Entry → Type 0
+abbrev pub OfSeat : Entry → Type 0
 OfSeat e = e.seat ≡ 0
 
 entry_seat : (b : Bool) (place moment : ℕ) (i : Item) → AllByRecursion OfSeat (cond b (entry_of 0 place moment i ∷ []) [])
@@ -198,7 +201,7 @@ entries_seat shard place moment (i ∷ is) [] = tt
 entries_seat shard place moment (i ∷ is) (w ∷ ws) =
     all_append OfSeat (cond (stands_in shard w) (entry_of 0 place moment i ∷ []) []) (entries_in 0 shard (place + 1) moment is ws) (entry_seat (stands_in shard w) place moment i) (entries_seat shard (place + 1) moment is ws)
 
-all_kept : (es : List Entry) → AllByRecursion OfSeat es → of_seat 0 es ≡ es
+pub all_kept : (es : List Entry) → AllByRecursion OfSeat es → of_seat 0 es ≡ es
 all_kept [] h = refl
 all_kept (e ∷ es) h = ap (λ (n : ℕ). cond (eqb n 0) (e ∷ of_seat 0 es) (of_seat 0 es)) h.0 ∙ ap (λ (xs : List Entry). e ∷ xs) (all_kept es h.1)
 
@@ -261,6 +264,8 @@ round_held r holders named items p p' vs ws left loose outs journals d d' d'' t 
       is = record {
         dealt = record {
           whose = (deals.is_whose, tt);
+          inside = All-from_recursion (λ (ws : List Whose). All (StandsWithin (length s.settled)) ws) (deals.whose ∷ [])
+              (All-from_recursion (StandsWithin (length s.settled)) deals.whose (subst (λ (n : ℕ). AllByRecursion (StandsWithin n) deals.whose) (sym count) deals.inside), tt);
           parts = parts items deals.whose 0 named.moment s.settled (c.dealt 0 named.moment items deals.whose deals.dealt);
           allowances = All-from_recursion (λ (v : ShardView ShardState Handled). v.allowance ≡ 0) s.settled allowances;
         };

@@ -14,6 +14,7 @@ pub mod RefusedLaws
 pub mod Outfit
 pub mod Joining
 pub mod Resting
+pub mod Dwindling
 pub mod Done
 pub mod Fresh
 pub mod Turning

@@ -24,6 +24,7 @@ use Rattle.bng_engine.specs.Sums.{part_of_charge, charge_if, is_any, is_directed
 use Rattle.bng_engine.specs.Views.{Row, ShardView, row_keys, rows_where}
 use Rattle.bng_engine.specs.Terms.{keys}
 use Rattle.bng_engine.specs.Turns.{InRound}
+use Rattle.bng_engine.proofs.Everywhere.{all_append}
 use Rattle.bng_engine.proofs.Joining.{round_begins, round_goes_on, still_asks}
 use Rattle.bng_engine.proofs.SameLists.{same_equal}
 use Rattle.bng_engine.proofs.Showing.{shows_begin, shows_handles, shows_more}
@@ -39,7 +40,7 @@ use Rattle.bng_shard.proofs.StepLaws.{pppoe_laws, pppoe_still}
 use Rattle.bng_desk.specs.declared.drops.Drops.{Drops}
 use Rattle.bng_desk.specs.Counting.{with_fate, drops_of, plus}
 use Rattle.bng_desk.specs.Items.{entries_in, loose_item, loose_in}
-use Rattle.bng_desk.specs.Round.{views_of, held_by, entries_of}
+use Rattle.bng_desk.specs.Round.{StandsWithin, views_of, held_by, entries_of}
 use Rattle.bng_desk.specs.Taking.{AreDealt, AreInOrder, Deals, DealsOne, DealsTo, HasRows, IsLight, IsPlain}
 use Rattle.bng_desk.proofs.DropLaws.{drops_none}
 use Rattle.bng_desk.proofs.Readying.{Shards}
@@ -150,6 +151,7 @@ module _ (r : Rules) (holders : List Holder) (moment : ℕ) (done : List Item) (
       record {
         whose = so_far.whose ++ w ∷ [];
         is_whose = zip_push (IsWhose r holders) done so_far.whose item w so_far.is_whose is;
+        inside = all_append (StandsWithin (length olds)) so_far.whose (w ∷ []) so_far.inside (tt, tt);
         seen = so_far.seen;
         round = subst (λ (b : Book). InRound pppoe (views_of olds) (held_by holders) (start ∷ []) so_far.seen (held_by holders) (b ∷ [])) (sym deals.3) so_far.round;
         shown = subst (λ (vs : Shards). AllZip (Shows pppoe) vs so_far.seen) (sym same) so_far.shown;
@@ -174,6 +176,8 @@ module _ (r : Rules) (holders : List Holder) (moment : ℕ) (done : List Item) (
       let hs = h.handles in
       let effect = hs.shown.effect in
       let v' : ShardView ShardState Handled = with_journal w' (v.journal ++ effect ∷ []) in
+      let count : length shards ≡ length olds =
+      zip_length (Shows pppoe) shards so_far.seen so_far.shown ∙ sym (zip_length (InTurn pppoe) (views_of olds) so_far.seen so_far.round.shards) ∙ length-map olds (λ (v : ShardView ShardState Entry). with_journal {E = Handled} v []) in
       let within : n < length so_far.seen = omega (arith, h.within, zip_length (Shows pppoe) shards so_far.seen so_far.shown) in
       let shows : Shows pppoe was v = zip_at (Shows pppoe) shards so_far.seen n w' d so_far.shown h.within in
       let step : HandlesSeen pppoe v effect v' = shows_handles pppoe was e w' v shows hs.shown in
@@ -194,6 +198,7 @@ module _ (r : Rules) (holders : List Holder) (moment : ℕ) (done : List Item) (
       record {
         whose = so_far.whose ++ w ∷ [];
         is_whose = zip_push (IsWhose r holders) done so_far.whose item w so_far.is_whose is;
+        inside = all_append (StandsWithin (length olds)) so_far.whose (w ∷ []) so_far.inside (omega (arith, h.within, count), tt);
         seen = set so_far.seen n v';
         round = round_goes_on pppoe (views_of olds) (held_by holders) (start ∷ []) so_far.seen (held_by holders) (held_by holders) (tally ∷ []) (tally' ∷ []) n d v' effect within (omega (arith, seat)) step
             (still_asks pppoe pppoe_still v.state effect (held_by holders) step.is_step) tallied so_far.round;
@@ -264,6 +269,7 @@ deals_none r holders moment n olds loose drops tally ready rows none =
     record {
       whose = [];
       is_whose = tt;
+      inside = tt;
       seen = views_of olds;
       round = round_begins pppoe n (views_of olds) (views_of olds) (held_by holders) (tally ∷ []) (all_readied n olds begins);
       shown = shown_none n olds begins;

@@ -39,7 +39,7 @@ use Rattle.bng_desk.specs.declared.drops.Drops.{Drops}
 use Rattle.bng_desk.specs.Counting.{plus, Within}
 use Rattle.bng_desk.specs.Reading.{sending}
 use Rattle.bng_desk.specs.Round.{is_failed, with_failed, not_sent, sends_stretch}
-use Rattle.bng_desk.specs.Taking.{is_lost, lost_part, IsEmpty, IsLight, IsTurning, Turns, Covers, Falls, SettledTo, Sends}
+use Rattle.bng_desk.specs.Taking.{is_lost, lost_part, IsEmpty, HasFewSessions, IsLight, IsTurning, Turns, Covers, Falls, SettledTo, Sends}
 use Rattle.bng_desk.proofs.DropLaws.{same}
 use Rattle.bng_desk.proofs.Going.{count_pushed}
 
@@ -342,8 +342,8 @@ abbrev pub reaped : ShardView ShardState Entry → ShardView ShardState Entry
 reaped w = record w { state = record w.state { slots = settled w.state.slots }; room = 0 }
 
 module _ (v w w' : ShardView ShardState Entry) (old new : PlantTold) (first last outs rest : List OutRecord) (journal : List Entry) (drops drops' : Drops) (tally tally' : Book) where
-  pub sends_all : Turns v → SendsSome v w old new [] outs rest drops drops' tally tally' → rest ≡ [] → journal ≡ v.journal → last ≡ first ++ outs → w' ≡ reaped w → Sends v w' old new first last journal drops drops' tally tally'
-  sends_all turns s none is moved left =
+  pub sends_all : Turns v → SendsSome v w old new [] outs rest drops drops' tally tally' → rest ≡ [] → journal ≡ v.journal → last ≡ first ++ outs → w' ≡ reaped w → HasFewSessions w' → Sends v w' old new first last journal drops drops' tally tally'
+  sends_all turns s none is moved left few =
       let are : map unsent s.sends ++ map unsent [] ≡ map unsent v.outs = ap (λ (xs : List OutRecord). map unsent s.sends ++ map unsent xs) (sym none) ∙ s.are_outs in
       let all : map unsent s.sends ≡ map unsent v.outs = sym (append-nil (map unsent s.sends)) ∙ are in
       let here = turns.turning in
@@ -374,6 +374,7 @@ module _ (v w w' : ShardView ShardState Entry) (old new : PlantTold) (first last
           rows = λ most octets low light.
               subst (λ (y : ShardView ShardState Entry). RowsAreLow (most + octets) y.rows) (sym left) (sent_low v turns.was turns.now here w s.sends turn [] are most octets low light);
           books = λ most low. subst (λ (y : ShardView ShardState Entry). AreLow most y.books) (sym left) (books_low v turns.was turns.now here w s.sends turn most low);
+          sessions = few;
         };
         outs_are = moved ∙ ap (λ (xs : List OutRecord). first ++ xs) s.outs_are;
         journal_is = is;

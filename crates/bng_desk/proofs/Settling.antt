@@ -27,7 +27,7 @@ use Rattle.bng_shard.specs.Sums.{IsLow, AreLow, RowsAreLow}
 use Rattle.bng_desk.specs.declared.drops.Drops.{Drops}
 use Rattle.bng_desk.specs.Counting.{plus}
 use Rattle.bng_desk.specs.Round.{entries_of, is_failed, with_failed, not_sent, sends_stretch}
-use Rattle.bng_desk.specs.Taking.{IsEmpty, IsLight, AreInOrder, IsTurning, Turns, AllTurn, IsLeftBy, Covers, Falls, SettledTo, Sends, SettlesAll}
+use Rattle.bng_desk.specs.Taking.{IsEmpty, HasFewSessions, IsLight, AreInOrder, IsTurning, Turns, AllTurn, IsLeftBy, Covers, Falls, SettledTo, Sends, SettlesAll}
 use Rattle.bng_desk.proofs.Dealing.{Seens}
 use Rattle.bng_desk.proofs.Readying.{Shards}
 use Rattle.bng_desk.proofs.Sending.{failed_none, failed_more, failed_least, passed_unsent}
@@ -192,6 +192,9 @@ module _ (vs ws : Shards) (rss : List (List OutRecord)) (z : Zip3 SettledTo vs w
 
   pub all_empty : All IsEmpty ws
   all_empty k d lt = (each k d lt).empty
+
+  pub all_few : All HasFewSessions ws
+  all_few k d lt = (each k d lt).sessions
 
   pub all_low : (most octets : ℕ) → All (λ v. RowsAreLow most v.rows) vs → All (λ v. IsLight octets v.outs) vs → All (λ v. RowsAreLow (most + octets) v.rows) ws
   all_low most octets low light k d lt = (each k d lt).rows most octets (low k d (omega (arith, lt, count))) (light k d (omega (arith, lt, count)))

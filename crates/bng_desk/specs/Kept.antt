@@ -1,14 +1,16 @@
 -- What a desk keeps from turn to turn.
-use Rattle.std.specs.Prelude.{◌≡◌, ℕ, ◌+◌, ◌*◌, ◌^◌, ◌≤◌, ◌<◌, [], length}
+use Rattle.std.specs.Prelude.{◌≡◌, ◌⊎◌, ℕ, ◌+◌, ◌*◌, ◌^◌, ◌≤◌, ◌<◌, false, List, [], length, map}
 use Rattle.std.specs.List.{All}
 use Rattle.bng_base.specs.declared.item.Entry.{Entry}
+use Rattle.bng_base.specs.declared.item.Item.{Item}
 use Rattle.bng_engine.specs.Views.{ShardView}
 use Rattle.bng_shard.specs.declared.pool.Holder.{Holder}
 use Rattle.bng_shard.specs.Protocol.{ShardState}
 use Rattle.bng_shard.specs.Sums.{AreLow, RowsAreLow}
 use Rattle.bng_desk.specs.Counting.{Within}
-use Rattle.bng_desk.specs.Model.{Desk}
-use Rattle.bng_desk.specs.Taking.{IsEmpty, AreInOrder, AreItems, outs_of_items}
+use Rattle.bng_desk.specs.Items.{ends_of}
+use Rattle.bng_desk.specs.Model.{Desk, HasOneRule, is_over, rounds_left, unopened_most}
+use Rattle.bng_desk.specs.Taking.{IsEmpty, HasFewSessions, AreInOrder, AreItems, outs_of_items}
 use Rattle.bng_desk.specs.Round.{refused_of}
 
 -- a shard between two rounds, as the desk's contracts see it: nothing of a round, and no room for one
@@ -27,8 +29,23 @@ drops_most = 32768
 abbrev pub all_turns : Desk → ℕ
 all_turns d = d.turns + d.endings
 
--- One port to sixteen, one shard to 64 in their order with nothing of a round in them, one seat. No sum is above what
--- the turns so far could add, and none wraps before the last.
+-- an item before its random octets are drawn
+abbrev pub undrawn : Item → Item
+undrawn i = record i { random = [] }
+
+-- an End for each of so many shards, whatever its random octets are
+abbrev pub AreEndsOf : ℕ → List Item → Type 0
+AreEndsOf shards items = map undrawn items ≡ ends_of shards
+
+-- no turn of the ending was made
+pub record IsUnended (d : Desk) : Type 0 where
+  pub endings : d.endings ≡ 0
+  pub unopened : d.unopened ≡ 0
+  pub closed : d.closed ≡ false
+
+-- One port to sixteen, one shard to 64 in their order, all by the desk's rules, with nothing of a round in them and at most 1,022
+-- sessions in each, one seat. No sum is above what the turns so far could add, and none wraps before the last. What is kept of a
+-- round that was not opened is an End for each shard.
 pub record IsKept (d : Desk) : Type 0 where
   pub some_port : 1 ≤ length d.rules.access
   pub few_ports : length d.rules.access ≤ 16
@@ -36,12 +53,16 @@ pub record IsKept (d : Desk) : Type 0 where
   pub some_shard : 1 ≤ d.rules.shards
   pub few_shards : d.rules.shards ≤ 64
   pub order : AreInOrder d.shards
+  pub rules : HasOneRule d
   pub empty : All IsEmpty d.shards
+  pub sessions : All HasFewSessions d.shards
   pub holders : All (λ (h : Holder). h.shard < d.rules.shards) d.holders
   pub most : d.rounds ≤ 2 ^ 40
   pub made : d.turns ≤ d.rounds
+  pub serving : is_over d ≡ false → IsUnended d
   pub endings : d.endings ≤ 2 ^ 40
-  pub unopened : d.unopened ≤ d.endings
+  pub unopened : d.unopened ≤ unopened_most
+  pub left : d.endings + unopened_most * rounds_left d ≤ unopened_most * 65410 + d.unopened
   pub told : d.told ≤ all_turns d
   pub drawn : d.drawn ≤ 1 + 512 * all_turns d
   pub one_seat : length d.tallies ≡ 1
@@ -51,4 +72,5 @@ pub record IsKept (d : Desk) : Type 0 where
   pub counts : Within (drops_most * all_turns d) d.drops
   pub kept : AreItems d.kept
   pub kept_outs : outs_of_items d.kept ≤ 4480 + 320 * length d.shards
+  pub kept_ends : (d.kept ≡ []) ⊎ AreEndsOf (length d.shards) d.kept
   pub none_refused : refused_of d.kept ≡ []

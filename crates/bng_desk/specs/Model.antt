@@ -1,5 +1,6 @@
 -- The desk as contracts see it.
-use Rattle.std.specs.Prelude.{ℕ, ◌/◌, ◌^◌, Bool, ◌==◌, ◌||◌, ◌&&◌, not, List, Option, Some, None, length, map, sum_by, slice_get, nat_le, if◌then◌else◌}
+use Rattle.std.specs.Prelude.{◌≡◌, ℕ, ◌+◌, ◌-◌, ◌*◌, ◌/◌, Bool, ◌==◌, ◌||◌, ◌&&◌, not, List, Option, Some, None, length, map, sum_by, slice_get, nat_le, if◌then◌else◌}
+use Rattle.std.specs.List.{All}
 use Rattle.bng_base.specs.declared.book.Book.{Book}
 use Rattle.bng_base.specs.declared.item.Entry.{Entry}
 use Rattle.bng_base.specs.declared.item.Item.{Item}
@@ -38,6 +39,10 @@ pub record Desk : Type 0 where
   pub closed : Bool
   pub kept : List Item
 
+-- each shard works by the desk's rules
+abbrev pub HasOneRule : Desk → Type 0
+HasOneRule d = All (λ v. v.state.rules ≡ d.rules) d.shards
+
 -- serving is over: it was told to stop, or all turns were made
 abbrev pub is_over : Desk → Bool
 is_over d = d.stopped || (d.turns == d.rounds)
@@ -46,19 +51,24 @@ is_over d = d.stopped || (d.turns == d.rounds)
 abbrev pub sessions_in : List (ShardView ShardState Entry) → ℕ
 sessions_in shards = sum_by (λ v. sessions_of v.state) shards
 
--- so many turns in a row in which no round of Ends is opened, or so many turns of ending, are the end
+-- so many turns in a row in which no round of Ends is opened are the end
 abbrev pub unopened_most : ℕ
 unopened_most = 1000000
 
-abbrev pub endings_most : ℕ
-endings_most = 2 ^ 40
-
 abbrev pub has_starved : Desk → Bool
-has_starved d = nat_le unopened_most d.unopened || nat_le endings_most d.endings
+has_starved d = nat_le unopened_most d.unopened
 
 -- a round of Ends was made, and no session is left
 abbrev pub has_ended : Desk → Bool
 has_ended d = d.closed && (sessions_in d.shards == 0)
+
+-- how many rounds of Ends there may still be: one, and one for each session
+abbrev pub rounds_left : Desk → ℕ
+rounds_left d = sessions_in d.shards + (if d.closed then 0 else 1)
+
+-- how many turns of the ending there may still be; each makes it less
+abbrev pub left_of : Desk → ℕ
+left_of d = unopened_most * rounds_left d + (unopened_most - d.unopened)
 
 -- where it stands
 abbrev pub state_of : Desk → DeskState

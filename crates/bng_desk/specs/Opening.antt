@@ -1,6 +1,6 @@
 -- A desk that was opened over a configuration.
-use Rattle.std.specs.Prelude.{◌≡◌, ℕ, ◌+◌, ◌/◌, ◌==◌, false, List, [], ◌∷◌, Option, None, map, filter}
-use Rattle.std.specs.List.{range_with_len}
+use Rattle.std.specs.Prelude.{◌≡◌, ◌≢◌, ℕ, ◌+◌, ◌/◌, ◌<◌, ◌≤◌, ◌==◌, false, List, [], ◌∷◌, Option, None, length, map, filter}
+use Rattle.std.specs.List.{All, AllPairs, range_with_len}
 use Rattle.arrayvec.specs.ArrayVec.{ArrayVec}
 use Rattle.bng_base.specs.declared.address.Ip4.{Ip4}
 use Rattle.bng_base.specs.declared.item.Entry.{Entry}
@@ -8,11 +8,12 @@ use Rattle.bng_base.specs.declared.settings.AccessPort.{AccessPort}
 use Rattle.bng_base.specs.declared.settings.Static.{Static}
 use Rattle.bng_config.specs.declared.config.Config.{Config}
 use Rattle.bng_discovery.specs.declared.port.PortRules.{PortRules}
-use Rattle.bng_engine.specs.Quantities.{empty_book}
+use Rattle.bng_base.specs.Books.{empty_book}
 use Rattle.bng_engine.specs.Views.{ShardView}
 use Rattle.bng_shard.specs.declared.pool.Holder.{Holder}
 use Rattle.bng_shard.specs.declared.rules.Rules.{Rules}
-use Rattle.bng_shard.specs.Protocol.{ShardState, opened}
+use Rattle.bng_shard.specs.Protocol.{ShardState, opened, profiles_there}
+use Rattle.bng_slots.specs.Sessions.{IsNumberOf}
 use Rattle.bng_desk.specs.declared.line.Line.{Line}
 use Rattle.bng_desk.specs.Counting.{no_drops}
 use Rattle.bng_desk.specs.Model.{Desk}
@@ -64,6 +65,16 @@ shard_of c = c.session.0 / 1024
 
 abbrev pub holder_of : Static → Holder
 holder_of c = record { address = c.address; shard = shard_of c }
+
+-- The circuits are of the shards and on the ports that there are, with the first profile, and no two have the same session number
+-- or the same address.
+pub record AreServed (r : Rules) (circuits : List Static) : Type 0 where
+  pub inside : All (λ c. shard_of c < r.shards) circuits
+  pub own : All (λ c. IsNumberOf (shard_of c) c.session.0) circuits
+  pub sessions : AllPairs (λ a b. a.session ≢ b.session) circuits
+  pub addresses : AllPairs (λ a b. a.address ≢ b.address) circuits
+  pub ports : All (λ c. (1 ≤ c.port) × (c.port ≤ length r.access)) circuits
+  pub profiles : All (λ c. c.profile < profiles_there) circuits
 
 -- the circuits of a shard, in the order of the configuration
 abbrev pub statics_of : Config → ℕ → List Static

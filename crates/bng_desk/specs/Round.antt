@@ -17,6 +17,7 @@ use Rattle.bng_engine.specs.Wire.{went}
 use Rattle.bng_shard.specs.declared.pool.Holder.{Holder}
 use Rattle.bng_shard.specs.declared.rules.Rules.{Rules}
 use Rattle.bng_shard.specs.declared.whose.Whose.{Whose}
+use Rattle.bng_shard.specs.declared.whose.Whose.TheVariants.{Loose as IsLoose, Stands}
 use Rattle.bng_shard.specs.Protocol.{ShardState, Handled, pppoe}
 use Rattle.bng_shard.specs.Whose.{IsWhose}
 use Rattle.bng_desk.specs.declared.drops.Drops.{Drops}
@@ -62,9 +63,16 @@ abbrev pub AreParts : List (List Item) → List (List Whose) → ℕ → ℕ →
 AreParts lists whose shard moment [] = Unit {0}
 AreParts lists whose shard moment (v ∷ vs) = IsPart lists whose shard moment (entries_of v) × AreParts lists whose (shard + 1) moment vs
 
--- Each item of each seat's list is handled in the shard that it is for, or loose, and no term may begin yet.
+-- an item stands in one of so many shards, or in none
+abbrev pub StandsWithin : ℕ → Whose → Type 0
+StandsWithin shards (IsLoose fate) = Unit {0}
+StandsWithin shards (Stands n) = n < shards
+
+-- Each item of each seat's list is handled in the shard that it is for, which is one of those that there are, or loose, and no term
+-- may begin yet.
 pub record IsDealt (r : Rules) (holders : List Holder) (moment : ℕ) (lists : List (List Item)) (round : Round) : Type 0 where
   pub whose : AllZip (AllZip (IsWhose r holders)) lists round.whose
+  pub inside : All (All (StandsWithin (length round.shards))) round.whose
   pub parts : AreParts lists round.whose 0 moment round.shards
   pub allowances : All (λ (v : ShardView ShardState Handled). v.allowance ≡ 0) round.shards
 

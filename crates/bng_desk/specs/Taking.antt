@@ -1,6 +1,6 @@
 -- The phases of a turn, each over what it changes.
 use Rattle.std.specs.Prelude.{◌≡◌, ◌⊎◌, ℕ, ◌+◌, ◌*◌, ◌≤◌, ◌<◌, Bool, true, false, cond, List, [], ◌∷◌, ◌++◌, All, length, map, sum_by, count_by, ◌||◌, filter, not, slice_index_or, slice_set, take}
-use Rattle.std.specs.List.{AllZip, AllPairs, flat_map}
+use Rattle.std.specs.List.{AllByRecursion, AllZip, AllPairs, flat_map}
 use Rattle.bng_base.specs.declared.book.Book.{Book}
 use Rattle.bng_base.specs.declared.fate.Fate.{Fate}
 use Rattle.bng_base.specs.declared.item.Charge.{Charge as Of}
@@ -29,7 +29,7 @@ use Rattle.bng_shard.specs.declared.sums.Charged.TheVariants.{Packet, Control}
 use Rattle.bng_shard.specs.declared.whose.Whose.{Whose}
 use Rattle.bng_shard.specs.declared.whose.Whose.TheVariants.{Loose as IsLoose, Stands}
 use Rattle.bng_shard.specs.Hearing.{outs_most}
-use Rattle.bng_shard.specs.Protocol.{ShardState, Handled, pppoe, terms_of, entry_of, Handles}
+use Rattle.bng_shard.specs.Protocol.{ShardState, Handled, pppoe, sessions_of, terms_of, entry_of, Handles}
 use Rattle.bng_shard.specs.Room.{is_tick, is_end}
 use Rattle.bng_shard.specs.Sums.{IsLow, AreLow, RowsAreLow}
 use Rattle.bng_shard.specs.Whose.{IsWhose}
@@ -39,7 +39,7 @@ use Rattle.bng_desk.specs.Counting.{drops_of, plus}
 use Rattle.bng_desk.specs.Items.{DataReading, taken_items, ticks_of, drawn_from, entries_in, loose_item, loose_in}
 use Rattle.bng_desk.specs.Random.{Drawn}
 use Rattle.bng_desk.specs.Reading.{EndsRight, is_empty}
-use Rattle.bng_desk.specs.Round.{Round, IsRound, views_of, held_by, entries_of, is_failed, with_failed, sends_stretch, drops_in, record_of, refused_of, refused_record, with_refused}
+use Rattle.bng_desk.specs.Round.{Round, IsRound, StandsWithin, views_of, held_by, entries_of, is_failed, with_failed, sends_stretch, drops_in, record_of, refused_of, refused_record, with_refused}
 use Rattle.bng_desk.specs.Turn.{data_stretch, arrivals_in, data_roles, most_of}
 
 -- a shard as the desk has it, and as the engine sees it
@@ -83,6 +83,10 @@ IsEmpty v = (v.journal ≡ []) × (v.outs ≡ [])
 -- a row for each term
 abbrev pub HasRows : Shown → Type 0
 HasRows v = row_keys v.rows ≡ keys (terms_of v.state)
+
+-- a shard has no more sessions than it has numbers for them
+abbrev pub HasFewSessions : Shown → Type 0
+HasFewSessions v = sessions_of v.state ≤ 1022
 
 -- each shard has its place as its number
 abbrev pub AreInOrder : List Shown → Type 0
@@ -163,6 +167,7 @@ pub record IsPlain (v : Seen) : Type 0 where
 pub record Deals (r : Rules) (holders : List Holder) (moment : ℕ) (items : List Item) (shards shards' : List Shown) (loose : List Loose) (drops drops' : Drops) (tally tally' : Book) : Type 0 where
   pub whose : List Whose
   pub is_whose : AllZip (IsWhose r holders) items whose
+  pub inside : AllByRecursion (StandsWithin (length shards)) whose
   pub seen : List Seen
   pub round : InRound pppoe (views_of shards) (held_by holders) (tally ∷ []) seen (held_by holders) (tally' ∷ [])
   pub shown : AllZip (Shows pppoe) shards' seen
@@ -200,6 +205,7 @@ pub record SettledTo (v v' : Shown) (sends : List OutRecord) : Type 0 where
   pub empty : IsEmpty v'
   pub rows : (most octets : ℕ) → RowsAreLow most v.rows → IsLight octets v.outs → RowsAreLow (most + octets) v'.rows
   pub books : (most : ℕ) → AreLow most v.books → AreLow most v'.books
+  pub sessions : HasFewSessions v'
 
 -- and what failed was counted, and taken off the tally
 pub record Sends (v v' : Shown) (old new : PlantTold) (outs outs' : List OutRecord) (journal : List Entry) (drops drops' : Drops) (tally tally' : Book) : Type 0 where

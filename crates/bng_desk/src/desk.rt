@@ -1,7 +1,9 @@
 ghost use Rattle.std.specs.Prelude.{◌≡◌, ◌+◌, ◌≤◌, ◌<◌, ◌^◌, ◌++◌, ◌⊎◌, true, not, if◌then◌else◌, IfOk, OnOk, OnErr};
 ghost use Rattle.bng_base.specs.Stretch.{ExtendsPlant};
+ghost use Rattle.std.specs.List.{All};
 ghost use Rattle.bng_config.specs.Rules.{KeepsRules};
-ghost use Rattle.bng_desk.specs.Model.{state_of, all_carried};
+ghost use Rattle.bng_shard.specs.Protocol.{profiles_there};
+ghost use Rattle.bng_desk.specs.Model.{state_of, all_carried, left_of, HasOneRule};
 ghost use Rattle.bng_desk.specs.Opening.{IsOpened};
 ghost use Rattle.bng_desk.specs.Report.{by_number, report_text};
 ghost use Rattle.bng_desk.specs.Turn.{MakesTurn, MakesEnd, DoesNothing, answer_if, waiting_stretch};
@@ -31,17 +33,6 @@ use std::thread::Threads;
 
 /// So many turns of the ending in a row that open no round are the end.
 const UNOPENED_MOST: u64 = 1_000_000;
-
-/// So many turns of the ending are the end.
-const ENDINGS_MOST: u64 = 1 << 40;
-
-/// Nothing has passed yet.
-const NO_TALLY: Book = Book {
-    input: 0,
-    output: 0,
-    input_packets: 0,
-    output_packets: 0,
-};
 
 /// What a desk was not opened or did not report for.
 #[derive(Clone, Copy, PartialEq, Eq, Debug)]
@@ -157,8 +148,9 @@ fn told_after(noted: bool, told: u64) -> u64
 }
 
 impl Desk {
-    /// A desk that serves this configuration for so many turns at most, 1 to 2^40. `now` is the moment of the opening in
-    /// milliseconds, below 2^60, and `wall` its second on the wall. Of `seed` all random octets are drawn, the key of the cookies first.
+    /// A desk that serves this configuration, whose circuits have the first profile, for so many turns at most, 1 to 2^40. `now` is the
+    /// moment of the opening in milliseconds, below 2^60, and `wall` its second on the wall. Of `seed` all random octets are drawn, the
+    /// key of the cookies first.
     pub fn open(
         alloc: Global,
         config: Config,
@@ -170,6 +162,7 @@ impl Desk {
         requires some { 1 ≤ rounds }
         requires most { rounds ≤ 2 ^ 40 }
         requires rules { KeepsRules config }
+        requires profiles { All (λ c. c.profile < profiles_there) config.statics }
         ensures { IfOk result (λ d. IsOpened config rounds seed now d) }
     {
         let Config {
@@ -199,7 +192,7 @@ impl Desk {
             stopped: false,
             shards: opens,
             pool: PlainPool::of(holders),
-            tally: NO_TALLY,
+            tally: Book::empty(),
             draws,
             drops: NO_DROPS,
             moment: now,
@@ -213,14 +206,14 @@ impl Desk {
         })
     }
 
-    /// Whether the desk serves, or where it stands in ending.
+    /// Whether the desk serves, or where it stands in ending. However it stands, each shard works by the desk's rules.
     pub fn state(&self) -> DeskState
-        ensures { result ≡ state_of self.now }
+        ensures stands { result ≡ state_of self.now }
+        ensures rules { HasOneRule self.now }
     {
         let over = either(self.stopped, self.turns == self.rounds);
         let ended = both(self.closed, sessions_in(self.shards.as_slice()) == 0);
-        let starved = either(UNOPENED_MOST <= self.unopened, ENDINGS_MOST <= self.endings);
-        stands(over, ended, starved)
+        stands(over, ended, UNOPENED_MOST <= self.unopened)
     }
 
     /// Ends serving, as a `stop` from Control does.
@@ -318,9 +311,10 @@ impl Desk {
     ) -> Turned
         requires state { state_of self.old ≡ DeskState.Ending }
         requires later { self.old.moment ≤ (C.told clock.old).last }
-        ensures { MakesEnd self.old self.new
+        ensures makes { MakesEnd self.old self.new
             (record { plant = P.told plant.old; clock = C.told clock.old; trace = T.told trace.old })
             (record { plant = P.told plant.new; clock = C.told clock.new; trace = T.told trace.new }) result }
+        ensures nearer { left_of self.new < left_of self.old }
     {
         let Ok(mut lists) = self.lists.take(alloc, self.shards.len()) else {
             self.endings += 1;
@@ -363,8 +357,8 @@ impl Desk {
     /// One turn. While the desk serves: it reads Control, then the access ports and then the core, and answers each word from
     /// 127.0.0.0/8; each datagram of a port and of the core is an item of a round, and so is a Tick of each shard that has a due
     /// deadline; it hands each item to its shard, sends what they have to send, charges each packet that was sent to its circuit,
-    /// and tells the trace the round; where nothing was taken it waits. While it ends: a round of one End for each shard. When all is
-    /// over it does nothing.
+    /// and tells the trace the round; where nothing was taken it waits. While it ends: a round of one End for each shard, after which
+    /// fewer turns are left. When all is over it does nothing.
     pub fn turn<R, P: Plant, C: Clock, T: Trace, G>(
         &mut self,
         _rt: &R,
@@ -384,6 +378,7 @@ impl Desk {
         ensures ending { state_of self.old ≡ DeskState.Ending → MakesEnd self.old self.new
             (record { plant = P.told plant.old; clock = C.told clock.old; trace = T.told trace.old })
             (record { plant = P.told plant.new; clock = C.told clock.new; trace = T.told trace.new }) result }
+        ensures nearer { state_of self.old ≡ DeskState.Ending → left_of self.new < left_of self.old }
         ensures over { (state_of self.old ≡ DeskState.Ended) ⊎ (state_of self.old ≡ DeskState.Starved) → DoesNothing self.old self.new
             (record { plant = P.told plant.old; clock = C.told clock.old; trace = T.told trace.old })
             (record { plant = P.told plant.new; clock = C.told clock.new; trace = T.told trace.new }) result }

@@ -7,7 +7,7 @@ ghost use Rattle.bng_engine.specs.Calls.{IsReady};
 ghost use Rattle.bng_shard.specs.Sums.{IsLow, AreLow, RowsAreLow};
 ghost use Rattle.bng_desk.specs.Counting.{Within};
 ghost use Rattle.bng_desk.specs.Kept.{octets_most, drops_most};
-ghost use Rattle.bng_desk.specs.Taking.{IsEmpty, HasRows, AreInOrder, AreItems, RoundHeld, HoldsOne, HoldsEnds, outs_of_items};
+ghost use Rattle.bng_desk.specs.Taking.{IsEmpty, HasFewSessions, HasRows, AreInOrder, AreItems, RoundHeld, HoldsOne, HoldsEnds, outs_of_items};
 ghost use Rattle.bng_desk.specs.Round.{refused_of};
 ghost use Rattle.bng_desk.specs.Turn.{told_if};
 
@@ -83,6 +83,7 @@ pub(crate) fn opened<P: Plant>(
     requires drops { Within (2 ^ 61) drops.old }
     ensures round { RoundHeld rules.now pool.now named lists.items.items (P.told plant.old) (P.told plant.new) shards.old shards.new drops.old drops.new tally.old tally.new result }
     ensures empty { All IsEmpty shards.new }
+    ensures sessions { All HasFewSessions shards.new }
     ensures numbers { AreInOrder shards.new }
     ensures low { (most : ℕ) → All (λ v. RowsAreLow most v.rows) shards.old → All (λ v. RowsAreLow (most + octets_most) v.rows) shards.new }
     ensures books { (most : ℕ) → All (λ v. AreLow most v.books) shards.old → All (λ v. AreLow (most + octets_most) v.books) shards.new }
@@ -174,6 +175,7 @@ pub(crate) fn hold<P: Plant>(
     requires drops { Within (2 ^ 61) drops.old }
     ensures round { HoldsOne rules.now pool.now named lists.items.items (P.told plant.old) (P.told plant.new) shards.old shards.new drops.old drops.new tally.old tally.new result }
     ensures empty { All IsEmpty shards.new }
+    ensures sessions { All HasFewSessions shards.old → All HasFewSessions shards.new }
     ensures numbers { AreInOrder shards.new }
     ensures low { (most : ℕ) → All (λ v. RowsAreLow most v.rows) shards.old → All (λ v. RowsAreLow (most + octets_most) v.rows) shards.new }
     ensures books { (most : ℕ) → All (λ v. AreLow most v.books) shards.old → All (λ v. AreLow (most + octets_most) v.books) shards.new }
@@ -233,6 +235,7 @@ pub(crate) fn hold_ends<P: Plant>(
     requires drops { Within (2 ^ 61) drops.old }
     ensures round { HoldsEnds rules.now pool.now named lists.items.items (P.told plant.old) (P.told plant.new) shards.old shards.new drops.old drops.new tally.old tally.new result.record result.is_opened kept.new.items }
     ensures empty { All IsEmpty shards.new }
+    ensures sessions { All HasFewSessions shards.old → All HasFewSessions shards.new }
     ensures numbers { AreInOrder shards.new }
     ensures low { (most : ℕ) → All (λ v. RowsAreLow most v.rows) shards.old → All (λ v. RowsAreLow (most + octets_most) v.rows) shards.new }
     ensures books { (most : ℕ) → All (λ v. AreLow most v.books) shards.old → All (λ v. AreLow (most + octets_most) v.books) shards.new }

@@ -1,8 +1,8 @@
 //! What a desk is opened with.
 ghost use Rattle.std.specs.Prelude.{◌≡◌, ◌≤◌, ◌<◌, ◌==◌, ◌/◌, [], ◌∷◌, ℕ, None, IfOk, length, map, filter};
 ghost use Rattle.std.specs.List.{All, range_with_len};
-ghost use Rattle.bng_shard.specs.Protocol.{opened};
-ghost use Rattle.bng_desk.specs.Opening.{line_of, holder_of, shard_of, no_address, no_dns, IsOfferOf, AreOffersOf};
+ghost use Rattle.bng_shard.specs.Protocol.{opened, sessions_of};
+ghost use Rattle.bng_desk.specs.Opening.{line_of, holder_of, shard_of, no_address, no_dns, IsOfferOf, AreOffersOf, AreServed};
 
 use crate::desk::DeskError;
 use crate::line::Line;
@@ -225,10 +225,11 @@ pub(crate) fn shards(
     circuits: Vec<Static>,
 ) -> Result<Vec<Shard>, DeskError>
     requires few { rules.now.shards ≤ 64 }
-    requires circuits { length circuits.items ≤ 1024 }
-    requires inside { All (λ c. shard_of c < rules.now.shards) circuits.items }
+    requires circuits { AreServed rules.now circuits.items }
+    requires offers { length rules.now.offers ≡ length rules.now.access }
     requires auth { 0 < length rules.now.link.auth.items }
-    ensures { IfOk result (λ opens. opens.items ≡ map (λ n. opened n rules.now (filter (λ c. shard_of c == n) circuits.items)) (range_with_len 0 rules.now.shards)) }
+    ensures opened { IfOk result (λ opens. opens.items ≡ map (λ n. opened n rules.now (filter (λ c. shard_of c == n) circuits.items)) (range_with_len 0 rules.now.shards)) }
+    ensures none { IfOk result (λ opens. All (λ v. sessions_of v.state ≡ 0) opens.items) }
 {
     let lists = dealt(alloc, rules.shards, circuits)?;
     let Ok(mut opens) = Vec::with_capacity(alloc, usize::from(rules.shards)) else {
@@ -237,7 +238,7 @@ pub(crate) fn shards(
     let mut number = 0;
     for circuits in lists {
         let own = rules_copied(alloc, rules)?;
-        let Ok(shard) = Shard::open(alloc, number, own, circuits) else {
+        let Ok(shard) = Shard::open(alloc, number, own, circuits.as_slice()) else {
             return Err(DeskError::OutOfMemory);
         };
         opens.push_reserved(shard);

@@ -10,7 +10,7 @@ ghost use Rattle.bng_shard.specs.Sums.{Has, IsMore, IsLow, AreLow, RowsAreLow};
 ghost use Rattle.bng_shard.specs.Whose.{IsWhose};
 ghost use Rattle.bng_desk.specs.Counting.{Within, plus};
 ghost use Rattle.bng_desk.specs.Round.{with_failed};
-ghost use Rattle.bng_desk.specs.Taking.{Shown as View, Seen as Sight, IsEmpty, HasRows, AreInOrder, AreItems, IsLight, Covers, DealsOne, Deals, is_lost, lost_part, IsTurning, Turns, AllTurn, Sends, SettlesAll};
+ghost use Rattle.bng_desk.specs.Taking.{Shown as View, Seen as Sight, IsEmpty, HasFewSessions, HasRows, AreInOrder, AreItems, IsLight, Covers, DealsOne, Deals, is_lost, lost_part, IsTurning, Turns, AllTurn, Sends, SettlesAll};
 
 use crate::calls::send;
 use crate::drops::{Drops, count};
@@ -163,14 +163,7 @@ fn take_off(tally: &mut Book, input: bool, octets: u16)
     requires { Has tally.old input octets }
     ensures { IsMore tally.new input octets tally.old }
 {
-    let octets = u64::from(octets);
-    if input {
-        tally.input -= octets;
-        tally.input_packets -= 1;
-    } else {
-        tally.output -= octets;
-        tally.output_packets -= 1;
-    }
+    tally.take_off(input, octets);
 }
 
 // Takes a packet whose send failed off the tally, in which it was entered when it passed.
@@ -239,6 +232,7 @@ pub(crate) fn settle_all<P: Plant>(
     requires covered { (q : Quantity) (input : Bool) → sum_by (λ v. passed_sum (charge_if q (is_directed input)) v.outs) shards.old ≤ in_book q input tally.old }
     ensures settles { (was now : List Sight) → Zip3 IsTurning shards.old was now → SettlesAll was now (P.told plant.old) (P.told plant.new) shards.new outs.new.items journals.new.items drops.old drops.new tally.old tally.new }
     ensures empty { All IsEmpty shards.new }
+    ensures sessions { All HasFewSessions shards.new }
     ensures numbers { AreInOrder shards.old → AreInOrder shards.new }
     ensures low { (most octets : ℕ) → All (λ v. RowsAreLow most v.rows) shards.old → All (λ v. IsLight octets v.outs) shards.old → All (λ v. RowsAreLow (most + octets) v.rows) shards.new }
     ensures books { (most : ℕ) → All (λ v. AreLow most v.books) shards.old → All (λ v. AreLow most v.books) shards.new }

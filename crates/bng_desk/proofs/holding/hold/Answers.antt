@@ -1,7 +1,7 @@
 use Rattle.std.proofs.Common.{◌+◌, ◌^◌, arith}
 use Rattle.bng_engine.specs.Calls.{Kept}
 use Rattle.bng_desk.specs.Kept.{octets_most}
-use Rattle.bng_desk.proofs.Joining.{low_kept, low_wider, books_kept, books_wider}
+use Rattle.bng_desk.proofs.Joining.{sessions_kept, low_kept, low_wider, books_kept, books_wider}
 use Rattle.bng_desk.proofs.OneMore.{low_more}
 use Rattle.bng_desk.proofs.Readying.{order_kept}
 use Rattle.bng_desk.proofs.holding.hold.Goals as goal
@@ -20,6 +20,9 @@ returns-then-prepare_all-clause-low g c most low = c.opened.ensures.low most (lo
 
 pub returns-then-prepare_all-clause-books : goal.returns-then-prepare_all-clause-books
 returns-then-prepare_all-clause-books g c most low = c.opened.ensures.books most (books_kept most c.args.shards.now c.prepare_all.new.shards c.prepare_all.ensures.kept low)
+
+pub returns-clause-sessions : goal.returns-clause-sessions
+returns-clause-sessions g c few = sessions_kept c.args.shards.now c.prepare_all.new.shards c.prepare_all.ensures.kept few
 
 pub returns-clause-numbers : goal.returns-clause-numbers
 returns-clause-numbers g c = order_kept Kept (λ x y k. k.number) c.args.shards.now c.prepare_all.new.shards c.prepare_all.ensures.kept c.requires.numbers

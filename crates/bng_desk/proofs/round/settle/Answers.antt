@@ -8,7 +8,7 @@ use Rattle.bng_engine.specs.Views.{ShardView}
 use Rattle.bng_shard.specs.Protocol.{ShardState}
 use Rattle.bng_shard.specs.Sums.{RowsAreLow}
 use Rattle.bng_desk.specs.Reading.{sending}
-use Rattle.bng_desk.specs.Taking.{Sends}
+use Rattle.bng_desk.specs.Taking.{HasFewSessions, Sends}
 use Rattle.bng_desk.proofs.Sending.{reaped, sends_none, sends_all, sent_low, book_has, row_has, still_covered}
 use Rattle.bng_desk.proofs.InPlace.{answered, next_out, sends_at}
 use Rattle.bng_desk.proofs.round.settle.Goals as goal
@@ -72,4 +72,5 @@ returns-clause-sends g c =
     sends_all c.args.shard.now c.loop-out.shard c.keep_outs.new.self (told c.args.plant.now) (told c.loop-out.plant) c.args.outs.now.items c.append-moved.new.self.items (take i items) (drop i items)
     c.drain-journal.result.0.items c.args.drops.now c.loop-out.drops c.args.tally.now c.loop-out.tally c.requires.turns c.loop-out.invariant (drop_all i items all) c.drain-journal.ensures.journal
     (moved ∙ ap (λ (xs : List OutRecord). c.args.outs.now.items ++ xs) (sym (take_all i items all)))
-    (c.keep_outs.ensures ∙ ap (λ (v : ShardView ShardState Entry). let w : ShardView ShardState Entry = record v { room = 0 } in w) c.settle.ensures)
+    (c.keep_outs.ensures ∙ ap (λ (v : ShardView ShardState Entry). let w : ShardView ShardState Entry = record v { room = 0 } in w) c.settle.ensures.after)
+    (subst (λ (v : ShardView ShardState Entry). HasFewSessions v) (sym c.keep_outs.ensures) c.settle.ensures.few)

@@ -10,7 +10,7 @@ use Rattle.bng_shard.specs.Sums.{RowsAreLow}
 use Rattle.bng_desk.specs.Round.{is_failed}
 use Rattle.bng_desk.specs.Taking.{IsLight, Turns}
 use Rattle.bng_desk.proofs.Sending.{failed_within}
-use Rattle.bng_desk.proofs.Settling.{joined, settles_none, settles_more, settles_them, next_covered, joined_count, all_empty, all_low, all_books, in_order, falls_low, turns_at, settled_all}
+use Rattle.bng_desk.proofs.Settling.{joined, settles_none, settles_more, settles_them, next_covered, joined_count, all_empty, all_few, all_low, all_books, in_order, falls_low, turns_at, settled_all}
 use Rattle.bng_desk.proofs.round.settle_all.Goals as goal
 
 pub loop-shard-init : goal.loop-shard-init
@@ -93,6 +93,12 @@ returns-clause-empty g c =
     let told = g.P.Plant.told in
     let s = settles_them c.args.shards.now c.loop-shard.shards c.loop-shard.shard-index (told c.args.plant.now) (told c.loop-shard.plant) c.loop-shard.outs.items c.loop-shard.journals.items c.args.drops.now c.loop-shard.drops c.args.tally.now c.loop-shard.tally (omega arith) c.loop-shard.auto.shards c.loop-shard.invariant.settles in
     all_empty c.args.shards.now c.loop-shard.shards s.sends s.done
+
+pub returns-clause-sessions : goal.returns-clause-sessions
+returns-clause-sessions g c =
+    let told = g.P.Plant.told in
+    let s = settles_them c.args.shards.now c.loop-shard.shards c.loop-shard.shard-index (told c.args.plant.now) (told c.loop-shard.plant) c.loop-shard.outs.items c.loop-shard.journals.items c.args.drops.now c.loop-shard.drops c.args.tally.now c.loop-shard.tally (omega arith) c.loop-shard.auto.shards c.loop-shard.invariant.settles in
+    all_few c.args.shards.now c.loop-shard.shards s.sends s.done
 
 pub returns-clause-numbers : goal.returns-clause-numbers
 returns-clause-numbers g c order =

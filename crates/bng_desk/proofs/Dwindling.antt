@@ -1,0 +1,265 @@
+-- A round leaves the shards' rules as they are, and a round of Ends leaves fewer sessions, or none.
+use Rattle.std.proofs.Common.{◌≡◌, ◌≢◌, ◌⊎◌, inl, inr, ⊎_elim, ℕ, zero, suc, ◌+◌, ◌-◌, ◌*◌, ◌<◌, ◌≤◌, Bool, true, false, ◌||◌, cond, List, [], ◌∷◌, ◌++◌, map, length, if◌then◌else◌, eqb, refl, sym, ap, subst, ◌∙◌, arith}
+use Rattle.std.specs.List.{All, AllByRecursion, AllZip, range_with_len}
+use Rattle.std.proofs.lemmas.Bool.{false≢true}
+use Rattle.std.proofs.lemmas.Bool.Decides.{nat_tests}
+use Rattle.std.proofs.lemmas.List.Elements.{All-from_recursion, recursion_from_All}
+use Rattle.std.proofs.lemmas.List.Sums.{sum_by-cons}
+use Rattle.bng_base.specs.declared.book.Book.{Book}
+use Rattle.bng_base.specs.declared.item.Entry.{Entry}
+use Rattle.bng_base.specs.declared.item.Item.{Item}
+use Rattle.bng_base.specs.declared.item.ItemKind.{ItemKind}
+use Rattle.bng_base.specs.declared.item.ItemKind.TheVariants.{End}
+use Rattle.bng_base.specs.declared.round.RoundRecord.{RoundRecord}
+use Rattle.bng_base.specs.Told.{PlantTold}
+use Rattle.bng_engine.specs.Calls.{Kept, Moves}
+use Rattle.bng_engine.specs.Journals.{after, AreSteps}
+use Rattle.bng_engine.specs.Views.{ShardView}
+use Rattle.bng_engine.proofs.Everywhere.{all_weaker}
+use Rattle.bng_shard.specs.declared.pool.Holder.{Holder}
+use Rattle.bng_shard.specs.declared.rules.Rules.{Rules}
+use Rattle.bng_shard.specs.declared.whose.Whose.{Whose}
+use Rattle.bng_shard.specs.declared.whose.Whose.TheVariants.{Stands}
+use Rattle.bng_shard.specs.Protocol.{ShardState, Handled, pppoe, entry_of, sessions_of}
+use Rattle.bng_shard.specs.Whose.{IsWhose, IsForKind, IsForTarget}
+use Rattle.bng_shard.proofs.Fewer.{end_leaves_fewer}
+use Rattle.bng_desk.specs.declared.drops.Drops.{Drops}
+use Rattle.bng_desk.specs.declared.holding.Named.{Named}
+use Rattle.bng_desk.specs.Items.{drawn_from, ends_of, entries_in, for_shard, stands_in}
+use Rattle.bng_desk.specs.Kept.{undrawn, AreEndsOf}
+use Rattle.bng_desk.specs.Model.{sessions_in, unopened_most}
+use Rattle.bng_desk.specs.Round.{IsRound, AreParts, entries_of, of_seat, views_of}
+use Rattle.bng_desk.specs.Taking.{IsLeftBy, IsHeld, IsRefused, HoldsOne, HoldsEnds}
+use Rattle.bng_desk.proofs.Dealing.{Seens}
+use Rattle.bng_desk.proofs.Joining.{OfSeat, all_kept}
+use Rattle.bng_desk.proofs.Readying.{Shards, all_onward}
+use Rattle.bng_desk.proofs.Resting.{kept_rested, sessions_rested}
+use Rattle.bng_desk.proofs.Zips.{zip_length}
+
+-- Rules -----------------------------------------------------------------------------------------------------------------
+
+abbrev pub WorksBy : Rules → ShardView ShardState Entry → Type 0
+WorksBy r v = v.state.rules ≡ r
+
+after_rules : (s : ShardState) (es : List Handled) → (after pppoe s es).rules ≡ s.rules
+after_rules s [] = refl
+after_rules s (h ∷ es) = after_rules (pppoe.next s h) es
+
+moved_rules : (r : Rules) (vs ws : Shards) (xs : Seens) → AllZip (Moves pppoe) (views_of vs) xs → AllZip IsLeftBy ws xs → AllByRecursion (WorksBy r) vs → AllByRecursion (WorksBy r) ws
+moved_rules r [] [] [] moves left rules = tt
+moved_rules r [] (w ∷ ws) [] moves left rules = absurd left
+moved_rules r [] ws (x ∷ xs) moves left rules = absurd moves
+moved_rules r (v ∷ vs) ws [] moves left rules = absurd moves
+moved_rules r (v ∷ vs) [] (x ∷ xs) moves left rules = absurd left
+moved_rules r (v ∷ vs) (w ∷ ws) (x ∷ xs) moves left rules =
+    (ap (λ (s : ShardState). s.rules) left.0.state ∙ ap (λ (s : ShardState). s.rules) moves.0.state ∙ after_rules v.state x.journal ∙ rules.0, moved_rules r vs ws xs moves.1 left.1 rules.1)
+
+-- Ends ------------------------------------------------------------------------------------------------------------------
+
+undrawn_drawn : (seed : List ℕ) (n : ℕ) (is : List Item) → map undrawn (drawn_from seed n is) ≡ map undrawn is
+undrawn_drawn seed n [] = refl
+undrawn_drawn seed n (i ∷ is) = ap (λ (js : List Item). undrawn i ∷ js) (undrawn_drawn seed (n + 1) is)
+
+undrawn_ends : (ns : List ℕ) → map undrawn (map (for_shard End) ns) ≡ map (for_shard End) ns
+undrawn_ends [] = refl
+undrawn_ends (n ∷ ns) = ap (λ (js : List Item). for_shard End n ∷ js) (undrawn_ends ns)
+
+pub are_drawn_ends : (seed : List ℕ) (n shards : ℕ) → AreEndsOf shards (drawn_from seed n (ends_of shards))
+are_drawn_ends seed n shards = undrawn_drawn seed n (ends_of shards) ∙ undrawn_ends (range_with_len 0 shards)
+
+same_number : (a n : ℕ) → eqb a n ≡ true → a ≡ n
+same_number a n e = grind (arith, nat_tests)
+
+other_number : (a n : ℕ) → (a ≡ n → ⊥) → eqb a n ≡ false
+other_number a n f = grind (arith, nat_tests)
+
+not_same : (a n : ℕ) → eqb a n ≡ false → a ≢ n
+not_same a n e = grind (arith, nat_tests)
+
+-- an End stands in the shard that it is for
+end_whose : (r : Rules) (holders : List Holder) (i : Item) (w : Whose) → IsWhose r holders i w → i.kind ≡ End → i.target < r.shards → w ≡ Stands i.target
+end_whose r holders i w is kind lt =
+    let h : IsForTarget r i.target w = subst (λ (k : ItemKind). IsForKind k r holders i w) kind is in
+    ⊎_elim (λ h. h.1) (λ h. absurd (omega (arith, h.0, lt))) h
+
+-- one entry, of an End
+record OneEnd (es : List Entry) : Type 0 where
+  entry : Entry
+  is : es ≡ entry ∷ []
+  kind : entry.item.kind ≡ End
+
+module _ (r : Rules) (holders : List Holder) (moment : ℕ) where
+  abbrev entry_if : ℕ → ℕ → Item → Whose → List Entry
+  entry_if k place i w = if stands_in k w then entry_of 0 place moment i ∷ [] else []
+
+  -- Ends for higher shards have no entry in this one
+  none_before : (k m n place : ℕ) (is : List Item) (ws : List Whose) → k < m → m + n ≤ r.shards → map undrawn is ≡ map (for_shard End) (range_with_len m n) → AllZip (IsWhose r holders) is ws → entries_in 0 k place moment is ws ≡ []
+  none_before k m n place [] ws lt few same are = refl
+  none_before k m n place (i ∷ is) [] lt few same are = refl
+  none_before k m zero place (i ∷ is) (w ∷ ws) lt few same are = let no : ⊥ = cc in absurd no
+  none_before k m (suc n) place (i ∷ is) (w ∷ ws) lt few same are =
+      let head : undrawn i ≡ for_shard End m = cc in
+      let tail : map undrawn is ≡ map (for_shard End) (range_with_len (m + 1) n) = cc in
+      let target : i.target ≡ m = ap (λ (x : Item). x.target) head in
+      let stands : w ≡ Stands i.target = end_whose r holders i w are.0 (ap (λ (x : Item). x.kind) head) (omega (arith, target, few)) in
+      let here : stands_in k w ≡ false = ap (stands_in k) stands ∙ other_number i.target k (λ e. omega (arith, e, target, lt)) in
+      ap (λ (b : Bool). (if b then entry_of 0 place moment i ∷ [] else []) ++ entries_in 0 k (place + 1) moment is ws) here
+      ∙ none_before k (m + 1) n (place + 1) is ws (omega (arith, lt)) (omega (arith, few)) tail are.1
+
+  -- the first of these Ends is for this shard, or a later one is
+  one_by : (b : Bool) (k m n place : ℕ) (i : Item) (w : Whose) (is : List Item) (ws : List Whose) → eqb m k ≡ b → w ≡ Stands m → i.kind ≡ End → m ≤ k → m + suc n ≤ r.shards
+      → map undrawn is ≡ map (for_shard End) (range_with_len (m + 1) n) → AllZip (IsWhose r holders) is ws → (m + 1 ≤ k → OneEnd (entries_in 0 k (place + 1) moment is ws)) → OneEnd (entry_if k place i w ++ entries_in 0 k (place + 1) moment is ws)
+  one_by true k m n place i w is ws e stands kind low few tail are later =
+      let here : stands_in k w ≡ true = ap (stands_in k) stands ∙ e in
+      let rest = none_before k (m + 1) n (place + 1) is ws (omega (arith, same_number m k e)) (omega (arith, few)) tail are in
+      record {
+        entry = entry_of 0 place moment i;
+        is = ap (λ (b : Bool). (if b then entry_of 0 place moment i ∷ [] else []) ++ entries_in 0 k (place + 1) moment is ws) here
+            ∙ ap (λ (es : List Entry). entry_of 0 place moment i ∷ es) rest;
+        kind = kind;
+      }
+  one_by false k m n place i w is ws e stands kind low few tail are later =
+      let here : stands_in k w ≡ false = ap (stands_in k) stands ∙ e in
+      let other : m ≢ k = not_same m k e in
+      let more = later (omega (arith, low, other)) in
+      record {
+        entry = more.entry;
+        is = ap (λ (b : Bool). (if b then entry_of 0 place moment i ∷ [] else []) ++ entries_in 0 k (place + 1) moment is ws) here ∙ more.is;
+        kind = more.kind;
+      }
+
+  -- of an End for each shard, each shard has one
+  one_at : (k m n place : ℕ) (is : List Item) (ws : List Whose) → m ≤ k → k < m + n → m + n ≤ r.shards → map undrawn is ≡ map (for_shard End) (range_with_len m n) → AllZip (IsWhose r holders) is ws → OneEnd (entries_in 0 k place moment is ws)
+  one_at k m zero place [] ws low high few same are = absurd (omega (arith, low, high))
+  one_at k m (suc n) place [] ws low high few same are = let no : ⊥ = cc in absurd no
+  one_at k m n place (i ∷ is) [] low high few same are = absurd are
+  one_at k m zero place (i ∷ is) (w ∷ ws) low high few same are = let no : ⊥ = cc in absurd no
+  one_at k m (suc n) place (i ∷ is) (w ∷ ws) low high few same are =
+      let head : undrawn i ≡ for_shard End m = cc in
+      let tail : map undrawn is ≡ map (for_shard End) (range_with_len (m + 1) n) = cc in
+      let target : i.target ≡ m = ap (λ (x : Item). x.target) head in
+      let kind : i.kind ≡ End = ap (λ (x : Item). x.kind) head in
+      let stands : w ≡ Stands m = end_whose r holders i w are.0 kind (omega (arith, target, few)) ∙ ap Stands target in
+      one_by (eqb m k) k m n place i w is ws refl stands kind low few tail are.1
+      (λ later. one_at k (m + 1) n (place + 1) is ws later (omega (arith, high)) (omega (arith, few)) tail are.1)
+
+-- Fewer sessions --------------------------------------------------------------------------------------------------------
+
+-- there are fewer, or there were none
+abbrev pub Less : ℕ → ℕ → Type 0
+Less was now = ((was ≡ 0) × (now ≡ 0)) ⊎ (now < was)
+
+less_none : (was now : ℕ) → now ≡ 0 → Less was now
+less_none zero now e = inl (refl, e)
+less_none (suc was) now e = inr (omega (arith, e))
+
+less_by : (was now : ℕ) → (now ≡ 0) ⊎ (now + 64 ≤ was) → Less was now
+less_by was now (inl e) = less_none was now e
+less_by was now (inr le) = inr (omega (arith, le))
+
+less_sum : (a b c d : ℕ) → Less a b → Less c d → Less (a + c) (b + d)
+less_sum a b c d (inl x) (inl y) = inl (omega (arith, x.0, y.0), omega (arith, x.1, y.1))
+less_sum a b c d (inl x) (inr y) = inr (omega (arith, x.0, x.1, y))
+less_sum a b c d (inr x) (inl y) = inr (omega (arith, x, y.0, y.1))
+less_sum a b c d (inr x) (inr y) = inr (omega (arith, x, y))
+
+one_step : (s : ShardState) (es : List Handled) (e : Entry) → map (λ (h : Handled). h.deed.entry) es ≡ e ∷ [] → e.item.kind ≡ End → AreSteps pppoe s es → Less (sessions_of s) (sessions_of (pppoe.settled (after pppoe s es)))
+one_step s [] e is kind steps = let no : ⊥ = cc in absurd no
+one_step s (h ∷ []) e is kind steps =
+    let of : h.deed.entry ≡ e = cc in
+    less_by (sessions_of s) (sessions_of (pppoe.settled (pppoe.next s h))) (end_leaves_fewer s h steps.0 (ap (λ (x : Entry). x.item.kind) of ∙ kind))
+one_step s (h ∷ g ∷ es) e is kind steps = let no : ⊥ = cc in absurd no
+
+module _ (r : Rules) (holders : List Holder) (moment : ℕ) (items : List Item) (whose : List Whose) (n : ℕ) (few : n ≤ r.shards) (ends : AreEndsOf n items) (are : AllZip (IsWhose r holders) items whose) where
+  dwindles : (k : ℕ) (vs ws : Shards) (xs : Seens) → k + length vs ≤ n → AreParts (items ∷ []) (whose ∷ []) k moment xs → AllZip (Moves pppoe) (views_of vs) xs → AllZip IsLeftBy ws xs → Less (sessions_in vs) (sessions_in ws)
+  dwindles k [] [] [] within parts moves left = inl (refl, refl)
+  dwindles k [] (w ∷ ws) [] within parts moves left = absurd left
+  dwindles k [] ws (x ∷ xs) within parts moves left = absurd moves
+  dwindles k (v ∷ vs) ws [] within parts moves left = absurd moves
+  dwindles k (v ∷ vs) [] (x ∷ xs) within parts moves left = absurd left
+  dwindles k (v ∷ vs) (w ∷ ws) (x ∷ xs) within parts moves left =
+      let entries = entries_of x in
+      let seats : AllByRecursion OfSeat entries = all_weaker (λ (e : Entry). e.seat < 1) OfSeat (λ e lt. omega (arith, lt)) entries (recursion_from_All (λ (e : Entry). e.seat < 1) entries parts.0.seats) in
+      let those : entries ≡ entries_in 0 k 0 moment items whose = sym (all_kept entries seats) ∙ parts.0.each 0 (omega arith) in
+      let one = one_at r holders moment k 0 n 0 items whose (omega arith) (omega (arith, within)) (omega (arith, few)) ends are in
+      let m = moves.0 in
+      let state : w.state ≡ pppoe.settled (after pppoe v.state x.journal) = left.0.state ∙ m.state in
+      let here : Less (sessions_of v.state) (sessions_of w.state) =
+      subst (λ (s : ShardState). Less (sessions_of v.state) (sessions_of s)) (sym state) (one_step v.state x.journal one.entry (those ∙ one.is) one.kind m.steps) in
+      let f = λ (y : ShardView ShardState Entry). sessions_of y.state in
+      let more = dwindles (k + 1) vs ws xs (omega (arith, within)) parts.1 moves.1 left.1 in
+      subst (λ (a : ℕ). Less a (sessions_in (w ∷ ws))) (sym (sum_by-cons f v vs))
+      (subst (λ (b : ℕ). Less (sessions_of v.state + sessions_in vs) b) (sym (sum_by-cons f w ws)) (less_sum (sessions_of v.state) (sessions_of w.state) (sessions_in vs) (sessions_in ws) here more))
+
+-- A round that was held or refused ------------------------------------------------------------------------------------------
+
+-- by whether it was opened
+abbrev pub Nears : Bool → ℕ → ℕ → Type 0
+Nears true was now = Less was now
+Nears false was now = now ≡ was
+
+module _ (r : Rules) (holders : List Holder) (named : Named) (items : List Item) (old new : PlantTold) (vs ws : Shards) (drops drops' : Drops) (tally tally' : Book) (record_is : RoundRecord) where
+  kept_works : (by : Rules) (ready : Shards) → AllZip Kept vs ready → All (WorksBy by) vs → All (WorksBy by) ready
+  kept_works by ready kept works = all_onward Kept (WorksBy by) (λ x y k here. ap (λ (s : ShardState). s.rules) k.state ∙ here) vs ready kept works
+
+  held_works : (by : Rules) → IsHeld r holders named items old new vs ws drops drops' tally tally' record_is → All (WorksBy by) vs → All (WorksBy by) ws
+  held_works by h works =
+      All-from_recursion (WorksBy by) ws (moved_rules by h.ready ws h.held.round.shards h.held.is.turn.shards h.held.shards_are (recursion_from_All (WorksBy by) h.ready (kept_works by h.ready h.kept works)))
+
+  pub one_works : (by : Rules) → HoldsOne r holders named items old new vs ws drops drops' tally tally' record_is → All (WorksBy by) vs → All (WorksBy by) ws
+  one_works by (inl h) works = held_works by h works
+  one_works by (inr h) works = kept_works by ws h.kept works
+
+  pub ends_work : (by : Rules) (opened : Bool) (kept : List Item) → HoldsEnds r holders named items old new vs ws drops drops' tally tally' record_is opened kept → All (WorksBy by) vs → All (WorksBy by) ws
+  ends_work by opened kept (inl h) works = held_works by h.2 works
+  ends_work by opened kept (inr h) works = kept_works by ws h.2.kept works
+
+  same_sessions : (ready : Shards) → AllZip Kept vs ready → sessions_in ready ≡ sessions_in vs
+  same_sessions ready kept = sym (sessions_rested ready) ∙ ap sessions_in (kept_rested vs ready kept) ∙ sessions_rested vs
+
+  dwindled : (whose : List (List Whose)) (xs : Seens) (ready : Shards) (n : ℕ) → n ≤ r.shards → AreEndsOf n items → length ready ≤ n → AllZip (AllZip (IsWhose r holders)) (items ∷ []) whose → AreParts (items ∷ []) whose 0 named.moment xs
+      → AllZip (Moves pppoe) (views_of ready) xs → AllZip IsLeftBy ws xs → Less (sessions_in ready) (sessions_in ws)
+  dwindled [] xs ready n few ends within are parts moves left = absurd are
+  dwindled (w ∷ []) xs ready n few ends within are parts moves left = dwindles r holders named.moment items w n few ends are.0 0 ready ws xs (omega (arith, within)) parts moves left
+  dwindled (w ∷ x ∷ more) xs ready n few ends within are parts moves left = absurd are.1
+
+  held_dwindles : IsHeld r holders named items old new vs ws drops drops' tally tally' record_is → length vs ≡ r.shards → AreEndsOf (length vs) items → Less (sessions_in vs) (sessions_in ws)
+  held_dwindles h count ends =
+      let is = h.held.is in
+      let same : length vs ≡ length h.ready = zip_length Kept vs h.ready h.kept in
+      subst (λ (n : ℕ). Less n (sessions_in ws)) (same_sessions h.ready h.kept)
+      (dwindled h.held.round.whose h.held.round.shards h.ready (length vs) (omega (arith, count)) ends (omega (arith, same)) is.dealt.whose is.dealt.parts is.turn.shards h.held.shards_are)
+
+  pub nears : (opened : Bool) (kept : List Item) → HoldsEnds r holders named items old new vs ws drops drops' tally tally' record_is opened kept → length vs ≡ r.shards → AreEndsOf (length vs) items → Nears opened (sessions_in vs) (sessions_in ws)
+  nears opened kept (inl h) count ends = subst (λ (b : Bool). Nears b (sessions_in vs) (sessions_in ws)) (sym h.0) (held_dwindles h.2 count ends)
+  nears opened kept (inr h) count ends = subst (λ (b : Bool). Nears b (sessions_in vs) (sessions_in ws)) (sym h.0) (same_sessions ws h.2.kept)
+
+-- What is left ------------------------------------------------------------------------------------------------------------
+
+abbrev open_round : Bool → ℕ
+open_round closed = cond closed 0 1
+
+-- of a desk that ends, a turn leaves less
+pub less_left : (opened closed : Bool) (was now unopened : ℕ) → unopened < unopened_most → (closed ≡ true → 1 ≤ was) → Nears opened was now
+    → unopened_most * (now + open_round (closed || opened)) + (unopened_most - cond opened 0 (unopened + 1)) < unopened_most * (was + open_round closed) + (unopened_most - unopened)
+less_left true true was now unopened low some (inl e) = absurd (omega (arith, e.0, some refl))
+less_left true true was now unopened low some (inr lt) = omega (arith, low, lt)
+less_left true false was now unopened low some (inl e) = omega (arith, low, e.0, e.1)
+less_left true false was now unopened low some (inr lt) = omega (arith, low, lt)
+less_left false true was now unopened low some same = omega (arith, low, same)
+less_left false false was now unopened low some same = omega (arith, low, same)
+
+-- and no more turns are made than there were left at first
+pub still_left : (opened closed : Bool) (was now unopened endings : ℕ) → unopened < unopened_most → (closed ≡ true → 1 ≤ was) → Nears opened was now
+    → endings + unopened_most * (was + open_round closed) ≤ unopened_most * 65410 + unopened
+    → endings + 1 + unopened_most * (now + open_round (closed || opened)) ≤ unopened_most * 65410 + cond opened 0 (unopened + 1)
+still_left true true was now unopened endings low some (inl e) left = absurd (omega (arith, e.0, some refl))
+still_left true true was now unopened endings low some (inr lt) left = omega (arith, low, lt, left)
+still_left true false was now unopened endings low some (inl e) left = omega (arith, low, e.0, e.1, left)
+still_left true false was now unopened endings low some (inr lt) left = omega (arith, low, lt, left)
+still_left false true was now unopened endings low some same left = omega (arith, low, same, left)
+still_left false false was now unopened endings low some same left = omega (arith, low, same, left)
+
+pub unopened_low : (opened : Bool) (unopened : ℕ) → unopened < unopened_most → cond opened 0 (unopened + 1) ≤ unopened_most
+unopened_low true unopened low = omega arith
+unopened_low false unopened low = omega (arith, low)
