@@ -1,5 +1,5 @@
 -- What is read of octets is one: one frame, one packet in it, and one header.
-use Rattle.std.proofs.Common.{◌≡◌, ℕ, ◌+◌, ◌-◌, ◌≤◌, List, take, drop, length, refl, sym, ap, ◌∙◌, arith}
+use Rattle.std.proofs.Common.{◌≡◌, ℕ, ◌+◌, ◌-◌, ◌≤◌, List, take, drop, length, sym, ap, ◌∙◌, arith}
 use Rattle.std.proofs.lemmas.List.{drop-take, drop-drop, length-take, length-drop}
 use Rattle.byteorder.specs.Endian.{big_from}
 use Rattle.bng_base.specs.declared.address.Ip4.{Ip4}

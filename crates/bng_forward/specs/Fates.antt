@@ -69,15 +69,18 @@ Found = Option (Option TermView)
 
 -- the session that was found has no live term, or one whose LCP or IPCP is not Opened
 abbrev pub HasNoOpenTerm : Found → Type 0
-HasNoOpenTerm found = (found ≡ Some None) ⊎ ((view : TermView) × (found ≡ Some (Some view)) × (view.opened ≡ false))
+HasNoOpenTerm found =
+    (found ≡ Some None) ⊎ ((view : TermView) × (found ≡ Some (Some view)) × (view.opened ≡ false))
 
 -- the octets begin with a packet of another source than the lease of the term that was found
 abbrev pub HasOtherSource : Found → List ℕ → Type 0
-HasOtherSource found octets = (view : TermView) × (found ≡ Some (Some view)) × HasPacket (λ v. ¬ (v.src ≡ view.lease)) octets
+HasOtherSource found octets =
+    (view : TermView) × (found ≡ Some (Some view)) × HasPacket (λ v. ¬ (v.src ≡ view.lease)) octets
 
 -- the octets begin with a packet whose source is the lease of the term that was found
 abbrev pub HasOwnSource : Found → List ℕ → Type 0
-HasOwnSource found octets = (view : TermView) × (found ≡ Some (Some view)) × HasPacket (λ v. v.src ≡ view.lease) octets
+HasOwnSource found octets =
+    (view : TermView) × (found ≡ Some (Some view)) × HasPacket (λ v. v.src ≡ view.lease) octets
 
 -- from the circuit to the core: the PPP information of a frame, and what was found for its circuit
 abbrev pub up_cases : Found → List ℕ → List Case

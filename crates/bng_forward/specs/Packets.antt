@@ -1,5 +1,5 @@
 -- The packets at the front of octets, and the packet that is sent on.
-use Rattle.std.specs.Prelude.{◌≡◌, ℕ, ◌-◌, ◌≤◌, true, List, Option, Some, Result, Ok, Err, length, take}
+use Rattle.std.specs.Prelude.{◌≡◌, ℕ, ◌-◌, ◌≤◌, true, List, Option, None, Some, Result, Ok, Err, length, take}
 use Rattle.bng_base.specs.declared.fate.DropCause.{DropCause}
 use Rattle.bng_base.specs.declared.fate.Fate.{Fate}
 use Rattle.bng_base.specs.declared.fate.Fate.TheVariants.{Forwarded, Dropped}
@@ -43,3 +43,8 @@ pub record MayPassDown (holder : Option TermView) (v : Ipv4) : Type 0 where
 abbrev pub fate_of : Result Ipv4 DropCause → Fate
 fate_of (Ok v) = Forwarded
 fate_of (Err cause) = Dropped cause
+
+-- the fate of a packet with this obstacle, or none
+abbrev pub fate_with : Option DropCause → Fate
+fate_with None = Forwarded
+fate_with (Some cause) = Dropped cause

@@ -66,8 +66,8 @@ fn port_at(ports: &[AccessPort], number: u8) -> Option<&AccessPort>
     ports.get(usize::from(number) - 1)
 }
 
-/// The frame that a datagram of the access port with this number, from 1 on, is (RFC 2516 section 4): it came whole from
-/// the port's other end, and is for the port, or a PADI to all. None exactly where there is no such frame.
+/// The frame that a datagram of the access port with this number, from 1 on, is (RFC 2516 section 4): it came whole
+/// from the port's other end, and is for the port, or a PADI to all. None exactly where there is no such frame.
 pub fn frame_at<'a>(ports: &[AccessPort], number: u8, arrived: &Arrived<'a>) -> Option<Pppoe<'a>>
     ensures found { IfSome result (λ p. IsFrame ports.now number (as_arrival arrived.now) (frame_of p)) }
     ensures none { IfNone result ((p : PppoeFrame) → ¬ (IsFrame ports.now number (as_arrival arrived.now) p)) }
@@ -86,8 +86,8 @@ pub fn names_session(frame: &Pppoe<'_>) -> bool
     !frame.discovery || frame.code == code::PADT
 }
 
-/// The octets that stand where a frame has its IPv4 packet, the information of a PPP frame of protocol 0021 (RFC 1332).
-/// None exactly where it is of the discovery stage or carries another protocol.
+/// The octets that stand where a frame has its IPv4 packet, the information of a PPP frame of protocol 0021 (RFC
+/// 1332). None exactly where it is of the discovery stage or carries another protocol.
 pub fn carried<'a>(frame: &Pppoe<'a>) -> Option<&'a [u8]>
     ensures found { IfSome result (λ info. Carries (frame_of frame.now) info.now) }
     ensures none { IfNone result ((info : List ℕ) → ¬ (Carries (frame_of frame.now) info)) }
@@ -106,8 +106,8 @@ pub fn carried<'a>(frame: &Pppoe<'a>) -> Option<&'a [u8]>
     }
 }
 
-/// What the IPv4 packet of a datagram of the core says, whose end is `core`. None exactly where it was cut, is of another
-/// sender or is no packet (RFC 791 section 3.1).
+/// What the IPv4 packet of a datagram of the core says, whose end is `core`. None exactly where it was cut, is of
+/// another sender or is no packet (RFC 791 section 3.1).
 pub fn packet_from(core: Peer, arrived: &Arrived<'_>) -> Option<Ipv4>
     ensures found { IfSome result (λ v. IsCorePacket core (as_arrival arrived.now) v) }
     ensures none { IfNone result ((v : Header) → ¬ (IsCorePacket core (as_arrival arrived.now) v)) }

@@ -6,8 +6,8 @@ use bng_base::{AccessPort, Frame, Mac, SessionNo};
 use bng_ppp_wire::protocol;
 use bng_pppoe_wire::{Pppoe, code};
 
-// The octets before the packet in a frame of a session: the headers of PPPoE (RFC 2516 section 4) and of PPP (RFC 1661
-// section 2).
+// The octets before the packet in a frame of a session: the headers of PPPoE (RFC 2516 section 4) and of PPP (RFC
+// 1661 section 2).
 const HEADERS: usize = 22;
 
 // The octets before the payload of a frame of the session stage.
@@ -27,9 +27,9 @@ fn session_header(dst: Mac, src: Mac, session: u16, payload: &[u8]) -> [u8; 20]
     frame.header()
 }
 
-/// Puts before a packet what makes it a frame to the subscriber with this MAC, from the port, in the session with this
-/// number: the header of a PPPoE session (RFC 2516 section 4), whose LENGTH counts the octets after it, and PPP protocol
-/// 0021 (RFC 1332). There is no padding.
+/// Puts before a packet what makes it a frame to the subscriber with this MAC, from the port, in the session with
+/// this number: the header of a PPPoE session (RFC 2516 section 4), whose LENGTH counts the octets after it, and PPP
+/// protocol 0021 (RFC 1332). There is no padding.
 pub fn put_in_frame(port: &AccessPort, mac: Mac, session: SessionNo, frame: &mut Frame)
     requires room { 22 ≤ frame.old.headroom }
     ensures framed { frame.new.payload ≡ circuit_frame port.now mac session.0 frame.old.payload }
@@ -41,8 +41,8 @@ pub fn put_in_frame(port: &AccessPort, mac: Mac, session: SessionNo, frame: &mut
     frame.put_front(&header);
 }
 
-/// Leaves of a frame the packet alone that it carries, of this many octets, as `carried` finds it: the headers before it
-/// and the padding after it are cut off.
+/// Leaves of a frame the packet alone that it carries, of this many octets, as `carried` finds it: the headers before
+/// it and the padding after it are cut off.
 pub fn take_from_frame(frame: &mut Frame, size: usize)
     requires { (packet : List ℕ) × IsFrameWith packet frame.old.payload × (length packet ≡ size) }
     ensures packet { (packet : List ℕ) → IsFrameWith packet frame.old.payload → frame.new.payload ≡ packet }

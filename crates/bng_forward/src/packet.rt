@@ -1,6 +1,6 @@
-ghost use Rattle.std.specs.Prelude.{◌≡◌, ◌≤◌, ℕ, List, true, IfOk};
+ghost use Rattle.std.specs.Prelude.{◌≡◌, ◌≤◌, ℕ, List, IfOk, IfNone};
 ghost use Rattle.bng_base.specs.Ipv4Grammar.{IsIpv4};
-ghost use Rattle.bng_forward.specs.Packets.{IsPassedOn, MayPassUp, MayPassDown, fate_of};
+ghost use Rattle.bng_forward.specs.Packets.{IsPassedOn, MayPassUp, MayPassDown, fate_of, fate_with};
 ghost use Rattle.bng_forward.specs.Fates.{UpFate, DownFate, Holders};
 
 use crate::view::TermView;
@@ -11,9 +11,7 @@ use bng_ipv4::{lower_ttl, read};
 fn from_term(view: TermView, bytes: &[u8]) -> Result<Ipv4, DropCause>
     ensures fate { UpFate (Some (Some view)) bytes.now (fate_of result) }
     ensures read { IfOk result (λ v. IsIpv4 v bytes.now) }
-    ensures opened { IfOk result (λ v. view.opened ≡ true) }
-    ensures alive { IfOk result (λ v. 2 ≤ v.ttl) }
-    ensures source { IfOk result (λ v. v.src ≡ view.lease) }
+    ensures may { IfOk result (λ v. MayPassUp (Some (Some view)) v) }
 {
     if !view.opened {
         return Err(DropCause::NotOpen);
@@ -30,38 +28,46 @@ fn from_term(view: TermView, bytes: &[u8]) -> Result<Ipv4, DropCause>
     Ok(packet)
 }
 
+// The packet of a session with this live term, or none, where it may pass.
+fn from_session(term: Option<TermView>, bytes: &[u8]) -> Result<Ipv4, DropCause>
+    ensures fate { UpFate (Some term) bytes.now (fate_of result) }
+    ensures read { IfOk result (λ v. IsIpv4 v bytes.now) }
+    ensures may { IfOk result (λ v. MayPassUp (Some term) v) }
+{
+    match term {
+        Some(view) => from_term(view, bytes),
+        None => Err(DropCause::NotOpen),
+    }
+}
+
 // The packet from the circuit, where it may pass.
-pub(crate) fn from_circuit(
-    found: Option<Option<TermView>>,
-    bytes: &[u8],
-) -> Result<Ipv4, DropCause>
+pub(crate) fn from_circuit(found: Option<Option<TermView>>, bytes: &[u8]) -> Result<Ipv4, DropCause>
     ensures fate { UpFate found bytes.now (fate_of result) }
     ensures read { IfOk result (λ v. IsIpv4 v bytes.now) }
     ensures may { IfOk result (λ v. MayPassUp found v) }
 {
     match found {
+        Some(term) => from_session(term, bytes),
         None => Err(DropCause::NoSession),
-        Some(None) => Err(DropCause::NotOpen),
-        Some(Some(view)) => from_term(view, bytes),
     }
 }
 
-// The packet of the core that says this, where it may pass to the holder of its destination.
-pub(crate) fn to_holder(holder: Option<TermView>, header: Ipv4) -> Result<Ipv4, DropCause>
-    ensures fate { (holders : Holders) (bytes : List ℕ) → IsIpv4 header bytes → holders header.dst ≡ holder → DownFate holders bytes (fate_of result) }
-    ensures same { IfOk result (λ v. v ≡ header) }
-    ensures may { IfOk result (λ v. MayPassDown holder header) }
+// Why the packet of the core that says this may not pass to the holder of its destination.
+pub(crate) fn obstacle(holder: Option<TermView>, header: Ipv4) -> Option<DropCause>
+    ensures fate { (holders : Holders) (bytes : List ℕ)
+        → IsIpv4 header bytes → holders header.dst ≡ holder → DownFate holders bytes (fate_with result) }
+    ensures may { IfNone result (MayPassDown holder header) }
 {
     let Some(term) = holder else {
-        return Err(DropCause::NoSession);
+        return Some(DropCause::NoSession);
     };
     if !term.opened {
-        return Err(DropCause::NotOpen);
+        return Some(DropCause::NotOpen);
     }
     if header.ttl < 2 {
-        return Err(DropCause::Expired);
+        return Some(DropCause::Expired);
     }
-    Ok(header)
+    None
 }
 
 // Makes of a packet the one that is to be sent: the octets past its total length are padding.

@@ -91,13 +91,7 @@ fn goes_up(
     assert_eq!(rt; frame.payload(), after);
 }
 
-fn goes_down(
-    rt: &impl Abort,
-    holder: Option<TermView>,
-    octets: &[u8],
-    fate: Fate,
-    after: &[u8],
-)
+fn goes_down(rt: &impl Abort, holder: Option<TermView>, octets: &[u8], fate: Fate, after: &[u8])
     requires { length octets.now ≤ 64 }
 {
     let mut frame = frame_of(octets);

@@ -17,11 +17,13 @@ use Rattle.bng_engine.specs.Views.{ShardView, Row, row_keys, rows_where}
 use Rattle.bng_engine.proofs.Adding.{sum_map}
 use Rattle.bng_engine.proofs.Everywhere.{all_weaker}
 use Rattle.bng_shard.specs.declared.sums.Traffic.{Traffic}
+use Rattle.bng_shard.specs.Opening.{in_order, lease_from, provisioned}
 use Rattle.bng_shard.specs.Protocol.{ShardState, term_of, terms_after, row_at}
+use Rattle.bng_shard.proofs.InOrder.{sum_in_order}
 use Rattle.bng_desk.specs.Model.{traffic_or, traffic_at, carried_on}
 use Rattle.bng_desk.specs.Opening.{shard_of, statics_of, line_of}
 use Rattle.bng_gate.proofs.Lists.{Apart, apart_filter, apart_where_once, once_where_apart, sum_same_in}
-use Rattle.bng_gate.proofs.Openings.{session_in, sessions_apart, sum_shards}
+use Rattle.bng_gate.proofs.Openings.{session_in, sessions_apart, shard_own, sum_shards}
 use Rattle.bng_gate.proofs.Keys.{keys_at, all_keys, HasRows}
 
 abbrev pub octets_in_traffic : Bool → Traffic → ℕ
@@ -60,7 +62,7 @@ session_count m n [] = refl
 session_count m n (c ∷ cs) =
     omega (
       arith,
-      sum_by-cons (λ (k : Key). one_if (eqb k.term.session.0 m)) (term_of c (n + 1)).key (keys (terms_after (n + 1) cs)),
+      sum_by-cons (λ (k : Key). one_if (eqb k.term.session.0 m)) (term_of (provisioned c (n + 1)) (lease_from c (n + 1))).key (keys (terms_after (n + 1) cs)),
       sum_by-cons (λ (x : Static). one_if (eqb (session_in x) m)) c cs,
       session_count m (n + 1) cs,
     )
@@ -95,7 +97,7 @@ finds_all shards = finds_from shards 0 shards (λ i. ap (slice_get shards) (zero
 
 -- A test of keys that goes by the circuit alone, in one direction ------------------------------------------------------
 
-module _ (pick : Key → Bool) (picks : Static → Bool) (agree : (c : Static) (n : ℕ) → pick (term_of c n).key ≡ picks c) (input : Bool) where
+module _ (pick : Key → Bool) (picks : Static → Bool) (agree : (c : Static) (n : ℕ) → pick (term_of (provisioned c n) (lease_from c n)).key ≡ picks c) (input : Bool) where
   abbrev part : Static → Traffic → ℕ
   part c t = cond (picks c) (octets_in_traffic input t) 0
 
@@ -119,7 +121,7 @@ module _ (pick : Key → Bool) (picks : Static → Bool) (agree : (c : Static) (
   of_circuits rows n (c ∷ cs) =
       omega (
         arith,
-        sum_by-cons (of_key rows) (term_of c (n + 1)).key (keys (terms_after (n + 1) cs)),
+        sum_by-cons (of_key rows) (term_of (provisioned c (n + 1)) (lease_from c (n + 1))).key (keys (terms_after (n + 1) cs)),
         sum_by-cons (of_rows rows) c cs,
         ap (λ (b : Bool). cond b (octets_in_traffic input (traffic_or (row_at rows (session_in c)))) 0) (agree c (n + 1)),
         of_circuits rows (n + 1) cs,
@@ -146,8 +148,14 @@ module _ (pick : Key → Bool) (picks : Static → Bool) (agree : (c : Static) (
     shard_sum : (v : ShardView ShardState Entry) (n : ℕ) → slice_get shards n ≡ Some v → HasRows v (keys_at config n) → rows_where Octets pick input v.rows ≡ sum_by carried (statics_of config n)
     shard_sum v n e has =
         let cs = statics_of config n in
+        let own = shard_own config rules n in
         let all = recursion_from_All (λ c. eqb (shard_of c) n ≡ true) cs (filter_passes (λ c. eqb (shard_of c) n) config.statics) in
-        rows_sum v.rows 0 cs has (apart_filter session_in (λ c. eqb (shard_of c) n) config.statics (sessions_apart config rules))
+        let apart = apart_filter session_in (λ c. eqb (shard_of c) n) config.statics (sessions_apart config rules) in
+        let in_order_apart =
+            apart_where_once session_in (in_order n cs)
+            (λ m. omega (arith, sum_in_order (λ (x : Static). one_if (eqb (session_in x) m)) n cs own, once_where_apart session_in m cs apart)) in
+        rows_sum v.rows 0 (in_order n cs) has in_order_apart
+        ∙ sum_in_order (of_rows v.rows) n cs own
         ∙ sum_same_in (of_rows v.rows) carried cs (in_shard v n cs e all)
 
     shards_sum : (vs : List (ShardView ShardState Entry)) (n m : ℕ) → Finds shards n vs → AllZip HasRows vs (map (keys_at config) (range_with_len n m)) → sum_by (λ v. rows_where Octets pick input v.rows) vs ≡ sum_by (λ i. sum_by carried (statics_of config i)) (range_with_len n m)

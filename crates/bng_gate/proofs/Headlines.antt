@@ -72,7 +72,7 @@ module _ (text : List ℕ) (config : Config) (read : IsRead text config) (seed :
   start_opens = subst (Opens pppoe) (sym start_is) (opens r config rules (first_profiles text config read))
 
   start_keys : AllZip HasKeys start.shards (all_keys config)
-  start_keys = subst (λ (v : DeskView ShardState Handled). AllZip HasKeys v.shards (all_keys config)) (sym start_is) (opened_keys r config (range_with_len 0 config.shards))
+  start_keys = subst (λ (v : DeskView ShardState Handled). AllZip HasKeys v.shards (all_keys config)) (sym start_is) (opened_keys r config rules (range_with_len 0 config.shards))
 
   follows : Chain Follows course.opening (rounds_in course.turns course.endings) course.last
   follows = run_follows course.opening course.over course.last course.turns course.endings course.run course.ending

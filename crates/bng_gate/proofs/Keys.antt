@@ -9,6 +9,7 @@ use Rattle.bng_base.specs.declared.item.OutRecord.{OutRecord}
 use Rattle.bng_base.specs.declared.settings.Static.{Static}
 use Rattle.bng_base.specs.Chain.{Chain}
 use Rattle.bng_config.specs.declared.config.Config.{Config}
+use Rattle.bng_config.specs.Rules.{KeepsRules}
 use Rattle.bng_engine.specs.Calls.{Kept, Moves}
 use Rattle.bng_engine.specs.Histories.{ShardTurn, ShardHistory, sends_in, stops_in}
 use Rattle.bng_engine.specs.Journals.{after, outs_of, unsent, AreSteps}
@@ -23,17 +24,19 @@ use Rattle.bng_engine.proofs.Everywhere.{all_weaker, all_append, all_mapped, all
 use Rattle.bng_engine.proofs.Joining.{no_stops}
 use Rattle.bng_engine.proofs.Journals.{run_outs, run_owned}
 use Rattle.bng_shard.specs.declared.rules.Rules.{Rules}
-use Rattle.bng_shard.specs.Protocol.{ShardState, Handled, terms_of, terms_after, pppoe, opened}
+use Rattle.bng_shard.specs.Opening.{in_order}
+use Rattle.bng_shard.specs.Protocol.{ShardState, Handled, terms_of, terms_after, terms_of_circuits, pppoe, opened}
 use Rattle.bng_shard.specs.Reader.{IsWhole}
-use Rattle.bng_shard.proofs.Statics.{step_statics}
-use Rattle.bng_shard.proofs.StepLaws.{pppoe_laws, pppoe_still, step_whole}
+use Rattle.bng_shard.proofs.InOrder.{all_in_order, opened_terms}
+use Rattle.bng_shard.proofs.StepLaws.{pppoe_laws, pppoe_still, step_terms, step_whole}
 use Rattle.bng_desk.specs.Opening.{shard_of, statics_of}
 use Rattle.bng_desk.specs.Round.{views_of}
 use Rattle.bng_gate.proofs.Lists.{all_by_place}
+use Rattle.bng_gate.proofs.Openings.{shard_apart}
 
 -- the keys of the circuits, shard by shard
 abbrev pub keys_at : Config → ℕ → List Key
-keys_at config n = keys (terms_after 0 (statics_of config n))
+keys_at config n = keys (terms_of_circuits n (statics_of config n))
 
 abbrev pub all_keys : Config → List (List Key)
 all_keys config = map (keys_at config) (range_with_len 0 config.shards)
@@ -46,9 +49,9 @@ HasKeys v ks = keys (terms_of v.state) ≡ ks
 abbrev pub HasRows : ShardView ShardState Entry → List Key → Type 0
 HasRows v ks = Same (row_keys v.rows) ks
 
-pub opened_keys : (r : Rules) (config : Config) (ns : List ℕ) → AllZip HasKeys (views_of (map (λ n. opened n r (statics_of config n)) ns)) (map (keys_at config) ns)
-opened_keys r config [] = tt
-opened_keys r config (n ∷ ns) = (refl, opened_keys r config ns)
+pub opened_keys : (r : Rules) (config : Config) → KeepsRules config → (ns : List ℕ) → AllZip HasKeys (views_of (map (λ n. opened n r (statics_of config n)) ns)) (map (keys_at config) ns)
+opened_keys r config rules [] = tt
+opened_keys r config rules (n ∷ ns) = (ap keys (opened_terms r n (statics_of config n) (shard_apart config rules n)), opened_keys r config rules ns)
 
 -- it is the key of a provisioned circuit
 pub record IsKeyOf (config : Config) (k : Key) : Type 0 where
@@ -68,7 +71,10 @@ keys_there config n (c ∷ cs) h = (record { place = h.0.place; circuit = c; at 
 
 keys_all : (config : Config) (ns : List ℕ) → AllByRecursion (IsThere config) config.statics → AllByRecursion (AllByRecursion (IsKeyOf config)) (map (keys_at config) ns)
 keys_all config [] h = tt
-keys_all config (n ∷ ns) h = (keys_there config 0 (statics_of config n) (all_filter (IsThere config) (λ c. eqb (shard_of c) n) config.statics h), keys_all config ns h)
+keys_all config (n ∷ ns) h = (
+  keys_there config 0 (in_order n (statics_of config n)) (all_in_order (IsThere config) n (statics_of config n) (all_filter (IsThere config) (λ c. eqb (shard_of c) n) config.statics h)),
+  keys_all config ns h,
+)
 
 pub all_keys_known : (config : Config) → AllByRecursion (AllByRecursion (IsKeyOf config)) (all_keys config)
 all_keys_known config = keys_all config (range_with_len 0 config.shards) (all_by_place (IsThere config) config.statics (λ i c e. record { place = i; at = e }))
@@ -91,13 +97,13 @@ all_ours Q (o ∷ os) h i = (record { whole = h.0; known = i.0 }, all_ours Q os 
 
 -- One shard ------------------------------------------------------------------------------------------------------------
 
--- a journal changes no circuit
-statics_stay : (s : ShardState) (es : List Handled) → AreSteps pppoe s es → (after pppoe s es).slots.statics ≡ s.slots.statics
-statics_stay s [] h = refl
-statics_stay s (e ∷ es) h = statics_stay (pppoe.next s e) es h.1 ∙ step_statics s.rules s.slots e.deed h.0
+-- a journal changes no term
+terms_stay : (s : ShardState) (es : List Handled) → AreSteps pppoe s es → terms_of (after pppoe s es) ≡ terms_of s
+terms_stay s [] h = refl
+terms_stay s (e ∷ es) h = terms_stay (pppoe.next s e) es h.1 ∙ step_terms s.rules s.slots e.deed h.0
 
 keys_in_round : (v v' : ShardView ShardState Handled) → Moves pppoe v v' → keys (terms_of (after pppoe v.state v'.journal)) ≡ keys (terms_of v.state)
-keys_in_round v v' m = ap (λ (cs : List Static). keys (terms_after 0 cs)) (statics_stay v.state v'.journal m.steps)
+keys_in_round v v' m = ap keys (terms_stay v.state v'.journal m.steps)
 
 keys_stay : (v v' : ShardView ShardState Handled) (ks : List Key) → Moves pppoe v v' → HasKeys v ks → HasKeys v' ks
 keys_stay v v' ks m has = ap (λ (s : ShardState). keys (terms_of s)) m.state ∙ keys_in_round v v' m ∙ has

@@ -1,9 +1,12 @@
 -- A desk that was opened over a configuration: its terms are those of the circuits.
-use Rattle.std.proofs.Common.{◌≡◌, ◌||◌, ℕ, zero, suc, ◌+◌, Bool, true, false, List, [], ◌∷◌, map, length, refl, sym, ap, ◌∙◌, arith, eqb}
+use Rattle.std.proofs.Common.{◌≡◌, ◌||◌, ℕ, zero, suc, ◌+◌, Bool, true, false, List, [], ◌∷◌, ◌/◌, cond, map, length, refl, sym, ap, subst, ◌∙◌, arith, eqb, zero-add}
+use Rattle.std.specs.Prelude.{filter}
 use Rattle.std.specs.List.{All, AllByRecursion, sum_by, count_by, range_with_len}
 use Rattle.std.proofs.lemmas.Bool.{eqb-true, ne_eqb}
 use Rattle.std.proofs.lemmas.List.Elements.{recursion_from_All}
+use Rattle.std.proofs.lemmas.List.Kept.{AllPairs-filter}
 use Rattle.std.proofs.lemmas.List.Sums.{sum_by-cons}
+use Rattle.std.proofs.lemmas.Nat.{div-add-mod'}
 use Rattle.bng_base.specs.declared.address.Ip4.{Ip4}
 use Rattle.bng_base.specs.declared.address.SessionNo.{SessionNo}
 use Rattle.bng_base.specs.declared.settings.Static.{Static}
@@ -22,8 +25,11 @@ use Rattle.bng_engine.specs.Terms.{Key, keys, leases_at}
 use Rattle.bng_engine.specs.Views.{new_row, row_keys}
 use Rattle.bng_engine.proofs.Everywhere.{all_filter}
 use Rattle.bng_shard.specs.declared.rules.Rules.{Rules}
+use Rattle.bng_slots.specs.Sessions.{IsNumberOf}
+use Rattle.bng_shard.specs.Opening.{in_order, lease_from, opened_slots, provisioned}
 use Rattle.bng_shard.specs.Protocol.{ShardState, Handled, term_of, terms_of, terms_after, profiles_there, pppoe, opened}
-use Rattle.bng_shard.proofs.StepLaws.{none_ended}
+use Rattle.bng_shard.proofs.InOrder as ordered
+use Rattle.bng_shard.proofs.StepLaws.{pppoe_still}
 use Rattle.bng_desk.specs.Opening.{shard_of, holder_of, statics_of, opened_shards}
 use Rattle.bng_desk.specs.Round.{views_of, view_of, held_by}
 use Rattle.bng_gate.proofs.Lists.{Apart, apart_of, IsWithin, sum_parts}
@@ -61,6 +67,27 @@ shards_within config rules = all_in config.shards config.statics (recursion_from
 pub sum_shards : (config : Config) → KeepsRules config → (h : Static → ℕ) → sum_by (λ n. sum_by h (statics_of config n)) (range_with_len 0 config.shards) ≡ sum_by h config.statics
 sum_shards config rules h = sum_parts shard_of h 0 config.shards config.statics (shards_within config rules)
 
+-- a shard's circuits: no two have one number, and each number is the shard's
+pub shard_apart : (config : Config) → KeepsRules config → (n : ℕ) → ordered.Apart (statics_of config n)
+shard_apart config rules n = ordered.apart_of (statics_of config n) (AllPairs-filter (λ a b. a.session ≡ b.session → ⊥) (λ c. eqb (shard_of c) n) config.statics rules.sessions)
+
+own_number : (n shards m : ℕ) → m / 1024 ≡ n → IsSessionOf shards m → IsNumberOf n m
+own_number n shards m e h =
+    let parts = div-add-mod' m 1024 in
+    let times = ap (λ k. k * 1024) e in
+    (omega (arith, parts, times, h.low), omega (arith, parts, times, h.high))
+
+own_where : (n shards : ℕ) (b : Bool) (c : Static) (cs : List Static) → eqb (shard_of c) n ≡ b → IsSessionOf shards c.session.0 → AllByRecursion (λ d. IsNumberOf n d.session.0) cs → AllByRecursion (λ d. IsNumberOf n d.session.0) (cond b (c ∷ cs) cs)
+own_where n shards true c cs e h rest = (own_number n shards c.session.0 (eqb-true (shard_of c) n e) h, rest)
+own_where n shards false c cs e h rest = rest
+
+own_in : (n shards : ℕ) (cs : List Static) → AllByRecursion (λ c. IsSessionOf shards c.session.0) cs → AllByRecursion (λ c. IsNumberOf n c.session.0) (filter (λ c. eqb (shard_of c) n) cs)
+own_in n shards [] h = tt
+own_in n shards (c ∷ cs) h = own_where n shards (eqb (shard_of c) n) c (filter (λ d. eqb (shard_of d) n) cs) refl h.0 (own_in n shards cs h.1)
+
+pub shard_own : (config : Config) → KeepsRules config → (n : ℕ) → AllByRecursion (λ c. IsNumberOf n c.session.0) (statics_of config n)
+shard_own config rules n = own_in n config.shards config.statics (recursion_from_All (λ c. IsSessionOf config.shards c.session.0) config.statics rules.sharded)
+
 -- The opening -----------------------------------------------------------------------------------------------------------
 
 numbered : (n m : ℕ) (cs : List Static) → m ≡ n + length cs → AreNumbered n (keys (terms_after n cs)) m
@@ -87,21 +114,45 @@ first_profiles : (n : ℕ) (cs : List Static) → AllByRecursion IsFirst cs → 
 first_profiles n [] h = tt
 first_profiles n (c ∷ cs) h = (omega (arith, h.0), first_profiles (n + 1) cs h.1)
 
-module _ (r : Rules) where
-  new_shard : (number : ℕ) (cs : List Static) → AllByRecursion IsFirst cs → IsNew pppoe (with_journal {E = Handled} (opened number r cs) [])
-  new_shard number cs profiles = record {
-    live = none_ended 0 cs;
-    numbered = record { in_order = keys (terms_after 0 cs); same = λ f. refl; numbered = numbered 0 (length cs) cs (omega arith) };
-    fit = λ f. ap (sum_by f) (keys_of_new (keys (terms_after 0 cs)));
-    rows = new_say_nothing (keys (terms_after 0 cs));
-    profiled = first_profiles 0 cs profiles;
-    profiles = refl;
-    books = one_empty;
-  }
+-- as many ones as there are circuits
+ones : (cs : List Static) → sum_by (λ _. 1) cs ≡ length cs
+ones [] = refl
+ones (c ∷ cs) =
+    let one : Static → ℕ = λ _. 1 in
+    omega (arith, sum_by-cons one c cs, ones cs)
 
-  new_shards : (config : Config) (ns : List ℕ) → AllByRecursion IsFirst config.statics → AllByRecursion (IsNew pppoe) (views_of (map (λ n. opened n r (statics_of config n)) ns))
-  new_shards config [] profiles = tt
-  new_shards config (n ∷ ns) profiles = (new_shard n (statics_of config n) (all_filter IsFirst (λ c. eqb (shard_of c) n) config.statics profiles), new_shards config ns profiles)
+-- by rising number there are as many
+pub as_many : (n : ℕ) (cs : List Static) → AllByRecursion (λ c. IsNumberOf n c.session.0) cs → length cs ≡ length (in_order n cs)
+as_many n cs own = omega (arith, ones cs, ones (in_order n cs), ordered.sum_in_order (λ _. 1) n cs own)
+
+module _ (r : Rules) where
+  abbrev fresh : ℕ → List Static → ShardState
+  fresh number cs = record { rules = r; slots = opened_slots number cs }
+
+  new_shard : (number : ℕ) (cs : List Static) → ordered.Apart cs → AllByRecursion (λ c. IsNumberOf number c.session.0) cs → AllByRecursion IsFirst cs → IsNew pppoe (with_journal {E = Handled} (opened number r cs) [])
+  new_shard number cs apart own profiles =
+      let circuits = in_order number cs in
+      let terms : terms_of (fresh number cs) ≡ terms_after 0 circuits = ordered.opened_terms r number cs apart in
+      record {
+        live = pppoe_still.live (fresh number cs);
+        numbered = record {
+          in_order = keys (terms_after 0 circuits);
+          same = λ f. ap (λ ts. sum_by f (keys ts)) terms;
+          numbered = numbered 0 (length cs) circuits (as_many number cs own ∙ sym (zero-add (length circuits)));
+        };
+        fit = λ f. ap (sum_by f) (keys_of_new (keys (terms_of (fresh number cs))));
+        rows = new_say_nothing (keys (terms_of (fresh number cs)));
+        profiled = subst (HaveProfiles profiles_there) (sym terms) (first_profiles 0 circuits (ordered.all_in_order IsFirst number cs profiles));
+        profiles = refl;
+        books = one_empty;
+      }
+
+  new_shards : (config : Config) → KeepsRules config → (ns : List ℕ) → AllByRecursion IsFirst config.statics → AllByRecursion (IsNew pppoe) (views_of (map (λ n. opened n r (statics_of config n)) ns))
+  new_shards config rules [] profiles = tt
+  new_shards config rules (n ∷ ns) profiles = (
+    new_shard n (statics_of config n) (shard_apart config rules n) (shard_own config rules n) (all_filter IsFirst (λ c. eqb (shard_of c) n) config.statics profiles),
+    new_shards config rules ns profiles,
+  )
 
   -- how many terms of a shard have an address
   leases_are : (a n : ℕ) (cs : List Static) → leases_at a (keys (terms_after n cs)) ≡ count_by (λ c. eqb (address_in c) a) cs
@@ -109,21 +160,28 @@ module _ (r : Rules) where
   leases_are a n (c ∷ cs) =
       omega (
         arith,
-        sum_by-cons (λ (k : Key). one_if (eqb k.lease.0 a)) (term_of c (n + 1)).key (keys (terms_after (n + 1) cs)),
+        sum_by-cons (λ (k : Key). one_if (eqb k.lease.0 a)) (term_of (provisioned c (n + 1)) (lease_from c (n + 1))).key (keys (terms_after (n + 1) cs)),
         sum_by-cons (λ (x : Static). one_if (eqb (address_in x) a)) c cs,
         leases_are a (n + 1) cs,
       )
 
-  holders_are : (config : Config) (a : ℕ) (ns : List ℕ) → holders pppoe a (map nothing_yet (views_of (map (λ n. opened n r (statics_of config n)) ns))) ≡ sum_by (λ n. count_by (λ c. eqb (address_in c) a) (statics_of config n)) ns
-  holders_are config a [] = refl
-  holders_are config a (n ∷ ns) =
+  -- of a shard that was opened
+  leases_opened : (a n : ℕ) (cs : List Static) → ordered.Apart cs → AllByRecursion (λ c. IsNumberOf n c.session.0) cs → leases_at a (keys (terms_of (fresh n cs))) ≡ count_by (λ c. eqb (address_in c) a) cs
+  leases_opened a n cs apart own =
+      ap (λ ts. leases_at a (keys ts)) (ordered.opened_terms r n cs apart)
+      ∙ leases_are a 0 (in_order n cs)
+      ∙ ordered.sum_in_order (λ (c : Static). one_if (eqb (address_in c) a)) n cs own
+
+  holders_are : (config : Config) → KeepsRules config → (a : ℕ) (ns : List ℕ) → holders pppoe a (map nothing_yet (views_of (map (λ n. opened n r (statics_of config n)) ns))) ≡ sum_by (λ n. count_by (λ c. eqb (address_in c) a) (statics_of config n)) ns
+  holders_are config rules a [] = refl
+  holders_are config rules a (n ∷ ns) =
       let rest = views_of (map (λ (m : ℕ). opened m r (statics_of config m)) ns) in
       omega (
         arith,
         sum_by-cons (λ (h : ShardHistory ShardState). leases_at a (keys (terms_of h.state))) (nothing_yet (with_journal {E = Handled} (opened n r (statics_of config n)) [])) (map nothing_yet rest),
         sum_by-cons (λ (m : ℕ). count_by (λ (c : Static). eqb (address_in c) a) (statics_of config m)) n ns,
-        leases_are a 0 (statics_of config n),
-        holders_are config a ns,
+        leases_opened a n (statics_of config n) (shard_apart config rules n) (shard_own config rules n),
+        holders_are config rules a ns,
       )
 
 -- an address that no two have is there once, or not at all
@@ -149,7 +207,7 @@ held_once a (c ∷ cs) h = sum_by-cons (λ (x : Static). one_if (eqb (address_in
 -- the desk at its opening holds each circuit's term with its address, and nothing else
 pub opens : (r : Rules) (config : Config) → KeepsRules config → All (λ c. c.profile ≡ 0) config.statics → Opens pppoe (view_of (opened_shards config r) (map holder_of config.statics) (empty_book ∷ []))
 opens r config rules profiles = record {
-  new = new_shards r config (range_with_len 0 config.shards) (recursion_from_All IsFirst config.statics profiles);
-  holds = λ a. holders_are r config a (range_with_len 0 config.shards) ∙ sum_shards config rules (λ (c : Static). one_if (eqb (address_in c) a)) ∙ held_once a config.statics (addresses_apart config rules);
+  new = new_shards r config rules (range_with_len 0 config.shards) (recursion_from_All IsFirst config.statics profiles);
+  holds = λ a. holders_are r config rules a (range_with_len 0 config.shards) ∙ sum_shards config rules (λ (c : Static). one_if (eqb (address_in c) a)) ∙ held_once a config.statics (addresses_apart config rules);
   tallies = one_empty;
 }

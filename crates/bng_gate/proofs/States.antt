@@ -5,7 +5,7 @@ use Rattle.std.proofs.lemmas.Bool.{or_parts, leb-false}
 use Rattle.bng_desk.specs.declared.desk.DeskState.{DeskState}
 use Rattle.bng_desk.specs.declared.desk.DeskState.TheVariants.{Serving, Ending, Ended, Starved}
 use Rattle.bng_desk.specs.declared.desk.Turned.{Turned}
-use Rattle.bng_desk.specs.Model.{Desk, is_over, has_ended, has_starved, state_of, unopened_most, endings_most}
+use Rattle.bng_desk.specs.Model.{Desk, is_over, has_ended, has_starved, state_of}
 use Rattle.bng_desk.specs.Turn.{Turn, EndTurn, stretch_of, end_stretch, answer_if, turned_of, end_turned}
 use Rattle.bng_gate.specs.Serving.{is_serving, is_ending, is_starved, is_fault}
 
@@ -53,10 +53,6 @@ ending d e = ending_by (is_over d) (has_ended d) (has_starved d) e
 
 pub left : (d : Desk) → is_over d ≡ true → is_ending (state_of d) ≡ false → (state_of d ≡ Ended) ⊎ (state_of d ≡ Starved)
 left d now e = left_by (is_over d) (has_ended d) (has_starved d) now e
-
--- a desk that is still ending has turns of the ending left
-pub endings_left : (d : Desk) → has_starved d ≡ false → d.endings < 2 ^ 40
-endings_left d e = let parts = or_parts (nat_le unopened_most d.unopened) (nat_le endings_most d.endings) e in leb-false endings_most d.endings parts.1
 
 -- a test that fails is no state
 pub serving_no : (s : DeskState) → is_serving s ≡ false → ¬ (s ≡ Serving)

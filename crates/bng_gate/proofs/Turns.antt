@@ -96,11 +96,7 @@ ended d d' turns run fresh serving over within before = record {
       omega (arith, eqb-true d'.turns d'.rounds all, run_turns d d' turns run, run_rounds d d' turns run);
 }
 
--- a turn of the ending counts itself, and leaves serving over
-pub end_counts : (d d' : Desk) (t : Option EndTurn) → EndStep d t d' → d'.endings ≡ d.endings + 1
-end_counts d d' None step = ap (λ (u : Desk). u.endings) step
-end_counts d d' (Some t) step = ap (λ (u : Desk). u.endings) step.2
-
+-- a turn of the ending leaves serving over
 end_over : (d d' : Desk) → d'.stopped ≡ d.stopped → d'.turns ≡ d.turns → d'.rounds ≡ d.rounds → is_over d' ≡ is_over d
 end_over d d' stopped turns rounds = cc
 

@@ -23,7 +23,7 @@ use Rattle.bng_engine.specs.Quantities.{Octets}
 use Rattle.bng_engine.specs.Terms.{Key, keys}
 use Rattle.bng_engine.specs.Wire.{is_input, is_from, is_output, is_on, told_of, went}
 use Rattle.bng_shard.specs.declared.sums.Traffic.{Traffic}
-use Rattle.bng_shard.specs.Protocol.{ShardState, terms_of, terms_after, pppoe}
+use Rattle.bng_shard.specs.Protocol.{ShardState, terms_of, terms_of_circuits, pppoe}
 use Rattle.bng_shard.specs.Reader.{is_session_data, pppoe_reader}
 use Rattle.bng_desk.specs.Model.{input_of, output_of}
 use Rattle.bng_desk.specs.Opening.{line_of, statics_of}
@@ -77,9 +77,9 @@ traffic_of sent c = record {
 abbrev pub all_traffic : Config → List Datagram → List Traffic
 all_traffic config sent = map (traffic_of sent) config.statics
 
--- the terms of the circuits, each in the shard of its number
+-- the terms of the circuits, each in the shard of its number, numbered there by rising session number
 abbrev pub keys_of_circuits : Config → List (List Key)
-keys_of_circuits config = map (λ n. keys (terms_after 0 (statics_of config n))) (range_with_len 0 config.shards)
+keys_of_circuits config = map (λ n. keys (terms_of_circuits n (statics_of config n))) (range_with_len 0 config.shards)
 
 -- What holds of the turns that a run made, whatever frames and datagrams, repeats and moments it met.
 pub record IsSafe (config : Config) (seed : List ℕ) (old new : World) (course : Course config seed (outside old) (outside new)) : Type 0 where

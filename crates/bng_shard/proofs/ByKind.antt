@@ -43,7 +43,7 @@ module _ (r : Rules) (s s' : State) (outs outs' : List OutRecord) (a : At) (now 
         few = subst (λ (k : ItemKind). length h.deed.outs ≤ outs_most k) (sym is) h.few;
       }
 
-  module _ (here : a.shard ≡ s.number) where
+  module _ (here : a.shard ≡ s.sessions.shard) where
     pub ticked : item.kind ≡ Tick → Ticked at_once r a now item.random s s' outs outs' → IsStep Consumed
     ticked is t = stepped Consumed Tick is (record {
       deed = handled s entry t.more s';
@@ -67,7 +67,7 @@ module _ (r : Rules) (s s' : State) (outs outs' : List OutRecord) (a : At) (now 
     })
 
 -- a kind that nothing here hears
-pub passed_over : (r : Rules) (s : State) (outs : List OutRecord) (a : At) (now : ℕ) (item : Item) → a.shard ≡ s.number → (kind : ItemKind) → item.kind ≡ kind
+pub passed_over : (r : Rules) (s : State) (outs : List OutRecord) (a : At) (now : ℕ) (item : Item) → a.shard ≡ s.sessions.shard → (kind : ItemKind) → item.kind ≡ kind
     → ((e : Entry) → Hears kind r s e (ignored s e)) → Does (Step r s) (outs_most item.kind) s s outs outs (entry_of a.seat a.place now item) Consumed
 passed_over r s outs a now item here kind is says =
     stepped r s s outs outs a now item Consumed kind is

@@ -1,40 +1,80 @@
--- What was done with data of provisioned circuits, of what is known of its parts.
-use Rattle.std.proofs.Common.{◌≡◌, ℕ, true, false, List, [], ◌∷◌, ◌++◌, Option, Some, None, inl, inr, refl, sym, ap, subst, ◌∙◌, arith}
-use Rattle.std.specs.Prelude.{slice_get}
+-- What was done with a packet of a term, of what is known of its parts.
+use Rattle.std.proofs.Common.{◌≡◌, ℕ, true, false, List, [], ◌∷◌, ◌++◌, Option, Some, None, length, inl, inr, refl, sym, ap, subst, ◌∙◌, arith}
+use Rattle.std.specs.Prelude.{◌≢◌, ◌==◌, find, option_map}
+use Rattle.std.specs.Option.{option_and_then}
+use Rattle.std.proofs.lemmas.Bool.Decides.{nat_tests}
 use Rattle.std.proofs.lemmas.List.{append-nil}
+use Rattle.bng_base.specs.declared.address.Ip4.{Ip4}
 use Rattle.bng_base.specs.declared.fate.Fate.{Fate}
-use Rattle.bng_base.specs.declared.fate.Fate.TheVariants.{Forwarded, Dropped}
-use Rattle.bng_base.specs.declared.fate.DropCause.TheVariants.{NoSession}
+use Rattle.bng_base.specs.declared.fate.Fate.TheVariants.{Forwarded}
+use Rattle.bng_base.specs.declared.ipv4.Ipv4.{Ipv4}
 use Rattle.bng_base.specs.declared.item.Entry.{Entry}
 use Rattle.bng_base.specs.declared.item.Item.{Item}
 use Rattle.bng_base.specs.declared.item.OutRecord.{OutRecord}
 use Rattle.bng_base.specs.declared.outside.Role.TheVariants.{Access, Core}
 use Rattle.bng_base.specs.declared.settings.AccessPort.{AccessPort}
-use Rattle.bng_base.specs.declared.settings.Static.{Static}
-use Rattle.bng_base.specs.FateOf.{arrival_of}
-use Rattle.bng_forward.specs.Fates.{EndsUp, EndsDown}
+use Rattle.bng_base.specs.PppoeGrammar.{PppoeFrame}
+use Rattle.bng_forward.specs.declared.view.TermView.{TermView}
+use Rattle.bng_forward.specs.Fates.{UpFate, DownFate}
 use Rattle.bng_forward.specs.Framed.{circuit_frame, IsFrameTo}
-use Rattle.bng_forward.specs.Opened.{PassesUp, PassesDown}
+use Rattle.bng_forward.specs.Packets.{IsPassedOn, MayPassUp}
+use Rattle.bng_slots.specs.Listed.{values}
 use Rattle.bng_shard.specs.declared.rules.Rules.{Rules}
 use Rattle.bng_shard.specs.declared.sending.At.{At}
-use Rattle.bng_shard.specs.State.{State, port_at}
+use Rattle.bng_shard.specs.declared.session.Lease.{Lease}
+use Rattle.bng_shard.specs.declared.session.Service.{Service}
+use Rattle.bng_shard.specs.declared.session.Service.TheVariants.{Provisioned, Discovered}
+use Rattle.bng_shard.specs.declared.session.Session.{Session}
+use Rattle.bng_shard.specs.State.{State, port_at, session_of, holder_of, lease_in, lease_of, view_in, view_of, leases, leases_in}
 use Rattle.bng_shard.specs.Deed.{Deed, at_of, out, only}
 use Rattle.bng_shard.specs.Doing.{DoesWith}
-use Rattle.bng_shard.specs.Frames.{HearsCircuit, HearsCore, SendsDown, charge_of, forwarded}
+use Rattle.bng_shard.specs.Frames.{HearsData, HearsPacket, charge_of, forwarded, found_up, found_down}
 use Rattle.bng_shard.specs.Protocol.{entry_of}
-
--- a fact of three values, along three equations
-pub along : {A B C : Type 0} (P : A → B → C → Type 0) (a a' : A) (b b' : B) (c c' : C) → a ≡ a' → b ≡ b' → c ≡ c' → P a b c → P a' b' c'
-along {A} {B} {C} P a a' b b' c c' p q r h = subst (λ (z : C). P a' b' z) r (subst (λ (y : B). P a' y c) q (subst (λ (x : A). P x b c) p h))
-
-pub along2 : {A B : Type 0} (P : A → B → Type 0) (a a' : A) (b b' : B) → a ≡ a' → b ≡ b' → P a b → P a' b'
-along2 {A} {B} P a a' b b' p q h = subst (λ (y : B). P a' y) q (subst (λ (x : A). P x b) p h)
+use Rattle.bng_shard.proofs.Values.{same_some, none_some, found_is}
 
 -- an entry's place is that of its item, where the shard is the state's
-pub its_place : (s : State) (a : At) (moment : ℕ) (item : Item) → a.shard ≡ s.number → a ≡ at_of s (entry_of a.seat a.place moment item)
+pub its_place : (s : State) (a : At) (moment : ℕ) (item : Item) → a.shard ≡ s.sessions.shard → a ≡ at_of s (entry_of a.seat a.place moment item)
 its_place s a moment item e = let make : ℕ → At = λ n. record { shard = n; seat = a.seat; place = a.place } in ap make e
 
-module _ (r : Rules) (s : State) (a : At) (item : Item) (outs : List OutRecord) (here : a.shard ≡ s.number) where
+-- the service of a session with a lease
+pub service_with : (v : Service) (l : Lease) → lease_in v ≡ Some l → v ≡ Provisioned l
+service_with (Provisioned k) l e = ap (λ (x : Lease). Provisioned x) (same_some k l e)
+service_with (Discovered m) l e = absurd (none_some l e)
+
+-- a session whose term has a view has a lease
+pub leased : (v : Service) (view : TermView) → view_in v ≡ Some view → lease_in v ≡ None → ⊥
+leased (Provisioned l) view e none = none_some l (sym none)
+leased (Discovered m) view e none = none_some view e
+
+-- where a view was found there is a session with a lease
+pub has_session : (found : Option Session) (view : Option TermView) → option_map view_of found ≡ Some view → found ≡ None → ⊥
+has_session None view e none = none_some view e
+has_session (Some x) view e none = none_some x (sym none)
+
+pub has_holder : (found : Option Session) (view : TermView) → option_and_then view_of found ≡ Some view → found ≡ None → ⊥
+has_holder None view e none = none_some view e
+has_holder (Some x) view e none = none_some x (sym none)
+
+-- the view of the session that was found, if one was found
+pub found_view : (found : Option (Option TermView)) (o : Option Session) → found ≡ option_map view_of o
+    → (flat : Option TermView) → flat ≡ option_and_then (λ (v : Option TermView). v) found → flat ≡ option_and_then view_of o
+found_view found None e flat is = is ∙ ap (λ (f : Option (Option TermView)). option_and_then (λ (v : Option TermView). v) f) e
+found_view found (Some x) e flat is = is ∙ ap (λ (f : Option (Option TermView)). option_and_then (λ (v : Option TermView). v) f) e
+
+same_address : (a b : Ip4) → a.0 ≡ b.0 → a ≡ b
+same_address a b e = let make : ℕ → Ip4 = λ n. record { 0 = n } in ap make e
+
+equal_numbers : (a b : ℕ) → (a == b) ≡ true → a ≡ b
+equal_numbers a b e = grind (arith, nat_tests)
+
+-- the holder of an address leases it
+held_address : (s : State) (a : Ip4) (x : Session) (l : Lease) → holder_of s a ≡ Some x → x.service ≡ Provisioned l → a ≡ l.address
+held_address s a x l at service =
+    let passes : leases_in x.service a ≡ true = (found_is (leases a) (values s.sessions) x at).1 in
+    let is : (l.address.0 == a.0) ≡ true = ap (λ (v : Service). leases_in v a) (sym service) ∙ passes in
+    same_address a l.address (sym (equal_numbers l.address.0 a.0 is))
+
+module _ (r : Rules) (s : State) (a : At) (item : Item) (outs : List OutRecord) (here : a.shard ≡ s.sessions.shard) where
   -- nothing was sent, and the state is as before
   pub nothing_done : (Says : Entry → Deed → Type 0) (most : ℕ) (fate : Fate) → ((moment : ℕ) → let e : Entry = entry_of a.seat a.place moment item in Says e (only s e fate))
       → (moment : ℕ) → DoesWith Says most s s outs outs a moment item fate
@@ -50,56 +90,79 @@ module _ (r : Rules) (s : State) (a : At) (item : Item) (outs : List OutRecord) 
         few = omega arith;
       }
 
-  pub goes_up : (number place octets : ℕ) (c : Static) (packet : List ℕ) (outs' : List OutRecord)
-      → PassesUp r.access s.statics number (arrival_of item) place octets packet → slice_get s.statics place ≡ Some c
-      → outs' ≡ outs ++ out a Core r.core_peer packet (Some (charge_of c place true octets)) ∷ []
-      → (moment : ℕ) → DoesWith (λ e d. HearsCircuit r s e number d) 1 s s outs outs' a moment item Forwarded
-  goes_up number place octets c packet outs' passes at pushed moment =
+  -- a packet of a circuit that does not go on
+  pub drops_up : (number : ℕ) (p : PppoeFrame) (info : List ℕ) (found : Option (Option TermView)) (fate : Fate) → found ≡ found_up s number p → UpFate found info fate → fate ≢ Forwarded
+      → (moment : ℕ) → DoesWith (λ e d. HearsData r s e number p info d) 1 s s outs outs a moment item fate
+  drops_up number p info found fate is up other =
+      nothing_done (λ e d. HearsData r s e number p info d) 1 fate (λ moment. (fate, subst (λ (f : Option (Option TermView)). UpFate f info fate) is up, inr (other, refl)))
+
+  -- one that goes to the core
+  pub goes_up : (number : ℕ) (p : PppoeFrame) (info packet : List ℕ) (found : Option (Option TermView)) (x : Session) (l : Lease) (octets : ℕ) (outs' : List OutRecord)
+      → found ≡ found_up s number p → session_of s number p.src p.session ≡ Some x → lease_of x ≡ Some l
+      → UpFate found info Forwarded → (v : Ipv4) × MayPassUp found v × IsPassedOn v info packet → length packet ≡ octets
+      → outs' ≡ outs ++ out a Core r.core_peer packet (Some (charge_of x l true octets)) ∷ []
+      → (moment : ℕ) → DoesWith (λ e d. HearsData r s e number p info d) 1 s s outs outs' a moment item Forwarded
+  goes_up number p info packet found x l octets outs' is at leased up (v, may, passed) count pushed moment =
       let e : Entry = entry_of a.seat a.place moment item in
-      let sent : At → OutRecord = λ x. out x Core r.core_peer packet (Some (charge_of c place true octets)) in
+      let sent : At → ℕ → OutRecord = λ b n. out b Core r.core_peer packet (Some (charge_of x l true n)) in
+      let service : x.service ≡ Provisioned l = service_with x.service l leased in
+      let total : octets ≡ v.total = sym count ∙ passed.whole in
+      let its_view : TermView = record { lease = l.address; opened = true } in
+      let view : Some (Some may.view) ≡ Some (Some its_view) =
+      sym may.term ∙ is ∙ ap (λ (o : Option Session). option_map view_of o) at ∙ ap (λ (y : Service). Some (view_in y)) service in
+      let same : may.view ≡ its_view = same_some may.view its_view (same_some (Some may.view) (Some its_view) view) in
       record {
-        deed = forwarded s e (sent (at_of s e));
+        deed = forwarded s e (sent (at_of s e) v.total);
         entry = refl;
         fate_is = refl;
         next = refl;
-        says = inl (record { place = place; octets = octets; packet = packet; passes = passes; circuit = c; at = at; done = refl });
-        outs_are = pushed ∙ ap (λ (x : At). outs ++ sent x ∷ []) (its_place s a moment item here);
+        says = (
+          Forwarded,
+          subst (λ (f : Option (Option TermView)). UpFate f info Forwarded) is up,
+          inl (refl, record { x = x; found = at; lease = l; service = service; header = v; packet = packet; source = may.source ∙ ap (λ (t : TermView). t.lease) same; passed = passed; done = refl }),
+        );
+        outs_are = pushed ∙ ap (λ (n : ℕ). outs ++ sent a n ∷ []) total ∙ ap (λ (b : At). outs ++ sent b v.total ∷ []) (its_place s a moment item here);
         few = omega arith;
       }
 
-  pub ends_there : (number : ℕ) (fate : Fate) → EndsUp r.access s.statics number (arrival_of item) fate
-      → (moment : ℕ) → DoesWith (λ e d. HearsCircuit r s e number d) 1 s s outs outs a moment item fate
-  ends_there number fate ends = nothing_done (λ e d. HearsCircuit r s e number d) 1 fate (λ moment. inr (fate, ends, refl))
+  -- a packet of the core that does not go on
+  pub drops_down : (v : Ipv4) (fate : Fate) → DownFate (found_down s) item.frame.payload fate → fate ≢ Forwarded
+      → (moment : ℕ) → DoesWith (λ e d. HearsPacket r s e v d) 1 s s outs outs a moment item fate
+  drops_down v fate down other = nothing_done (λ e d. HearsPacket r s e v d) 1 fate (λ moment. (fate, down, inr (other, refl)))
 
-  goes_out : (place octets : ℕ) (c : Static) (packet : List ℕ) (port : Option AccessPort) (d : Deed) → PassesDown r.core_peer s.statics (arrival_of item) place octets packet → slice_get s.statics place ≡ Some c → port_at r.access c.port ≡ port
-      → (moment : ℕ) → let e : Entry = entry_of a.seat a.place moment item in SendsDown s e place octets packet c port d → HearsCore r s e d
-  goes_out place octets c packet port d passes at is moment sends =
+  -- one that goes to a subscriber
+  pub goes_down : (v : Ipv4) (packet octets : List ℕ) (x : Session) (l : Lease) (port : AccessPort) (outs' : List OutRecord)
+      → holder_of s v.dst ≡ Some x → lease_of x ≡ Some l → port_at r.access x.port ≡ Some port
+      → DownFate (found_down s) item.frame.payload Forwarded → IsPassedOn v item.frame.payload packet
+      → octets ≡ circuit_frame port x.mac x.number.0 packet → IsFrameTo port x.mac x.number.0 packet octets
+      → outs' ≡ outs ++ out a (Access x.port) port.peer octets (Some (charge_of x l false v.total)) ∷ []
+      → (moment : ℕ) → DoesWith (λ e d. HearsPacket r s e v d) 1 s s outs outs' a moment item Forwarded
+  goes_down v packet octets x l port outs' at leased its_port down passed framed again pushed moment =
       let e : Entry = entry_of a.seat a.place moment item in
-      let there : SendsDown s e place octets packet c (port_at r.access c.port) d = subst (λ (p : Option AccessPort). SendsDown s e place octets packet c p d) (sym is) sends in
-      inl (record { place = place; octets = octets; packet = packet; passes = passes; circuit = c; at = at; sends = there })
-
-  pub goes_down : (place octets : ℕ) (c : Static) (packet : List ℕ) (port : AccessPort) (outs' : List OutRecord)
-      → PassesDown r.core_peer s.statics (arrival_of item) place octets packet → slice_get s.statics place ≡ Some c → port_at r.access c.port ≡ Some port
-      → IsFrameTo port c packet (circuit_frame port c packet)
-      → outs' ≡ outs ++ out a (Access c.port) port.peer (circuit_frame port c packet) (Some (charge_of c place false octets)) ∷ []
-      → (moment : ℕ) → DoesWith (λ e d. HearsCore r s e d) 1 s s outs outs' a moment item Forwarded
-  goes_down place octets c packet port outs' passes at is read pushed moment =
-      let e : Entry = entry_of a.seat a.place moment item in
-      let sent : At → OutRecord = λ x. out x (Access c.port) port.peer (circuit_frame port c packet) (Some (charge_of c place false octets)) in
+      let sent : At → List ℕ → OutRecord = λ b f. out b (Access x.port) port.peer f (Some (charge_of x l false v.total)) in
+      let service : x.service ≡ Provisioned l = service_with x.service l leased in
       record {
-        deed = forwarded s e (sent (at_of s e));
+        deed = forwarded s e (sent (at_of s e) (circuit_frame port x.mac x.number.0 packet));
         entry = refl;
         fate_is = refl;
         next = refl;
-        says = goes_out place octets c packet (Some port) (forwarded s e (sent (at_of s e))) passes at is moment (read, refl);
-        outs_are = pushed ∙ ap (λ (x : At). outs ++ sent x ∷ []) (its_place s a moment item here);
+        says = (
+          Forwarded,
+          down,
+          inl (refl, record {
+            x = x;
+            found = at;
+            lease = l;
+            service = service;
+            address = held_address s v.dst x l at service;
+            port = port;
+            its_port = its_port;
+            packet = packet;
+            passed = passed;
+            again = subst (λ (f : List ℕ). IsFrameTo port x.mac x.number.0 packet f) framed again;
+            done = refl;
+          }),
+        );
+        outs_are = pushed ∙ ap (λ (f : List ℕ). outs ++ sent a f ∷ []) framed ∙ ap (λ (b : At). outs ++ sent b (circuit_frame port x.mac x.number.0 packet) ∷ []) (its_place s a moment item here);
         few = omega arith;
       }
-
-  pub goes_nowhere : (place octets : ℕ) (c : Static) (packet : List ℕ) → PassesDown r.core_peer s.statics (arrival_of item) place octets packet → slice_get s.statics place ≡ Some c → port_at r.access c.port ≡ None
-      → (moment : ℕ) → DoesWith (λ e d. HearsCore r s e d) 1 s s outs outs a moment item (Dropped NoSession)
-  goes_nowhere place octets c packet passes at is =
-      nothing_done (λ e d. HearsCore r s e d) 1 (Dropped NoSession) (λ moment. goes_out place octets c packet None (only s (entry_of a.seat a.place moment item) (Dropped NoSession)) passes at is moment refl)
-
-  pub ends_here : (fate : Fate) → EndsDown r.core_peer s.statics (arrival_of item) fate → (moment : ℕ) → DoesWith (λ e d. HearsCore r s e d) 1 s s outs outs a moment item fate
-  ends_here fate ends = nothing_done (λ e d. HearsCore r s e d) 1 fate (λ moment. inr (fate, ends, refl))

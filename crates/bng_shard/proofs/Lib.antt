@@ -2,7 +2,7 @@ pub mod RowSums
 pub mod Tallying
 pub mod Holding
 pub mod RowLaws
-pub mod Statics
+pub mod Terms
 pub mod Reading
 pub mod Spelling
 pub mod Packets
@@ -24,4 +24,5 @@ pub mod Framing
 pub mod ByKind
 pub mod Vacant
 pub mod Leaving
+pub mod Values
 pub mod InOrder

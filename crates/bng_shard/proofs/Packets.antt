@@ -1,19 +1,20 @@
 -- The octets of packets: in the frame of a circuit, and to the core.
-use Rattle.std.proofs.Common.{◌≡◌, ℕ, ◌+◌, ◌-◌, ◌≤◌, true, false, List, [], ◌∷◌, Some, length, take, drop, slice_range, slice_get, refl, sym, ap, subst, ◌∙◌, arith, length-take, length-drop}
-use Rattle.std.proofs.lemmas.Option.{same_Some}
+use Rattle.std.proofs.Common.{◌≡◌, ℕ, ◌+◌, ◌-◌, ◌≤◌, true, false, List, [], ◌∷◌, length, take, drop, slice_range, refl, sym, ap, subst, ◌∙◌, arith, length-take, length-drop}
 use Rattle.byteorder.specs.Endian.{big_from}
 use Rattle.bng_base.specs.declared.address.Mac.{Mac}
 use Rattle.bng_base.specs.declared.outside.Role.TheVariants.{Access, Core}
-use Rattle.bng_base.specs.declared.address.Peer.{Peer}
+use Rattle.bng_base.specs.declared.ipv4.Ipv4.{Ipv4}
 use Rattle.bng_base.specs.declared.settings.AccessPort.{AccessPort}
-use Rattle.bng_base.specs.declared.settings.Static.{Static}
 use Rattle.bng_base.specs.FateOf.{Arrival}
 use Rattle.bng_base.specs.Ipv4Grammar.{IsIpv4}
-use Rattle.bng_base.specs.PppoeGrammar.{pppoe_text}
+use Rattle.bng_base.specs.PppoeGrammar.{PppoeFrame, pppoe_text}
 use Rattle.bng_shard.specs.Reader.{IsInputOf, IsOutputOf}
 use Rattle.bng_forward.specs.Framed.{session_frame, circuit_frame, IsFrameTo}
-use Rattle.bng_forward.specs.Opened.{PassesUp, PassesDown}
+use Rattle.bng_forward.specs.Fates.{IsFrame, Carries}
+use Rattle.bng_forward.specs.Packets.{IsPassedOn}
 use Rattle.bng_pppoe_wire.proofs.Spelled.{six}
+use Rattle.bng_shard.specs.declared.session.Lease.{Lease}
+use Rattle.bng_shard.specs.declared.session.Session.{Session}
 use Rattle.bng_shard.specs.Frames.{charge_of}
 
 -- The frame of a circuit --------------------------------------------------------------------------------------------------
@@ -41,71 +42,65 @@ first_six xs long = omega (arith, length-take 6 xs)
 next_six : (xs : List ℕ) → 20 ≤ length xs → length (slice_range xs 6 12) ≡ 6
 next_six xs long = omega (arith, length-take 6 (drop 6 xs), length-drop 6 xs)
 
-module _ (port : AccessPort) (c : Static) (packet : List ℕ) (is : IsFrameTo port c packet (circuit_frame port c packet)) where
-  long : 20 ≤ length (circuit_frame port c packet)
+module _ (port : AccessPort) (mac : Mac) (session : ℕ) (packet : List ℕ) (is : IsFrameTo port mac session packet (circuit_frame port mac session packet)) where
+  long : 20 ≤ length (circuit_frame port mac session packet)
   long = omega (arith, is.read.laid.is_there)
 
-  destination : length c.mac.0 ≡ 6
-  destination = ap length (ap (λ (m : Mac). m.0) (sym is.destination) ∙ is.read.laid.dst) ∙ first_six (circuit_frame port c packet) long
+  destination : length mac.0 ≡ 6
+  destination = ap length (ap (λ (m : Mac). m.0) (sym is.destination) ∙ is.read.laid.dst) ∙ first_six (circuit_frame port mac session packet) long
 
   source : length port.mac.0 ≡ 6
-  source = ap length (ap (λ (m : Mac). m.0) (sym is.source) ∙ is.read.laid.src) ∙ next_six (circuit_frame port c packet) long
+  source = ap length (ap (λ (m : Mac). m.0) (sym is.source) ∙ is.read.laid.src) ∙ next_six (circuit_frame port mac session packet) long
 
-  shows : Shows c.mac.0 (circuit_frame port c packet) packet
-  shows = shown c.mac.0 port.mac.0 c.session.0 packet destination source
+  shows : Shows mac.0 (circuit_frame port mac session packet) packet
+  shows = shown mac.0 port.mac.0 session packet destination source
 
-  session_id : big_from 16 2 (circuit_frame port c packet) ≡ c.session.0
-  session_id = sym is.read.laid.session ∙ is.session
+  session_id : big_from 16 2 (circuit_frame port mac session packet) ≡ session
+  session_id = sym is.read.laid.session ∙ is.number
 
 -- Packets ---------------------------------------------------------------------------------------------------------------
 
 part_short : (n : ℕ) (xs : List ℕ) → length (slice_range xs 20 n) ≤ length xs
 part_short n xs = omega (arith, length-take (n - 20) (drop 20 xs), length-drop 20 xs)
 
-same_circuit_at : (circuits : List Static) (place : ℕ) (b c : Static) → slice_get circuits place ≡ Some b → slice_get circuits place ≡ Some c → b.address ≡ c.address
-same_circuit_at circuits place b c at at' = ap (λ (x : Static). x.address) (same_Some b c (sym at ∙ at'))
+-- the packet of a frame is no longer than the datagram that it came in
+pub short_up : (ports : List AccessPort) (number : ℕ) (a : Arrival) (p : PppoeFrame) (info packet : List ℕ) (v : Ipv4) → IsFrame ports number a p → Carries p info → IsPassedOn v info packet → v.total ≤ length a.octets
+short_up ports number a p info packet v is carries passed =
+    let inside : length info ≡ length p.payload - 2 = ap length carries.ppp.info ∙ length-drop 2 p.payload in
+    let end = 20 + big_from 18 2 a.octets in
+    let payload : length p.payload ≡ length (slice_range a.octets 20 end) = ap length is.2.frame.laid.payload in
+    omega (arith, passed.was.is_there, inside, payload, part_short end a.octets)
 
-module _ (circuits : List Static) (a : Arrival) (place octets : ℕ) (packet : List ℕ) (c : Static) (at : slice_get circuits place ≡ Some c) where
+module _ (x : Session) (l : Lease) (v : Ipv4) (before packet : List ℕ) (passed : IsPassedOn v before packet) where
   -- to the core
-  pub spelled_up : (ports : List AccessPort) (number : ℕ) → PassesUp ports circuits number a place octets packet → IsInputOf (charge_of c place true octets) Core packet
-  spelled_up ports number h = record {
+  pub spelled_up : v.src ≡ l.address → IsInputOf (charge_of x l true v.total) Core packet
+  spelled_up source = record {
     role_is = refl;
-    header = record h.header { ttl = h.header.ttl - 1 };
-    packet = h.passed.is;
-    source = h.source ∙ same_circuit_at circuits place h.circuit c h.at at;
-    total = sym h.passed.whole;
-    counted = h.total ∙ sym h.passed.whole;
+    header = record v { ttl = v.ttl - 1 };
+    packet = passed.is;
+    source = source;
+    total = sym passed.whole;
+    counted = sym passed.whole;
   }
 
-  -- it is no longer than the datagram that it came in
-  pub short_up : (ports : List AccessPort) (number : ℕ) → PassesUp ports circuits number a place octets packet → octets ≤ length a.octets
-  short_up ports number h =
-      let frame = h.datagram.frame in
-      let info : length h.info ≡ length frame.payload - 2 = ap length h.datagram.carries.ppp.info ∙ length-drop 2 frame.payload in
-      let end = 20 + big_from 18 2 a.octets in
-      let payload : length frame.payload ≡ length (slice_range a.octets 20 end) = ap length h.datagram.came.2.frame.laid.payload in
-      omega (arith, h.total, h.passed.was.is_there, info, payload, part_short end a.octets)
-
   -- on the circuit
-  pub spelled_down : (core : Peer) (port : AccessPort) → IsFrameTo port c packet (circuit_frame port c packet) → PassesDown core circuits a place octets packet → IsOutputOf (charge_of c place false octets) (Access c.port) (circuit_frame port c packet)
-  spelled_down core port is h =
-      let all = shows port c packet is in
+  pub spelled_down : (port : AccessPort) → v.dst ≡ l.address → IsFrameTo port x.mac x.number.0 packet (circuit_frame port x.mac x.number.0 packet)
+      → IsOutputOf (charge_of x l false v.total) (Access x.port) (circuit_frame port x.mac x.number.0 packet)
+  spelled_down port to is =
+      let all = shows port x.mac x.number.0 packet is in
       record {
-        port = c.port;
-        mac = c.mac;
-        session = c.session;
+        port = x.port;
+        mac = x.mac;
+        session = x.number;
         circuit = refl;
         role_is = refl;
         mac_is = all.mac;
         ether_type = all.ether_type;
-        session_id = session_id port c packet is;
+        session_id = session_id port x.mac x.number.0 packet is;
         protocol = all.protocol;
-        header = record h.header { ttl = h.header.ttl - 1 };
-        packet = subst (λ (xs : List ℕ). IsIpv4 (record h.header { ttl = h.header.ttl - 1 }) xs) (sym all.packet_is) h.passed.is;
-        destination = h.destination ∙ same_circuit_at circuits place h.circuit c h.at at;
-        total = sym h.passed.whole ∙ ap length (sym all.packet_is);
-        counted = h.total ∙ sym h.passed.whole ∙ ap length (sym all.packet_is);
+        header = record v { ttl = v.ttl - 1 };
+        packet = subst (λ (xs : List ℕ). IsIpv4 (record v { ttl = v.ttl - 1 }) xs) (sym all.packet_is) passed.is;
+        destination = to;
+        total = sym passed.whole ∙ ap length (sym all.packet_is);
+        counted = sym passed.whole ∙ ap length (sym all.packet_is);
       }
-
-  pub short_down : (core : Peer) → PassesDown core circuits a place octets packet → octets ≤ length a.octets
-  short_down core h = omega (arith, h.total, h.passed.was.is_there)

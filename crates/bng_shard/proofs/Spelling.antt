@@ -1,5 +1,5 @@
 -- What stands in the frames that go out: no packet of a subscriber, but for the frame of a circuit.
-use Rattle.std.proofs.Common.{◌≡◌, ℕ, Bool, true, false, ◌&&◌, List, [], ◌∷◌, Option, Some, None, length, nat_le, if◌then◌else◌, refl, sym, ap, subst, ◌∙◌, arith, eqb}
+use Rattle.std.proofs.Common.{◌≡◌, ℕ, Bool, true, false, ◌&&◌, List, [], ◌∷◌, None, length, nat_le, if◌then◌else◌, refl, sym, ap, subst, ◌∙◌, arith, eqb}
 use Rattle.std.specs.List.{AllByRecursion}
 use Rattle.std.proofs.lemmas.Bool.Decides.{nat_tests}
 use Rattle.bng_base.specs.declared.address.Mac.{Mac}
@@ -17,11 +17,10 @@ use Rattle.bng_forward.specs.Framed.{session_frame}
 use Rattle.bng_ppp_wire.specs.declared.protocol.TheConstants as protocol
 use Rattle.bng_ppp.specs.Said.{Said}
 use Rattle.bng_pppoe_wire.proofs.Spelled.{six}
-use Rattle.bng_shard.specs.declared.rules.Rules.{Rules}
 use Rattle.bng_shard.specs.declared.sending.At.{At}
-use Rattle.bng_shard.specs.State.{Session, port_at, offers_at}
+use Rattle.bng_shard.specs.declared.session.Session.{Session}
 use Rattle.bng_shard.specs.Deed.{out, frame_outs}
-use Rattle.bng_shard.specs.Link.{ppp_outs, padt_outs, ends_outs, said_outs}
+use Rattle.bng_shard.specs.Link.{ppp_outs, padt_outs, said_outs}
 use Rattle.bng_ppp.proofs.LcpOuts.{IsLcp, AreLcp}
 
 -- an out of an entry of that seat, that no one is charged for, and no packet of a subscriber
@@ -84,29 +83,21 @@ lcp_control a number port dst src session f is =
     subst (λ (g : List ℕ). AreControl a.seat (frame_outs a number port (session_frame dst src session g))) (sym is.spelled)
     (frame_control a number port (session_frame dst src session (ppp_text (record { protocol = protocol.LCP; info = is.info }))) (lcp_shown dst.0 src.0 0 session is.info))
 
-lcp_controls : (a : At) (x : Session) (port : AccessPort) (fs : List (List ℕ)) → AreLcp fs → AreControl a.seat (ppp_outs a x (Some port) fs)
-lcp_controls a x port [] h = tt
-lcp_controls a x port (f ∷ fs) h =
-    all_append (IsControl a.seat) (frame_outs a x.port port (session_frame x.mac port.mac x.number f)) (ppp_outs a x (Some port) fs) (lcp_control a x.port port x.mac port.mac x.number f h.0) (lcp_controls a x port fs h.1)
-
-ppp_control : (a : At) (x : Session) (port : Option AccessPort) (fs : List (List ℕ)) → AreLcp fs → AreControl a.seat (ppp_outs a x port fs)
-ppp_control a x None fs h = tt
-ppp_control a x (Some port) fs h = lcp_controls a x port fs h
-
-padt_control : (a : At) (x : Session) (port : Option AccessPort) (offers : Option PortRules) → AreControl a.seat (padt_outs a x port offers)
-padt_control a x None offers = tt
-padt_control a x (Some port) None = tt
-padt_control a x (Some port) (Some offers) = discovery_control a x.port port (padt_of offers x.mac x.number) refl
+-- PPP frames of a session's link
+ppp_control : (a : At) (x : Session) (port : AccessPort) (fs : List (List ℕ)) → AreLcp fs → AreControl a.seat (ppp_outs a x port fs)
+ppp_control a x port [] h = tt
+ppp_control a x port (f ∷ fs) h =
+    all_append (IsControl a.seat) (frame_outs a x.port port (session_frame x.mac port.mac x.number.0 f)) (ppp_outs a x port fs) (lcp_control a x.port port x.mac port.mac x.number.0 f h.0) (ppp_control a x port fs h.1)
 
 -- the PADT of a session
-pub ends_control : (r : Rules) (a : At) (x : Session) → AreControl a.seat (ends_outs r a x)
-ends_control r a x = padt_control a x (port_at r.access x.port) (offers_at r.offers x.port)
+pub padt_control : (a : At) (x : Session) (port : AccessPort) (offers : PortRules) → AreControl a.seat (padt_outs a x port offers)
+padt_control a x port offers = discovery_control a x.port port (padt_of offers x.mac x.number.0) refl
 
-ends_if : (b : Bool) (r : Rules) (a : At) (x : Session) → AreControl a.seat (if b then ends_outs r a x else [])
-ends_if true r a x = ends_control r a x
-ends_if false r a x = tt
+padt_if : (b : Bool) (a : At) (x : Session) (port : AccessPort) (offers : PortRules) → AreControl a.seat (if b then padt_outs a x port offers else [])
+padt_if true a x port offers = padt_control a x port offers
+padt_if false a x port offers = tt
 
 -- what a link says
-pub said_control : (r : Rules) (a : At) (x : Session) (says : Said) → AreLcp says.outs → AreControl a.seat (said_outs r a x says)
-said_control r a x says h =
-    all_append (IsControl a.seat) (ppp_outs a x (port_at r.access x.port) says.outs) (if says.finished then ends_outs r a x else []) (ppp_control a x (port_at r.access x.port) says.outs h) (ends_if says.finished r a x)
+pub said_control : (a : At) (x : Session) (port : AccessPort) (offers : PortRules) (says : Said) → AreLcp says.outs → AreControl a.seat (said_outs a x port offers says)
+said_control a x port offers says h =
+    all_append (IsControl a.seat) (ppp_outs a x port says.outs) (if says.finished then padt_outs a x port offers else []) (ppp_control a x port says.outs h) (padt_if says.finished a x port offers)

@@ -1,36 +1,22 @@
 -- What a Tick and an End did so far, and what follows on it.
-use Rattle.std.proofs.Common.{◌≡◌, ◌<◌, ◌≤◌, ◌+◌, ◌-◌, ℕ, suc, true, false, Some, List, [], ◌++◌, length, get_or, refl, inl, inr, sym, ap, subst, ◌∙◌, arith, append_assoc, append-nil, length-append, add-zero, zero-add}
-use Rattle.std.specs.Prelude.{slice_get}
-use Rattle.std.proofs.lemmas.Option.{get_or_from_slice_get}
+use Rattle.std.proofs.Common.{◌≡◌, ◌<◌, ◌≤◌, ◌+◌, ◌-◌, ℕ, suc, true, false, Some, List, [], ◌++◌, length, refl, inl, inr, sym, ap, subst, ◌∙◌, arith, append_assoc, append-nil, length-append, add-zero, zero-add}
 use Rattle.bng_base.specs.declared.item.Entry.{Entry}
 use Rattle.bng_base.specs.declared.item.OutRecord.{OutRecord}
 use Rattle.bng_ppp.specs.declared.rules.Input.TheVariants.{Timer}
 use Rattle.bng_ppp.specs.LinkRelation.{LinkSteps}
+use Rattle.bng_slots.specs.Sessions.{value_at}
 use Rattle.bng_shard.specs.declared.rules.Rules.{Rules}
 use Rattle.bng_shard.specs.declared.sending.At.{At}
-use Rattle.bng_shard.specs.State.{State, Session}
+use Rattle.bng_shard.specs.declared.session.Session.{Session}
+use Rattle.bng_shard.specs.State.{State, with_session}
 use Rattle.bng_shard.specs.Deed.{at_of}
-use Rattle.bng_shard.specs.Link.{Drives, told, said_outs, ends_outs}
+use Rattle.bng_shard.specs.Link.{Drives, EndsWith, told}
 use Rattle.bng_shard.specs.Driven.{Driven}
 use Rattle.bng_shard.specs.Timers.{Ticks, Ends, IsFirstDue, NoneIsDue, IsLowest}
 use Rattle.bng_shard.specs.Timed.{TickedOnce, EndedOnce, Ticked, Ended}
 
--- the session that stands at the place that was found
-at_place : (xs : List Session) (place : ℕ) (x y : Session) → y ≡ get_or xs place y → slice_get xs place ≡ Some x → x ≡ y
-at_place xs place x y is at = sym (is ∙ get_or_from_slice_get xs place x y at)
-
-pub first_at : (now : ℕ) (xs ys : List Session) (place : ℕ) (y : Session) → xs ≡ ys → y ≡ get_or ys place y → (x : Session) × IsFirstDue now xs place x → IsFirstDue now ys place y
-first_at now xs ys place y same is (x, h) =
-    let due = subst (λ (zs : List Session). IsFirstDue now zs place x) same h in
-    subst (IsFirstDue now ys place) (at_place ys place x y is due.at) due
-
-pub lowest_at : (xs ys : List Session) (place : ℕ) (y : Session) → xs ≡ ys → y ≡ get_or ys place y → (x : Session) × IsLowest xs place x → IsLowest ys place y
-lowest_at xs ys place y same is (x, h) =
-    let low = subst (λ (zs : List Session). IsLowest zs place x) same h in
-    subst (IsLowest ys place) (at_place ys place x y is low.at) low
-
 -- whose outs they are stays while the shard's number stays
-same_at : (s s₀ : State) (e : Entry) → s.number ≡ s₀.number → at_of s e ≡ at_of s₀ e
+same_at : (s s₀ : State) (e : Entry) → s.sessions.shard ≡ s₀.sessions.shard → at_of s e ≡ at_of s₀ e
 same_at s s₀ e same = ap (λ (n : ℕ). let a : At = record { shard = n; seat = e.seat; place = e.place } in a) same
 
 -- how many were sent
@@ -40,21 +26,18 @@ few_more outs₀ sent outs most e few = omega (arith, length-append outs₀ sent
 more_sent : (outs₀ sent outs first outs₁ : List OutRecord) → outs ≡ outs₀ ++ sent → outs₁ ≡ outs ++ first → outs₁ ≡ outs₀ ++ (sent ++ first)
 more_sent outs₀ sent outs first outs₁ e f = f ∙ ap (λ (front : List OutRecord). front ++ first) e ∙ append_assoc outs₀ sent first
 
-drives_from : (r : Rules) (e : Entry) (a b : At) (now : ℕ) (random : List ℕ) (x x' : Session) (outs outs' : List OutRecord) (d : Driven r a Timer now random x x' outs outs') → e.moment ≡ now → e.item.random ≡ random → b ≡ a → Drives r b x (told r e Timer) (said_outs r a x d.says) x'
-drives_from r e a b now random x x' outs outs' d moment octets at = record {
-  says = d.says;
-  link = d.link;
-  steps = subst (λ (t : ℕ). LinkSteps r.link Timer t e.item.random x.link d.says d.link) (sym moment) (subst (λ (o : List ℕ). LinkSteps r.link Timer now o x.link d.says d.link) (sym octets) d.steps);
-  outs_are = ap (λ (c : At). said_outs r c x d.says) (sym at);
-  session = d.session;
-}
+drives_from : (r : Rules) (e : Entry) (a b : At) (now : ℕ) (random : List ℕ) (x x' : Session) (outs outs' : List OutRecord) (d : Driven r a Timer now random x x' outs outs') → e.moment ≡ now → e.item.random ≡ random → b ≡ a → Drives r b x (told r e Timer) d.more x'
+drives_from r e a b now random x x' outs outs' d moment octets at =
+    subst (λ (c : At). Drives r c x (told r e Timer) d.more x') (sym at)
+    (subst (λ (t : ℕ). Drives r a x (LinkSteps r.link Timer t e.item.random) d.more x') (sym moment)
+    (subst (λ (o : List ℕ). Drives r a x (LinkSteps r.link Timer now o) d.more x') (sym octets) d.drives))
 
 -- After n deadlines this is the state and this is what was sent: whatever Ticks go on from there are so many more from the first
 -- state on.
 pub record TicksOn (n : ℕ) (r : Rules) (a : At) (now : ℕ) (random : List ℕ) (s₀ s : State) (outs₀ outs : List OutRecord) : Type 0 where
   pub sent : List OutRecord
   pub outs_are : outs ≡ outs₀ ++ sent
-  pub number : s.number ≡ s₀.number
+  pub number : s.sessions.shard ≡ s₀.sessions.shard
   pub go_on : (e : Entry) → e.moment ≡ now → e.item.random ≡ random → at_of s₀ e ≡ a → (m : ℕ) (more : List OutRecord) (s' : State) → Ticks m r e s more s' → Ticks (n + m) r e s₀ (sent ++ more) s'
 
 pub ticks_begin : (r : Rules) (a : At) (now : ℕ) (random : List ℕ) (s : State) (outs : List OutRecord) → TicksOn 0 r a now random s s outs outs
@@ -67,16 +50,16 @@ ticks_begin r a now random s outs = record {
 
 module _ (r : Rules) (a : At) (now : ℕ) (random : List ℕ) (s₀ s : State) (outs₀ outs : List OutRecord) where
   pub ticks_more : (n : ℕ) (s₁ : State) (outs₁ : List OutRecord) → TicksOn n r a now random s₀ s outs₀ outs → TickedOnce true r a now random s s₁ outs outs₁ → TicksOn (n + 1) r a now random s₀ s₁ outs₀ outs₁
-  ticks_more n s₁ outs₁ on (place, x, first, x', driven, next) =
-      let said = said_outs r a x driven.says in
+  ticks_more n s₁ outs₁ on (m₀, first, x, x', at_n, driven, next) =
+      let said = driven.more in
       record {
         sent = on.sent ++ said;
         outs_are = more_sent outs₀ on.sent outs said outs₁ on.outs_are driven.outs_are;
-        number = ap (λ (t : State). t.number) next ∙ on.number;
+        number = ap (λ (t : State). t.sessions.shard) next ∙ on.number;
         go_on = λ e moment octets at m more s' h.
             let drives = drives_from r e a (at_of s e) now random x x' outs outs₁ driven moment octets (same_at s s₀ e on.number ∙ at) in
-            let due = subst (λ (t : ℕ). IsFirstDue t s.sessions place x) (sym moment) first in
-            let once : Ticks (suc m) r e s (said ++ more) s' = inr (place, x, due, said, x', drives, more, subst (λ (t : State). Ticks m r e t more s') next h, refl) in
+            let due = subst (λ (t : ℕ). IsFirstDue s t m₀) (sym moment) first in
+            let once : Ticks (suc m) r e s (said ++ more) s' = inr (m₀, due, x, x', at_n, said, drives, more, subst (λ (t : State). Ticks m r e t more s') next h, refl) in
             let all = on.go_on e moment octets at (suc m) (said ++ more) s' once in
             let count : n + suc m ≡ n + 1 + m = omega arith in
             subst (λ (outs' : List OutRecord). Ticks (n + 1 + m) r e s₀ outs' s') (sym (append_assoc on.sent said more)) (subst (λ (k : ℕ). Ticks k r e s₀ (on.sent ++ (said ++ more)) s') count all);
@@ -96,7 +79,7 @@ module _ (r : Rules) (a : At) (now : ℕ) (random : List ℕ) (s₀ s : State) (
     more = on.sent;
     ticks = λ e moment octets at.
         let count : n + suc (most - n - 1) ≡ most = omega arith in
-        let end : Ticks (suc (most - n - 1)) r e s [] s₁ = inl (subst (λ (t : ℕ). NoneIsDue t s.sessions) (sym moment) none, refl, same) in
+        let end : Ticks (suc (most - n - 1)) r e s [] s₁ = inl (subst (λ (t : ℕ). NoneIsDue s t) (sym moment) none, refl, same) in
         subst (λ (k : ℕ). Ticks k r e s₀ on.sent s₁) count (subst (λ (outs' : List OutRecord). Ticks (n + suc (most - n - 1)) r e s₀ outs' s₁) (append-nil on.sent) (on.go_on e moment octets at (suc (most - n - 1)) [] s₁ end));
     outs_are = still ∙ on.outs_are;
     few = few_more outs₀ on.sent outs₁ 320 (still ∙ on.outs_are) few;
@@ -106,7 +89,7 @@ module _ (r : Rules) (a : At) (now : ℕ) (random : List ℕ) (s₀ s : State) (
 pub record EndsOn (n : ℕ) (r : Rules) (a : At) (s₀ s : State) (outs₀ outs : List OutRecord) : Type 0 where
   pub sent : List OutRecord
   pub outs_are : outs ≡ outs₀ ++ sent
-  pub number : s.number ≡ s₀.number
+  pub number : s.sessions.shard ≡ s₀.sessions.shard
   pub go_on : (e : Entry) → at_of s₀ e ≡ a → (m : ℕ) (more : List OutRecord) (s' : State) → Ends m r e s more s' → Ends (n + m) r e s₀ (sent ++ more) s'
 
 pub ends_begin : (r : Rules) (a : At) (s : State) (outs : List OutRecord) → EndsOn 0 r a s s outs outs
@@ -119,15 +102,14 @@ ends_begin r a s outs = record {
 
 module _ (r : Rules) (a : At) (s₀ s : State) (outs₀ outs : List OutRecord) where
   pub ends_more : (n : ℕ) (s₁ : State) (outs₁ : List OutRecord) → EndsOn n r a s₀ s outs₀ outs → EndedOnce true r a s s₁ outs outs₁ → EndsOn (n + 1) r a s₀ s₁ outs₀ outs₁
-  ends_more n s₁ outs₁ on (place, x, low, next, sent) =
-      let padt = ends_outs r a x in
+  ends_more n s₁ outs₁ on (m₀, low, x, at_n, padt, ends, next, sent) =
       record {
         sent = on.sent ++ padt;
         outs_are = more_sent outs₀ on.sent outs padt outs₁ on.outs_are sent;
-        number = ap (λ (t : State). t.number) next ∙ on.number;
+        number = ap (λ (t : State). t.sessions.shard) next ∙ on.number;
         go_on = λ e at m more s' h.
-            let same : padt ++ more ≡ ends_outs r (at_of s e) x ++ more = ap (λ (c : At). ends_outs r c x ++ more) (sym (same_at s s₀ e on.number ∙ at)) in
-            let once : Ends (suc m) r e s (padt ++ more) s' = inr (place, x, low, more, subst (λ (t : State). Ends m r e t more s') next h, same) in
+            let told_so : EndsWith r (at_of s e) x padt = subst (λ (c : At). EndsWith r c x padt) (sym (same_at s s₀ e on.number ∙ at)) ends in
+            let once : Ends (suc m) r e s (padt ++ more) s' = inr (m₀, low, x, at_n, padt, more, told_so, subst (λ (t : State). Ends m r e t more s') next h, refl) in
             let all = on.go_on e at (suc m) (padt ++ more) s' once in
             let count : n + suc m ≡ n + 1 + m = omega arith in
             subst (λ (outs' : List OutRecord). Ends (n + 1 + m) r e s₀ outs' s') (sym (append_assoc on.sent padt more)) (subst (λ (k : ℕ). Ends k r e s₀ (on.sent ++ (padt ++ more)) s') count all);

@@ -1,7 +1,7 @@
 -- What a frame without an IPv4 packet is to do.
 use Rattle.std.specs.Prelude.{◌≡◌, Option, Some, None, IsTrue, IsFalse}
 use Rattle.bng_shard.specs.declared.frames.Control.{Control}
-use Rattle.bng_shard.specs.declared.frames.Control.TheVariants.{Unknown, Ignored, For}
+use Rattle.bng_shard.specs.declared.frames.Control.TheVariants.{Unknown, Ignored, Heard}
 use Rattle.bng_shard.specs.declared.session.Session.{Session}
 use Rattle.bng_shard.specs.Timers.{lives_in}
 
@@ -10,4 +10,4 @@ abbrev pub IsControl : Option Session → Control → Type 0
 IsControl None c = c ≡ Unknown
 IsControl (Some x) Unknown = ⊥
 IsControl (Some x) Ignored = IsFalse (lives_in x.service)
-IsControl (Some x) (For n) = IsTrue (lives_in x.service) × (n ≡ x.number)
+IsControl (Some x) Heard = IsTrue (lives_in x.service)

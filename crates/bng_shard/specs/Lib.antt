@@ -1,5 +1,6 @@
 pub mod Made
 pub mod State
+pub mod Codes
 pub mod Indexed
 pub mod Serving
 pub mod Opening

@@ -24,6 +24,6 @@ ended_in sessions = sum_by (λ x. cond (leaves x) 1 0) (values sessions)
 pub record Keeps (a : Inside) : Type 0 where
   pub own : AreOwn a.sessions
   pub made : a.made ≡ sum_by (λ (x : Session). made_one x.service) (values a.sessions)
-  pub leaving : (n : SessionNo) → Contains n a.leaving.items ↔ (does_leave (value_at a.sessions n.0) ≡ true)
+  pub leaving : (n : SessionNo) → Contains a.leaving.items n ↔ (does_leave (value_at a.sessions n.0) ≡ true)
   pub counted : ended_in a.sessions ≡ length a.leaving.items
   pub room : 1022 < vec_capacity a.leaving

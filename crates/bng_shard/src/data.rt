@@ -51,7 +51,7 @@ fn charge_of(session: &Session, lease: Lease, input: bool, octets: u16) -> Charg
 
 // The view of a session's term, if there is a session.
 fn view_of(session: Option<&Session>) -> Option<Option<TermView>>
-    ensures { result ≡ option_map viewed (option_copied session) }
+    ensures { result ≡ option_map viewed (option_copied session.entry) }
 {
     match session {
         Some(session) => Some(session.view()),

@@ -63,8 +63,8 @@ enum Control {
     Unknown,
     /// It is ignored.
     Ignored,
-    /// The session with this number lives.
-    For(SessionNo),
+    /// It lives, and hears what the frame says.
+    Heard,
 }
 
 fn control_of(served: &Served, number: u8, frame: &Pppoe<'_>) -> Control
@@ -73,7 +73,7 @@ fn control_of(served: &Served, number: u8, frame: &Pppoe<'_>) -> Control
     match served.session_of(number, frame.src, SessionNo(frame.session)) {
         Some(session) => {
             if session.lives() {
-                Control::For(session.number)
+                Control::Heard
             } else {
                 Control::Ignored
             }
@@ -103,16 +103,26 @@ pub(crate) fn hear_control(
     ensures does { DoesWith (λ e d. HearsIn (session_of served.old number frame.now.src frame.now.session) rules.now served.old e (frame_of frame.now) d) 5 served.old served.new outs.old.items outs.new.items at now item.now result }
     ensures capacity { vec_capacity outs.new ≡ vec_capacity outs.old }
 {
-    let session = match control_of(served, number, frame) {
-        Control::Unknown => return Fate::Dropped(DropCause::NoSession),
-        Control::Ignored => return Fate::Consumed,
-        Control::For(session) => session,
-    };
-    if frame.discovery {
-        end_session(served, session);
-    } else {
-        let input = Input::Frame(frame.payload);
-        drive_at(served, session, rules, at, input, now, &item.random, outs);
+    let session = SessionNo(frame.session);
+    match control_of(served, number, frame) {
+        Control::Unknown => Fate::Dropped(DropCause::NoSession),
+        Control::Ignored => Fate::Consumed,
+        Control::Heard => {
+            if frame.discovery {
+                end_session(served, session);
+                return Fate::Consumed;
+            }
+            drive_at(
+                served,
+                session,
+                rules,
+                at,
+                Input::Frame(frame.payload),
+                now,
+                &item.random,
+                outs,
+            );
+            Fate::Consumed
+        }
     }
-    Fate::Consumed
 }

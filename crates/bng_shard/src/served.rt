@@ -29,7 +29,11 @@ impl Model for Served {
     ghost use Rattle.bng_shard.specs.State.{State};
     ghost use Rattle.bng_shard.specs.Serving.{Keeps};
 
+    ghost use Rattle.bng_shard.specs.Codes.{state_code};
+
     ghost Value = { State };
+
+    ghost coded = { state_code };
 
     ghost view = { λ a. record { sessions = a.sessions; begun = a.begun } };
 
@@ -75,7 +79,8 @@ impl Served {
         requires own { All (λ c. IsNumberOf number c.session.0) circuits.now }
         requires sessions { AllPairs (λ a b. a.session ≢ b.session) circuits.now }
         requires addresses { AllPairs (λ a b. a.address ≢ b.address) circuits.now }
-        ensures { IfOk result (λ s. s ≡ opened_slots number circuits.now) }
+        ensures opened { IfOk result (λ s. s ≡ opened_slots number circuits.now) }
+        ensures none { IfOk result (λ s. made_in s ≡ 0) }
     {
         let Ok(mut sessions) = Slots::open(alloc, number) else {
             return Err(AllocError);
@@ -192,6 +197,8 @@ impl Served {
     pub(crate) fn take(&mut self, number: SessionNo) -> Session
         requires { lives_at self.old number.0 ≡ true }
         ensures value { Some result ≡ value_at self.old.sessions number.0 }
+        ensures number { result.number ≡ number }
+        ensures of_shard { IsNumberOf self.old.sessions.shard number.0 }
         ensures after { self.new ≡ record self.old { sessions = without self.old.sessions number.0 } }
     {
         let Some(session) = self.sessions.remove(number) else {

@@ -51,7 +51,12 @@ impl Model for Shard {
     ghost use Rattle.bng_engine.specs.Views.{ShardView};
     ghost use Rattle.bng_shard.specs.Protocol.{ShardState};
 
+    ghost use Rattle.std.specs.Coded.{codes};
+    ghost use Rattle.bng_shard.specs.Codes.{state_code};
+
     ghost Value = { ShardView ShardState Entry };
+
+    ghost coded = { Prim.hlevel (codes, state_code) };
 
     ghost use Rattle.bng_shard.specs.Running.{rows_in};
     ghost use Rattle.bng_shard.specs.Fits.{Fits};
@@ -117,7 +122,8 @@ impl Shard {
         requires addresses { AllPairs (λ a b. a.address ≢ b.address) circuits.now }
         requires ports { All (λ c. (1 ≤ c.port) × (c.port ≤ length rules.access)) circuits.now }
         requires profiles { All (λ c. c.profile < profiles_there) circuits.now }
-        ensures { IfOk result (λ s. s ≡ opened number rules circuits.now) }
+        ensures opened { IfOk result (λ s. s ≡ opened number rules circuits.now) }
+        ensures none { IfOk result (λ s. sessions_of s.state ≡ 0) }
     {
         let Ok(served) = Served::open(alloc, number, circuits) else {
             return Err(ShardError::OutOfMemory);

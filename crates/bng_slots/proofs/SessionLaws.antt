@@ -53,7 +53,7 @@ module _ {V : Type 0} (s : Sessions V) (n : ℕ) where
           ∙ ap (λ o. cond (eq_by_cmp nat_cmp q n) (Some v) o) (get-remove nat_cmp_total s.by_number n q)
           ∙ same_branch (eq_by_cmp nat_cmp q n) (Some v) None (get s.by_number q)
           ∙ sym (get-insert nat_cmp_total s.by_number n v q) in
-      ap (λ m. record { shard = s.shard; by_number = m }) (same_map nat_cmp-IsAntisymmetric (with_value (without s n) n v).by_number (with_value s n v).by_number each)
+      ap (λ m. record { shard = s.shard; by_number = m }) (same_map nat_cmp_total nat_cmp-IsAntisymmetric (with_value (without s n) n v).by_number (with_value s n v).by_number each)
 
   pub used-with_value : (v : V) → value_at s n ≡ None → used (with_value s n v) ≡ used s + 1
   used-with_value v none = len-insert nat_cmp_total s.by_number n v ∙ ap (λ (o : Option V). cond (is_some o) (len s.by_number) (len s.by_number + 1)) none

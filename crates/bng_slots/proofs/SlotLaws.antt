@@ -58,6 +58,16 @@ module _ {V : Type 0} (shard : ℕ) (shelf : List (Option V)) (long : length she
     ]
   ]
 
+  -- each used number is the shard's
+  pub own_number : (n : ℕ) → is_some (get (by_number shard shelf) n) ≡ true → IsNumberOf shard n
+  own_number n some = elim (cases_lt n (shard * 1024 + 1)) [
+    | inl low ↦ absurd (false≢true (sym (ap is_some (get_lower n (shard * 1024 + 1) shelf low)) ∙ some))
+    | inr high ↦ elim (cases_lt (shard * 1024 + 1022) n) [
+      | inl past ↦ absurd (false≢true (sym (ap is_some (get_past n (shard * 1024 + 1) (n - (shard * 1024 + 1)) shelf (omega arith) (omega arith))) ∙ some))
+      | inr within ↦ (omega arith, within)
+    ]
+  ]
+
   pub counted : len (by_number shard shelf) ≡ count_by is_some shelf
   counted = len_places (shard * 1024 + 1) shelf
 
@@ -103,6 +113,13 @@ module _ {V : Type 0} (circuit : V → Option Circuit) (address : V → Option I
 
   pub is_full : ((i : ℕ) → i < 1022 → free_bit words i ≡ 0) → len (by_number shard shelf) ≡ 1022
   is_full none = all_used shard shelf is.places (λ i l. bit_used _ _ (is.bits i l) (none i l))
+
+  -- where no place is free, each of the shard's numbers is used
+  pub every_used : ((i : ℕ) → i < 1022 → free_bit words i ≡ 0) → (n : ℕ) → IsNumberOf shard n → is_some (get (by_number shard shelf) n) ≡ true
+  every_used none n of =
+      let e : n ≡ shard * 1024 + 1 + (n - (shard * 1024 + 1)) = omega (arith, of.0) in
+      let small : n - (shard * 1024 + 1) < 1022 = omega (arith, of.0, of.1) in
+      ap is_some (at_place shard shelf is.places n (n - (shard * 1024 + 1)) e) ∙ bit_used _ _ (is.bits (n - (shard * 1024 + 1)) small) (none (n - (shard * 1024 + 1)) small)
 
 -- an index leads nowhere exactly where no slot has the key
 pub leads_nowhere : {K V : Type 0} (R : K → K → Ordering) (read : V → Option K) (m : FinMap nat_cmp V) (x : Listing K) → Agrees R (λ _. read) m x → (key : K) → (find R key x.entries ≡ None) ↔ ((n : ℕ) → option_and_then read (get m n) ≢ Some key)

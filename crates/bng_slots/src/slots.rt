@@ -107,6 +107,7 @@ impl<V: Slotted> Slots<V> {
     pub fn vacant(&self) -> Option<SessionNo>
         ensures lowest { IfSome result (λ n. IsLowestVacant self.now n.0) }
         ensures none { (result ≡ None) ↔ (used self.now ≡ 1022) }
+        ensures all { IfNone result ((n : ℕ) → IsNumberOf self.now.shard n → IsSome (value_at self.now n)) }
     {
         let place = self.vacancy.lowest()?;
         Some(SessionNo(self.shard * 1024 + 1 + place as u16))

@@ -1,6 +1,6 @@
-use Rattle.std.proofs.Common.{◌≡◌, ◌≤◌, ◌-◌, ◌^◌, true, List}
+use Rattle.std.proofs.Common.{◌≡◌, ◌≤◌, true, List}
 use Rattle.bng_base.specs.Stretch.{Extends}
-use Rattle.bng_desk.specs.Model.{is_over}
+use Rattle.bng_desk.specs.Model.{is_over, left_of}
 use Rattle.bng_gate.specs.Serving.{MadeEnd, EndRun, ending_stretch, AreNoted}
 use Rattle.bng_gate.proofs.serving.finish.Given as goal
 
@@ -17,4 +17,4 @@ invariant-ending g l =
     }
 
 abbrev pub decreases-ending : goal.decreases-ending
-decreases-ending g l = 2 ^ 40 - l.desk.endings
+decreases-ending g l = left_of l.desk

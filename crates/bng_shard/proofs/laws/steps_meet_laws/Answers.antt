@@ -1,6 +1,5 @@
 use Rattle.bng_shard.proofs.Fewer.{end_leaves_fewer}
-use Rattle.bng_shard.proofs.Statics.{step_statics}
-use Rattle.bng_shard.proofs.StepLaws.{pppoe_laws, pppoe_still, step_whole, light, data_fates}
+use Rattle.bng_shard.proofs.StepLaws.{pppoe_laws, pppoe_still, step_whole, step_terms, light, data_fates}
 use Rattle.bng_shard.proofs.laws.steps_meet_laws.Goals as goal
 
 pub returns-clause-laws : goal.returns-clause-laws
@@ -12,8 +11,8 @@ returns-clause-still c = pppoe_still
 pub returns-clause-whole : goal.returns-clause-whole
 returns-clause-whole c = step_whole
 
-pub returns-clause-circuits : goal.returns-clause-circuits
-returns-clause-circuits c = step_statics
+pub returns-clause-terms : goal.returns-clause-terms
+returns-clause-terms c = step_terms
 
 pub returns-clause-light : goal.returns-clause-light
 returns-clause-light c = light

@@ -1,0 +1,148 @@
+-- What was done with a frame that names a session and carries no IPv4 packet, of what is known of its parts.
+use Rattle.std.proofs.Common.{◌≡◌, ℕ, ◌+◌, ◌≤◌, Bool, true, false, not, List, [], ◌++◌, Option, Some, None, length, inl, inr, refl, sym, ap, subst, ◌∙◌, arith}
+use Rattle.std.specs.Prelude.{if◌then◌else◌}
+use Rattle.std.proofs.lemmas.List.{append-nil}
+use Rattle.bng_base.specs.declared.address.Mac.{Mac}
+use Rattle.bng_base.specs.declared.fate.Fate.{Fate}
+use Rattle.bng_base.specs.declared.fate.Fate.TheVariants.{Consumed, Dropped}
+use Rattle.bng_base.specs.declared.fate.DropCause.TheVariants.{NoSession}
+use Rattle.bng_base.specs.declared.item.Entry.{Entry}
+use Rattle.bng_base.specs.declared.item.Item.{Item}
+use Rattle.bng_base.specs.declared.item.OutRecord.{OutRecord}
+use Rattle.bng_base.specs.PppoeGrammar.{PppoeFrame}
+use Rattle.bng_ppp.specs.declared.rules.Input.{Input}
+use Rattle.bng_slots.specs.Sessions.{value_at}
+use Rattle.bng_shard.specs.Made.{Made}
+use Rattle.bng_shard.specs.declared.frames.Control.TheVariants.{Unknown, Ignored, Heard}
+use Rattle.bng_shard.specs.declared.rules.Rules.{Rules}
+use Rattle.bng_shard.specs.declared.sending.At.{At}
+use Rattle.bng_shard.specs.declared.session.Service.{Service}
+use Rattle.bng_shard.specs.declared.session.Service.TheVariants.{Provisioned, Discovered}
+use Rattle.bng_shard.specs.declared.session.Session.{Session}
+use Rattle.bng_shard.specs.State.{State, is_on, session_of, where_on, with_session}
+use Rattle.bng_shard.specs.Controlling.{IsControl}
+use Rattle.bng_shard.specs.Deed.{Deed, at_of, dropped, handled, ignored}
+use Rattle.bng_shard.specs.Doing.{DoesWith}
+use Rattle.bng_shard.specs.Driven.{Driven}
+use Rattle.bng_shard.specs.Frames.{HearsControl, HearsIn}
+use Rattle.bng_shard.specs.Link.{Drives, ended, ended_service, hears, told}
+use Rattle.bng_shard.specs.Protocol.{entry_of}
+use Rattle.bng_shard.specs.Timers.{does_live, lives_at, lives_in}
+use Rattle.bng_shard.proofs.Carrying.{nothing_done}
+use Rattle.bng_shard.proofs.Replacing.{with_same}
+use Rattle.bng_shard.proofs.Speaking.{drives, driven_few}
+
+where_some : (port : ℕ) (mac : Mac) (o : Option Session) (x : Session) → where_on port mac o ≡ Some x → o ≡ Some x
+where_some port mac None x e = absurd (let never : ⊥ = cc in never)
+where_some port mac (Some y) x e =
+    (elim (is_on port mac y) as (λ b. (if b then Some y else None) ≡ Some x → Some y ≡ Some x) [ true ↦ (λ f. f) | false ↦ (λ f. absurd (let never : ⊥ = cc in never)) ]) e
+
+-- the session of a frame stands under the number that the frame names
+pub stands_at : (s : State) (port : ℕ) (mac : Mac) (n : ℕ) (x : Session) → session_of s port mac n ≡ Some x → value_at s.sessions n ≡ Some x
+stands_at s port mac n x e = where_some port mac (value_at s.sessions n) x e
+
+unknown_is : (o : Option Session) → IsControl o Unknown → o ≡ None
+unknown_is None h = refl
+unknown_is (Some x) h = absurd h
+
+ignored_is : (o : Option Session) → IsControl o Ignored → (x : Session) × (o ≡ Some x) × (lives_in x.service ≡ false)
+ignored_is None h = absurd (let never : ⊥ = cc in never)
+ignored_is (Some x) h = (x, refl, h)
+
+pub heard_is : (o : Option Session) → IsControl o Heard → (x : Session) × (o ≡ Some x) × (lives_in x.service ≡ true)
+heard_is None h = absurd (let never : ⊥ = cc in never)
+heard_is (Some x) h = (x, refl, h)
+
+over : (b : Bool) → not b ≡ false → b ≡ true
+over true h = refl
+over false h = absurd (let never : ⊥ = cc in never)
+
+going : (b : Bool) → not b ≡ true → b ≡ false
+going true h = absurd (let never : ⊥ = cc in never)
+going false h = refl
+
+-- the session of a frame lives
+pub lives_there : (s : State) (port : ℕ) (mac : Mac) (n : ℕ) → IsControl (session_of s port mac n) Heard → lives_at s n ≡ true
+lives_there s port mac n h =
+    let is = heard_is (session_of s port mac n) h in
+    ap does_live (stands_at s port mac n is.0 is.1) ∙ is.2
+
+-- one that has ended stays as it is where it ends
+same_ended : (x : Session) (m : Made) → x.service ≡ Discovered m → m.ended ≡ true → ended x ≡ x
+same_ended x m is done =
+    let make : Service → Session = λ v. record x { service = v } in
+    let again : Bool → Service = λ b. Discovered (record m { ended = b }) in
+    ap make (ap ended_service is ∙ ap again (sym done) ∙ sym is)
+
+module _ (r : Rules) (s : State) (a : At) (item : Item) (outs : List OutRecord) (here : a.shard ≡ s.sessions.shard) (number : ℕ) (p : PppoeFrame) where
+  abbrev its : Option Session
+  its = session_of s number p.src p.session
+
+  pub no_session : IsControl its Unknown → (now : ℕ) → DoesWith (λ e d. HearsIn its r s e p d) 5 s s outs outs a now item (Dropped NoSession)
+  no_session h =
+      nothing_done r s a item outs here (λ e d. HearsIn its r s e p d) 5 (Dropped NoSession)
+      (λ moment. let e = entry_of a.seat a.place moment item in subst (λ (o : Option Session). HearsIn o r s e p (dropped s e NoSession)) (sym (unknown_is its h)) refl)
+
+  -- a session that has ended does nothing
+  idle : (e : Entry) (x : Session) (v : Service) → x.service ≡ v → value_at s.sessions p.session ≡ Some x → lives_in v ≡ false → HearsControl v r s e x p (ignored s e)
+  idle e x (Provisioned l) is at h = refl
+  idle e x (Discovered m) is at h =
+      let done : m.ended ≡ true = over m.ended h in
+      let still : with_session s p.session (ended x) ≡ s =
+      ap (λ (y : Session). with_session s p.session y) (same_ended x m is done) ∙ ap (λ ss. let t : State = record s { sessions = ss } in t) (with_same s.sessions p.session x at) in
+      (elim (p.discovery) as (λ b. p.discovery ≡ b → HearsControl (Discovered m) r s e x p (ignored s e)) [
+        | true ↦ (λ d. inl (d, ap (λ (t : State). handled s e [] t) (sym still)))
+        | false ↦ (λ d. inr (d, inl (done, refl)))
+      ]) refl
+
+  pub stays_idle : IsControl its Ignored → (now : ℕ) → DoesWith (λ e d. HearsIn its r s e p d) 5 s s outs outs a now item Consumed
+  stays_idle h =
+      let is = ignored_is its h in
+      nothing_done r s a item outs here (λ e d. HearsIn its r s e p d) 5 Consumed
+      (λ moment. let e = entry_of a.seat a.place moment item in
+      subst (λ (o : Option Session). HearsIn o r s e p (ignored s e)) (sym is.1) (idle e is.0 is.0.service refl (stands_at s number p.src p.session is.0 is.1) is.2))
+
+  ends_so : (e : Entry) (x : Session) (v : Service) → lives_in v ≡ true → p.discovery ≡ true → HearsControl v r s e x p (handled s e [] (with_session s p.session (ended x)))
+  ends_so e x (Provisioned l) h d = absurd (let never : ⊥ = cc in never)
+  ends_so e x (Discovered m) h d = inl (d, refl)
+
+  -- a PADT ends one that lives
+  pub ends_it : IsControl its Heard → p.discovery ≡ true → (s' : State) → ((x : Session) → value_at s.sessions p.session ≡ Some x → s' ≡ with_session s p.session (ended x))
+      → (now : ℕ) → DoesWith (λ e d. HearsIn its r s e p d) 5 s s' outs outs a now item Consumed
+  ends_it h d s' next now =
+      let is = heard_is its h in
+      let e = entry_of a.seat a.place now item in
+      record {
+        deed = handled s e [] (with_session s p.session (ended is.0));
+        entry = refl;
+        fate_is = refl;
+        next = sym (next is.0 (stands_at s number p.src p.session is.0 is.1));
+        says = subst (λ (o : Option Session). HearsIn o r s e p (handled s e [] (with_session s p.session (ended is.0)))) (sym is.1) (ends_so e is.0 is.0.service is.2 d);
+        outs_are = sym (append-nil outs);
+        few = omega arith;
+      }
+
+  hears_so : (e : Entry) (x x' : Session) (v : Service) (sent : List OutRecord) → x.service ≡ v → lives_in v ≡ true → p.discovery ≡ false → Drives r (at_of s e) x (hears r e p.payload) sent x'
+      → HearsControl v r s e x p (handled s e sent (with_session s p.session x'))
+  hears_so e x x' (Provisioned l) sent is h d step = absurd (let never : ⊥ = cc in never)
+  hears_so e x x' (Discovered m) sent is h d step = inr (d, inr (going m.ended h, sent, x', step, refl))
+
+  -- the link of one that lives hears another frame
+  pub hears_it : (input : Input) → ((e : Entry) (x x' : Session) (sent : List OutRecord) → Drives r (at_of s e) x (told r e input) sent x' → Drives r (at_of s e) x (hears r e p.payload) sent x')
+      → IsControl its Heard → p.discovery ≡ false → (now : ℕ) (s' : State) (outs' : List OutRecord)
+      → ((x : Session) → value_at s.sessions p.session ≡ Some x → (x' : Session) × Driven r a input now item.random x x' outs outs' × (s' ≡ with_session s p.session x'))
+      → length outs' ≤ length outs + 5 → DoesWith (λ e d. HearsIn its r s e p d) 5 s s' outs outs' a now item Consumed
+  hears_it input turn h d now s' outs' driven few =
+      let is = heard_is its h in
+      let e = entry_of a.seat a.place now item in
+      let (x', step, next) = driven is.0 (stands_at s number p.src p.session is.0 is.1) in
+      record {
+        deed = handled s e step.more (with_session s p.session x');
+        entry = refl;
+        fate_is = refl;
+        next = sym next;
+        says = subst (λ (o : Option Session). HearsIn o r s e p (handled s e step.more (with_session s p.session x'))) (sym is.1)
+            (hears_so e is.0 x' is.0.service step.more refl is.2 d (turn e is.0 x' step.more (drives r s a now item outs outs' is.0 x' input here step)));
+        outs_are = step.outs_are;
+        few = driven_few r s a now item outs outs' is.0 x' input here step 5 few;
+      }

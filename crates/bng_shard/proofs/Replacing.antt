@@ -1,0 +1,52 @@
+-- A session that is taken out and put back under its number.
+use Rattle.std.proofs.Common.{◌≡◌, ℕ, true, false, not, Option, Some, None, inl, inr, refl, sym, ap, subst, ◌∙◌}
+use Rattle.std.specs.Ordering.{nat_cmp}
+use Rattle.std.specs.Cmp.{nat_cmp_total}
+use Rattle.std.specs.FinMap.{get, same_map, nat_cmp-IsAntisymmetric}
+use Rattle.std.proofs.lemmas.Bool.{cases_eq}
+use Rattle.bng_slots.specs.Sessions.{Sessions, IsNumberOf, value_at, with_value, without}
+use Rattle.bng_slots.proofs.SessionLaws.{value_at-with_value, value_at-with_other, value_at-without, with_value-without}
+use Rattle.bng_shard.specs.declared.session.Service.{Service}
+use Rattle.bng_shard.specs.declared.session.Service.TheVariants.{Provisioned, Discovered}
+use Rattle.bng_shard.specs.declared.session.Session.{Session}
+use Rattle.bng_shard.specs.State.{State, made_one, with_session}
+use Rattle.bng_shard.specs.Link.{ended_service}
+use Rattle.bng_shard.specs.Timers.{lives_at, lives_in, does_live}
+
+-- a session is put where it stands
+pub with_same : (ss : Sessions Session) (n : ℕ) (x : Session) → value_at ss n ≡ Some x → with_value ss n x ≡ ss
+with_same ss n x is =
+    let each : (q : ℕ) → get (with_value ss n x).by_number q ≡ get ss.by_number q = λ q.
+        elim (cases_eq q n) [
+          | inl e ↦ ap (λ k. value_at (with_value ss n x) k) e ∙ value_at-with_value ss n x ∙ sym is ∙ ap (λ k. value_at ss k) (sym e)
+          | inr d ↦ value_at-with_other ss n x q d
+        ] in
+    ap (λ m. record { shard = ss.shard; by_number = m }) (same_map nat_cmp_total nat_cmp-IsAntisymmetric (with_value ss n x).by_number ss.by_number each)
+
+module _ (s s₁ : State) (n m : ℕ) (taken : s₁ ≡ record s { sessions = without s.sessions n }) (same : m ≡ n) where
+  pub number_back : IsNumberOf s.sessions.shard n → IsNumberOf s₁.sessions.shard m
+  number_back is =
+      subst (λ (k : ℕ). IsNumberOf s₁.sessions.shard k) (sym same) (subst (λ (t : State). IsNumberOf t.sessions.shard n) (sym taken) is)
+
+  pub vacant_back : value_at s₁.sessions m ≡ None
+  vacant_back = ap (λ (t : State). value_at t.sessions m) taken ∙ ap (λ (k : ℕ). value_at (without s.sessions n) k) same ∙ value_at-without s.sessions n
+
+  -- it stands where it stood
+  pub put_back : (s₂ : State) (x : Session) → s₂ ≡ with_session s₁ m x → s₂ ≡ with_session s n x
+  put_back s₂ x put =
+      put
+      ∙ ap (λ (t : State). with_session t m x) taken
+      ∙ ap (λ (k : ℕ). with_session (record s { sessions = without s.sessions n }) k x) same
+      ∙ ap (λ (ss : Sessions Session). let t : State = record s { sessions = ss } in t) (with_value-without s.sessions n x)
+
+pub made_of_live : (v : Service) → lives_in v ≡ true → made_one v ≡ 1
+made_of_live (Provisioned l) e = absurd (let never : ⊥ = cc in never)
+made_of_live (Discovered m) e = refl
+
+pub made_of_ended : (v : Service) → lives_in v ≡ true → made_one (ended_service v) ≡ 1
+made_of_ended (Provisioned l) e = absurd (let never : ⊥ = cc in never)
+made_of_ended (Discovered m) e = refl
+
+-- the session that lives at a number
+pub live_there : (s : State) (n : ℕ) (x : Session) → lives_at s n ≡ true → Some x ≡ value_at s.sessions n → lives_in x.service ≡ true
+live_there s n x live is = ap does_live is ∙ live
