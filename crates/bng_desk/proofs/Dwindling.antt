@@ -3,7 +3,7 @@ use Rattle.std.proofs.Common.{◌≡◌, ◌≢◌, ◌⊎◌, inl, inr, ⊎_eli
 use Rattle.std.specs.List.{All, AllByRecursion, AllZip, range_with_len}
 use Rattle.std.proofs.lemmas.Bool.{false≢true}
 use Rattle.std.proofs.lemmas.Bool.Decides.{nat_tests}
-use Rattle.std.proofs.lemmas.List.Elements.{All-from_recursion, recursion_from_All}
+use Rattle.std.proofs.lemmas.List.Elements.{All-map, All-from_recursion, recursion_from_All}
 use Rattle.std.proofs.lemmas.List.Sums.{sum_by-cons}
 use Rattle.bng_base.specs.declared.book.Book.{Book}
 use Rattle.bng_base.specs.declared.item.Entry.{Entry}
@@ -26,7 +26,7 @@ use Rattle.bng_shard.proofs.Fewer.{end_leaves_fewer}
 use Rattle.bng_desk.specs.declared.drops.Drops.{Drops}
 use Rattle.bng_desk.specs.declared.holding.Named.{Named}
 use Rattle.bng_desk.specs.Items.{drawn_from, ends_of, entries_in, for_shard, stands_in}
-use Rattle.bng_desk.specs.Kept.{undrawn, AreEndsOf}
+use Rattle.bng_desk.specs.Kept.{rested, undrawn, AreEndsOf}
 use Rattle.bng_desk.specs.Model.{sessions_in, unopened_most}
 use Rattle.bng_desk.specs.Round.{IsRound, AreParts, entries_of, of_seat, views_of}
 use Rattle.bng_desk.specs.Taking.{IsLeftBy, IsHeld, IsRefused, HoldsOne, HoldsEnds}
@@ -40,6 +40,9 @@ use Rattle.bng_desk.proofs.Zips.{zip_length}
 
 abbrev pub WorksBy : Rules → ShardView ShardState Entry → Type 0
 WorksBy r v = v.state.rules ≡ r
+
+pub rules_rested : (r : Rules) (vs : Shards) → All (WorksBy r) vs → All (WorksBy r) (map rested vs)
+rules_rested r vs works = All-map (WorksBy r) rested vs (λ k d l. works k d l)
 
 after_rules : (s : ShardState) (es : List Handled) → (after pppoe s es).rules ≡ s.rules
 after_rules s [] = refl

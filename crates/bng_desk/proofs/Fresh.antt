@@ -1,5 +1,5 @@
 -- The shards of a desk that was just opened.
-use Rattle.std.proofs.Common.{◌≡◌, ℕ, ◌+◌, ◌*◌, ◌<◌, ◌≤◌, ◌^◌, Bool, true, false, cond, List, [], ◌∷◌, map, length, get_or, refl, sym, ap, subst, ◌∙◌, arith}
+use Rattle.std.proofs.Common.{◌≡◌, inl, ℕ, ◌+◌, ◌*◌, ◌<◌, ◌≤◌, ◌^◌, Bool, true, false, cond, List, [], ◌∷◌, map, length, get_or, refl, sym, ap, subst, ◌∙◌, arith}
 use Rattle.std.specs.List.{All, range_with_len}
 use Rattle.std.proofs.lemmas.List.Sums.{sum_by-cons}
 use Rattle.std.proofs.lemmas.List.FromFn.{get_or-map-range_with_len, length-map-range_with_len}
@@ -11,19 +11,19 @@ use Rattle.bng_engine.specs.Quantities.{Quantity, Octets, Packets, in_book, empt
 use Rattle.bng_engine.specs.Sums.{is_any}
 use Rattle.bng_engine.specs.Views.{ShardView, Row, new_row, rows_where}
 use Rattle.bng_engine.specs.Terms.{Key, keys}
-use Rattle.bng_shard.specs.Protocol.{opened, terms_after}
-use Rattle.bng_shard.specs.Protocol.{ShardState}
+use Rattle.bng_shard.specs.Protocol.{ShardState, opened, sessions_of, terms_of}
 use Rattle.bng_shard.specs.Sums.{IsLow, AreLow, RowsAreLow}
 use Rattle.bng_shard.specs.declared.pool.Holder.{Holder}
 use Rattle.bng_shard.specs.declared.rules.Rules.{Rules}
 use Rattle.bng_base.specs.declared.item.Item.{Item}
 use Rattle.bng_desk.specs.declared.drops.Drops.{Drops}
 use Rattle.bng_desk.specs.Counting.{Within, no_drops}
-use Rattle.bng_desk.specs.Kept.{IsKept, all_turns, rested, octets_most, drops_most}
+use Rattle.bng_desk.specs.Kept.{IsKept, IsUnended, all_turns, rested, octets_most, drops_most}
 use Rattle.bng_desk.specs.Model.{Desk}
 use Rattle.bng_desk.specs.Round.{refused_of}
-use Rattle.bng_desk.specs.Taking.{IsEmpty, AreInOrder, AreItems, outs_of_items}
-use Rattle.bng_desk.proofs.Keeping.{no_ends, one_low}
+use Rattle.bng_desk.specs.Taking.{IsEmpty, HasFewSessions, AreInOrder, AreItems, outs_of_items}
+use Rattle.bng_desk.proofs.Dwindling.{WorksBy}
+use Rattle.bng_desk.proofs.Keeping.{no_ends, one_low, unended_left}
 
 -- Nothing was carried ---------------------------------------------------------------------------------------------------
 
@@ -57,34 +57,48 @@ module _ (rules : Rules) (statics : ℕ → List Static) where
   pub fresh_order : (n : ℕ) → AreInOrder (map fresh (range_with_len 0 n))
   fresh_order n k d lt = ap (λ (v : ShardView ShardState Entry). v.number) (fresh_at n k d lt)
 
+  pub fresh_rules : (n : ℕ) → All (WorksBy rules) (map fresh (range_with_len 0 n))
+  fresh_rules n k d lt = ap (λ (v : ShardView ShardState Entry). v.state.rules) (fresh_at n k d lt)
+
   pub fresh_empty : (n : ℕ) → All IsEmpty (map fresh (range_with_len 0 n))
   fresh_empty n k d lt = subst (λ (v : ShardView ShardState Entry). IsEmpty v) (sym (fresh_at n k d lt)) (refl, refl)
 
   pub fresh_low : (most n : ℕ) → All (λ v. RowsAreLow most v.rows) (map fresh (range_with_len 0 n))
   fresh_low most n k d lt =
-      subst (λ (v : ShardView ShardState Entry). RowsAreLow most v.rows) (sym (fresh_at n k d lt)) (λ q input. omega (arith, none_carried q input (keys (terms_after 0 (statics k)))))
+      subst (λ (v : ShardView ShardState Entry). RowsAreLow most v.rows) (sym (fresh_at n k d lt)) (λ q input. omega (arith, none_carried q input (keys (terms_of (fresh k).state))))
 
   pub fresh_books : (most n : ℕ) → All (λ v. AreLow most v.books) (map fresh (range_with_len 0 n))
   fresh_books most n k d lt = subst (λ (v : ShardView ShardState Entry). AreLow most v.books) (sym (fresh_at n k d lt)) (one_low most empty_book (empty_low most))
 
+-- no shard has a session that discovery made
+none_in : (vs : List (ShardView ShardState Entry)) → All (λ v. sessions_of v.state ≡ 0) vs → All HasFewSessions vs
+none_in vs none k d lt = omega (arith, none k d lt)
+
 -- a desk with such shards, in which nothing has happened
-pub kept_fresh : (d : Desk) (statics : ℕ → List Static) → d.shards ≡ map (λ n. opened n d.rules (statics n)) (range_with_len 0 d.rules.shards) → 1 ≤ length d.rules.access → length d.rules.access ≤ 16 → 1 ≤ d.rules.shards → d.rules.shards ≤ 64
-    → All (λ (h : Holder). h.shard < d.rules.shards) d.holders → d.rounds ≤ 2 ^ 40 → d.turns ≡ 0 → d.endings ≡ 0 → d.unopened ≡ 0 → d.told ≡ 0 → d.drawn ≡ 1 → d.drops ≡ no_drops → d.tallies ≡ empty_book ∷ [] → d.kept ≡ [] → IsKept d
-kept_fresh d statics shards some_port few_ports some_shard few_shards holders most turns endings unopened told drawn drops tallies kept =
+pub kept_fresh : (d : Desk) (statics : ℕ → List Static) → d.shards ≡ map (λ n. opened n d.rules (statics n)) (range_with_len 0 d.rules.shards) → All (λ v. sessions_of v.state ≡ 0) d.shards → 1 ≤ length d.rules.access → length d.rules.access ≤ 16 → 1 ≤ d.rules.shards → d.rules.shards ≤ 64
+    → All (λ (h : Holder). h.shard < d.rules.shards) d.holders → d.rounds ≤ 2 ^ 40 → d.turns ≡ 0 → d.endings ≡ 0 → d.unopened ≡ 0 → d.closed ≡ false → d.told ≡ 0 → d.drawn ≡ 1 → d.drops ≡ no_drops → d.tallies ≡ empty_book ∷ [] → d.kept ≡ [] → IsKept d
+kept_fresh d statics shards none some_port few_ports some_shard few_shards holders most turns endings unopened closed told drawn drops tallies kept =
     let empty = no_ends d in
+    let few = none_in d.shards none in
+    let unended : IsUnended d = record { endings = endings; unopened = unopened; closed = closed } in
+    let count = ap (λ (xs : List (ShardView ShardState Entry)). length xs) shards ∙ length-map-range_with_len (λ (n : ℕ). opened n d.rules (statics n)) 0 d.rules.shards in
     record {
       some_port = some_port;
       few_ports = few_ports;
-      shards = ap (λ (xs : List (ShardView ShardState Entry)). length xs) shards ∙ length-map-range_with_len (λ (n : ℕ). opened n d.rules (statics n)) 0 d.rules.shards;
+      shards = count;
       some_shard = some_shard;
       few_shards = few_shards;
       order = subst AreInOrder (sym shards) (fresh_order d.rules statics d.rules.shards);
+      rules = subst (λ (xs : List (ShardView ShardState Entry)). All (WorksBy d.rules) xs) (sym shards) (fresh_rules d.rules statics d.rules.shards);
+      sessions = few;
       empty = subst (λ (xs : List (ShardView ShardState Entry)). All IsEmpty xs) (sym shards) (fresh_empty d.rules statics d.rules.shards);
       holders = holders;
       most = most;
       made = omega (arith, turns);
+      serving = λ _. unended;
       endings = omega (arith, endings);
       unopened = omega (arith, unopened);
+      left = unended_left d d.shards unended few (omega (arith, count, few_shards));
       told = omega (arith, told);
       drawn = omega (arith, drawn);
       low = subst (λ (xs : List (ShardView ShardState Entry)). All (λ v. RowsAreLow (octets_most * all_turns d) v.rows) xs) (sym shards) (fresh_low d.rules statics (octets_most * all_turns d) d.rules.shards);
@@ -94,5 +108,6 @@ kept_fresh d statics shards some_port few_ports some_shard few_shards holders mo
       counts = subst (λ (x : Drops). Within (drops_most * all_turns d) x) (sym drops) (record { malformed = omega arith; no_session = omega arith; not_open = omega arith; expired = omega arith; spoofed = omega arith; too_big = omega arith; exceeded = omega arith; link_failed = omega arith; want_of_memory = omega arith });
       kept = subst AreItems (sym kept) empty.items;
       kept_outs = subst (λ (is : List Item). outs_of_items is ≤ 4480 + 320 * length d.shards) (sym kept) empty.outs;
+      kept_ends = inl kept;
       none_refused = subst (λ (is : List Item). refused_of is ≡ []) (sym kept) empty.none;
     }

@@ -1,29 +1,36 @@
 -- What a desk keeps from turn to turn.
-use Rattle.std.proofs.Common.{◌≡◌, ◌≢◌, ℕ, zero, suc, ◌+◌, ◌*◌, ◌<◌, ◌≤◌, ◌^◌, Bool, true, false, not, cond, List, [], ◌∷◌, length, eqb, refl, ◌∙◌, arith}
+use Rattle.std.proofs.Common.{◌≡◌, ◌≢◌, ◌⊎◌, inl, inr, ℕ, zero, suc, ◌+◌, ◌-◌, ◌*◌, ◌<◌, ◌≤◌, Bool, true, false, not, ◌&&◌, ◌||◌, cond, List, [], ◌∷◌, length, eqb, refl, sym, ap, subst, ◌∙◌, arith}
 use Rattle.std.specs.List.{All}
-use Rattle.std.specs.Prelude.{nat_le}
-use Rattle.std.proofs.lemmas.Bool.{or_parts, leb-false}
+use Rattle.std.proofs.lemmas.Bool.{false≢true, or_parts, leb-false}
 use Rattle.std.proofs.lemmas.Bool.Decides.{nat_tests}
+use Rattle.std.proofs.lemmas.List.Sums.{sum_by-le}
+use Rattle.bng_base.specs.declared.item.Entry.{Entry}
 use Rattle.bng_base.specs.declared.book.Book.{Book}
 use Rattle.bng_base.specs.declared.item.Item.{Item}
 use Rattle.bng_desk.specs.declared.desk.DeskState.{DeskState}
 use Rattle.bng_desk.specs.declared.desk.DeskState.TheVariants.{Serving, Ending, Ended, Starved}
+use Rattle.bng_base.specs.declared.round.RoundRecord.{RoundRecord}
+use Rattle.bng_base.specs.Told.{PlantTold}
 use Rattle.bng_desk.specs.declared.drops.Drops.{Drops}
+use Rattle.bng_desk.specs.declared.holding.Named.{Named}
 use Rattle.bng_desk.specs.Counting.{Within}
-use Rattle.bng_desk.specs.Kept.{IsKept, all_turns, octets_most, drops_most}
-use Rattle.bng_desk.specs.Model.{Desk, is_over, has_ended, has_starved, state_of, unopened_most, endings_most}
+use Rattle.bng_desk.specs.Kept.{IsKept, IsUnended, AreEndsOf, all_turns, octets_most, drops_most}
+use Rattle.bng_desk.specs.Model.{Desk, is_over, has_ended, has_starved, left_of, rounds_left, sessions_in, state_of, unopened_most}
 use Rattle.bng_desk.specs.Items.{drawn_from, ends_of}
 use Rattle.bng_desk.specs.Random.{Drawn}
 use Rattle.bng_desk.specs.Reading.{is_empty}
 use Rattle.bng_desk.specs.Round.{refused_of}
-use Rattle.bng_desk.specs.Taking.{IsEmpty, AreInOrder, AreItems, outs_of_items}
+use Rattle.bng_desk.specs.Taking.{IsEmpty, HasFewSessions, HoldsEnds, AreInOrder, AreItems, outs_of_items}
 use Rattle.bng_desk.proofs.Readying.{Shards}
 use Rattle.bng_desk.specs.Turn.{ending_items, ending_draws, told_after}
 use Rattle.bng_desk.proofs.DropLaws.{within_wider}
 use Rattle.bng_desk.proofs.Ending.{after_ending}
 use Rattle.bng_desk.proofs.ItemLaws.{are_ends, outs_of_ends}
+use Rattle.bng_shard.specs.Protocol.{ShardState, sessions_of}
 use Rattle.bng_shard.specs.Sums.{IsLow, AreLow}
 use Rattle.bng_engine.specs.Books.{book_at}
+use Rattle.bng_engine.specs.Views.{ShardView}
+use Rattle.bng_desk.proofs.Dwindling.{WorksBy, Nears, are_drawn_ends, less_left, nears, still_left, unopened_low}
 use Rattle.bng_desk.proofs.Joining.{HasLow, HasLowBooks, low_wider, books_wider}
 use Rattle.bng_desk.proofs.OneMore.{low_more}
 use Rattle.bng_desk.proofs.RefusedLaws.{none_refused}
@@ -40,11 +47,17 @@ serving_by true false true e = cc
 serving_by true false false e = cc
 serving_by false ended starved e = refl
 
-ending_by : (over ended starved : Bool) → state_by over ended starved ≡ Ending → starved ≡ false
-ending_by true true starved e = cc
-ending_by true false true e = cc
-ending_by true false false e = refl
-ending_by false ended starved e = cc
+-- the tests of a desk that ends
+record IsEnding (over ended starved : Bool) : Type 0 where
+  over_is : over ≡ true
+  ended_is : ended ≡ false
+  starved_is : starved ≡ false
+
+ending_by : (over ended starved : Bool) → state_by over ended starved ≡ Ending → IsEnding over ended starved
+ending_by true true starved e = let no : ⊥ = cc in absurd no
+ending_by true false true e = let no : ⊥ = cc in absurd no
+ending_by true false false e = record { over_is = refl; ended_is = refl; starved_is = refl }
+ending_by false ended starved e = let no : ⊥ = cc in absurd no
 
 differs : (a b : ℕ) → eqb a b ≡ false → a ≢ b
 differs a b e = grind (arith, nat_tests)
@@ -56,11 +69,44 @@ turns_left d e made =
     let other : d.turns ≢ d.rounds = differs d.turns d.rounds parts.1 in
     omega (arith, made, other)
 
--- a desk that ends has turns of the ending left
-pub endings_left : (d : Desk) → state_of d ≡ Ending → d.endings < 2 ^ 40
-endings_left d e =
-    let parts = or_parts (nat_le unopened_most d.unopened) (nat_le endings_most d.endings) (ending_by (is_over d) (has_ended d) (has_starved d) e) in
-    leb-false endings_most d.endings parts.1
+-- a desk that serves is not over
+pub not_over : (d : Desk) → state_of d ≡ Serving → is_over d ≡ false
+not_over d e = serving_by (is_over d) (has_ended d) (has_starved d) e
+
+some_left : (b : Bool) (n : ℕ) → (b && eqb n 0) ≡ false → b ≡ true → 1 ≤ n
+some_left true n e f = let other : n ≢ 0 = differs n 0 e in omega (arith, other)
+some_left false n e f = absurd (false≢true f)
+
+-- A desk that ends is over, has opened a round in its last turns of the ending, and has a session left where one was opened.
+pub record Ends (d : Desk) : Type 0 where
+  pub over : is_over d ≡ true
+  pub low : d.unopened < unopened_most
+  pub some : d.closed ≡ true → 1 ≤ sessions_in d.shards
+
+pub ends_of_state : (d : Desk) → state_of d ≡ Ending → Ends d
+ends_of_state d e =
+    let is = ending_by (is_over d) (has_ended d) (has_starved d) e in
+    record {
+      over = is.over_is;
+      low = leb-false unopened_most d.unopened is.starved_is;
+      some = some_left d.closed (sessions_in d.shards) is.ended_is;
+    }
+
+-- Sessions ----------------------------------------------------------------------------------------------------------------
+
+pub few_in : (vs : Shards) → All HasFewSessions vs → sessions_in vs ≤ 1022 * length vs
+few_in vs few = omega (arith, sum_by-le (λ (v : ShardView ShardState Entry). sessions_of v.state) 1022 vs few)
+
+-- before the ending no turn of it counts
+pub unended_left : (d : Desk) (vs : Shards) → IsUnended d → All HasFewSessions vs → length vs ≤ 64 → d.endings + unopened_most * (sessions_in vs + cond d.closed 0 1) ≤ unopened_most * 65410 + d.unopened
+unended_left d vs u few count = omega (arith, u.endings, ap {B = ℕ} (λ (b : Bool). cond b 0 1) u.closed, few_in vs few, count)
+
+-- what is kept of a round of the ending
+pub record AreEnds (d : Desk) (is : List Item) : Type 0 where
+  pub items : AreItems is
+  pub outs : outs_of_items is ≤ 4480 + 320 * length d.shards
+  pub ends : (is ≡ []) ⊎ AreEndsOf (length d.shards) is
+  pub none : refused_of is ≡ []
 
 -- One round more ------------------------------------------------------------------------------------------------------------
 
@@ -76,54 +122,88 @@ one_low most tally low = low_at most tally low
 pub record IsLeft (d : Desk) (ws : Shards) (drops : Drops) (tally : Book) (drawn : ℕ) : Type 0 where
   pub shards : length ws ≡ length d.shards
   pub order : AreInOrder ws
+  pub rules : All (WorksBy d.rules) ws
   pub empty : All IsEmpty ws
+  pub sessions : All HasFewSessions ws
   pub low : All (HasLow (octets_most * all_turns d + octets_most)) ws
   pub books : All (HasLowBooks (octets_most * all_turns d + octets_most)) ws
   pub tally_low : IsLow (octets_most * all_turns d + octets_most) tally
   pub counts : Within (drops_most * all_turns d + drops_most) drops
   pub drawn_is : drawn ≤ d.drawn + 512
 
-pub kept_served : (d : Desk) (ws : Shards) (drops : Drops) (tally : Book) (draws : Drawn) (stopped : Bool) (moment told : ℕ) → IsKept d → d.turns < d.rounds → IsLeft d ws drops tally draws.drawn → told ≤ d.told + 1 → IsKept (after_turn d ws drops tally draws stopped moment told)
-kept_served d ws drops tally draws stopped moment told k turns l up = record {
-  some_port = k.some_port;
-  few_ports = k.few_ports;
-  shards = l.shards ∙ k.shards;
-  some_shard = k.some_shard;
-  few_shards = k.few_shards;
-  order = l.order;
-  empty = l.empty;
-  holders = k.holders;
-  most = k.most;
-  made = omega (arith, turns);
-  endings = k.endings;
-  unopened = k.unopened;
-  told = omega (arith, k.told, up);
-  drawn = omega (arith, k.drawn, l.drawn_is);
-  one_seat = refl;
-  low = low_wider (octets_most * all_turns d + octets_most) (octets_most * (d.turns + 1 + d.endings)) ws (omega arith) l.low;
-  books = books_wider (octets_most * all_turns d + octets_most) (octets_most * (d.turns + 1 + d.endings)) ws (omega arith) l.books;
-  tallies = one_low (octets_most * (d.turns + 1 + d.endings)) tally (low_more (octets_most * all_turns d + octets_most) (octets_most * (d.turns + 1 + d.endings)) tally (omega arith) l.tally_low);
-  counts = within_wider (drops_most * all_turns d + drops_most) (drops_most * (d.turns + 1 + d.endings)) drops (omega arith) l.counts;
-  kept = k.kept;
-  kept_outs = omega (arith, k.kept_outs, l.shards);
-  none_refused = k.none_refused;
-}
+pub kept_served : (d : Desk) (ws : Shards) (drops : Drops) (tally : Book) (draws : Drawn) (stopped : Bool) (moment told : ℕ) → IsKept d → is_over d ≡ false → d.turns < d.rounds → IsLeft d ws drops tally draws.drawn → told ≤ d.told + 1 → IsKept (after_turn d ws drops tally draws stopped moment told)
+kept_served d ws drops tally draws stopped moment told k serves turns l up =
+    let u = k.serving serves in
+    record {
+      some_port = k.some_port;
+      few_ports = k.few_ports;
+      shards = l.shards ∙ k.shards;
+      some_shard = k.some_shard;
+      few_shards = k.few_shards;
+      order = l.order;
+      rules = l.rules;
+      empty = l.empty;
+      sessions = l.sessions;
+      holders = k.holders;
+      most = k.most;
+      made = omega (arith, turns);
+      serving = λ _. record { endings = u.endings; unopened = u.unopened; closed = u.closed };
+      endings = k.endings;
+      unopened = k.unopened;
+      left = unended_left d ws u l.sessions (omega (arith, l.shards, k.shards, k.few_shards));
+      told = omega (arith, k.told, up);
+      drawn = omega (arith, k.drawn, l.drawn_is);
+      one_seat = refl;
+      low = low_wider (octets_most * all_turns d + octets_most) (octets_most * (d.turns + 1 + d.endings)) ws (omega arith) l.low;
+      books = books_wider (octets_most * all_turns d + octets_most) (octets_most * (d.turns + 1 + d.endings)) ws (omega arith) l.books;
+      tallies = one_low (octets_most * (d.turns + 1 + d.endings)) tally (low_more (octets_most * all_turns d + octets_most) (octets_most * (d.turns + 1 + d.endings)) tally (omega arith) l.tally_low);
+      counts = within_wider (drops_most * all_turns d + drops_most) (drops_most * (d.turns + 1 + d.endings)) drops (omega arith) l.counts;
+      kept = k.kept;
+      kept_outs = omega (arith, k.kept_outs, l.shards);
+      kept_ends = subst (λ (n : ℕ). (d.kept ≡ []) ⊎ AreEndsOf n d.kept) (sym l.shards) k.kept_ends;
+      none_refused = k.none_refused;
+    }
 
-pub kept_ended : (d : Desk) (ws : Shards) (drops : Drops) (tally : Book) (draws : Drawn) (unopened : ℕ) (closed : Bool) (kept : List Item) (moment told : ℕ) → IsKept d → d.endings < 2 ^ 40 → IsLeft d ws drops tally draws.drawn → unopened ≤ d.unopened + 1 → told ≤ d.told + 1
-    → AreItems kept → outs_of_items kept ≤ 4480 + 320 * length d.shards → refused_of kept ≡ [] → IsKept (after_ending d ws drops (tally ∷ []) draws unopened closed kept moment told)
-kept_ended d ws drops tally draws unopened closed kept moment told k left l few up items outs none = record {
+-- what a turn of the ending leaves of those that there may be
+pub record IsNearer (d : Desk) (ws : Shards) (unopened : ℕ) (closed : Bool) : Type 0 where
+  pub low : unopened ≤ unopened_most
+  pub left : d.endings + 1 + unopened_most * (sessions_in ws + cond closed 0 1) ≤ unopened_most * 65410 + unopened
+  pub less : unopened_most * (sessions_in ws + cond closed 0 1) + (unopened_most - unopened) < left_of d
+
+pub is_nearer : (d : Desk) (ws : Shards) (opened : Bool) (unopened : ℕ) (closed : Bool) → Ends d → Nears opened (sessions_in d.shards) (sessions_in ws) → d.endings + unopened_most * rounds_left d ≤ unopened_most * 65410 + d.unopened
+    → unopened ≡ cond opened 0 (d.unopened + 1) → closed ≡ (d.closed || opened) → IsNearer d ws unopened closed
+is_nearer d ws opened unopened closed e nears left unopened_is closed_is =
+    subst (λ (n : ℕ). IsNearer d ws n closed) (sym unopened_is)
+    (subst (λ (b : Bool). IsNearer d ws (cond opened 0 (d.unopened + 1)) b) (sym closed_is)
+    (record {
+      low = unopened_low opened d.unopened e.low;
+      left = still_left opened d.closed (sessions_in d.shards) (sessions_in ws) d.unopened d.endings e.low e.some nears left;
+      less = less_left opened d.closed (sessions_in d.shards) (sessions_in ws) d.unopened e.low e.some nears;
+    }))
+
+not_served : (b : Bool) (X : Type 0) → b ≡ true → b ≡ false → X
+not_served true X e f = absurd (false≢true (sym f))
+not_served false X e f = absurd (false≢true e)
+
+pub kept_ended : (d : Desk) (ws : Shards) (drops : Drops) (tally : Book) (draws : Drawn) (unopened : ℕ) (closed : Bool) (kept : List Item) (moment told : ℕ) → IsKept d → is_over d ≡ true → IsNearer d ws unopened closed → IsLeft d ws drops tally draws.drawn → told ≤ d.told + 1
+    → AreEnds d kept → IsKept (after_ending d ws drops (tally ∷ []) draws unopened closed kept moment told)
+kept_ended d ws drops tally draws unopened closed kept moment told k over near l up ends = record {
   some_port = k.some_port;
   few_ports = k.few_ports;
   shards = l.shards ∙ k.shards;
   some_shard = k.some_shard;
   few_shards = k.few_shards;
   order = l.order;
+  rules = l.rules;
   empty = l.empty;
+  sessions = l.sessions;
   holders = k.holders;
   most = k.most;
   made = k.made;
-  endings = omega (arith, left);
-  unopened = omega (arith, k.unopened, few);
+  serving = λ serves. not_served (is_over d) (IsUnended (after_ending d ws drops (tally ∷ []) draws unopened closed kept moment told)) over serves;
+  endings = omega (arith, near.left, near.low);
+  unopened = near.low;
+  left = near.left;
   told = omega (arith, k.told, up);
   drawn = omega (arith, k.drawn, l.drawn_is);
   one_seat = refl;
@@ -131,9 +211,10 @@ kept_ended d ws drops tally draws unopened closed kept moment told k left l few 
   books = books_wider (octets_most * all_turns d + octets_most) (octets_most * (d.turns + (d.endings + 1))) ws (omega arith) l.books;
   tallies = one_low (octets_most * (d.turns + (d.endings + 1))) tally (low_more (octets_most * all_turns d + octets_most) (octets_most * (d.turns + (d.endings + 1))) tally (omega arith) l.tally_low);
   counts = within_wider (drops_most * all_turns d + drops_most) (drops_most * (d.turns + (d.endings + 1))) drops (omega arith) l.counts;
-  kept = items;
-  kept_outs = omega (arith, outs, l.shards);
-  none_refused = none;
+  kept = ends.items;
+  kept_outs = omega (arith, ends.outs, l.shards);
+  kept_ends = subst (λ (n : ℕ). (kept ≡ []) ⊎ AreEndsOf n kept) (sym l.shards) ends.ends;
+  none_refused = ends.none;
 }
 
 -- the number of the last round that the trace took rises by one at most
@@ -143,14 +224,9 @@ few_told false n = omega arith
 
 -- The items of a round of the ending ------------------------------------------------------------------------------------------
 
-pub record AreEnds (d : Desk) (is : List Item) : Type 0 where
-  pub items : AreItems is
-  pub outs : outs_of_items is ≤ 4480 + 320 * length d.shards
-  pub none : refused_of is ≡ []
-
 ends_by : (b : Bool) (d : Desk) → IsKept d → AreEnds d (cond b (drawn_from d.seed d.drawn (ends_of (length d.shards))) d.kept)
-ends_by true d k = record { items = are_ends d.seed d.drawn (length d.shards) (omega (arith, k.few_shards, k.shards)); outs = outs_of_ends d.seed d.drawn (length d.shards); none = none_refused d.seed d.drawn (length d.shards) }
-ends_by false d k = record { items = k.kept; outs = k.kept_outs; none = k.none_refused }
+ends_by true d k = record { items = are_ends d.seed d.drawn (length d.shards) (omega (arith, k.few_shards, k.shards)); outs = outs_of_ends d.seed d.drawn (length d.shards); ends = inr (are_drawn_ends d.seed d.drawn (length d.shards)); none = none_refused d.seed d.drawn (length d.shards) }
+ends_by false d k = record { items = k.kept; outs = k.kept_outs; ends = k.kept_ends; none = k.none_refused }
 
 pub are_ends_of : (d : Desk) → IsKept d → AreEnds d (ending_items d)
 are_ends_of d k = ends_by (is_empty d.kept) d k
@@ -159,8 +235,22 @@ pub no_ends : (d : Desk) → AreEnds d []
 no_ends d = record {
   items = record { few = omega arith; whole = λ k e l. absurd (omega arith); once = λ i j e low high. absurd (omega arith) };
   outs = omega arith;
+  ends = inl refl;
   none = refl;
 }
+
+not_empty : (shards : ℕ) (is : List Item) → is_empty is ≡ false → (is ≡ []) ⊎ AreEndsOf shards is → AreEndsOf shards is
+not_empty shards [] e h = absurd (false≢true (sym e))
+not_empty shards (i ∷ is) e (inl none) = let no : ⊥ = cc in absurd no
+not_empty shards (i ∷ is) e (inr h) = h
+
+all_ends_by : (b : Bool) (d : Desk) → IsKept d → is_empty d.kept ≡ b → AreEndsOf (length d.shards) (cond b (drawn_from d.seed d.drawn (ends_of (length d.shards))) d.kept)
+all_ends_by true d k e = are_drawn_ends d.seed d.drawn (length d.shards)
+all_ends_by false d k e = not_empty (length d.shards) d.kept e k.kept_ends
+
+-- each shard has its End
+pub all_end : (d : Desk) → IsKept d → AreEndsOf (length d.shards) (ending_items d)
+all_end d k = all_ends_by (is_empty d.kept) d k refl
 
 draws_by : (b : Bool) (n : ℕ) → n ≤ 64 → cond b n 0 ≤ 512
 draws_by true n few = omega (arith, few)
@@ -169,6 +259,10 @@ draws_by false n few = omega arith
 pub few_draws : (d : Desk) → IsKept d → ending_draws d ≤ 512
 few_draws d k = draws_by (is_empty d.kept) (length d.shards) (omega (arith, k.few_shards, k.shards))
 
-pub few_unopened : (b : Bool) (n : ℕ) → cond b 0 (n + 1) ≤ n + 1
-few_unopened true n = omega arith
-few_unopened false n = omega arith
+-- a round of the ending that was opened leaves fewer sessions
+pub ends_near : (d : Desk) (named : Named) (items : List Item) (old new : PlantTold) (vs ws : Shards) (drops' : Drops) (tally tally' : Book) (told_is : RoundRecord) (opened : Bool) (kept : List Item) → IsKept d → items ≡ ending_items d → vs ≡ d.shards
+    → HoldsEnds d.rules d.holders named items old new vs ws d.drops drops' tally tally' told_is opened kept → Nears opened (sessions_in d.shards) (sessions_in ws)
+ends_near d named items old new vs ws drops' tally tally' told_is opened kept k items_are shards_are held =
+    nears d.rules d.holders named items old new d.shards ws d.drops drops' tally tally' told_is opened kept
+    (subst (λ (xs : Shards). HoldsEnds d.rules d.holders named items old new xs ws d.drops drops' tally tally' told_is opened kept) shards_are held) k.shards
+    (subst (λ (is : List Item). AreEndsOf (length d.shards) is) (sym items_are) (all_end d k))

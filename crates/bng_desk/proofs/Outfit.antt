@@ -1,17 +1,20 @@
 -- What a desk is opened with: what its ports offer, and the circuits of each shard.
-use Rattle.std.proofs.Common.{◌≡◌, ◌≢◌, ℕ, ◌+◌, ◌<◌, ◌≤◌, ◌==◌, Bool, true, false, cond, if◌then◌else◌, List, [], ◌∷◌, ◌++◌, map, filter, length, take, get_or, set, eqb, refl, sym, ap, subst, ◌∙◌, arith, append-nil, length-set, get_or-set_same, get_or-set_other}
-use Rattle.std.specs.List.{All, range_with_len}
+use Rattle.std.proofs.Common.{◌≡◌, ◌≢◌, ℕ, suc, ◌+◌, ◌<◌, ◌≤◌, ◌==◌, Bool, true, false, cond, if◌then◌else◌, List, [], ◌∷◌, ◌++◌, map, filter, length, take, get_or, set, eqb, refl, sym, ap, subst, ◌∙◌, arith, append-nil, length-set, get_or-set_same, get_or-set_other}
+use Rattle.std.specs.List.{All, AllPairs, range_with_len}
 use Rattle.std.proofs.lemmas.Bool.{false≢true}
 use Rattle.std.proofs.lemmas.Bool.Decides.{nat_tests}
 use Rattle.std.proofs.lemmas.List.{get_or-map, get_or_at, length-append, length-map, length-take-le, take_more}
-use Rattle.std.proofs.lemmas.List.Elements.{filter-append}
+use Rattle.std.proofs.lemmas.List.Elements.{All-filter, filter-append, filter_passes}
 use Rattle.std.proofs.lemmas.List.FromFn.{fill_by_all, get_or-map-range_with_len, length-map-range_with_len}
-use Rattle.std.proofs.lemmas.List.Sums.{count_by-le-length, length-filter}
+use Rattle.std.proofs.lemmas.List.Kept.{AllPairs-filter}
 use Rattle.arrayvec.specs.ArrayVec.{ArrayVec}
 use Rattle.bng_base.specs.declared.settings.AccessPort.{AccessPort}
 use Rattle.bng_base.specs.declared.settings.Static.{Static}
 use Rattle.bng_discovery.specs.declared.port.PortRules.{PortRules}
-use Rattle.bng_desk.specs.Opening.{AreOffersOf, IsOfferOf, shard_of}
+use Rattle.bng_shard.specs.declared.rules.Rules.{Rules}
+use Rattle.bng_shard.specs.Protocol.{profiles_there}
+use Rattle.bng_slots.specs.Sessions.{IsNumberOf}
+use Rattle.bng_desk.specs.Opening.{AreOffersOf, AreServed, IsOfferOf, shard_of}
 
 -- Offers ----------------------------------------------------------------------------------------------------------------
 
@@ -47,6 +50,28 @@ same_number a n e = grind (arith, nat_tests)
 other_number : (a n : ℕ) → eqb a n ≡ false → n ≢ a
 other_number a n e = grind (arith, nat_tests)
 
+-- what the circuits of one shard keep
+pub record AreOf (r : Rules) (n : ℕ) (circuits : List Static) : Type 0 where
+  pub own : All (λ c. IsNumberOf n c.session.0) circuits
+  pub sessions : AllPairs (λ a b. a.session ≢ b.session) circuits
+  pub addresses : AllPairs (λ a b. a.address ≢ b.address) circuits
+  pub ports : All (λ c. (1 ≤ c.port) × (c.port ≤ length r.access)) circuits
+  pub profiles : All (λ c. c.profile < profiles_there) circuits
+
+are_of : (r : Rules) (circuits : List Static) (n : ℕ) → AreServed r circuits → AreOf r n (of_shard circuits n)
+are_of r circuits n are =
+    let p = λ (c : Static). shard_of c == n in
+    record {
+      own = λ k d lt.
+          let c = get_or (of_shard circuits n) k d in
+          let number : IsNumberOf (shard_of c) c.session.0 = All-filter p (λ (x : Static). IsNumberOf (shard_of x) x.session.0) circuits are.own k d lt in
+          subst (λ (m : ℕ). IsNumberOf m c.session.0) (same_number (shard_of c) n (filter_passes p circuits k d lt)) number;
+      sessions = AllPairs-filter (λ (a b : Static). a.session ≢ b.session) p circuits are.sessions;
+      addresses = AllPairs-filter (λ (a b : Static). a.address ≢ b.address) p circuits are.addresses;
+      ports = All-filter p (λ (x : Static). (1 ≤ x.port) × (x.port ≤ length r.access)) circuits are.ports;
+      profiles = All-filter p (λ (x : Static). x.profile < profiles_there) circuits are.profiles;
+    }
+
 module _ {V : Type 0} (f : V → List Static) where
   -- one circuit more is put to its shard's list
   placed : (circuits : List Static) (c : Static) (k i : ℕ) (lists : List V) (v w : V) (b : Bool) → i ≡ shard_of c → i < length lists → f w ≡ f (get_or lists i v) ++ c ∷ [] → f (get_or lists k v) ≡ of_shard circuits k
@@ -76,6 +101,13 @@ module _ {V : Type 0} (f : V → List Static) where
         ap f (sym (get_or_at done next left next (length done) refl)) ∙ list_at g (done ++ next ∷ left) n (length done) next whole within ∙ ap g count,
       )
 
+  -- it may be a shard's
+  pub next_are : (r own : Rules) (circuits xs : List Static) (done left rest : List V) (next : V) (k : ℕ) → AreServed r circuits → map f (done ++ rest) ≡ map (of_shard circuits) (range_with_len 0 r.shards) → rest ≡ next ∷ left → length done ≡ k
+      → own ≡ r → xs ≡ f next → AreOf own k xs
+  next_are r own circuits xs done left rest next k are same is count own_is xs_are =
+      let at = list_next (of_shard circuits) done left rest next r.shards k same is count in
+      subst (λ (o : Rules). AreOf o k xs) (sym own_is) (subst (λ (cs : List Static). AreOf r k cs) (sym (xs_are ∙ at.1)) (are_of r circuits k are))
+
   pub dealt_more : (circuits : List Static) (c : Static) (n i : ℕ) (lists : List V) (v w : V) → map f lists ≡ map (of_shard circuits) (range_with_len 0 n) → i ≡ shard_of c → i < length lists
       → f w ≡ f (get_or lists i v) ++ c ∷ [] → map f (set lists i w) ≡ map (of_shard (circuits ++ c ∷ [])) (range_with_len 0 n)
   dealt_more circuits c n i lists v w so_far at within here =
@@ -97,6 +129,8 @@ pub if_true : (b : Bool) (xs ys zs : List Static) → zs ≡ (if b then xs else 
 if_true true xs ys zs is e = is
 if_true false xs ys zs is e = absurd (false≢true e)
 
--- a shard has no more circuits than there are
-pub few_of : (circuits : List Static) (n : ℕ) → length (of_shard circuits n) ≤ length circuits
-few_of circuits n = let p = λ (c : Static). shard_of c == n in omega (arith, length-filter p circuits, count_by-le-length p circuits)
+-- each port has its offer
+pub offers_count : (name : List ℕ) (services : List (ArrayVec ℕ)) (key : List ℕ) (number : ℕ) (ports : List AccessPort) (offers : List PortRules) → AreOffersOf name services key number ports offers → length offers ≡ length ports
+offers_count name services key number [] offers are = ap (λ (os : List PortRules). length os) are
+offers_count name services key number (p ∷ ports) [] are = absurd are
+offers_count name services key number (p ∷ ports) (o ∷ offers) are = ap suc (offers_count name services key (number + 1) ports offers are.1)

@@ -87,9 +87,13 @@ pub struct Desk {
 impl Model for Desk {
     ghost use Rattle.bng_desk.specs.Model.{Desk as Seen};
     ghost use Rattle.std.specs.Prelude.{map, [], ◌∷◌};
+    ghost use Rattle.std.specs.Coded.{codes};
+    ghost use Rattle.bng_shard.specs.Codes.{state_code};
     ghost use Rattle.bng_desk.specs.Kept.{IsKept, rested};
 
     ghost Value = { Seen };
+
+    ghost coded = { Prim.hlevel (codes, state_code) };
 
     ghost view = { λ d. record { rules = d.rules; lines = d.lines.items; rounds = d.rounds; turns = d.turns; stopped = d.stopped; shards = map rested d.shards.items; holders = d.pool; tallies = d.tally ∷ []; seed = d.draws.seed; drawn = d.draws.drawn; drops = d.drops; moment = d.moment; told = d.told; endings = d.endings; unopened = d.unopened; closed = d.closed; kept = d.kept.items } };
 

@@ -1,14 +1,19 @@
-use Rattle.std.proofs.Common.{ℕ, ◌++◌, ◌∷◌, List, [], length, map, sym, ap, ◌∙◌, arith, append_assoc, length-append}
-use Rattle.std.specs.List.{range_with_len}
+use Rattle.std.proofs.Common.{◌≡◌, ℕ, ◌++◌, ◌∷◌, List, [], length, map, sym, ap, subst, ◌∙◌, arith, append_assoc, length-append}
+use Rattle.std.specs.List.{All, range_with_len}
+use Rattle.std.proofs.lemmas.List.Elements.{All-append, All-cons, All-nil}
 use Rattle.std.proofs.lemmas.List.FromFn.{map-range_with_len_more, length-map-range_with_len}
 use Rattle.bng_base.specs.declared.item.Entry.{Entry}
 use Rattle.bng_base.specs.declared.settings.Static.{Static}
 use Rattle.bng_engine.specs.Views.{ShardView}
 use Rattle.bng_shard.specs.declared.rules.Rules.{Rules}
 use Rattle.bng_shard.specs.Protocol.{opened}
-use Rattle.bng_shard.specs.Protocol.{ShardState}
-use Rattle.bng_desk.proofs.Outfit.{of_shard, few_of, list_count, list_next}
+use Rattle.bng_shard.specs.Protocol.{ShardState, sessions_of}
+use Rattle.bng_desk.proofs.Outfit.{of_shard, list_count, list_next, next_are}
 use Rattle.bng_desk.proofs.opening.shards.Goals as goal
+
+-- discovery made no session of the shard
+abbrev HasNone : ShardView ShardState Entry → Type 0
+HasNone v = sessions_of v.state ≡ 0
 
 pub open-requires-clause-number : goal.open-requires-clause-number
 open-requires-clause-number c =
@@ -16,11 +21,30 @@ open-requires-clause-number c =
     let next = list_next (λ x. x.items) (of_shard c.args.circuits.items) c.loop-circuits.yielded c.next.new.self.rest.items c.loop-circuits.circuits-iterator.rest.items c.in-Some.circuits c.args.rules.now.shards c.loop-circuits.number was.left c.in-Some.ensures.steps.0 was.number in
     omega (arith, next.0, c.requires.few)
 
-pub open-requires-clause-few : goal.open-requires-clause-few
-open-requires-clause-few c =
+pub open-requires-clause-own : goal.open-requires-clause-own
+open-requires-clause-own c =
     let was = c.loop-circuits.invariant in
-    let next = list_next (λ x. x.items) (of_shard c.args.circuits.items) c.loop-circuits.yielded c.next.new.self.rest.items c.loop-circuits.circuits-iterator.rest.items c.in-Some.circuits c.args.rules.now.shards c.loop-circuits.number was.left c.in-Some.ensures.steps.0 was.number in
-    omega (arith, ap (λ (cs : List Static). length cs) next.1, few_of c.args.circuits.items c.loop-circuits.number, c.requires.circuits)
+    (next_are (λ x. x.items) c.args.rules.now c.in_ok-own.own c.args.circuits.items c.as_slice.result.now c.loop-circuits.yielded c.next.new.self.rest.items c.loop-circuits.circuits-iterator.rest.items c.in-Some.circuits c.loop-circuits.number c.requires.circuits was.left c.in-Some.ensures.steps.0 was.number c.in_ok-own.ensures c.as_slice.ensures).own
+
+pub open-requires-clause-sessions : goal.open-requires-clause-sessions
+open-requires-clause-sessions c =
+    let was = c.loop-circuits.invariant in
+    (next_are (λ x. x.items) c.args.rules.now c.in_ok-own.own c.args.circuits.items c.as_slice.result.now c.loop-circuits.yielded c.next.new.self.rest.items c.loop-circuits.circuits-iterator.rest.items c.in-Some.circuits c.loop-circuits.number c.requires.circuits was.left c.in-Some.ensures.steps.0 was.number c.in_ok-own.ensures c.as_slice.ensures).sessions
+
+pub open-requires-clause-addresses : goal.open-requires-clause-addresses
+open-requires-clause-addresses c =
+    let was = c.loop-circuits.invariant in
+    (next_are (λ x. x.items) c.args.rules.now c.in_ok-own.own c.args.circuits.items c.as_slice.result.now c.loop-circuits.yielded c.next.new.self.rest.items c.loop-circuits.circuits-iterator.rest.items c.in-Some.circuits c.loop-circuits.number c.requires.circuits was.left c.in-Some.ensures.steps.0 was.number c.in_ok-own.ensures c.as_slice.ensures).addresses
+
+pub open-requires-clause-ports : goal.open-requires-clause-ports
+open-requires-clause-ports c =
+    let was = c.loop-circuits.invariant in
+    (next_are (λ x. x.items) c.args.rules.now c.in_ok-own.own c.args.circuits.items c.as_slice.result.now c.loop-circuits.yielded c.next.new.self.rest.items c.loop-circuits.circuits-iterator.rest.items c.in-Some.circuits c.loop-circuits.number c.requires.circuits was.left c.in-Some.ensures.steps.0 was.number c.in_ok-own.ensures c.as_slice.ensures).ports
+
+pub open-requires-clause-profiles : goal.open-requires-clause-profiles
+open-requires-clause-profiles c =
+    let was = c.loop-circuits.invariant in
+    (next_are (λ x. x.items) c.args.rules.now c.in_ok-own.own c.args.circuits.items c.as_slice.result.now c.loop-circuits.yielded c.next.new.self.rest.items c.loop-circuits.circuits-iterator.rest.items c.in-Some.circuits c.loop-circuits.number c.requires.circuits was.left c.in-Some.ensures.steps.0 was.number c.in_ok-own.ensures c.as_slice.ensures).profiles
 
 pub push_reserved-requires : goal.push_reserved-requires
 push_reserved-requires c =
@@ -41,14 +65,16 @@ loop-circuits-preserved c =
       left = ap (map (λ x. x.items)) (append_assoc done (c.in-Some.circuits ∷ []) left ∙ sym (ap (λ xs. done ++ xs) c.in-Some.ensures.steps.0)) ∙ was.left;
       opens = c.push_reserved.ensures.items
           ∙ ap (λ (vs : List (ShardView ShardState Entry)). vs ++ c.in-Ok-open.shard ∷ []) was.opens
-          ∙ ap (λ (v : ShardView ShardState Entry). map open_shard (range_with_len 0 n) ++ v ∷ []) (c.in-Ok-open.ensures ∙ ap (λ (r : Rules). opened n r c.in-Some.circuits.items) c.in_ok-own.ensures ∙ ap (λ (cs : List Static). opened n c.args.rules.now cs) next.1)
+          ∙ ap (λ (v : ShardView ShardState Entry). map open_shard (range_with_len 0 n) ++ v ∷ []) (c.in-Ok-open.ensures.opened ∙ ap (λ (r : Rules). opened n r c.as_slice.result.now) c.in_ok-own.ensures ∙ ap (λ (cs : List Static). opened n c.args.rules.now cs) (c.as_slice.ensures ∙ next.1))
           ∙ sym (map-range_with_len_more open_shard 0 n n (omega arith));
+      none = subst (λ (vs : List (ShardView ShardState Entry)). All HasNone vs) (sym c.push_reserved.ensures.items)
+          (All-append HasNone c.loop-circuits.opens.items (c.in-Ok-open.shard ∷ []) was.none (All-cons HasNone c.in-Ok-open.shard [] c.in-Ok-open.ensures.none (All-nil HasNone)));
       number = omega (arith, length-append done (c.in-Some.circuits ∷ []), was.number);
       room = omega (arith, c.push_reserved.ensures.capacity, was.room);
     }
 
-pub returns : goal.returns
-returns c =
+pub returns-clause-opened : goal.returns-clause-opened
+returns-clause-opened c =
     let was = c.loop-circuits.invariant in
     let done = c.loop-circuits.yielded in
     let rest = c.loop-circuits.circuits-iterator.rest in

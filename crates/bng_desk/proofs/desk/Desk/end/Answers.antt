@@ -1,22 +1,25 @@
-use Rattle.std.proofs.Common.{◌≡◌, ℕ, ◌+◌, ◌*◌, ◌^◌, ◌<◌, ◌≤◌, cond, List, [], ◌∷◌, map, length, refl, sym, ap, subst, arith, ◌∙◌}
+use Rattle.std.proofs.Common.{◌≡◌, ℕ, ◌+◌, ◌-◌, ◌*◌, ◌^◌, ◌<◌, ◌≤◌, ◌==◌, Bool, true, ◌||◌, cond, List, [], ◌∷◌, map, length, refl, sym, ap, subst, arith, ◌∙◌}
 use Rattle.std.specs.List.{All}
 use Rattle.std.specs.Vec.{with_items}
+use Rattle.std.proofs.lemmas.Bool.{false≢true}
 use Rattle.std.proofs.lemmas.List.{with_items_is, length-map}
 use Rattle.bng_base.specs.declared.item.Item.{Item}
 use Rattle.bng_base.specs.Stretch.{Outside}
 use Rattle.bng_desk.specs.declared.holding.Named.{Named}
 use Rattle.bng_desk.specs.Items.{drawn_from, ends_of}
 use Rattle.bng_desk.specs.Kept.{IsKept, all_turns, rested, octets_most, drops_most}
-use Rattle.bng_desk.specs.Model.{Desk, state_of}
+use Rattle.bng_desk.specs.Model.{Desk, is_over, left_of, rounds_left, sessions_in, state_of, unopened_most}
 use Rattle.bng_desk.specs.Random.{Drawn}
 use Rattle.bng_desk.specs.Reading.{is_empty}
-use Rattle.bng_desk.specs.Taking.{HoldsEnds, outs_of_items}
+use Rattle.bng_desk.specs.Taking.{HasFewSessions, HoldsEnds, outs_of_items}
 use Rattle.bng_desk.specs.Turn.{MakesEnd, ending_items, ending_draws}
 use Rattle.bng_desk.proofs.Ending.{ended, kept_as, after_ending}
+use Rattle.bng_desk.proofs.Dwindling.{WorksBy, Nears, ends_work}
+use Rattle.bng_desk.proofs.Resting.{sessions_rested}
 use Rattle.bng_desk.proofs.Joining.{HasLow, HasLowBooks, low_wider, books_wider}
 use Rattle.bng_desk.proofs.DropLaws.{within_wider}
 use Rattle.bng_desk.proofs.OneMore.{low_more}
-use Rattle.bng_desk.proofs.Keeping.{IsLeft, AreEnds, kept_ended, few_told, endings_left, are_ends_of, no_ends, few_draws, few_unopened, one_low}
+use Rattle.bng_desk.proofs.Keeping.{IsLeft, IsNearer, AreEnds, Ends, kept_ended, ends_of_state, ends_near, few_told, is_nearer, are_ends_of, no_ends, few_draws, one_low}
 use Rattle.bng_desk.proofs.Readying.{Shards}
 use Rattle.bng_desk.proofs.desk.Desk.end.Given.{Over}
 use Rattle.bng_desk.proofs.desk.Desk.end.Goals as goal
@@ -70,7 +73,9 @@ invariant_of-self g c =
     let was = c.self.invariant in
     let turns = c.self.inside.turns in
     let endings = c.self.inside.endings in
-    let left : endings < 2 ^ 40 = subst (λ (x : Desk). x.endings < 2 ^ 40) (sym c.self.view_is) (endings_left c.args.self.now c.requires.state) in
+    let e : Ends c.args.self.now = ends_of_state c.args.self.now c.requires.state in
+    let over : (c.self.inside.stopped || (c.self.inside.turns == c.self.inside.rounds)) ≡ true = subst (λ (x : Desk). is_over x ≡ true) (sym c.self.view_is) e.over in
+    let low : c.self.inside.unopened < unopened_most = subst (λ (x : Desk). x.unopened < unopened_most) (sym c.self.view_is) e.low in
     record {
       some_port = was.some_port;
       few_ports = was.few_ports;
@@ -78,12 +83,16 @@ invariant_of-self g c =
       some_shard = was.some_shard;
       few_shards = was.few_shards;
       order = was.order;
+      rules = was.rules;
       empty = was.empty;
+      sessions = was.sessions;
       holders = was.holders;
       most = was.most;
       made = was.made;
-      endings = omega (arith, left);
-      unopened = omega (arith, was.unopened);
+      serving = λ serves. absurd (false≢true (sym serves ∙ over));
+      endings = omega (arith, was.left, low);
+      unopened = omega (arith, low);
+      left = omega (arith, was.left);
       told = omega (arith, was.told);
       drawn = omega (arith, was.drawn);
       one_seat = was.one_seat;
@@ -93,6 +102,7 @@ invariant_of-self g c =
       counts = within_wider (drops_most * (turns + endings)) (drops_most * (turns + (endings + 1))) c.self.inside.drops (omega arith) was.counts;
       kept = was.kept;
       kept_outs = was.kept_outs;
+      kept_ends = was.kept_ends;
       none_refused = was.none_refused;
     }
 
@@ -130,22 +140,53 @@ invariant_of-self-2 g c =
     let left : IsLeft d ws c.hold_ends-ending.new.drops c.hold_ends-ending.new.tally c.to_end.new.draws.drawn = record {
       shards = same_length g c b ∙ c.self.inside.shards.ok.0;
       order = c.hold_ends-ending.ensures.numbers;
+      rules = ends_work d.rules d.holders named c.to_end.result.items (g.P.Plant.told c.args.plant.now) (g.P.Plant.told c.hold_ends-ending.new.plant) c.as_mut_slice.result.now ws d.drops c.hold_ends-ending.new.drops c.self.inside.tally c.hold_ends-ending.new.tally
+          c.hold_ends-ending.result.record d.rules c.hold_ends-ending.result.is_opened c.hold_ends-ending.new.kept.items c.hold_ends-ending.ensures.round
+          (subst (λ (xs : Shards). All (WorksBy d.rules) xs) (sym c.as_mut_slice.ensures.value) c.self.invariant.rules);
       empty = c.hold_ends-ending.ensures.empty;
+      sessions = c.hold_ends-ending.ensures.sessions (subst (λ (xs : Shards). All HasFewSessions xs) (sym c.as_mut_slice.ensures.value) c.self.invariant.sessions);
       low = c.hold_ends-ending.ensures.low (octets_most * all_turns d) (subst (λ (xs : Shards). All (HasLow (octets_most * all_turns d)) xs) (sym c.as_mut_slice.ensures.value) c.self.invariant.low);
       books = c.hold_ends-ending.ensures.books (octets_most * all_turns d) (subst (λ (xs : Shards). All (HasLowBooks (octets_most * all_turns d)) xs) (sym c.as_mut_slice.ensures.value) c.self.invariant.books);
       tally_low = c.hold_ends-ending.ensures.tally (octets_most * all_turns d) (c.self.invariant.tallies 0 (omega arith));
       counts = c.hold_ends-ending.ensures.within (drops_most * all_turns d) c.self.invariant.counts;
       drawn_is = omega (arith, ap (λ (x : Drawn). x.drawn) (draws_are g b), few_draws d c.self.invariant);
     } in
-    let few : c.unopened_after-self-inside.result ≤ c.self.inside.unopened + 1 = subst (λ (n : ℕ). n ≤ c.self.inside.unopened + 1) (sym c.unopened_after-self-inside.ensures) (few_unopened c.hold_ends-ending.result.is_opened c.self.inside.unopened) in
+    let e : Ends (before g b (map rested vs)) = ends_of_state (before g b (map rested vs)) (ap (λ (x : Desk). state_of x) c.self.view_is ∙ c.requires.state) in
+    let nears : Nears c.hold_ends-ending.result.is_opened (sessions_in vs) (sessions_in ws) = ends_near d (record { number = c.self.inside.told + 1; moment = c.now-now.result; wall = c.wall-wall.result }) c.to_end.result.items (g.P.Plant.told c.args.plant.now) (g.P.Plant.told c.hold_ends-ending.new.plant) c.as_mut_slice.result.now ws
+    c.hold_ends-ending.new.drops c.self.inside.tally c.hold_ends-ending.new.tally c.hold_ends-ending.result.record c.hold_ends-ending.result.is_opened c.hold_ends-ending.new.kept.items c.self.invariant (items_are g b) c.as_mut_slice.ensures.value c.hold_ends-ending.ensures.round in
+    let near : IsNearer d ws c.unopened_after-self-inside.result c.either-self-inside.result = is_nearer d ws c.hold_ends-ending.result.is_opened c.unopened_after-self-inside.result c.either-self-inside.result
+    (record { over = e.over; low = e.low; some = λ closed. omega (arith, e.some closed, sessions_rested vs) }) nears c.self.invariant.left c.unopened_after-self-inside.ensures c.either-self-inside.ensures in
     subst (λ (xs : Shards). IsKept (after_ending d xs c.hold_ends-ending.new.drops (c.hold_ends-ending.new.tally ∷ []) c.to_end.new.draws c.unopened_after-self-inside.result c.either-self-inside.result c.hold_ends-ending.new.kept.items c.now-now.result c.told_after-self-inside.result)) (sym (shards_are g c b))
     (kept_ended d ws c.hold_ends-ending.new.drops c.hold_ends-ending.new.tally c.to_end.new.draws c.unopened_after-self-inside.result c.either-self-inside.result c.hold_ends-ending.new.kept.items c.now-now.result c.told_after-self-inside.result c.self.invariant
-    (endings_left (before g b (map rested vs)) (ap (λ (x : Desk). state_of x) c.self.view_is ∙ c.requires.state)) left few
-    (subst (λ (n : ℕ). n ≤ c.self.inside.told + 1) (sym c.told_after-self-inside.ensures) (few_told c.note-noted.result c.self.inside.told)) kept.items kept.outs kept.none)
+    e.over near left
+    (subst (λ (n : ℕ). n ≤ c.self.inside.told + 1) (sym c.told_after-self-inside.ensures) (few_told c.note-noted.result c.self.inside.told)) kept)
 
-pub returns : goal.returns
-returns g c =
-    let b = (goal.at.returns g c).After-to_end in
+pub returns-clause-nearer : goal.returns-clause-nearer
+returns-clause-nearer g c =
+    let b = (goal.at.returns-clause-nearer g c).After-to_end in
+    let vs = c.self.inside.shards.items in
+    let ws = c.hold_ends-ending.new.shards in
+    let d = before g b (map rested vs) in
+    let n = c.unopened_after-self-inside.result in
+    let closed = c.either-self-inside.result in
+    let was : sessions_in vs ≡ sessions_in d.shards = sym (sessions_rested vs) in
+    let now : sessions_in (with_items c.self.inside.shards ws).items ≡ sessions_in (map rested (with_items c.self.inside.shards ws).items) = sym (sessions_rested (with_items c.self.inside.shards ws).items) in
+    let nears : Nears c.hold_ends-ending.result.is_opened (sessions_in vs) (sessions_in ws) = ends_near (before g b vs) (record { number = c.self.inside.told + 1; moment = c.now-now.result; wall = c.wall-wall.result }) c.to_end.result.items (g.P.Plant.told c.args.plant.now) (g.P.Plant.told c.hold_ends-ending.new.plant) c.as_mut_slice.result.now ws
+    c.hold_ends-ending.new.drops c.self.inside.tally c.hold_ends-ending.new.tally c.hold_ends-ending.result.record c.hold_ends-ending.result.is_opened c.hold_ends-ending.new.kept.items c.self.invariant (items_are g b) c.as_mut_slice.ensures.value c.hold_ends-ending.ensures.round in
+    let here : Nears c.hold_ends-ending.result.is_opened (sessions_in vs) (sessions_in (with_items c.self.inside.shards ws).items) =
+    subst (λ (xs : Shards). Nears c.hold_ends-ending.result.is_opened (sessions_in vs) (sessions_in xs)) (sym (shards_are g c b)) nears in
+    let nears_rested : Nears c.hold_ends-ending.result.is_opened (sessions_in d.shards) (sessions_in (map rested (with_items c.self.inside.shards ws).items)) =
+    subst (λ (k : ℕ). Nears c.hold_ends-ending.result.is_opened k (sessions_in (map rested (with_items c.self.inside.shards ws).items))) was
+    (subst (λ (k : ℕ). Nears c.hold_ends-ending.result.is_opened (sessions_in vs) k) now here) in
+    let left : d.endings + unopened_most * rounds_left d ≤ unopened_most * 65410 + d.unopened =
+    subst (λ (k : ℕ). d.endings + unopened_most * (k + cond d.closed 0 1) ≤ unopened_most * 65410 + d.unopened) was c.self.invariant.left in
+    let near = is_nearer d (map rested (with_items c.self.inside.shards ws).items) c.hold_ends-ending.result.is_opened n closed (ends_of_state d (ap (λ (x : Desk). state_of x) c.self.view_is ∙ c.requires.state)) nears_rested left
+    c.unopened_after-self-inside.ensures c.either-self-inside.ensures in
+    subst (λ (x : Desk). unopened_most * (sessions_in (map rested (with_items c.self.inside.shards ws).items) + cond closed 0 1) + (unopened_most - n) < left_of x) c.self.view_is near.less
+
+pub returns-clause-makes : goal.returns-clause-makes
+returns-clause-makes g c =
+    let b = (goal.at.returns-clause-makes g c).After-to_end in
     let told = g.P.Plant.told in
     let vs = c.self.inside.shards.items in
     let ws = c.hold_ends-ending.new.shards in

@@ -1,4 +1,4 @@
-use Rattle.std.proofs.Common.{◌≡◌, ℕ, ◌+◌, ◌<◌, ◌==◌, false, List, [], ◌∷◌, Option, None, length, map, filter, refl, sym, ap, subst, arith, ◌∙◌}
+use Rattle.std.proofs.Common.{◌≡◌, ℕ, ◌+◌, ◌<◌, ◌==◌, false, List, [], ◌∷◌, Option, None, length, map, filter, get_or, refl, sym, ap, subst, arith, ◌∙◌}
 use Rattle.std.specs.List.{All, range_with_len}
 use Rattle.std.proofs.lemmas.List.Elements.{All-map}
 use Rattle.bng_base.specs.declared.address.Ip4.{Ip4}
@@ -6,21 +6,28 @@ use Rattle.bng_base.specs.declared.item.Entry.{Entry}
 use Rattle.bng_base.specs.declared.item.Item.{Item}
 use Rattle.bng_base.specs.declared.settings.AccessPort.{AccessPort}
 use Rattle.bng_base.specs.declared.settings.Static.{Static}
-use Rattle.bng_engine.specs.Quantities.{empty_book}
+use Rattle.bng_base.specs.Books.{empty_book}
 use Rattle.bng_engine.specs.Views.{ShardView}
 use Rattle.bng_discovery.specs.declared.port.PortRules.{PortRules}
 use Rattle.bng_shard.specs.declared.pool.Holder.{Holder}
 use Rattle.bng_shard.specs.declared.rules.Rules.{Rules}
 use Rattle.bng_shard.specs.Protocol.{ShardState, opened}
+use Rattle.bng_config.specs.Rules.{IsSessionOf}
+use Rattle.bng_slots.specs.Sessions.{IsNumberOf}
 use Rattle.bng_desk.specs.declared.line.Line.{Line}
 use Rattle.bng_desk.specs.Counting.{no_drops}
 use Rattle.bng_desk.specs.Kept.{rested}
 use Rattle.bng_desk.specs.Model.{Desk}
-use Rattle.bng_desk.specs.Opening.{AreOffersOf, AreRules, line_of, holder_of, shard_of, opened_shards, no_address, no_dns}
+use Rattle.bng_desk.specs.Opening.{AreOffersOf, AreRules, AreServed, line_of, holder_of, shard_of, opened_shards, no_address, no_dns}
 use Rattle.bng_desk.specs.Random.{Drawn, draw}
 use Rattle.bng_desk.proofs.Fresh.{fresh_rested, kept_fresh}
+use Rattle.bng_desk.proofs.Outfit.{offers_count}
 use Rattle.bng_desk.proofs.desk.Desk.open.Goals as goal
 use Rattle.bng_desk.proofs.desk.Desk.open.Goals.{After-new-3}
+
+-- a session number of a shard
+number_of : (s : Static) (shards : ℕ) → IsSessionOf shards s.session.0 → IsNumberOf (shard_of s) s.session.0
+number_of s shards is = (omega (arith, is.low), omega (arith, is.high))
 
 module _ (c : After-new-3) where
   abbrev statics : ℕ → List Static
@@ -36,7 +43,7 @@ module _ (c : After-new-3) where
   circuits = c.into_vec.ensures
 
   shards_are : c.in_ok-opens.opens.items ≡ map (λ n. opened n made (statics n)) (range_with_len 0 made.shards)
-  shards_are = c.in_ok-opens.ensures ∙ ap (λ (ss : List Static). map (λ n. opened n made (filter (λ (s : Static). shard_of s == n) ss)) (range_with_len 0 made.shards)) circuits
+  shards_are = c.in_ok-opens.ensures.opened ∙ ap (λ (ss : List Static). map (λ n. opened n made (filter (λ (s : Static). shard_of s == n) ss)) (range_with_len 0 made.shards)) circuits
 
   lines_are : c.in_ok-lines.lines.items ≡ map line_of c.args.config.statics
   lines_are = c.in_ok-lines.ensures ∙ ap (λ (ss : List Static). map line_of ss) c.as_slice-2.ensures
@@ -72,11 +79,11 @@ module _ (c : After-new-3) where
 pub invariant_of-result : goal.invariant_of-result
 invariant_of-result c =
     let rules = are_rules c in
-    kept_fresh _ (statics c) (shards_are c)
+    kept_fresh _ (statics c) (shards_are c) c.in_ok-opens.ensures.none
     (omega (arith, c.requires.rules.some_port, ap (λ (ps : List AccessPort). length ps) rules.access)) (omega (arith, c.requires.rules.few_ports, ap (λ (ps : List AccessPort). length ps) rules.access))
     (omega (arith, c.requires.rules.some_shard, rules.shards)) (omega (arith, c.requires.rules.few_shards, rules.shards))
     (subst (λ (hs : List Holder). All (λ (h : Holder). h.shard < (made c).shards) hs) (sym (holders_are c)) (All-map (λ (h : Holder). h.shard < (made c).shards) holder_of c.args.config.statics (λ k d l. omega (arith, (c.requires.rules.sharded k d l).shard, rules.shards))))
-    c.requires.most refl refl refl refl (ap (λ (x : Drawn). x.drawn) (draws_are c)) refl refl c.new.ensures.items
+    c.requires.most refl refl refl refl refl (ap (λ (x : Drawn). x.drawn) (draws_are c)) refl refl c.new.ensures.items
 
 pub returns : goal.returns
 returns c =
@@ -116,3 +123,30 @@ returns c =
           ∙ ap (λ (x : Drawn). desk (map line_of config.statics) opens (map holder_of config.statics) x c.new.result.items) (draws_are c)
           ∙ ap (λ (is : List Item). desk (map line_of config.statics) opens (map holder_of config.statics) first is) c.new.ensures.items;
     }
+
+pub shards-opens-requires-clause-circuits : goal.shards-opens-requires-clause-circuits
+shards-opens-requires-clause-circuits c =
+    let k = c.requires.rules in
+    let config = c.args.config in
+    let shards : c.rules-rules.result.shards ≡ config.shards = ap (λ (r : Rules). r.shards) c.rules-rules.ensures in
+    let ports : length c.rules-rules.result.access ≡ length config.access = ap (λ (r : Rules). length r.access) c.rules-rules.ensures in
+    subst (λ (cs : List Static). AreServed c.rules-rules.result cs) (sym c.into_vec.ensures)
+    (record {
+      inside = λ i d lt. omega (arith, (k.sharded i d lt).shard, shards);
+      own = λ i d lt. number_of (get_or config.statics i d) config.shards (k.sharded i d lt);
+      sessions = k.sessions;
+      addresses = k.addresses;
+      ports = λ i d lt. ((k.placed i d lt).low, omega (arith, (k.placed i d lt).high, ports));
+      profiles = c.requires.profiles;
+    })
+
+pub shards-opens-requires-clause-offers : goal.shards-opens-requires-clause-offers
+shards-opens-requires-clause-offers c =
+    let made = c.rules-rules.ensures in
+    omega (
+      arith,
+      ap (λ (r : Rules). length r.offers) made,
+      ap (λ (r : Rules). length r.access) made,
+      offers_count c.args.config.name.items c.args.config.services.items c.sixteen-key.result 1 c.as_slice.result.now c.in_ok-offers.offers.items c.in_ok-offers.ensures,
+      ap (λ (ps : List AccessPort). length ps) c.as_slice.ensures,
+    )

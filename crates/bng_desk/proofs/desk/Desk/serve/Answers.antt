@@ -1,17 +1,18 @@
-use Rattle.std.proofs.Common.{◌≡◌, ℕ, ◌+◌, ◌*◌, ◌^◌, ◌<◌, ◌≤◌, Bool, ◌&&◌, List, [], ◌∷◌, Option, map, length, refl, sym, ap, subst, arith, ◌∙◌}
+use Rattle.std.proofs.Common.{◌≡◌, ℕ, ◌+◌, ◌*◌, ◌^◌, ◌<◌, ◌≤◌, Bool, false, ◌&&◌, List, [], ◌∷◌, Option, map, length, refl, sym, ap, subst, arith, ◌∙◌}
 use Rattle.std.specs.List.{All}
 use Rattle.std.specs.Vec.{with_items}
 use Rattle.std.proofs.lemmas.List.{with_items_is}
 use Rattle.bng_base.specs.Stretch.{Outside}
 use Rattle.bng_desk.specs.declared.holding.Named.{Named}
 use Rattle.bng_desk.specs.Kept.{IsKept, all_turns, rested, octets_most, drops_most}
-use Rattle.bng_desk.specs.Model.{Desk, state_of}
+use Rattle.bng_desk.specs.Model.{Desk, is_over, state_of}
 use Rattle.bng_desk.specs.Random.{Drawn}
-use Rattle.bng_desk.specs.Taking.{Gathers, HoldsOne}
+use Rattle.bng_desk.specs.Taking.{HasFewSessions, Gathers, HoldsOne}
 use Rattle.bng_desk.specs.Turn.{MakesTurn, wait_for, deadline_in}
 use Rattle.bng_desk.proofs.DropLaws.{within_wider}
+use Rattle.bng_desk.proofs.Dwindling.{WorksBy, one_works}
 use Rattle.bng_desk.proofs.Joining.{HasLow, HasLowBooks, low_wider, books_wider}
-use Rattle.bng_desk.proofs.Keeping.{IsLeft, kept_served, few_told, turns_left, one_low}
+use Rattle.bng_desk.proofs.Keeping.{IsLeft, kept_served, few_told, not_over, turns_left, one_low}
 use Rattle.bng_desk.proofs.OneMore.{low_more}
 use Rattle.bng_desk.proofs.Readying.{Shards}
 use Rattle.bng_desk.proofs.Turning.{served, after_turn}
@@ -51,7 +52,11 @@ module _ (g : Over) (c : After-answer g) where
   is_left = record {
     shards = same_length ∙ c.self.inside.shards.ok.0;
     order = c.hold-round.ensures.numbers;
+    rules = one_works c.self.inside.rules c.self.inside.pool (record { number = c.self.inside.told + 1; moment = c.now-now.result; wall = c.wall-wall.result }) c.gather-gathered.new.items.items (g.P.Plant.told c.gather-gathered.new.plant) (g.P.Plant.told c.hold-round.new.plant)
+        c.as_mut_slice.result.now c.hold-round.new.shards c.self.inside.drops c.hold-round.new.drops c.self.inside.tally c.hold-round.new.tally c.hold-round.result c.self.inside.rules c.hold-round.ensures.round
+        (subst (λ (xs : Shards). All (WorksBy c.self.inside.rules) xs) (sym c.as_mut_slice.ensures.value) c.self.invariant.rules);
     empty = c.hold-round.ensures.empty;
+    sessions = c.hold-round.ensures.sessions (subst (λ (xs : Shards). All HasFewSessions xs) (sym c.as_mut_slice.ensures.value) c.self.invariant.sessions);
     low = c.hold-round.ensures.low (octets_most * all_turns (before c.self.inside.shards.items)) (subst (λ (xs : Shards). All (HasLow (octets_most * all_turns (before c.self.inside.shards.items))) xs) (sym c.as_mut_slice.ensures.value) c.self.invariant.low);
     books = c.hold-round.ensures.books (octets_most * all_turns (before c.self.inside.shards.items)) (subst (λ (xs : Shards). All (HasLowBooks (octets_most * all_turns (before c.self.inside.shards.items))) xs) (sym c.as_mut_slice.ensures.value) c.self.invariant.books);
     tally_low = c.hold-round.ensures.tally (octets_most * all_turns (before c.self.inside.shards.items)) (c.self.invariant.tallies 0 (omega arith));
@@ -69,6 +74,7 @@ invariant_of-self g c =
     let was = c.self.invariant in
     let made : c.args.self.now.turns ≤ c.args.self.now.rounds = subst (λ (x : Desk). x.turns ≤ x.rounds) c.self.view_is was.made in
     let left : c.self.inside.turns < c.self.inside.rounds = subst (λ (x : Desk). x.turns < x.rounds) (sym c.self.view_is) (turns_left c.args.self.now c.requires.state made) in
+    let u = was.serving (subst (λ (x : Desk). is_over x ≡ false) (sym c.self.view_is) (not_over c.args.self.now c.requires.state)) in
     record {
       some_port = was.some_port;
       few_ports = was.few_ports;
@@ -76,12 +82,16 @@ invariant_of-self g c =
       some_shard = was.some_shard;
       few_shards = was.few_shards;
       order = was.order;
+      rules = was.rules;
       empty = was.empty;
+      sessions = was.sessions;
       holders = was.holders;
       most = was.most;
       made = omega (arith, left);
+      serving = λ _. record { endings = u.endings; unopened = u.unopened; closed = u.closed };
       endings = was.endings;
       unopened = was.unopened;
+      left = was.left;
       told = omega (arith, was.told);
       drawn = omega (arith, was.drawn);
       one_seat = was.one_seat;
@@ -91,6 +101,7 @@ invariant_of-self g c =
       counts = within_wider (drops_most * (c.self.inside.turns + c.self.inside.endings)) (drops_most * (c.self.inside.turns + 1 + c.self.inside.endings)) c.self.inside.drops (omega arith) was.counts;
       kept = was.kept;
       kept_outs = was.kept_outs;
+      kept_ends = was.kept_ends;
       none_refused = was.none_refused;
     }
 
@@ -98,6 +109,7 @@ pub invariant_of-self-2 : goal.invariant_of-self-2
 invariant_of-self-2 g c =
     subst (λ (xs : Shards). IsKept (after_turn (before g c c.self.inside.shards.items) xs c.hold-round.new.drops c.hold-round.new.tally c.gather-gathered.new.draws c.either-self-inside.result c.now-now.result c.told_after-self-inside.result)) (sym (shards_are g c))
     (kept_served (before g c c.self.inside.shards.items) c.hold-round.new.shards c.hold-round.new.drops c.hold-round.new.tally c.gather-gathered.new.draws c.either-self-inside.result c.now-now.result c.told_after-self-inside.result c.self.invariant
+    (not_over (before g c (map rested c.self.inside.shards.items)) (ap (λ (x : Desk). state_of x) c.self.view_is ∙ c.requires.state))
     (turns_left (before g c (map rested c.self.inside.shards.items)) (ap (λ (x : Desk). state_of x) c.self.view_is ∙ c.requires.state) c.self.invariant.made) (is_left g c)
     (subst (λ (n : ℕ). n ≤ c.self.inside.told + 1) (sym c.told_after-self-inside.ensures) (few_told c.note-noted.result c.self.inside.told)))
 

@@ -1,0 +1,7 @@
+use Rattle.std.proofs.Common.{subst}
+use Rattle.bng_desk.specs.Model.{Desk, HasOneRule}
+use Rattle.bng_desk.proofs.Dwindling.{rules_rested}
+use Rattle.bng_desk.proofs.desk.Desk.state.Goals as goal
+
+pub returns-clause-rules : goal.returns-clause-rules
+returns-clause-rules c = subst (λ (x : Desk). HasOneRule x) c.self.view_is (rules_rested c.self.inside.rules c.self.inside.shards.items c.self.invariant.rules)
