@@ -1,6 +1,7 @@
 -- What a session's link sends does not depend on the link, nor on whether the session has ended.
-use Rattle.std.proofs.Common.{◌≡◌, ℕ, Bool, true, false, Option, Some, None, List, [], ◌++◌, ◌∙◌, refl, sym, ap, append_assoc, append-nil}
-use Rattle.std.specs.Prelude.{if◌then◌else◌}
+use Rattle.std.proofs.Common.{◌≡◌, ◌⊎◌, ℕ, ◌-◌, ◌<◌, ◌≤◌, ◌==◌, Bool, true, false, Option, Some, None, inl, inr, List, [], ◌++◌, length, ◌∙◌, refl, sym, ap, subst, append_assoc, append-nil, arith}
+use Rattle.std.specs.Prelude.{if◌then◌else◌, slice_get, get_or}
+use Rattle.std.proofs.lemmas.Option.{slice_get_cases, slice_get_within}
 use Rattle.bng_base.specs.declared.item.OutRecord.{OutRecord}
 use Rattle.bng_base.specs.declared.settings.AccessPort.{AccessPort}
 use Rattle.bng_discovery.specs.declared.port.PortRules.{PortRules}
@@ -8,20 +9,32 @@ use Rattle.bng_ppp.specs.declared.rules.Input.{Input}
 use Rattle.bng_ppp.specs.LinkState.{LinkState}
 use Rattle.bng_ppp.specs.LinkRelation.{LinkSteps}
 use Rattle.bng_ppp.specs.Said.{Said}
+use Rattle.bng_shard.specs.Made.{Made}
 use Rattle.bng_shard.specs.declared.rules.Rules.{Rules}
 use Rattle.bng_shard.specs.declared.sending.At.{At}
-use Rattle.bng_shard.specs.State.{Session, port_at, offers_at}
-use Rattle.bng_shard.specs.Link.{ppp_outs, padt_outs, ends_outs, with_link}
+use Rattle.bng_shard.specs.declared.session.Service.TheVariants.{Discovered}
+use Rattle.bng_shard.specs.declared.session.Session.{Session}
+use Rattle.bng_shard.specs.State.{port_at, offers_at}
+use Rattle.bng_shard.specs.Link.{IsAt, EndsWith, ppp_outs, padt_outs, with_link}
 use Rattle.bng_shard.specs.Driven.{Driven}
+use Rattle.bng_shard.proofs.Values.{none_some}
 
-ppp-same : (a : At) (x : Session) (l : LinkState) (b : Bool) (port : Option AccessPort) (frames : List (List ℕ)) → ppp_outs a (with_link x l b) port frames ≡ ppp_outs a x port frames
-ppp-same a x l b None frames = refl
-ppp-same a x l b (Some port) frames = refl
+one_of : {X : Type 0} (xs : List X) (i : ℕ) → ((x : X) × (i < length xs) × (slice_get xs i ≡ Some x) × (get_or xs i x ≡ x)) ⊎ ((length xs ≤ i) × (slice_get xs i ≡ None)) → i < length xs → (x : X) × (slice_get xs i ≡ Some x)
+one_of xs i (inl (x, lt, at, is)) within = (x, at)
+one_of xs i (inr (le, none)) within = absurd (omega (arith, le, within))
 
-padt-same : (a : At) (x : Session) (l : LinkState) (b : Bool) (port : Option AccessPort) (offers : Option PortRules) → padt_outs a (with_link x l b) port offers ≡ padt_outs a x port offers
-padt-same a x l b None offers = refl
-padt-same a x l b (Some port) None = refl
-padt-same a x l b (Some port) (Some offers) = refl
+-- at a place of a list something stands
+pub there : {X : Type 0} (xs : List X) (i : ℕ) → i < length xs → (x : X) × (slice_get xs i ≡ Some x)
+there xs i within = one_of xs i (slice_get_cases xs i).1 within
+
+beside : (b : Bool) (ports : List AccessPort) (offers : List PortRules) (i : ℕ) (port : AccessPort) → length offers ≡ length ports → (if b then None else slice_get ports i) ≡ Some port
+    → (o : PortRules) × ((if b then None else slice_get offers i) ≡ Some o)
+beside true ports offers i port same is = absurd (none_some port is)
+beside false ports offers i port same is = there offers i (omega (arith, slice_get_within ports i port is, same))
+
+-- a port that is there has something that it offers
+pub offered : (r : Rules) (n : ℕ) (port : AccessPort) → length r.offers ≡ length r.access → port_at r.access n ≡ Some port → (o : PortRules) × (offers_at r.offers n ≡ Some o)
+offered r n port same is = beside (n == 0) r.access r.offers (n - 1) port same is
 
 closed : (b : Bool) (outs frames padt sent all : List OutRecord) → b ≡ true → sent ≡ outs ++ frames → all ≡ sent ++ padt → all ≡ outs ++ (frames ++ (if b then padt else []))
 closed b outs frames padt sent all e f g = rw e (g ∙ ap (λ (front : List OutRecord). front ++ padt) f ∙ append_assoc outs frames padt)
@@ -29,25 +42,43 @@ closed b outs frames padt sent all e f g = rw e (g ∙ ap (λ (front : List OutR
 open_still : (b : Bool) (outs frames padt sent : List OutRecord) → b ≡ false → sent ≡ outs ++ frames → sent ≡ outs ++ (frames ++ (if b then padt else []))
 open_still b outs frames padt sent e f = rw e (f ∙ ap (λ (more : List OutRecord). outs ++ more) (sym (append-nil frames)))
 
-module _ (r : Rules) (a : At) (input : Input) (now : ℕ) (random : List ℕ) (x : Session) (says : Said) (l : LinkState) (steps : LinkSteps r.link input now random x.link says l) (outs sent : List OutRecord) (frames : sent ≡ outs ++ ppp_outs a (with_link x l says.finished) (port_at r.access x.port) says.outs) where
-  frames_are : sent ≡ outs ++ ppp_outs a x (port_at r.access x.port) says.outs
-  frames_are = frames ∙ ap (λ (more : List OutRecord). outs ++ more) (ppp-same a x l says.finished (port_at r.access x.port) says.outs)
-
+module _ (r : Rules) (a : At) (input : Input) (now : ℕ) (random : List ℕ) (x : Session) (made : Made) (is_made : x.service ≡ Discovered made) (says : Said) (l : LinkState) (steps : LinkSteps r.link input now random made.link says l) (outs sent : List OutRecord)
+    (frames : (port : AccessPort) → port_at r.access x.port ≡ Some port → sent ≡ outs ++ ppp_outs a x port says.outs) where
   -- LCP finished, and the PADT stands last
-  pub driven_finished : (all : List OutRecord) → says.finished ≡ true → all ≡ sent ++ ends_outs r a (with_link x l says.finished) → Driven r a input now random x (with_link x l says.finished) outs all
-  driven_finished all finished last = record {
-    says = says;
-    link = l;
-    steps = steps;
-    outs_are = closed says.finished outs (ppp_outs a x (port_at r.access x.port) says.outs) (ends_outs r a x) sent all finished frames_are (last ∙ ap (λ (more : List OutRecord). sent ++ more) (padt-same a x l says.finished (port_at r.access x.port) (offers_at r.offers x.port)));
-    session = refl;
-  }
+  pub driven_finished : (all padt : List OutRecord) → says.finished ≡ true → EndsWith r a (with_link x made l says.finished) padt → all ≡ sent ++ padt → Driven r a input now random x (with_link x made l says.finished) outs all
+  driven_finished all padt finished ends last =
+      let last_is : all ≡ sent ++ padt_outs a x ends.port ends.offers = last ∙ ap (λ (o : List OutRecord). sent ++ o) ends.outs_are in
+      record {
+        more = ppp_outs a x ends.port says.outs ++ (if says.finished then padt_outs a x ends.port ends.offers else []);
+        drives = record {
+          made = made;
+          is_made = is_made;
+          port = ends.port;
+          offers = ends.offers;
+          at = record { port_is = ends.at.port_is; offers_are = ends.at.offers_are };
+          says = says;
+          link = l;
+          steps = steps;
+          outs_are = refl;
+          session = refl;
+        };
+        outs_are = closed says.finished outs (ppp_outs a x ends.port says.outs) (padt_outs a x ends.port ends.offers) sent all finished (frames ends.port ends.at.port_is) last_is;
+      }
 
-  pub driven_on : says.finished ≡ false → Driven r a input now random x (with_link x l says.finished) outs sent
-  driven_on going = record {
-    says = says;
-    link = l;
-    steps = steps;
-    outs_are = open_still says.finished outs (ppp_outs a x (port_at r.access x.port) says.outs) (ends_outs r a x) sent going frames_are;
-    session = refl;
+  pub driven_on : (port : AccessPort) (offers : PortRules) → IsAt r x port offers → says.finished ≡ false → Driven r a input now random x (with_link x made l says.finished) outs sent
+  driven_on port offers at going = record {
+    more = ppp_outs a x port says.outs ++ (if says.finished then padt_outs a x port offers else []);
+    drives = record {
+      made = made;
+      is_made = is_made;
+      port = port;
+      offers = offers;
+      at = at;
+      says = says;
+      link = l;
+      steps = steps;
+      outs_are = refl;
+      session = refl;
+    };
+    outs_are = open_still says.finished outs (ppp_outs a x port says.outs) (padt_outs a x port offers) sent going (frames port at.port_is);
   }

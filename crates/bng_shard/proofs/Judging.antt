@@ -1,46 +1,59 @@
 -- What a discovery frame is answered, of what is known of its parts.
-use Rattle.std.proofs.Common.{◌≡◌, ℕ, Bool, true, false, List, Option, Some, None, is_some, refl, sym, ap, subst, ◌∙◌}
-use Rattle.std.specs.Prelude.{MatchOption}
-use Rattle.std.specs.List.{position}
+use Rattle.std.proofs.Common.{◌≡◌, ◌⊎◌, ℕ, Bool, true, false, List, Option, Some, None, inl, inr, is_some, option_map, refl, sym, ap, subst, ◌∙◌}
 use Rattle.bng_base.specs.declared.address.Mac.{Mac}
+use Rattle.bng_base.specs.declared.address.SessionNo.{SessionNo}
 use Rattle.bng_base.specs.PppoeGrammar.{PppoeTag, PppoeFrame}
+use Rattle.bng_discovery.specs.declared.answers.Answer.{Answer}
 use Rattle.bng_discovery.specs.declared.answers.Answer.TheVariants as answer
 use Rattle.bng_discovery.specs.declared.answers.ErrorTag.TheVariants.{AcSystemError}
 use Rattle.bng_discovery.specs.declared.port.PortRules.{PortRules}
 use Rattle.bng_discovery.specs.Table.{table, first_row}
 use Rattle.bng_shard.specs.declared.answering.Reply.{Reply}
 use Rattle.bng_shard.specs.declared.answering.Reply.TheVariants.{Make, Refuse}
-use Rattle.bng_shard.specs.State.{State, Session, vacant}
-use Rattle.bng_shard.specs.Discovery.{is_repeated, repeated_at, host_uniq_of}
+use Rattle.bng_shard.specs.declared.session.Session.{Session}
+use Rattle.bng_shard.specs.State.{State}
+use Rattle.bng_shard.specs.Discovery.{IsVacancy, repeated, host_uniq_of}
 use Rattle.bng_shard.specs.Replying.{IsAnswer, IsReply}
-use Rattle.bng_shard.proofs.Rows.{refused, again_if_known}
+use Rattle.bng_shard.proofs.Rows.{other_answer, refused, again_if_known}
+use Rattle.bng_shard.proofs.Vacating.{vacancy_of}
+use Rattle.bng_shard.proofs.Values.{none_some, same_some}
 
-pub place_along : {xs xs' : List Session} {u u' : Option (List ℕ)} (port : ℕ) (mac : Mac) (found : Option ℕ) → found ≡ position (is_repeated port mac u) xs → xs ≡ xs' → u ≡ u' → found ≡ position (is_repeated port mac u') xs'
-place_along {xs} {xs'} {u} {u'} port mac found e p q =
-    e ∙ ap (λ (x : List Session). position (is_repeated port mac u) x) p ∙ ap (λ (v : Option (List ℕ)). position (is_repeated port mac v) xs') q
+some_mapped : (o : Option Session) (found : Option SessionNo) → found ≡ option_map (λ (x : Session). x.number) o → is_some found ≡ is_some o
+some_mapped None found e = ap (λ (f : Option SessionNo). is_some f) e
+some_mapped (Some x) found e = ap (λ (f : Option SessionNo). is_some f) e
 
-module _ (s : State) (number : ℕ) (offers : PortRules) (p : PppoeFrame) (tags : List PppoeTag) where
+mapped_from : (o : Option Session) (n : SessionNo) → Some n ≡ option_map (λ (x : Session). x.number) o → (x : Session) × (o ≡ Some x) × (x.number ≡ n)
+mapped_from None n e = absurd (none_some n (sym e))
+mapped_from (Some x) n e = (x, refl, sym (same_some n x.number e))
+
+module _ (s : State) (number : ℕ) (offers : PortRules) (p : PppoeFrame) (tags : List PppoeTag) (found : Option SessionNo) (found_is : found ≡ option_map (λ (x : Session). x.number) (repeated s number p.src (host_uniq_of tags))) where
   abbrev known : Bool
-  known = is_some (repeated_at s number p.src (host_uniq_of tags))
+  known = is_some (repeated s number p.src (host_uniq_of tags))
 
-  made : (v : Option ℕ) (reply : Reply) → vacant s ≡ v → Some answer.Make ≡ first_row (table offers p tags known true)
-      → MatchOption v (reply ≡ Refuse AcSystemError) (λ n. reply ≡ Make (record { 0 = n })) → IsReply reply s number offers p tags
-  made None reply free row is =
-      let row' : IsAnswer s number offers p tags (answer.Refuse AcSystemError) =
-      subst (λ (v : Option ℕ). Some (answer.Refuse AcSystemError) ≡ first_row (table offers p tags known (is_some v))) (sym free) (refused offers p tags known row) in
-      subst (λ (x : Reply). IsReply x s number offers p tags) (sym is) row'
-  made (Some n) reply free row is =
-      let row' : IsAnswer s number offers p tags answer.Make = subst (λ (v : Option ℕ). Some answer.Make ≡ first_row (table offers p tags known (is_some v))) (sym free) row in
-      subst (λ (x : Reply). IsReply x s number offers p tags) (sym is) (row', free)
+  -- by whether a session was found
+  pub row_known : (a : Answer) → Some a ≡ first_row (table offers p tags (is_some found) true) → Some a ≡ first_row (table offers p tags known true)
+  row_known a row = subst (λ (k : Bool). Some a ≡ first_row (table offers p tags k true)) (some_mapped (repeated s number p.src (host_uniq_of tags)) found found_is) row
+
+  -- an answer that makes no session does not depend on a vacancy
+  pub other : (a : Answer) → Some a ≡ first_row (table offers p tags (is_some found) true) → (a ≡ answer.Make → ⊥) → (v : Option ℕ) × IsAnswer s number offers p tags v a
+  other a row not_make =
+      let (v, is) = vacancy_of s in
+      (v, is, other_answer offers p tags a known (is_some v) (row_known a row) not_make)
 
   -- a new session, or none where there may be none more
-  pub make_or_refuse : (reply : Reply) → Some answer.Make ≡ first_row (table offers p tags known true)
-      → MatchOption (vacant s) (reply ≡ Refuse AcSystemError) (λ n. reply ≡ Make (record { 0 = n })) → IsReply reply s number offers p tags
-  make_or_refuse reply = made (vacant s) reply refl
+  pub make_or_refuse : (reply : Reply) → Some answer.Make ≡ first_row (table offers p tags (is_some found) true) → ((n : SessionNo) → reply ≡ Make n → IsVacancy s (Some n.0))
+      → ((reply ≡ Refuse AcSystemError) × IsVacancy s None) ⊎ ((n : SessionNo) × (reply ≡ Make n)) → IsReply reply s number offers p tags
+  make_or_refuse reply row make (inl (is, full)) =
+      subst (λ (x : Reply). IsReply x s number offers p tags) (sym is) (None, full, refused offers p tags known (row_known answer.Make row))
+  make_or_refuse reply row make (inr (n, is)) =
+      subst (λ (x : Reply). IsReply x s number offers p tags) (sym is) (make n is, row_known answer.Make row)
 
   -- the PADS is sent again only where there is a session
-  pub never_again : (found : Option ℕ) → found ≡ repeated_at s number p.src (host_uniq_of tags) → Some answer.Again ≡ first_row (table offers p tags known true) → found ≡ None → ⊥
-  never_again found is row none =
-      let e : is_some found ≡ true = ap (λ (o : Option ℕ). is_some o) is ∙ again_if_known offers p tags known true row in
-      let f : is_some found ≡ false = ap (λ (o : Option ℕ). is_some o) none in
+  pub never_again : Some answer.Again ≡ first_row (table offers p tags (is_some found) true) → found ≡ None → ⊥
+  never_again row none =
+      let e : is_some found ≡ true = again_if_known offers p tags (is_some found) true row in
+      let f : is_some found ≡ false = ap (λ (o : Option SessionNo). is_some o) none in
       let never : true ≡ false = sym e ∙ f in cc
+
+  pub session_again : (n : SessionNo) → found ≡ Some n → (x : Session) × (repeated s number p.src (host_uniq_of tags) ≡ Some x) × (x.number ≡ n)
+  session_again n is = mapped_from (repeated s number p.src (host_uniq_of tags)) n (sym is ∙ found_is)

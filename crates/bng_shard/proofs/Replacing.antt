@@ -4,14 +4,18 @@ use Rattle.std.specs.Ordering.{nat_cmp}
 use Rattle.std.specs.Cmp.{nat_cmp_total}
 use Rattle.std.specs.FinMap.{get, same_map, nat_cmp-IsAntisymmetric}
 use Rattle.std.proofs.lemmas.Bool.{cases_eq}
+use Rattle.bng_base.specs.declared.settings.AccessPort.{AccessPort}
 use Rattle.bng_slots.specs.Sessions.{Sessions, IsNumberOf, value_at, with_value, without}
 use Rattle.bng_slots.proofs.SessionLaws.{value_at-with_value, value_at-with_other, value_at-without, with_value-without}
+use Rattle.bng_shard.specs.declared.rules.Rules.{Rules}
 use Rattle.bng_shard.specs.declared.session.Service.{Service}
 use Rattle.bng_shard.specs.declared.session.Service.TheVariants.{Provisioned, Discovered}
 use Rattle.bng_shard.specs.declared.session.Session.{Session}
-use Rattle.bng_shard.specs.State.{State, made_one, with_session}
+use Rattle.bng_shard.specs.State.{State, made_one, port_at, with_session}
+use Rattle.bng_shard.specs.Fits.{ArePlaced}
 use Rattle.bng_shard.specs.Link.{ended_service}
 use Rattle.bng_shard.specs.Timers.{lives_at, lives_in, does_live}
+use Rattle.bng_shard.proofs.Values.{same_some}
 
 -- a session is put where it stands
 pub with_same : (ss : Sessions Session) (n : ℕ) (x : Session) → value_at ss n ≡ Some x → with_value ss n x ≡ ss
@@ -50,3 +54,14 @@ made_of_ended (Discovered m) e = refl
 -- the session that lives at a number
 pub live_there : (s : State) (n : ℕ) (x : Session) → lives_at s n ≡ true → Some x ≡ value_at s.sessions n → lives_in x.service ≡ true
 live_there s n x live is = ap does_live is ∙ live
+
+-- each session is on a port that is there, where one of them is another on its port
+pub placed_with : (r : Rules) (s : State) (n : ℕ) (x x' : Session) → value_at s.sessions n ≡ Some x → x'.port ≡ x.port → ArePlaced r s.sessions → ArePlaced r (with_session s n x').sessions
+placed_with r s n x x' was same all m y is =
+    let IsThere : ℕ → Type 0 = λ k. (port : AccessPort) × (port_at r.access k ≡ Some port) in
+    elim (cases_eq m n) [
+      | inl e ↦
+          let it : x' ≡ y = same_some x' y (sym (value_at-with_value s.sessions n x') ∙ ap (λ (k : ℕ). value_at (with_value s.sessions n x') k) (sym e) ∙ is) in
+          subst IsThere (sym same ∙ ap (λ (z : Session). z.port) it) (all n x was)
+      | inr d ↦ all m y (sym (value_at-with_other s.sessions n x' m d) ∙ is)
+    ]

@@ -1,29 +1,12 @@
 -- The rows that are kept for the terms of a shard, as a caller sees them.
-use Rattle.std.proofs.Common.{◌≡◌, ℕ, ◌+◌, ◌<◌, ◌==◌, Bool, true, false, cond, List, [], ◌∷◌, ◌++◌, map, length, drop, Option, Some, None, refl, ap, sym, ◌∙◌, append_assoc}
+use Rattle.std.proofs.Common.{◌≡◌, ℕ, ◌==◌, Bool, true, false, cond, List, [], ◌∷◌, map, Option, Some, None, refl, ap, ◌∙◌}
 use Rattle.std.specs.Prelude.{find, option_map}
-use Rattle.std.proofs.Math.ListN.{get_or}
-use Rattle.std.proofs.lemmas.List.{map-append, at_drop_more}
-use Rattle.bng_base.specs.declared.settings.Static.{Static}
 use Rattle.bng_engine.specs.Views.{Row, new_row}
-use Rattle.bng_engine.specs.Terms.{Key, keys}
+use Rattle.bng_engine.specs.Terms.{Key}
 use Rattle.bng_shard.specs.declared.running.Running.{Running}
-use Rattle.bng_shard.specs.Protocol.{term_of, terms_after, row_at}
-use Rattle.bng_shard.specs.Running.{row_from, rows_in, begun}
+use Rattle.bng_shard.specs.Protocol.{row_at}
+use Rattle.bng_shard.specs.Running.{row_from, rows_in}
 use Rattle.bng_shard.specs.Sums.{traffic_in}
-
--- the rows of the circuits that are left follow
-pub row_more : (all : List Row) (cs : List Static) (i : ℕ) (c : Static) (rs : List Running) → i < length cs → c ≡ get_or cs i c
-    → rows_in rs ++ map new_row (keys (terms_after i (drop i cs))) ≡ all
-    → rows_in (rs ++ begun c (i + 1) ∷ []) ++ map new_row (keys (terms_after (i + 1) (drop (i + 1) cs))) ≡ all
-row_more all cs i c rs lt at e =
-    let rest : List Row = map new_row (keys (terms_after (i + 1) (drop (i + 1) cs))) in
-    let first : Row = row_from (begun c (i + 1)) in
-    let split : map new_row (keys (terms_after i (drop i cs))) ≡ first ∷ rest =
-    at_drop_more (λ (ds : List Static). map new_row (keys (terms_after i ds))) cs i c lt ∙ ap (λ (d : Static). new_row (term_of d (i + 1)).key ∷ rest) (sym at) in
-    ap (λ (rows : List Row). rows ++ rest) (map-append row_from rs (begun c (i + 1) ∷ []))
-    ∙ append_assoc (rows_in rs) (first ∷ []) rest
-    ∙ ap (λ (rows : List Row). rows_in rs ++ rows) (sym split)
-    ∙ e
 
 -- the keys of new rows
 pub new_keys : (ks : List Key) → map (λ (r : Row). r.key) (map new_row ks) ≡ ks

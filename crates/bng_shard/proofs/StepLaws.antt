@@ -101,8 +101,12 @@ pub pppoe_still : StillLaws pppoe
 pppoe_still = record { claims = λ s h is. ap claimed_by is.claim; refusals = λ s h is. ap refused_by is.claim; live = λ s. none_ended (values s.slots.sessions) }
 
 -- a step changes no term
-pub step_terms : (r : Rules) (s : State) (d : Deed) → Step r s d → (d.next.begun ≡ s.begun) × (terms_of (record { rules = r; slots = d.next }) ≡ terms_of (record { rules = r; slots = s }))
-step_terms r s d h = let remains = step_remains r s d h in (remains.begun, remains.terms)
+pub step_terms : (r : Rules) (s : State) (d : Deed) → Step r s d → terms_of (record { rules = r; slots = d.next }) ≡ terms_of (record { rules = r; slots = s })
+step_terms r s d h = (step_remains r s d h).terms
+
+-- and begins none
+pub step_begins_none : (r : Rules) (s : State) (d : Deed) → Step r s d → (d.next.begun ≡ s.begun) × (terms_of (record { rules = r; slots = d.next }) ≡ terms_of (record { rules = r; slots = s }))
+step_begins_none r s d h = ((step_remains r s d h).begun, step_terms r s d h)
 
 -- Octets and fates ------------------------------------------------------------------------------------------------------
 

@@ -1,9 +1,8 @@
 -- What is kept of a shard's fields, and what a caller sees of a step.
-use Rattle.std.proofs.Common.{◌≡◌, ℕ, ◌+◌, ◌-◌, ◌≤◌, Bool, true, false, not, ◌||◌, cond, List, [], ◌∷◌, ◌++◌, map, length, length-append, take, drop, leb, refl, sym, ap, subst, ◌∙◌, arith}
+use Rattle.std.proofs.Common.{◌≡◌, ℕ, ◌+◌, ◌-◌, ◌≤◌, Bool, true, false, ◌||◌, cond, List, [], ◌∷◌, ◌++◌, map, length, length-append, take, drop, leb, refl, sym, ap, subst, ◌∙◌, arith}
 use Rattle.std.specs.List.{flat_map, list_any}
 use Rattle.std.proofs.lemmas.List.{take_all}
 use Rattle.std.proofs.lemmas.List.Folds.{list_any-append}
-use Rattle.std.proofs.lemmas.List.Sums.{length-filter, count_by-le-length}
 use Rattle.bng_base.specs.declared.book.Book.{Book}
 use Rattle.bng_base.specs.declared.fate.Fate.{Fate}
 use Rattle.bng_base.specs.declared.item.Entry.{Entry}
@@ -18,21 +17,15 @@ use Rattle.bng_engine.specs.Terms.{keys}
 use Rattle.bng_engine.specs.Views.{Row, ShardView, row_keys}
 use Rattle.bng_engine.proofs.SameLists.{same_equal}
 use Rattle.bng_shard.specs.declared.rules.Rules.{Rules}
-use Rattle.bng_shard.specs.Fits.{owed}
 use Rattle.bng_shard.specs.Hearing.{Does, outs_most}
-use Rattle.bng_shard.specs.Protocol.{Handles, ShardState, Handled, pppoe, claimed_by, terms_after}
+use Rattle.bng_shard.specs.Protocol.{Handles, ShardState, Handled, pppoe, claimed_by, terms_of}
 use Rattle.bng_shard.specs.Room.{is_tick, is_end, has_tick, has_end}
-use Rattle.bng_shard.specs.State.{State, Session, sessions_most, settled}
+use Rattle.bng_shard.specs.Fits.{ArePlaced, owed}
+use Rattle.bng_shard.specs.State.{State}
 use Rattle.bng_shard.specs.Step.{Step}
 use Rattle.bng_shard.specs.Sums.{Rises}
-use Rattle.bng_shard.proofs.Statics.{Remains, step_remains}
+use Rattle.bng_shard.proofs.Terms.{Remains, step_remains}
 use Rattle.bng_shard.proofs.StepLaws.{light}
-
--- no session comes where some leave
-pub settled_few : (s : State) (most : ℕ) → length s.sessions ≤ most → length (settled s).sessions ≤ most
-settled_few s most few =
-    let leaves = λ (x : Session). not x.ended in
-    omega (arith, length-filter leaves s.sessions, count_by-le-length leaves s.sessions, few)
 
 -- the outs that a round may still have -------------------------------------------------------------------------------------
 
@@ -83,7 +76,7 @@ owed_more journal e tick end =
 -- the fields of a shard that is in a round
 abbrev pub view : Rules → State → List Row → Book → ℕ → List Entry → List OutRecord → ℕ → ShardView ShardState Entry
 view r s rows passed allowance journal outs room = record {
-  number = s.number;
+  number = s.sessions.shard;
   state = record { rules = r; slots = s };
   rows = rows;
   books = passed ∷ [];
@@ -105,16 +98,16 @@ claims_same [] = refl
 claims_same (h ∷ es) = ap (λ (xs : List ℕ). claimed_by h.deed.entry.claim ++ xs) (claims_same es)
 
 module _ (r : Rules) (s s' : State) (rows : List Row) (passed passed' : Book) (allowance : ℕ) (journal journal' : List Entry) (outs outs' : List OutRecord) (room : ℕ) (e : Entry) (fate : Fate)
-    (does : Does (Step r s) (outs_most e.item.kind) s s' outs outs' e fate) (fit : row_keys rows ≡ keys (terms_after 0 s.statics)) where
-  remains : Remains s s'
-  remains = subst (λ (t : State). Remains s t) does.next (step_remains r s does.deed does.says)
+    (does : Does (Step r s) (outs_most e.item.kind) s s' outs outs' e fate) (fit : row_keys rows ≡ keys (terms_of (record { rules = r; slots = s }))) where
+  remains : Remains r s s'
+  remains = subst (λ (t : State). Remains r s t) does.next (step_remains r s does.deed does.says)
 
   -- the rows fit as before
-  pub still_fit : row_keys rows ≡ keys (terms_after 0 s'.statics)
-  still_fit = fit ∙ sym (ap (λ cs. keys (terms_after 0 cs)) remains.statics)
+  pub still_fit : row_keys rows ≡ keys (terms_of (record { rules = r; slots = s' }))
+  still_fit = fit ∙ sym (ap keys remains.terms)
 
-  pub still_few : (most : ℕ) → most ≡ sessions_most → length s.sessions ≤ most → length s'.sessions ≤ most
-  still_few most is few = omega (arith, is, remains.few (omega (arith, is, few)))
+  pub still_placed : ArePlaced r s.sessions → ArePlaced r s'.sessions
+  still_placed = remains.placed
 
   abbrev effect : Handled
   effect = record { deed = does.deed; limited = leb allowance (begun_in journal) }
@@ -124,10 +117,10 @@ module _ (r : Rules) (s s' : State) (rows : List Row) (passed passed' : Book) (a
   one_handled books es same = record {
     is_step = does.says;
     limited = ap (λ (xs : List ℕ). leb allowance (length xs)) (ap (flat_map (λ (e : Entry). claimed_by e.claim)) (sym same) ∙ claims_same es);
-    number = remains.number;
+    number = remains.shard;
     allowance = refl;
     state = ap (λ (t : State). let x : ShardState = record { rules = r; slots = t } in x) (sym does.next);
-    fit = same_equal (row_keys rows) (keys (terms_after 0 s'.statics)) still_fit;
+    fit = same_equal (row_keys rows) (keys (terms_of (record { rules = r; slots = s' }))) still_fit;
     rows = λ q pick input. refl;
     books = books;
     journal = refl;

@@ -1,5 +1,5 @@
 -- A step changes no term, and leaves each session on a port that is there.
-use Rattle.std.proofs.Common.{◌≡◌, ◌⊎◌, inl, inr, ℕ, zero, suc, Bool, true, false, not, List, [], ◌∷◌, ◌++◌, filter, find, Option, Some, None, cond, refl, sym, ap, subst, ◌∙◌, arith}
+use Rattle.std.proofs.Common.{◌≡◌, inl, inr, ℕ, zero, suc, Bool, true, false, not, List, [], ◌∷◌, filter, find, Option, Some, None, cond, refl, sym, ap, subst, ◌∙◌, arith}
 use Rattle.std.specs.List.{AllByRecursion, Contains, flat_map}
 use Rattle.std.proofs.lemmas.Bool.{cases_eq, false≢true}
 use Rattle.std.proofs.lemmas.Option.{same_Some}
@@ -17,7 +17,7 @@ use Rattle.bng_engine.specs.Lists.{AnyOf}
 use Rattle.bng_engine.specs.Terms.{Term, is_live}
 use Rattle.bng_engine.proofs.Everywhere.{all_append, any_left, any_right}
 use Rattle.bng_ppp.specs.declared.rules.Input.TheVariants.{Start, Timer}
-use Rattle.bng_slots.specs.Sessions.{Sessions, value_at, with_value}
+use Rattle.bng_slots.specs.Sessions.{value_at, with_value}
 use Rattle.bng_slots.specs.Listed.{values}
 use Rattle.bng_slots.proofs.SessionLaws.{value_at-with_value, value_at-with_other}
 use Rattle.bng_shard.specs.Made.{Made}
@@ -27,11 +27,11 @@ use Rattle.bng_shard.specs.declared.session.Lease.{Lease}
 use Rattle.bng_shard.specs.declared.session.Service.{Service}
 use Rattle.bng_shard.specs.declared.session.Service.TheVariants.{Provisioned, Discovered}
 use Rattle.bng_shard.specs.declared.session.Session.{Session}
-use Rattle.bng_shard.specs.State.{State, is_on, where_on, session_of, holder_of, leases, leaves, leaves_in, settled, port_at, with_session}
+use Rattle.bng_shard.specs.State.{State, is_on, where_on, session_of, leaves, leaves_in, settled, port_at, with_session}
 use Rattle.bng_shard.specs.Deed.{Deed, at_of}
 use Rattle.bng_shard.specs.Discovery.{Answers, Discovers}
 use Rattle.bng_shard.specs.Fits.{ArePlaced}
-use Rattle.bng_shard.specs.Frames.{HearsData, HearsPpp, HearsControl, HearsIn, HearsFrame, HearsAccess, HearsPacket, HearsCore}
+use Rattle.bng_shard.specs.Frames.{HearsData, HearsPpp, HearsControl, HearsIn, HearsFrame, HearsAccess, HearsCore}
 use Rattle.bng_shard.specs.Link.{LinkStep, Drives, told, hears, ended, ended_service}
 use Rattle.bng_shard.specs.Protocol.{term_of, terms_in, terms_at}
 use Rattle.bng_shard.specs.Step.{Hears, Step}

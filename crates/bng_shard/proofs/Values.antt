@@ -20,11 +20,11 @@ same_some a b e = cc
 pub none_some : {A : Type 0} (a : A) → None ≡ Some a → ⊥
 none_some a e = cc
 
-first : (a b : Bool) → T (a && b) → T a
+pub first : (a b : Bool) → T (a && b) → T a
 first true b p = tt
 first false b p = p
 
-second : (a b : Bool) → T (a && b) → T b
+pub second : (a b : Bool) → T (a && b) → T b
 second true b p = p
 second false b p = absurd p
 
@@ -47,7 +47,7 @@ number_below a b h = elim (cases_lt a b) [
   | inr under ↦ absurd (subst T (not_less a b under) h)
 ]
 
-number_same : (a b : ℕ) → eq_by_cmp nat_cmp a b ≡ true → a ≡ b
+pub number_same : (a b : ℕ) → eq_by_cmp nat_cmp a b ≡ true → a ≡ b
 number_same a b e = elim (cases_eq a b) [
   | inl same ↦ same
   | inr differ ↦ absurd (false≢true (sym (other_number a b differ) ∙ e))
@@ -111,7 +111,7 @@ sum_nothing f (x ∷ xs) none =
 
 module _ {V : Type 0} where
   -- lists of entries
-  above : (x q : ℕ) (v : V) (es : List (ℕ × V)) → T (below_all nat_cmp x es) → find_at nat_cmp q es ≡ Some v → x < q
+  pub above : (x q : ℕ) (v : V) (es : List (ℕ × V)) → T (below_all nat_cmp x es) → find_at nat_cmp q es ≡ Some v → x < q
   above x q v [] h is = absurd (none_some v is)
   above x q v (e ∷ es) h is =
       elim (eq_by_cmp nat_cmp q e.0) as (λ b. eq_by_cmp nat_cmp q e.0 ≡ b → cond b (Some e.1) (find_at nat_cmp q es) ≡ Some v → x < q) [
@@ -123,12 +123,12 @@ module _ {V : Type 0} where
       ] refl is
 
   -- what is found behind the first entry is found with it
-  behind : (e : ℕ × V) (es : List (ℕ × V)) (q : ℕ) (v : V) → T (below_all nat_cmp e.0 es) → find_at nat_cmp q es ≡ Some v → find_at nat_cmp q (e ∷ es) ≡ Some v
+  pub behind : (e : ℕ × V) (es : List (ℕ × V)) (q : ℕ) (v : V) → T (below_all nat_cmp e.0 es) → find_at nat_cmp q es ≡ Some v → find_at nat_cmp q (e ∷ es) ≡ Some v
   behind e es q v h is =
       let over = above e.0 q v es h is in
       ap (λ b. cond b (Some e.1) (find_at nat_cmp q es)) (other_number q e.0 (λ s. omega (arith, over, s))) ∙ is
 
-  first_found : (e : ℕ × V) (es : List (ℕ × V)) → find_at nat_cmp e.0 (e ∷ es) ≡ Some e.1
+  pub first_found : (e : ℕ × V) (es : List (ℕ × V)) → find_at nat_cmp e.0 (e ∷ es) ≡ Some e.1
   first_found e es = ap (λ b. cond b (Some e.1) (find_at nat_cmp e.0 es)) (same_number e.0 e.0 refl)
 
   number_of : (es : List (ℕ × V)) (x : V) → T (is_sorted nat_cmp es) → Contains (map (λ e. e.1) es) x → (n : ℕ) × (find_at nat_cmp n es ≡ Some x)

@@ -127,7 +127,10 @@ pub(crate) fn hear_discovery(
         unreachable!();
     };
     match reply_to(served, number, offers, frame) {
-        Reply::Offer => send_offer(outs, at, number, &port, offers, frame),
+        Reply::Offer => {
+            send_offer(outs, at, number, &port, offers, frame);
+            Fate::Consumed
+        }
         Reply::Make(session) => {
             send_session(outs, at, number, &port, offers, frame, session);
             make(
@@ -141,12 +144,16 @@ pub(crate) fn hear_discovery(
                 &item.random,
                 outs,
             );
+            Fate::Consumed
         }
         Reply::Again(session) => {
             send_session(outs, at, number, &port, offers, frame, session);
+            Fate::Consumed
         }
-        Reply::Refuse(error) => send_refusal(outs, at, number, &port, offers, frame, error),
-        Reply::Nothing => {}
+        Reply::Refuse(error) => {
+            send_refusal(outs, at, number, &port, offers, frame, error);
+            Fate::Consumed
+        }
+        Reply::Nothing => Fate::Consumed,
     }
-    Fate::Consumed
 }

@@ -1,5 +1,5 @@
 // The sums that a shard keeps for its terms.
-ghost use Rattle.std.specs.Prelude.{◌≡◌, ◌+◌, ◌==◌, ◌^◌, ◌≤◌, ◌∷◌, [], ℕ, Some, true, find, length, map, option_map, IfOk};
+ghost use Rattle.std.specs.Prelude.{◌≡◌, ◌+◌, ◌==◌, ◌^◌, ◌<◌, ◌≤◌, ◌++◌, ◌∷◌, [], ℕ, Some, true, find, length, vec_capacity, map, option_map, IfOk};
 ghost use Rattle.bng_base.specs.declared.item.OutRecord.{OutRecord as Out};
 ghost use Rattle.bng_engine.specs.Books.{BooksFall, BooksRise};
 ghost use Rattle.bng_engine.specs.Calls.{SayMore};
@@ -9,7 +9,8 @@ ghost use Rattle.bng_engine.specs.Terms.{keys};
 ghost use Rattle.bng_engine.specs.Views.{new_row, row_keys};
 ghost use Rattle.bng_shard.specs.Protocol.{row_at, terms_of};
 ghost use Rattle.bng_shard.specs.declared.rules.Rules.{Rules as Ways};
-ghost use Rattle.bng_shard.specs.Running.{begun, row_from, rows_in};
+ghost use Rattle.bng_shard.specs.Running.{begun, row_from, rows_at, rows_in};
+ghost use Rattle.std.specs.Option.{option_copied};
 ghost use Rattle.bng_shard.specs.Sums.{charged_as, traffic_in, AreCovered, Has, IsLow, IsMore, RowsAreLow, Rises};
 
 use crate::served::Served;
@@ -46,6 +47,22 @@ fn begun(session: &Session, lease: Lease) -> Running
     }
 }
 
+// Adds the row of the term of a session, if there is a session with a term.
+fn add_row(rows: &mut Vec<Running>, session: Option<&Session>)
+    requires room { length rows.old.items < vec_capacity rows.old }
+    ensures rows { rows_in rows.new.items ≡ rows_in rows.old.items ++ rows_at (option_copied session.entry) }
+    ensures few { length rows.new.items ≤ length rows.old.items + 1 }
+    ensures capacity { vec_capacity rows.new ≡ vec_capacity rows.old }
+{
+    let Some(session) = session else {
+        return;
+    };
+    let Some(lease) = session.lease() else {
+        return;
+    };
+    rows.push_reserved(begun(session, lease));
+}
+
 /// The rows of the terms of a shard that was opened, by rising session number.
 pub(crate) fn rows_of(alloc: Global, served: &Served) -> Result<Vec<Running>, AllocError>
     ensures { (r : Ways) → IfOk result (λ rows. rows_in rows.items ≡ map new_row (keys (terms_of (record { rules = r; slots = served.now })))) }
@@ -53,11 +70,7 @@ pub(crate) fn rows_of(alloc: Global, served: &Served) -> Result<Vec<Running>, Al
     let mut rows = Vec::with_capacity(alloc, NUMBERS)?;
     let first = served.shard() * 1024 + 1;
     for n in first..first + 1022 {
-        if let Some(session) = served.sessions.get(SessionNo(n)) {
-            if let Some(lease) = session.lease() {
-                rows.push_reserved(begun(session, lease));
-            }
-        }
+        add_row(&mut rows, served.get(SessionNo(n)));
     }
     Ok(rows)
 }

@@ -1,5 +1,5 @@
 //! The sessions of a shard.
-ghost use Rattle.std.specs.Prelude.{◌≡◌, ◌≢◌, ◌<◌, ◌∷◌, [], Some, None as Nothing, true, IfOk, IfSome, IfNone, option_map};
+ghost use Rattle.std.specs.Prelude.{◌≡◌, ◌≢◌, ◌<◌, ◌≤◌, ◌∷◌, [], ℕ, IsSome, Some, None as Nothing, true, IfOk, IfSome, IfNone, option_map};
 ghost use Rattle.std.specs.List.{AllPairs, All};
 ghost use Rattle.std.specs.Option.{option_copied};
 ghost use Rattle.bng_slots.specs.Sessions.{value_at, without, IsNumberOf};
@@ -105,15 +105,24 @@ impl Served {
     pub(crate) fn shard(&self) -> u16
         ensures number { result ≡ self.now.sessions.shard }
         ensures range { result < 64 }
+        ensures own { (n : ℕ) → IsSome (value_at self.now.sessions n) → IsNumberOf self.now.sessions.shard n }
     {
         self.sessions.shard()
     }
 
     /// How many sessions discovery made that are still there.
     pub(crate) fn made(&self) -> u32
-        ensures { result ≡ made_in self.now }
+        ensures made { result ≡ made_in self.now }
+        ensures few { result ≤ 1022 }
     {
         self.made
+    }
+
+    /// The session with this number.
+    pub(crate) fn get(&self, number: SessionNo) -> Option<&Session>
+        ensures { option_copied result ≡ value_at self.now.sessions number.0 }
+    {
+        self.sessions.get(number)
     }
 
     /// The earliest deadline of the sessions, in milliseconds; none exactly where no session has one.

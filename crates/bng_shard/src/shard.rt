@@ -157,6 +157,7 @@ impl Shard {
         let items = usize::from(items);
         self.room = 0;
         self.allowance = allowance;
+        prove!(self.served.made() <= 1022);
         if !reserve_amply(&mut self.journal, &mut self.outs, items) {
             return Err(ShardError::OutOfMemory);
         }
@@ -218,6 +219,7 @@ impl Shard {
     {
         self.room = 0;
         self.served.settle();
+        prove!(self.served.made() <= 1022);
     }
 
     /// Keeps an empty list for the journals of the rounds to come, as one that `drain` handed out: its room serves again. No round

@@ -5,5 +5,5 @@ use Rattle.bng_shard.proofs.drive.push_padt.Goals as goal
 
 pub returns-clause-items : goal.returns-clause-items
 returns-clause-items c =
-    let made = padt_of c.args.offers.now c.session.inside.mac c.session.inside.number.0 in
-    rw (← c.session.view_is) (c.push_written.ensures.items made (ap (λ (f : Packet). f.payload) c.terminate.ensures) (c.between.ensures made refl refl))
+    let made = padt_of c.args.offers.now c.args.session.now.mac c.args.session.now.number.0 in
+    c.push_written.ensures.items made (ap (λ (f : Packet). f.payload) c.terminate.ensures) (c.between.ensures made refl refl)

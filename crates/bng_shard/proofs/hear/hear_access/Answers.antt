@@ -12,4 +12,4 @@ returns-in-None-clause-does c =
     let item = c.args.item.now in
     let taken : List ℕ → Arrival = λ octets. record { from = item.from; cut = item.cut; octets = octets } in
     let none = no_frame c.as_slice.result.now c.args.rules.now.access c.args.number (taken c.payload.result.now) (taken item.frame.payload) c.as_slice.ensures (ap taken c.payload.ensures.octets) c.in-None.ensures.none in
-    nothing_done c.args.rules.now c.args.slots.now c.args.at item c.args.outs.now.items c.requires.here (λ e d. HearsAccess c.args.rules.now c.args.slots.now e c.args.number d) 10 (Dropped Malformed) (λ moment. inl (none, refl)) c.args.now
+    nothing_done c.args.rules.now c.args.served.now c.args.at item c.args.outs.now.items c.requires.here (λ e d. HearsAccess c.args.rules.now c.args.served.now e c.args.number d) 10 (Dropped Malformed) (λ moment. inl (none, refl)) c.args.now

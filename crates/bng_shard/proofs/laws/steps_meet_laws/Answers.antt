@@ -1,5 +1,6 @@
 use Rattle.bng_shard.proofs.Fewer.{end_leaves_fewer}
-use Rattle.bng_shard.proofs.StepLaws.{pppoe_laws, pppoe_still, step_whole, step_terms, light, data_fates}
+use Rattle.bng_shard.proofs.OneEffect.{pppoe_alike}
+use Rattle.bng_shard.proofs.StepLaws.{pppoe_laws, pppoe_still, step_whole, step_begins_none, light, data_fates}
 use Rattle.bng_shard.proofs.laws.steps_meet_laws.Goals as goal
 
 pub returns-clause-laws : goal.returns-clause-laws
@@ -12,7 +13,7 @@ pub returns-clause-whole : goal.returns-clause-whole
 returns-clause-whole c = step_whole
 
 pub returns-clause-terms : goal.returns-clause-terms
-returns-clause-terms c = step_terms
+returns-clause-terms c = step_begins_none
 
 pub returns-clause-light : goal.returns-clause-light
 returns-clause-light c = light
@@ -22,3 +23,6 @@ returns-clause-fates c = data_fates
 
 pub returns-clause-fewer : goal.returns-clause-fewer
 returns-clause-fewer c = end_leaves_fewer
+
+pub returns-clause-alike : goal.returns-clause-alike
+returns-clause-alike c = pppoe_alike

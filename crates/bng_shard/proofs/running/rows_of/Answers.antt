@@ -1,20 +1,13 @@
-use Rattle.std.proofs.Common.{◌++◌, ◌∷◌, [], ◌+◌, drop, map, List, arith, ap, ◌∙◌, length, length-append}
-use Rattle.bng_engine.specs.Views.{Row, new_row}
-use Rattle.bng_engine.specs.Terms.{keys}
-use Rattle.bng_shard.specs.declared.running.Running.{Running}
-use Rattle.bng_shard.specs.Protocol.{terms_after}
-use Rattle.bng_shard.specs.Running.{rows_in}
-use Rattle.bng_shard.proofs.RowLaws.{row_more}
+use Rattle.std.proofs.Common.{◌≡◌, ◌+◌, ◌-◌, ◌≤◌, ◌++◌, suc, arith, ap, ◌∙◌, length}
+use Rattle.bng_shard.specs.Running.{rows_at, rows_in}
+use Rattle.bng_shard.proofs.InRange.{all_rows, rows_from, rows_more}
 use Rattle.bng_shard.proofs.running.rows_of.Goals as goal
 
-pub loop-place-preserved : goal.loop-place-preserved
-loop-place-preserved c =
-    let was = c.loop-place.invariant in
-    let at = c.loop-place.place in
-    let rest : List Row = map new_row (keys (terms_after (at + 1) (drop (at + 1) c.args.circuits.now))) in
-    let items = c.push_reserved.ensures.items ∙ ap (λ (r : Running). c.loop-place.rows.items ++ r ∷ []) c.begun.ensures in
+pub loop-n-preserved : goal.loop-n-preserved
+loop-n-preserved c =
+    let was = c.loop-n.invariant in
     record {
-      rows = ap (λ (rs : List Running). rows_in rs ++ rest) items ∙ row_more _ c.args.circuits.now at c.index-circuits-place.result c.loop-place.rows.items c.loop-place-test.true c.index-circuits-place.is was.rows;
-      count = omega (arith, ap length items, length-append {A = Running}, was.count);
-      room = omega (arith, was.room, c.push_reserved.ensures.capacity);
+      rows = rows_more c.args.served.now.sessions _ (rows_in c.loop-n.rows.items) (rows_in c.add_row.new.rows.items) c.loop-n.n (c.shard.result + 1 + 1022 - c.loop-n.n) _ (omega arith) was.rows ?;
+      count = omega (arith, was.count, c.add_row.ensures.few);
+      room = omega (arith, was.room, c.add_row.ensures.capacity);
     }

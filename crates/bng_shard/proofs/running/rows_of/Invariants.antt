@@ -1,13 +1,11 @@
-use Rattle.std.proofs.Common.{◌≡◌, ◌≤◌, ◌++◌, drop, length, map, vec_capacity}
-use Rattle.bng_engine.specs.Views.{new_row}
-use Rattle.bng_engine.specs.Terms.{keys}
-use Rattle.bng_shard.specs.Protocol.{terms_after}
+use Rattle.std.proofs.Common.{◌≡◌, ◌+◌, ◌-◌, ◌≤◌, ◌++◌, length, vec_capacity}
 use Rattle.bng_shard.specs.Running.{rows_in}
+use Rattle.bng_shard.proofs.InRange.{rows_from}
 use Rattle.bng_shard.proofs.running.rows_of.Given as goal
 
-abbrev pub invariant-loop-place : goal.invariant-loop-place
-invariant-loop-place l = record {
-  rows : rows_in l.rows.items ++ map new_row (keys (terms_after l.place (drop l.place l.circuits))) ≡ map new_row (keys (terms_after 0 l.circuits));
-  count : length l.rows.items ≡ l.place;
-  room : length l.circuits ≤ vec_capacity l.rows;
+abbrev pub invariant-loop-n : goal.invariant-loop-n
+invariant-loop-n l = record {
+  rows : rows_in l.rows.items ++ rows_from l.served.sessions l.n (l.first + 1022 - l.n) ≡ rows_from l.served.sessions l.first 1022;
+  count : length l.rows.items + l.first ≤ l.n;
+  room : 1022 ≤ vec_capacity l.rows;
 }

@@ -6,14 +6,16 @@ use Rattle.bng_shard.proofs.timers.end.Goals as goal
 
 pub loop-init : goal.loop-init
 loop-init c = record {
-  on = ends_begin c.args.rules.now c.args.at c.args.slots.now c.args.outs.now.items;
+  on = ends_begin c.args.rules.now c.args.at c.args.served.now c.args.outs.now.items;
+  placed = c.requires.placed;
   capacity = search rules;
   few = omega arith;
 }
 
 pub loop-preserved : goal.loop-preserved
 loop-preserved c = record {
-  on = ends_more c.args.rules.now c.args.at c.args.slots.now c.loop.slots c.args.outs.now.items c.loop.outs.items c.loop.counter c.end_once.new.slots c.end_once.new.outs.items c.loop.invariant.on c.if-not-end_once.ensures.ended;
+  on = ends_more c.args.rules.now c.args.at c.args.served.now c.loop.served c.args.outs.now.items c.loop.outs.items c.loop.counter c.end_once.new.served c.end_once.new.outs.items c.loop.invariant.on c.if-not-end_once.ensures.ended;
+  placed = c.if-not-end_once.ensures.placed;
   capacity = search rules;
   few = omega arith;
 }
@@ -21,10 +23,10 @@ loop-preserved c = record {
 pub returns-then-not-end_once-clause-ended : goal.returns-then-not-end_once-clause-ended
 returns-then-not-end_once-clause-ended c =
     let few : length c.end_once.new.outs.items ≤ length c.args.outs.now.items + 320 = omega arith in
-    ends_stop c.args.rules.now c.args.at c.args.slots.now c.loop.slots c.args.outs.now.items c.loop.outs.items c.loop.counter at_once c.end_once.new.slots c.end_once.new.outs.items c.loop-test.true c.loop.invariant.on c.if-not-end_once.ensures.ended few
+    ends_stop c.args.rules.now c.args.at c.args.served.now c.loop.served c.args.outs.now.items c.loop.outs.items c.loop.counter at_once c.end_once.new.served c.end_once.new.outs.items c.loop-test.true c.loop.invariant.on c.if-not-end_once.ensures.ended few
 
 pub returns-clause-ended : goal.returns-clause-ended
 returns-clause-ended c =
     let all : c.loop.counter ≡ 64 = omega arith in
     let few : length c.loop.outs.items ≤ length c.args.outs.now.items + 320 = omega arith in
-    subst (λ (n : ℕ). Ended n c.args.rules.now c.args.at c.args.slots.now c.loop.slots c.args.outs.now.items c.loop.outs.items) all (ends_done c.args.rules.now c.args.at c.args.slots.now c.loop.slots c.args.outs.now.items c.loop.outs.items c.loop.counter c.loop.invariant.on few)
+    subst (λ (n : ℕ). Ended n c.args.rules.now c.args.at c.args.served.now c.loop.served c.args.outs.now.items c.loop.outs.items) all (ends_done c.args.rules.now c.args.at c.args.served.now c.loop.served c.args.outs.now.items c.loop.outs.items c.loop.counter c.loop.invariant.on few)

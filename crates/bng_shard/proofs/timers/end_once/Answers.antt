@@ -1,15 +1,54 @@
-use Rattle.std.proofs.Common.{◌≡◌, ◌++◌, refl, sym, subst}
-use Rattle.bng_shard.specs.State.{Session}
-use Rattle.bng_shard.specs.Link.{ends_outs}
-use Rattle.bng_shard.specs.Timers.{IsLowest}
-use Rattle.bng_shard.specs.contracts.session.Session.{the_view}
-use Rattle.bng_shard.proofs.Timing.{lowest_at}
+use Rattle.std.proofs.Common.{◌≡◌, ◌∙◌, refl, ap, subst, sym}
+use Rattle.bng_base.specs.declared.address.SessionNo.{SessionNo}
+use Rattle.bng_shard.specs.declared.session.Session.{Session}
+use Rattle.bng_shard.specs.Fits.{ArePlaced}
+use Rattle.bng_shard.specs.Link.{ended}
+use Rattle.bng_shard.specs.State.{State, made_one, with_session}
+use Rattle.bng_shard.proofs.Replacing.{live_there, made_of_ended, number_back, placed_with, put_back, vacant_back}
 use Rattle.bng_shard.proofs.timers.end_once.Goals as goal
+use Rattle.bng_shard.proofs.timers.end_once.Goals.{After-end}
+
+-- it keeps its number
+same_number : (c : After-end) → c.end.new.self.number.0 ≡ c.in-Some.number.0
+same_number c = ap (λ (y : Session). y.number.0) c.end.ensures ∙ ap (λ (n : SessionNo). n.0) c.take-session.ensures.number
+
+pub send_padt-requires-clause-placed : goal.send_padt-requires-clause-placed
+send_padt-requires-clause-placed c = c.requires.placed c.in-Some.number.0 c.take-session.result (sym c.take-session.ensures.value)
+
+pub put-requires-clause-number : goal.put-requires-clause-number
+put-requires-clause-number c =
+    let d = (goal.at.put-requires-clause-number c).After-end in
+    number_back c.args.served.now c.take-session.new.self c.in-Some.number.0 c.end.new.self.number.0 c.take-session.ensures.after (same_number d) c.take-session.ensures.of_shard
+
+pub put-requires-clause-vacant : goal.put-requires-clause-vacant
+put-requires-clause-vacant c =
+    let d = (goal.at.put-requires-clause-vacant c).After-end in
+    vacant_back c.args.served.now c.take-session.new.self c.in-Some.number.0 c.end.new.self.number.0 c.take-session.ensures.after (same_number d)
+
+pub put-requires-clause-made : goal.put-requires-clause-made
+put-requires-clause-made c =
+    ap (λ (y : Session). made_one y.service) c.end.ensures
+    ∙ made_of_ended c.take-session.result.service (live_there c.args.served.now c.in-Some.number.0 c.take-session.result c.in-Some.ensures.found.live c.take-session.ensures.value)
 
 pub returns-clause-ended : goal.returns-clause-ended
 returns-clause-ended c =
-    let y = c.index_mut-session.result.now in
-    let low = lowest_at c.as_slice.result.now c.slots.inside.sessions.items c.in-Some.place y c.as_slice.ensures.value c.index_mut-session.ensures.value c.in-Some.ensures.found in
-    let is = subst (IsLowest c.slots.inside.sessions.items c.in-Some.place) (sym c.session.view_is) low in
-    let sent = subst (λ (x : Session). c.send_padt.new.outs.items ≡ c.args.outs.now.items ++ ends_outs c.args.rules.now c.args.at x) (sym c.session.view_is) c.send_padt.ensures.items in
-    rw (← c.slots.view_is) (c.in-Some.place, the_view c.session.inside, is, refl, sent)
+    let d = (goal.at.returns-clause-ended c).After-end in
+    let (padt, ends, sent) = c.send_padt.ensures.items in
+    let next = put_back c.args.served.now c.take-session.new.self c.in-Some.number.0 c.end.new.self.number.0 c.take-session.ensures.after (same_number d) c.put.new.self c.end.new.self c.put.ensures in
+    (
+      c.in-Some.number.0,
+      c.in-Some.ensures.found,
+      c.take-session.result,
+      sym c.take-session.ensures.value,
+      padt,
+      ends,
+      next ∙ ap (λ (y : Session). with_session c.args.served.now c.in-Some.number.0 y) c.end.ensures,
+      sent,
+    )
+
+pub returns-clause-placed : goal.returns-clause-placed
+returns-clause-placed c =
+    let d = (goal.at.returns-clause-placed c).After-end in
+    let next = put_back c.args.served.now c.take-session.new.self c.in-Some.number.0 c.end.new.self.number.0 c.take-session.ensures.after (same_number d) c.put.new.self c.end.new.self c.put.ensures in
+    subst (λ (t : State). ArePlaced c.args.rules.now t.sessions) (sym next)
+    (placed_with c.args.rules.now c.args.served.now c.in-Some.number.0 c.take-session.result c.end.new.self (sym c.take-session.ensures.value) (ap (λ (y : Session). y.port) c.end.ensures) c.requires.placed)

@@ -1,9 +1,27 @@
-use Rattle.std.proofs.Common.{refl}
-use Rattle.bng_shard.proofs.Timing.{first_at}
+use Rattle.std.proofs.Common.{ap, subst, sym}
+use Rattle.bng_shard.specs.declared.session.Session.{Session}
+use Rattle.bng_shard.specs.Fits.{ArePlaced}
+use Rattle.bng_shard.specs.State.{State}
+use Rattle.bng_shard.proofs.DueLaws.{has_deadline}
+use Rattle.bng_shard.proofs.Replacing.{placed_with}
 use Rattle.bng_shard.proofs.timers.tick_once.Goals as goal
+
+pub drive_at-requires-clause-lives : goal.drive_at-requires-clause-lives
+drive_at-requires-clause-lives c =
+    let first = c.in-Some.ensures.found in
+    (has_deadline c.args.served.now c.in-Some.session.0 first.deadline first.is).2
 
 pub returns-clause-ticked : goal.returns-clause-ticked
 returns-clause-ticked c =
-    let y = c.index_mut-session.result.now in
-    let first = first_at c.args.now c.as_slice.result.now c.slots.inside.sessions.items c.in-Some.place y c.as_slice.ensures.value c.index_mut-session.ensures.value c.in-Some.ensures.found in
-    rw (← c.slots.view_is) (c.in-Some.place, y, first, c.drive.new.session, c.drive.ensures.driven, refl)
+    let first = c.in-Some.ensures.found in
+    let (x, at, live) = has_deadline c.args.served.now c.in-Some.session.0 first.deadline first.is in
+    let (x', driven, next) = c.drive_at.ensures.driven x at in
+    (c.in-Some.session.0, first, x, x', at, driven, next)
+
+pub returns-clause-placed : goal.returns-clause-placed
+returns-clause-placed c =
+    let first = c.in-Some.ensures.found in
+    let (x, at, live) = has_deadline c.args.served.now c.in-Some.session.0 first.deadline first.is in
+    let (x', driven, next) = c.drive_at.ensures.driven x at in
+    subst (λ (t : State). ArePlaced c.args.rules.now t.sessions) (sym next)
+    (placed_with c.args.rules.now c.args.served.now c.in-Some.session.0 x x' at (ap (λ (y : Session). y.port) driven.drives.session) c.requires.placed)

@@ -7,8 +7,10 @@ invariant_of-self c =
     let was = c.self.invariant in
     record {
       rows = was.rows;
-      sessions = was.sessions;
+      numbered = was.numbered;
+      placed = was.placed;
       auth = was.auth;
+      offers = was.offers;
       journal_room = omega (arith, ap (λ (v : Vec Entry Global). length v.items) c.replace-journal.ensures.after, ap length c.new.ensures.items);
       outs_room = λ some. omega (arith, some);
     }

@@ -4,7 +4,7 @@ use Rattle.bng_pppoe_wire.specs.declared.view.Tag.{Tag}
 use Rattle.bng_pppoe_wire.specs.View.{tags_of}
 use Rattle.bng_shard.specs.Discovery.{host_uniq_of}
 use Rattle.bng_shard.proofs.Finding.{uniq_of}
-use Rattle.bng_shard.proofs.repeats.host_uniq.Goals as goal
+use Rattle.bng_shard.proofs.host_uniq.host_uniq.Goals as goal
 
 pub returns : goal.returns
 returns c = λ ts are.

@@ -1,0 +1,397 @@
+-- From one state and one entry there is one effect.
+use Rattle.std.proofs.Common.{◌≡◌, inl, inr, ℕ, zero, suc, true, false, List, [], ◌∷◌, ◌++◌, Option, Some, None, is_some, take, refl, sym, ap, subst, ◌∙◌, arith}
+use Rattle.std.specs.List.{slice_get}
+use Rattle.std.proofs.lemmas.Bool.{cases_lt, false≢true}
+use Rattle.std.proofs.lemmas.Option.{same_Some}
+use Rattle.bng_base.specs.declared.fate.Fate.{Fate}
+use Rattle.bng_base.specs.declared.ipv4.Ipv4.{Ipv4}
+use Rattle.bng_base.specs.declared.item.Entry.{Entry}
+use Rattle.bng_base.specs.declared.item.ItemKind.{ItemKind}
+use Rattle.bng_base.specs.declared.item.ItemKind.TheVariants.{Access, Core, Tunnel, Verdict, Change, Tick, End}
+use Rattle.bng_base.specs.declared.item.OutRecord.{OutRecord}
+use Rattle.bng_base.specs.declared.outside.Role.TheVariants as role
+use Rattle.bng_base.specs.declared.settings.AccessPort.{AccessPort}
+use Rattle.bng_base.specs.declared.settings.AuthKind.{AuthKind}
+use Rattle.bng_base.specs.declared.settings.AuthKind.TheVariants.{Chap}
+use Rattle.bng_base.specs.Lowering.{lowered}
+use Rattle.bng_base.specs.PppoeGrammar.{PppoeFrame, PppoeTag}
+use Rattle.bng_discovery.specs.declared.answers.Answer.{Answer}
+use Rattle.bng_discovery.specs.declared.answers.Answer.TheVariants.{Offer, Make, Again, Refuse, Ended, NoSession, Ignore}
+use Rattle.bng_discovery.specs.declared.port.PortRules.{PortRules}
+use Rattle.bng_discovery.specs.Reply.{pads_of}
+use Rattle.bng_discovery.specs.Table.{table, first_row}
+use Rattle.bng_engine.specs.Protocol.{Alike}
+use Rattle.bng_forward.specs.Framed.{circuit_frame}
+use Rattle.bng_forward.specs.Packets.{IsPassedOn}
+use Rattle.bng_forward.proofs.Exclusive.{up_once, down_once}
+use Rattle.bng_forward.proofs.Readings.{one_frame, one_header}
+use Rattle.bng_lcp.specs.Ask.{Ask}
+use Rattle.bng_lcp.specs.declared.asked.SentRequest.{SentRequest}
+use Rattle.bng_ppp.specs.declared.rules.Input.TheVariants.{Start, Timer}
+use Rattle.bng_ppp.specs.LinkState.{LinkState, IsFirstAsk}
+use Rattle.bng_ppp.specs.Said.{Said}
+use Rattle.bng_ppp.proofs.OneOutcome.{steps_one, hears_one}
+use Rattle.bng_pppoe_wire.proofs.TagLaws.{one_tags}
+use Rattle.bng_slots.specs.Sessions.{value_at, IsLowestVacant}
+use Rattle.bng_shard.specs.Made.{Made}
+use Rattle.bng_shard.specs.declared.rules.Rules.{Rules}
+use Rattle.bng_shard.specs.declared.sending.At.{At}
+use Rattle.bng_shard.specs.declared.session.Lease.{Lease}
+use Rattle.bng_shard.specs.declared.session.Service.{Service}
+use Rattle.bng_shard.specs.declared.session.Service.TheVariants.{Provisioned, Discovered}
+use Rattle.bng_shard.specs.declared.session.Session.{Session}
+use Rattle.bng_shard.specs.State.{State, port_at, session_of, with_session}
+use Rattle.bng_shard.specs.Deed.{Deed, at_of, out, frame_outs, only, handled, arrival_in}
+use Rattle.bng_shard.specs.Discovery.{Answers, Discovers, IsNewLink, IsVacancy, Makes, Repeats, host_uniq_of, new_session, repeated}
+use Rattle.bng_shard.specs.Frames.{charge_of, forwarded, found_up, found_down, GoesUp, GoesDown, HearsData, HearsPpp, HearsControl, HearsIn, HearsFrame, HearsAccess, HearsPacket, HearsCore}
+use Rattle.bng_shard.specs.Link.{LinkStep, Drives, EndsWith, padt_outs, said_outs, with_link, told, hears, ended}
+use Rattle.bng_shard.specs.Protocol.{pppoe}
+use Rattle.bng_shard.specs.Step.{Hears, Step}
+use Rattle.bng_shard.specs.Timers.{Ticks, Ends, HearsTick, HearsEnd, at_once, IsFirstDue, NoneIsDue, ComesFirst, IsLowest, NoneLives}
+
+-- what two answers of one search have in common
+same_found : {X : Type 0} (o : Option X) (x y : X) → o ≡ Some x → o ≡ Some y → x ≡ y
+same_found o x y e f = same_Some x y (sym e ∙ f)
+
+made_or : Made → Service → Made
+made_or m (Provisioned l) = m
+made_or m (Discovered n) = n
+
+same_made : (v : Service) (m n : Made) → v ≡ Discovered m → v ≡ Discovered n → m ≡ n
+unfolding made_or
+same_made v m n e f = ap (made_or m) (sym e ∙ f)
+
+lease_or : Lease → Service → Lease
+lease_or l (Provisioned k) = k
+lease_or l (Discovered m) = l
+
+same_lease : (v : Service) (k l : Lease) → v ≡ Provisioned k → v ≡ Provisioned l → k ≡ l
+unfolding lease_or
+same_lease v k l e f = ap (lease_or k) (sym e ∙ f)
+
+-- Links -----------------------------------------------------------------------------------------------------------------
+
+abbrev IsOne : LinkStep → Type 0
+IsOne Steps = (old new next : LinkState) (says other : Said) → Steps old says new → Steps old other next → (says ≡ other) × (new ≡ next)
+
+module _ (r : Rules) (a : At) (Steps : LinkStep) (one : IsOne Steps) (x : Session) (outs outs' : List OutRecord) (x' x'' : Session) where
+  -- the session's link makes one step
+  drives_one : Drives r a x Steps outs x' → Drives r a x Steps outs' x'' → (outs ≡ outs') × (x' ≡ x'')
+  drives_one h k =
+      let made = same_made x.service h.made k.made h.is_made k.is_made in
+      let port = same_found _ h.port k.port h.at.port_is k.at.port_is in
+      let offers = same_found _ h.offers k.offers h.at.offers_are k.at.offers_are in
+      let steps : Steps h.made.link k.says k.link = subst (λ (m : Made). Steps m.link k.says k.link) (sym made) k.steps in
+      let says = one h.made.link h.link k.link h.says k.says h.steps steps in (
+        h.outs_are ∙ ap (λ (q : AccessPort). said_outs a x q h.offers h.says) port ∙ ap (λ (o : PortRules). said_outs a x k.port o h.says) offers ∙ ap (λ (s : Said). said_outs a x k.port k.offers s) says.0 ∙ sym k.outs_are,
+        h.session ∙ ap (λ (m : Made). with_link x m h.link h.says.finished) made ∙ ap (λ (l : LinkState). with_link x k.made l h.says.finished) says.1 ∙ ap (λ (s : Said). with_link x k.made k.link s.finished) says.0 ∙ sym k.session,
+      )
+
+told_is_one : (r : Rules) (e : Entry) → IsOne (told r e Timer)
+told_is_one r e old new next says other h k = steps_one r.link Timer e.moment e.item.random old says other new next h k
+
+start_is_one : (r : Rules) (e : Entry) → IsOne (told r e Start)
+start_is_one r e old new next says other h k = steps_one r.link Start e.moment e.item.random old says other new next h k
+
+frame_is_one : (r : Rules) (e : Entry) (octets : List ℕ) → IsOne (hears r e octets)
+frame_is_one r e octets old new next says other h k = hears_one r.link.echo e.moment old says other new next octets e.item.random h k
+
+-- a session that ends is told so in one way
+ends_with_one : (r : Rules) (a : At) (x : Session) (outs outs' : List OutRecord) → EndsWith r a x outs → EndsWith r a x outs' → outs ≡ outs'
+ends_with_one r a x outs outs' h k =
+    let port = same_found _ h.port k.port h.at.port_is k.at.port_is in
+    let offers = same_found _ h.offers k.offers h.at.offers_are k.at.offers_are in
+    h.outs_are ∙ ap (λ (q : AccessPort). padt_outs a x q h.offers) port ∙ ap (λ (o : PortRules). padt_outs a x k.port o) offers ∙ sym k.outs_are
+
+-- Ticks and Ends --------------------------------------------------------------------------------------------------------
+
+first_of_two : (d k d' k' : ℕ) → ComesFirst d k d' k' → ComesFirst d' k' d k → k ≡ k'
+first_of_two d k d' k' (inl lt) (inl lt') = absurd (omega (arith, lt, lt'))
+first_of_two d k d' k' (inl lt) (inr (e', le')) = absurd (omega (arith, lt, e'))
+first_of_two d k d' k' (inr (e, le)) (inl lt') = absurd (omega (arith, e, lt'))
+first_of_two d k d' k' (inr (e, le)) (inr (e', le')) = omega (arith, le, le')
+
+first_due_one : (s : State) (now k k' : ℕ) → IsFirstDue s now k → IsFirstDue s now k' → k ≡ k'
+first_due_one s now k k' a b = first_of_two a.deadline k b.deadline k' (a.first k' b.deadline b.is) (b.first k a.deadline a.is)
+
+none_due : (s : State) (now k : ℕ) → NoneIsDue s now → IsFirstDue s now k → ⊥
+none_due s now k none is = omega (arith, none k is.deadline is.is, is.due)
+
+lowest_one : (s : State) (k k' : ℕ) → IsLowest s k → IsLowest s k' → k ≡ k'
+lowest_one s k k' a b = omega (arith, a.lowest k' b.live, b.lowest k a.live)
+
+none_lives : (s : State) (k : ℕ) → NoneLives s → IsLowest s k → ⊥
+none_lives s k none is = false≢true (sym (none k) ∙ is.live)
+
+abbrev Alone : (State → List OutRecord → State → Type 0) → Type 0
+Alone Says = (s : State) (outs outs' : List OutRecord) (s' s'' : State) → Says s outs s' → Says s outs' s'' → (outs ≡ outs') × (s' ≡ s'')
+
+-- one deadline, and those after it
+abbrev TicksAt : ℕ → ℕ → Rules → Entry → State → List OutRecord → State → Type 0
+TicksAt k n r e s outs s' =
+    (x x' : Session) × (value_at s.sessions n ≡ Some x) × (first : List OutRecord) × Drives r (at_of s e) x (told r e Timer) first x'
+    × (rest : List OutRecord) × Ticks k r e (with_session s n x') rest s' × (outs ≡ first ++ rest)
+
+abbrev EndsAt : ℕ → ℕ → Rules → Entry → State → List OutRecord → State → Type 0
+EndsAt k n r e s outs s' =
+    (x : Session) × (value_at s.sessions n ≡ Some x) × (padt rest : List OutRecord) × EndsWith r (at_of s e) x padt
+    × Ends k r e (with_session s n (ended x)) rest s' × (outs ≡ padt ++ rest)
+
+module _ (r : Rules) (e : Entry) where
+  tick_one : (k n : ℕ) → Alone (Ticks k r e) → Alone (TicksAt k n r e)
+  tick_one k n alone s outs outs' s' s'' (x, x', at, first, drives, rest, more, are) (y, y', at', first', drives', rest', more', are') =
+      let same = same_found _ x y at at' in
+      let moved : Drives r (at_of s e) x (told r e Timer) first' y' = subst (λ (z : Session). Drives r (at_of s e) z (told r e Timer) first' y') (sym same) drives' in
+      let one = drives_one r (at_of s e) (told r e Timer) (told_is_one r e) x first first' x' y' drives moved in
+      let later : Ticks k r e (with_session s n x') rest' s'' = subst (λ (z : Session). Ticks k r e (with_session s n z) rest' s'') (sym one.1) more' in
+      let last = alone (with_session s n x') rest rest' s' s'' more later in
+      (are ∙ ap (λ (os : List OutRecord). os ++ rest) one.0 ∙ ap (λ (os : List OutRecord). first' ++ os) last.0 ∙ sym are', last.1)
+
+  ticks_one : (k : ℕ) → Alone (Ticks k r e)
+  ticks_one zero s outs outs' s' s'' h i = (h.0 ∙ sym i.0, h.1 ∙ sym i.1)
+  ticks_one (suc k) s outs outs' s' s'' (inl h) (inl i) = (h.1 ∙ sym i.1, h.2 ∙ sym i.2)
+  ticks_one (suc k) s outs outs' s' s'' (inl h) (inr (n, due, x, x', at, first, drives, rest, more, are)) = absurd (none_due s e.moment n h.0 due)
+  ticks_one (suc k) s outs outs' s' s'' (inr (n, due, x, x', at, first, drives, rest, more, are)) (inl i) = absurd (none_due s e.moment n i.0 due)
+  ticks_one (suc k) s outs outs' s' s'' (inr (n, due, x, x', at, first, drives, rest, more, are)) (inr (n', due', y, y', at', first', drives', rest', more', are')) =
+      let moved : TicksAt k n r e s outs' s'' = subst (λ (m : ℕ). TicksAt k m r e s outs' s'') (sym (first_due_one s e.moment n n' due due')) (y, y', at', first', drives', rest', more', are') in
+      tick_one k n (ticks_one k) s outs outs' s' s'' (x, x', at, first, drives, rest, more, are) moved
+
+  end_one : (k n : ℕ) → Alone (Ends k r e) → Alone (EndsAt k n r e)
+  end_one k n alone s outs outs' s' s'' (x, at, padt, rest, with_padt, more, are) (y, at', padt', rest', with_padt', more', are') =
+      let same = same_found _ x y at at' in
+      let one = ends_with_one r (at_of s e) x padt padt' with_padt (subst (λ (z : Session). EndsWith r (at_of s e) z padt') (sym same) with_padt') in
+      let later : Ends k r e (with_session s n (ended x)) rest' s'' = subst (λ (z : Session). Ends k r e (with_session s n (ended z)) rest' s'') (sym same) more' in
+      let last = alone (with_session s n (ended x)) rest rest' s' s'' more later in
+      (are ∙ ap (λ (os : List OutRecord). os ++ rest) one ∙ ap (λ (os : List OutRecord). padt' ++ os) last.0 ∙ sym are', last.1)
+
+  ends_one : (k : ℕ) → Alone (Ends k r e)
+  ends_one zero s outs outs' s' s'' h i = (h.0 ∙ sym i.0, h.1 ∙ sym i.1)
+  ends_one (suc k) s outs outs' s' s'' (inl h) (inl i) = (h.1 ∙ sym i.1, h.2 ∙ sym i.2)
+  ends_one (suc k) s outs outs' s' s'' (inl h) (inr (n, lowest, x, at, padt, rest, with_padt, more, are)) = absurd (none_lives s n h.0 lowest)
+  ends_one (suc k) s outs outs' s' s'' (inr (n, lowest, x, at, padt, rest, with_padt, more, are)) (inl i) = absurd (none_lives s n i.0 lowest)
+  ends_one (suc k) s outs outs' s' s'' (inr (n, lowest, x, at, padt, rest, with_padt, more, are)) (inr (n', lowest', y, at', padt', rest', with_padt', more', are')) =
+      let moved : EndsAt k n r e s outs' s'' = subst (λ (m : ℕ). EndsAt k m r e s outs' s'') (sym (lowest_one s n n' lowest lowest')) (y, at', padt', rest', with_padt', more', are') in
+      end_one k n (ends_one k) s outs outs' s' s'' (x, at, padt, rest, with_padt, more, are) moved
+
+-- Vacancies and new links -----------------------------------------------------------------------------------------------
+
+not_vacant : (s : State) (n : ℕ) → is_some (value_at s.sessions n) ≡ true → value_at s.sessions n ≡ None → ⊥
+not_vacant s n some none = false≢true (sym (ap is_some none) ∙ some)
+
+-- the lowest vacant number is one
+vacant_one : (s : State) (n m : ℕ) → IsLowestVacant s.sessions n → IsLowestVacant s.sessions m → n ≡ m
+vacant_one s n m a b =
+    elim (cases_lt n m) [
+      | inl lt ↦ absurd (not_vacant s n (b.lower_used n a.of_shard lt) a.vacant)
+      | inr ge ↦ elim (cases_lt m n) [
+        | inl gt ↦ absurd (not_vacant s m (a.lower_used m b.of_shard gt) b.vacant)
+        | inr le ↦ omega (arith, ge, le)
+      ]
+    ]
+
+vacancy_one : (s : State) (v w : Option ℕ) → IsVacancy s v → IsVacancy s w → v ≡ w
+vacancy_one s None None a b = refl
+vacancy_one s None (Some n) a b = absurd (not_vacant s n (a n b.of_shard) b.vacant)
+vacancy_one s (Some n) None a b = absurd (not_vacant s n (b n a.of_shard) a.vacant)
+vacancy_one s (Some n) (Some m) a b = ap (λ (k : ℕ). Some k) (vacant_one s n m a b)
+
+ask_made : ℕ → List AuthKind → Option ℕ → AuthKind → Option ℕ → Option SentRequest → Ask
+ask_made limit allowed mru auth magic sent = record { limit = limit; allowed = allowed; wanted = record { mru = mru; auth = auth; magic = magic }; sent = sent }
+
+asks_equal : (l m : ℕ) (xs ys : List AuthKind) (u v : Option ℕ) (a b : AuthKind) (g h : Option ℕ) (s t : Option SentRequest) → l ≡ m → xs ≡ ys → u ≡ v → a ≡ b → g ≡ h → s ≡ t → ask_made l xs u a g s ≡ ask_made m ys v b h t
+asks_equal l m xs ys u v a b g h s t p q r w x y = cc
+
+-- LCP's first Configure-Request asks for one thing
+ask_one : (limit : ℕ) (auth : List AuthKind) (random : List ℕ) (a b : Ask) → IsFirstAsk limit auth random a → IsFirstAsk limit auth random b → a ≡ b
+unfolding ask_made
+ask_one limit auth random a b x y =
+    asks_equal a.limit b.limit a.allowed b.allowed a.wanted.mru b.wanted.mru a.wanted.auth b.wanted.auth a.wanted.magic b.wanted.magic a.sent b.sent
+    (x.limited ∙ sym y.limited) (x.allowed ∙ sym y.allowed) (x.mru ∙ sym y.mru) (same_found (slice_get auth 0) a.wanted.auth b.wanted.auth x.first y.first) (x.magic ∙ sym y.magic) (x.unsent ∙ sym y.unsent)
+
+link_one : (random : List ℕ) (a b : LinkState) → IsNewLink random a → IsNewLink random b → a ≡ b
+link_one random a b x y =
+    let lcp = x.lcp ∙ sym y.lcp in
+    let ask = ask_one 1492 (Chap ∷ []) random a.ask b.ask x.ask y.ask in
+    let kept = x.kept ∙ sym y.kept in
+    λ i. record { lcp = lcp i; ask = ask i; kept = kept i }
+
+-- Packets ---------------------------------------------------------------------------------------------------------------
+
+-- a packet is passed on in one way
+passed_one : (v w : Ipv4) (before after after' : List ℕ) → IsPassedOn v before after → IsPassedOn w before after' → (v ≡ w) × (after ≡ after')
+passed_one v w before after after' a b =
+    let same = one_header v w before a.was b.was in
+    (same, a.octets ∙ ap (λ (h : Ipv4). take h.total (lowered before)) same ∙ sym b.octets)
+
+module _ (r : Rules) (s : State) (e : Entry) where
+  sent_up : Session → Lease → Ipv4 → List ℕ → Deed
+  sent_up x l v packet = forwarded s e (out (at_of s e) role.Core r.core_peer packet (Some (charge_of x l true v.total)))
+
+  up_equal : (x x' : Session) (l l' : Lease) (v v' : Ipv4) (packet packet' : List ℕ) → x ≡ x' → l ≡ l' → v ≡ v' → packet ≡ packet' → sent_up x l v packet ≡ sent_up x' l' v' packet'
+  up_equal x x' l l' v v' packet packet' p q t u = cc
+
+  up_one : (number : ℕ) (p : PppoeFrame) (info : List ℕ) (d d' : Deed) → GoesUp r s e number p info d → GoesUp r s e number p info d' → d ≡ d'
+  unfolding sent_up
+  up_one number p info d d' h k =
+      let x = same_found _ h.x k.x h.found k.found in
+      let lease = same_lease k.x.service h.lease k.lease (ap (λ (y : Session). y.service) (sym x) ∙ h.service) k.service in
+      let packet = passed_one h.header k.header info h.packet k.packet h.passed k.passed in
+      h.done ∙ up_equal h.x k.x h.lease k.lease h.header k.header h.packet k.packet x lease packet.0 packet.1 ∙ sym k.done
+
+  sent_down : Session → Lease → AccessPort → Ipv4 → List ℕ → Deed
+  sent_down x l port v packet = forwarded s e (out (at_of s e) (role.Access x.port) port.peer (circuit_frame port x.mac x.number.0 packet) (Some (charge_of x l false v.total)))
+
+  down_equal : (v : Ipv4) (x x' : Session) (l l' : Lease) (port port' : AccessPort) (packet packet' : List ℕ) → x ≡ x' → l ≡ l' → port ≡ port' → packet ≡ packet' → sent_down x l port v packet ≡ sent_down x' l' port' v packet'
+  down_equal v x x' l l' port port' packet packet' p q t u = cc
+
+  down_one : (v : Ipv4) (d d' : Deed) → GoesDown r s e v d → GoesDown r s e v d' → d ≡ d'
+  unfolding sent_down
+  down_one v d d' h k =
+      let x = same_found _ h.x k.x h.found k.found in
+      let lease = same_lease k.x.service h.lease k.lease (ap (λ (y : Session). y.service) (sym x) ∙ h.service) k.service in
+      let its_port = same_found _ h.port k.port (ap (λ (y : Session). port_at r.access y.port) (sym x) ∙ h.its_port) k.its_port in
+      let packet = passed_one v v e.item.frame.payload h.packet k.packet h.passed k.passed in
+      h.done ∙ down_equal v h.x k.x h.lease k.lease h.port k.port h.packet k.packet x lease its_port packet.1 ∙ sym k.done
+
+-- Entries ---------------------------------------------------------------------------------------------------------------
+
+module _ (r : Rules) (s : State) (e : Entry) (d d' : Deed) where
+  -- two deeds that are this one
+  same_deed : (f : Deed) → d ≡ f → d' ≡ f → d ≡ d'
+  same_deed f h k = h ∙ sym k
+
+  same_handled : (outs outs' : List OutRecord) (t t' : State) → (outs ≡ outs') × (t ≡ t') → d ≡ handled s e outs t → d' ≡ handled s e outs' t' → d ≡ d'
+  same_handled outs outs' t t' same h k = h ∙ ap (λ (os : List OutRecord). handled s e os t) same.0 ∙ ap (λ (u : State). handled s e outs' u) same.1 ∙ sym k
+
+  makes_one : (number : ℕ) (port : AccessPort) (offers : PortRules) (p : PppoeFrame) (tags : List PppoeTag) → Makes r s e number port offers p tags d → Makes r s e number port offers p tags d' → d ≡ d'
+  makes_one number port offers p tags h k =
+      let session = vacant_one s h.session k.session h.vacant k.vacant in
+      let link = link_one e.item.random h.link k.link h.new k.new in
+      let fresh : new_session h.session number p.src (host_uniq_of tags) h.link ≡ new_session k.session number p.src (host_uniq_of tags) k.link =
+      ap (λ (n : ℕ). new_session n number p.src (host_uniq_of tags) h.link) session ∙ ap (λ (l : LinkState). new_session k.session number p.src (host_uniq_of tags) l) link in
+      let starts : Drives r (at_of s e) (new_session h.session number p.src (host_uniq_of tags) h.link) (told r e Start) k.outs k.x =
+      subst (λ (y : Session). Drives r (at_of s e) y (told r e Start) k.outs k.x) (sym fresh) k.starts in
+      let one = drives_one r (at_of s e) (told r e Start) (start_is_one r e) (new_session h.session number p.src (host_uniq_of tags) h.link) h.outs k.outs h.x k.x h.starts starts in
+      let front : ℕ → List OutRecord = λ n. frame_outs (at_of s e) number port (pads_of offers p.src n tags) in
+      same_handled (front h.session ++ h.outs) (front k.session ++ k.outs) (with_session s h.session h.x) (with_session s k.session k.x) (
+        ap (λ (n : ℕ). front n ++ h.outs) session ∙ ap (λ (os : List OutRecord). front k.session ++ os) one.0,
+        ap (λ (n : ℕ). with_session s n h.x) session ∙ ap (λ (y : Session). with_session s k.session y) one.1,
+      )
+      h.done k.done
+
+  repeats_one : (number : ℕ) (port : AccessPort) (offers : PortRules) (p : PppoeFrame) (tags : List PppoeTag) → Repeats s e number port offers p tags d → Repeats s e number port offers p tags d' → d ≡ d'
+  repeats_one number port offers p tags h k =
+      let x = same_found _ h.x k.x h.found k.found in
+      h.done ∙ ap (λ (y : Session). handled s e (frame_outs (at_of s e) number port (pads_of offers p.src y.number.0 tags)) s) x ∙ sym k.done
+
+  answers_one : (answer : Answer) (number : ℕ) (port : AccessPort) (offers : PortRules) (p : PppoeFrame) (tags : List PppoeTag) → Answers answer r s e number port offers p tags d → Answers answer r s e number port offers p tags d' → d ≡ d'
+  answers_one Offer number port offers p tags h k = same_deed _ h k
+  answers_one Make number port offers p tags h k = makes_one number port offers p tags h k
+  answers_one Again number port offers p tags h k = repeats_one number port offers p tags h k
+  answers_one (Refuse error) number port offers p tags h k = same_deed _ h k
+  answers_one Ended number port offers p tags h k = same_deed _ h k
+  answers_one NoSession number port offers p tags h k = same_deed _ h k
+  answers_one Ignore number port offers p tags h k = same_deed _ h k
+
+  discovers_one : (number : ℕ) (p : PppoeFrame) → Discovers r s e number p d → Discovers r s e number p d' → d ≡ d'
+  discovers_one number p h k =
+      let port = same_found _ h.port k.port h.its_port k.its_port in
+      let offers = same_found _ h.offers k.offers h.its_offers k.its_offers in
+      let tags = one_tags h.tags k.tags p.payload h.listed k.listed in
+      let vacancy = vacancy_one s h.vacancy k.vacancy h.is_vacancy k.is_vacancy in
+      let row : PortRules → List PppoeTag → Option ℕ → Option Answer = λ o ts v. first_row (table o p ts (is_some (repeated s number p.src (host_uniq_of ts))) (is_some v)) in
+      let rows : row h.offers h.tags h.vacancy ≡ row k.offers k.tags k.vacancy =
+      ap (λ (o : PortRules). row o h.tags h.vacancy) offers ∙ ap (λ (ts : List PppoeTag). row k.offers ts h.vacancy) tags ∙ ap (λ (v : Option ℕ). row k.offers k.tags v) vacancy in
+      let answer : h.answer ≡ k.answer = same_Some h.answer k.answer (h.is_answer ∙ rows ∙ sym k.is_answer) in
+      let by_port : Answers k.answer r s e number h.port k.offers p k.tags d' = subst (λ (q : AccessPort). Answers k.answer r s e number q k.offers p k.tags d') (sym port) k.does in
+      let by_offers : Answers k.answer r s e number h.port h.offers p k.tags d' = subst (λ (o : PortRules). Answers k.answer r s e number h.port o p k.tags d') (sym offers) by_port in
+      let by_tags : Answers k.answer r s e number h.port h.offers p h.tags d' = subst (λ (ts : List PppoeTag). Answers k.answer r s e number h.port h.offers p ts d') (sym tags) by_offers in
+      let by_answer : Answers h.answer r s e number h.port h.offers p h.tags d' = subst (λ (a : Answer). Answers a r s e number h.port h.offers p h.tags d') (sym answer) by_tags in
+      answers_one h.answer number h.port h.offers p h.tags h.does by_answer
+
+  only_one : (fate fate' : Fate) → fate ≡ fate' → d ≡ only s e fate → d' ≡ only s e fate' → d ≡ d'
+  only_one fate fate' same h k = h ∙ ap (λ (f : Fate). only s e f) same ∙ sym k
+
+  data_one : (number : ℕ) (p : PppoeFrame) (info : List ℕ) → HearsData r s e number p info d → HearsData r s e number p info d' → d ≡ d'
+  data_one number p info (fate, is, inl (goes, h)) (fate', is', inl (goes', k)) = up_one r s e number p info d d' h k
+  data_one number p info (fate, is, inl (goes, h)) (fate', is', inr (stays', k)) = absurd (stays' (up_once (found_up s number p) info fate' fate is' is ∙ goes))
+  data_one number p info (fate, is, inr (stays, h)) (fate', is', inl (goes', k)) = absurd (stays (up_once (found_up s number p) info fate fate' is is' ∙ goes'))
+  data_one number p info (fate, is, inr (stays, h)) (fate', is', inr (stays', k)) = only_one fate fate' (up_once (found_up s number p) info fate fate' is is') h k
+
+  ppp_one : (x : Session) (made : Made) (p : PppoeFrame) → HearsPpp r s e x made p d → HearsPpp r s e x made p d' → d ≡ d'
+  ppp_one x made p (inl (over, h)) (inl (over', k)) = same_deed _ h k
+  ppp_one x made p (inl (over, h)) (inr (live', outs', x'', drives', k)) = absurd (false≢true (sym live' ∙ over))
+  ppp_one x made p (inr (live, outs, x', drives, h)) (inl (over', k)) = absurd (false≢true (sym live ∙ over'))
+  ppp_one x made p (inr (live, outs, x', drives, h)) (inr (live', outs', x'', drives', k)) =
+      let one = drives_one r (at_of s e) (hears r e p.payload) (frame_is_one r e p.payload) x outs outs' x' x'' drives drives' in
+      same_handled outs outs' (with_session s p.session x') (with_session s p.session x'') (one.0, ap (λ (y : Session). with_session s p.session y) one.1) h k
+
+  control_one : (v : Service) (x : Session) (p : PppoeFrame) → HearsControl v r s e x p d → HearsControl v r s e x p d' → d ≡ d'
+  control_one (Provisioned l) x p h k = same_deed _ h k
+  control_one (Discovered made) x p (inl (padt, h)) (inl (padt', k)) = same_deed _ h k
+  control_one (Discovered made) x p (inl (padt, h)) (inr (other', k)) = absurd (false≢true (sym other' ∙ padt))
+  control_one (Discovered made) x p (inr (other, h)) (inl (padt', k)) = absurd (false≢true (sym other ∙ padt'))
+  control_one (Discovered made) x p (inr (other, h)) (inr (other', k)) = ppp_one x made p h k
+
+  named_one : (found : Option Session) (p : PppoeFrame) → HearsIn found r s e p d → HearsIn found r s e p d' → d ≡ d'
+  named_one None p h k = same_deed _ h k
+  named_one (Some x) p h k = control_one x.service x p h k
+
+  frame_one : (number : ℕ) (p : PppoeFrame) → HearsFrame r s e number p d → HearsFrame r s e number p d' → d ≡ d'
+  frame_one number p (inl (info, carries, h)) (inl (info', carries', k)) =
+      let same : info ≡ info' = carries.ppp.info ∙ sym carries'.ppp.info in
+      data_one number p info h (subst (λ (xs : List ℕ). HearsData r s e number p xs d') (sym same) k)
+  frame_one number p (inl (info, carries, h)) (inr (inl (names', none', k))) = absurd (none' info carries)
+  frame_one number p (inl (info, carries, h)) (inr (inr (before', k))) = absurd (before' (inl carries.session))
+  frame_one number p (inr (inl (names, none, h))) (inl (info', carries', k)) = absurd (none info' carries')
+  frame_one number p (inr (inl (names, none, h))) (inr (inl (names', none', k))) = named_one (session_of s number p.src p.session) p h k
+  frame_one number p (inr (inl (names, none, h))) (inr (inr (before', k))) = absurd (before' names)
+  frame_one number p (inr (inr (before, h))) (inl (info', carries', k)) = absurd (before (inl carries'.session))
+  frame_one number p (inr (inr (before, h))) (inr (inl (names', none', k))) = absurd (before names')
+  frame_one number p (inr (inr (before, h))) (inr (inr (before', k))) = discovers_one number p h k
+
+  access_one : (number : ℕ) → HearsAccess r s e number d → HearsAccess r s e number d' → d ≡ d'
+  access_one number (inl (none, h)) (inl (none', k)) = same_deed _ h k
+  access_one number (inl (none, h)) (inr (p', is', k)) = absurd (none p' is')
+  access_one number (inr (p, is, h)) (inl (none', k)) = absurd (none' p is)
+  access_one number (inr (p, is, h)) (inr (p', is', k)) =
+      let same = one_frame r.access number (arrival_in e) p p' is is' in
+      frame_one number p h (subst (λ (q : PppoeFrame). HearsFrame r s e number q d') (sym same) k)
+
+  packet_one : (v : Ipv4) → HearsPacket r s e v d → HearsPacket r s e v d' → d ≡ d'
+  packet_one v (fate, is, inl (goes, h)) (fate', is', inl (goes', k)) = down_one r s e v d d' h k
+  packet_one v (fate, is, inl (goes, h)) (fate', is', inr (stays', k)) = absurd (stays' (down_once (found_down s) e.item.frame.payload fate' fate is' is ∙ goes))
+  packet_one v (fate, is, inr (stays, h)) (fate', is', inl (goes', k)) = absurd (stays (down_once (found_down s) e.item.frame.payload fate fate' is is' ∙ goes'))
+  packet_one v (fate, is, inr (stays, h)) (fate', is', inr (stays', k)) = only_one fate fate' (down_once (found_down s) e.item.frame.payload fate fate' is is') h k
+
+  core_one : HearsCore r s e d → HearsCore r s e d' → d ≡ d'
+  core_one (inl (none, h)) (inl (none', k)) = same_deed _ h k
+  core_one (inl (none, h)) (inr (v', is', k)) = absurd (none v' is')
+  core_one (inr (v, is, h)) (inl (none', k)) = absurd (none' v is)
+  core_one (inr (v, is, h)) (inr (v', is', k)) =
+      let same = one_header v v' (arrival_in e).octets is.packet is'.packet in
+      packet_one v h (subst (λ (w : Ipv4). HearsPacket r s e w d') (sym same) k)
+
+  tick_entry : HearsTick r s e d → HearsTick r s e d' → d ≡ d'
+  tick_entry (outs, s', ticks, h) (outs', s'', ticks', k) = same_handled outs outs' s' s'' (ticks_one r e at_once s outs outs' s' s'' ticks ticks') h k
+
+  end_entry : HearsEnd r s e d → HearsEnd r s e d' → d ≡ d'
+  end_entry (outs, s', all, h) (outs', s'', all', k) = same_handled outs outs' s' s'' (ends_one r e at_once s outs outs' s' s'' all all') h k
+
+  entry_one : (kind : ItemKind) → Hears kind r s e d → Hears kind r s e d' → d ≡ d'
+  entry_one (Access number) h k = access_one number h k
+  entry_one Core h k = core_one h k
+  entry_one Tunnel h k = same_deed _ h k
+  entry_one Verdict h k = same_deed _ h k
+  entry_one Change h k = same_deed _ h k
+  entry_one Tick h k = tick_entry h k
+  entry_one End h k = end_entry h k
+
+-- a step is the only one of its state and its entry
+pub step_one : (r : Rules) (s : State) (d d' : Deed) → Step r s d → Step r s d' → d.entry ≡ d'.entry → d ≡ d'
+step_one r s d d' h k same = entry_one r s d.entry d d' d.entry.item.kind h.hears (subst (λ (e : Entry). Hears e.item.kind r s e d') (sym same) k.hears)
+
+pub pppoe_alike : Alike pppoe
+pppoe_alike s d e h k entries limits =
+    let deeds = step_one s.rules s.slots d.deed e.deed h k entries in
+    λ i. record { deed = deeds i; limited = limits i }
