@@ -24,27 +24,27 @@ open-requires-clause-number c =
 pub open-requires-clause-own : goal.open-requires-clause-own
 open-requires-clause-own c =
     let was = c.loop-circuits.invariant in
-    (next_are (λ x. x.items) c.args.rules.now c.in_ok-own.own c.args.circuits.items c.as_slice.result.now c.loop-circuits.yielded c.next.new.self.rest.items c.loop-circuits.circuits-iterator.rest.items c.in-Some.circuits c.loop-circuits.number c.requires.circuits was.left c.in-Some.ensures.steps.0 was.number c.in_ok-own.ensures c.as_slice.ensures).own
+    (next_are (λ x. x.items) c.args.rules.now c.in_ok-own.own c.args.circuits.items c.as_slice.result.now c.loop-circuits.yielded c.next.new.self.rest.items c.loop-circuits.circuits-iterator.rest.items c.in-Some.circuits c.loop-circuits.number c.requires.circuits was.left c.in-Some.ensures.steps.0 was.number c.in_ok-own.ensures c.as_slice.ensures.value).own
 
 pub open-requires-clause-sessions : goal.open-requires-clause-sessions
 open-requires-clause-sessions c =
     let was = c.loop-circuits.invariant in
-    (next_are (λ x. x.items) c.args.rules.now c.in_ok-own.own c.args.circuits.items c.as_slice.result.now c.loop-circuits.yielded c.next.new.self.rest.items c.loop-circuits.circuits-iterator.rest.items c.in-Some.circuits c.loop-circuits.number c.requires.circuits was.left c.in-Some.ensures.steps.0 was.number c.in_ok-own.ensures c.as_slice.ensures).sessions
+    (next_are (λ x. x.items) c.args.rules.now c.in_ok-own.own c.args.circuits.items c.as_slice.result.now c.loop-circuits.yielded c.next.new.self.rest.items c.loop-circuits.circuits-iterator.rest.items c.in-Some.circuits c.loop-circuits.number c.requires.circuits was.left c.in-Some.ensures.steps.0 was.number c.in_ok-own.ensures c.as_slice.ensures.value).sessions
 
 pub open-requires-clause-addresses : goal.open-requires-clause-addresses
 open-requires-clause-addresses c =
     let was = c.loop-circuits.invariant in
-    (next_are (λ x. x.items) c.args.rules.now c.in_ok-own.own c.args.circuits.items c.as_slice.result.now c.loop-circuits.yielded c.next.new.self.rest.items c.loop-circuits.circuits-iterator.rest.items c.in-Some.circuits c.loop-circuits.number c.requires.circuits was.left c.in-Some.ensures.steps.0 was.number c.in_ok-own.ensures c.as_slice.ensures).addresses
+    (next_are (λ x. x.items) c.args.rules.now c.in_ok-own.own c.args.circuits.items c.as_slice.result.now c.loop-circuits.yielded c.next.new.self.rest.items c.loop-circuits.circuits-iterator.rest.items c.in-Some.circuits c.loop-circuits.number c.requires.circuits was.left c.in-Some.ensures.steps.0 was.number c.in_ok-own.ensures c.as_slice.ensures.value).addresses
 
 pub open-requires-clause-ports : goal.open-requires-clause-ports
 open-requires-clause-ports c =
     let was = c.loop-circuits.invariant in
-    (next_are (λ x. x.items) c.args.rules.now c.in_ok-own.own c.args.circuits.items c.as_slice.result.now c.loop-circuits.yielded c.next.new.self.rest.items c.loop-circuits.circuits-iterator.rest.items c.in-Some.circuits c.loop-circuits.number c.requires.circuits was.left c.in-Some.ensures.steps.0 was.number c.in_ok-own.ensures c.as_slice.ensures).ports
+    (next_are (λ x. x.items) c.args.rules.now c.in_ok-own.own c.args.circuits.items c.as_slice.result.now c.loop-circuits.yielded c.next.new.self.rest.items c.loop-circuits.circuits-iterator.rest.items c.in-Some.circuits c.loop-circuits.number c.requires.circuits was.left c.in-Some.ensures.steps.0 was.number c.in_ok-own.ensures c.as_slice.ensures.value).ports
 
 pub open-requires-clause-profiles : goal.open-requires-clause-profiles
 open-requires-clause-profiles c =
     let was = c.loop-circuits.invariant in
-    (next_are (λ x. x.items) c.args.rules.now c.in_ok-own.own c.args.circuits.items c.as_slice.result.now c.loop-circuits.yielded c.next.new.self.rest.items c.loop-circuits.circuits-iterator.rest.items c.in-Some.circuits c.loop-circuits.number c.requires.circuits was.left c.in-Some.ensures.steps.0 was.number c.in_ok-own.ensures c.as_slice.ensures).profiles
+    (next_are (λ x. x.items) c.args.rules.now c.in_ok-own.own c.args.circuits.items c.as_slice.result.now c.loop-circuits.yielded c.next.new.self.rest.items c.loop-circuits.circuits-iterator.rest.items c.in-Some.circuits c.loop-circuits.number c.requires.circuits was.left c.in-Some.ensures.steps.0 was.number c.in_ok-own.ensures c.as_slice.ensures.value).profiles
 
 pub push_reserved-requires : goal.push_reserved-requires
 push_reserved-requires c =
@@ -65,7 +65,7 @@ loop-circuits-preserved c =
       left = ap (map (λ x. x.items)) (append_assoc done (c.in-Some.circuits ∷ []) left ∙ sym (ap (λ xs. done ++ xs) c.in-Some.ensures.steps.0)) ∙ was.left;
       opens = c.push_reserved.ensures.items
           ∙ ap (λ (vs : List (ShardView ShardState Entry)). vs ++ c.in-Ok-open.shard ∷ []) was.opens
-          ∙ ap (λ (v : ShardView ShardState Entry). map open_shard (range_with_len 0 n) ++ v ∷ []) (c.in-Ok-open.ensures.opened ∙ ap (λ (r : Rules). opened n r c.as_slice.result.now) c.in_ok-own.ensures ∙ ap (λ (cs : List Static). opened n c.args.rules.now cs) (c.as_slice.ensures ∙ next.1))
+          ∙ ap (λ (v : ShardView ShardState Entry). map open_shard (range_with_len 0 n) ++ v ∷ []) (c.in-Ok-open.ensures.opened ∙ ap (λ (r : Rules). opened n r c.as_slice.result.now) c.in_ok-own.ensures ∙ ap (λ (cs : List Static). opened n c.args.rules.now cs) (c.as_slice.ensures.value ∙ next.1))
           ∙ sym (map-range_with_len_more open_shard 0 n n (omega arith));
       none = subst (λ (vs : List (ShardView ShardState Entry)). All HasNone vs) (sym c.push_reserved.ensures.items)
           (All-append HasNone c.loop-circuits.opens.items (c.in-Ok-open.shard ∷ []) was.none (All-cons HasNone c.in-Ok-open.shard [] c.in-Ok-open.ensures.none (All-nil HasNone)));

@@ -2,6 +2,7 @@ use Rattle.std.proofs.Common.{◌≡◌, ℕ, ◌+◌, ◌<◌, ◌==◌, false,
 use Rattle.std.specs.List.{All, range_with_len}
 use Rattle.std.proofs.lemmas.List.Elements.{All-map}
 use Rattle.bng_base.specs.declared.address.Ip4.{Ip4}
+use Rattle.bng_base.specs.declared.book.Book.{Book}
 use Rattle.bng_base.specs.declared.item.Entry.{Entry}
 use Rattle.bng_base.specs.declared.item.Item.{Item}
 use Rattle.bng_base.specs.declared.settings.AccessPort.{AccessPort}
@@ -54,6 +55,9 @@ module _ (c : After-new-3) where
   draws_are : c.sixteen-key.new.self ≡ (let x : Drawn = record { seed = c.args.seed; drawn = 1 } in x)
   draws_are = c.sixteen-key.ensures.counted ∙ ap (λ (x : Drawn). let y : Drawn = record x { drawn = x.drawn + 1 } in y) c.of-draws.ensures
 
+  tallies_are : c.empty.result ∷ [] ≡ empty_book ∷ []
+  tallies_are = ap (λ (b : Book). let bs : List Book = b ∷ [] in bs) c.empty.ensures
+
   key_is : c.sixteen-key.result ≡ draw c.args.seed 0
   key_is = c.sixteen-key.ensures.octets ∙ ap (λ (x : Drawn). draw x.seed x.drawn) c.of-draws.ensures
 
@@ -83,13 +87,13 @@ invariant_of-result c =
     (omega (arith, c.requires.rules.some_port, ap (λ (ps : List AccessPort). length ps) rules.access)) (omega (arith, c.requires.rules.few_ports, ap (λ (ps : List AccessPort). length ps) rules.access))
     (omega (arith, c.requires.rules.some_shard, rules.shards)) (omega (arith, c.requires.rules.few_shards, rules.shards))
     (subst (λ (hs : List Holder). All (λ (h : Holder). h.shard < (made c).shards) hs) (sym (holders_are c)) (All-map (λ (h : Holder). h.shard < (made c).shards) holder_of c.args.config.statics (λ k d l. omega (arith, (c.requires.rules.sharded k d l).shard, rules.shards))))
-    c.requires.most refl refl refl refl refl (ap (λ (x : Drawn). x.drawn) (draws_are c)) refl refl c.new.ensures.items
+    c.requires.most refl refl refl refl refl (ap (λ (x : Drawn). x.drawn) (draws_are c)) refl (tallies_are c) c.new.ensures.items
 
 pub returns : goal.returns
 returns c =
     let config = c.args.config in
     let r = made c in
-    let desk = λ (lines : List Line) (shards : List (ShardView ShardState Entry)) (holders : List Holder) (draws : Drawn) (kept : List Item). let x : Desk = record {
+    let desk = λ (tallies : List Book) (lines : List Line) (shards : List (ShardView ShardState Entry)) (holders : List Holder) (draws : Drawn) (kept : List Item). let x : Desk = record {
       rules = r;
       lines = lines;
       rounds = c.args.rounds;
@@ -97,7 +101,7 @@ returns c =
       stopped = false;
       shards = shards;
       holders = holders;
-      tallies = empty_book ∷ [];
+      tallies = tallies;
       seed = draws.seed;
       drawn = draws.drawn;
       drops = no_drops;
@@ -117,15 +121,16 @@ returns c =
       rules = r;
       are_rules = are_rules c;
       desk =
-          ap (λ (ls : List Line). desk ls (map rested c.in_ok-opens.opens.items) c.of.result c.sixteen-key.new.self c.new.result.items) (lines_are c)
-          ∙ ap (λ (xs : List (ShardView ShardState Entry)). desk (map line_of config.statics) xs c.of.result c.sixteen-key.new.self c.new.result.items) shards
-          ∙ ap (λ (hs : List Holder). desk (map line_of config.statics) opens hs c.sixteen-key.new.self c.new.result.items) (holders_are c)
-          ∙ ap (λ (x : Drawn). desk (map line_of config.statics) opens (map holder_of config.statics) x c.new.result.items) (draws_are c)
-          ∙ ap (λ (is : List Item). desk (map line_of config.statics) opens (map holder_of config.statics) first is) c.new.ensures.items;
+          ap (λ (bs : List Book). desk bs c.in_ok-lines.lines.items (map rested c.in_ok-opens.opens.items) c.of.result c.sixteen-key.new.self c.new.result.items) (tallies_are c)
+          ∙ ap (λ (ls : List Line). desk (empty_book ∷ []) ls (map rested c.in_ok-opens.opens.items) c.of.result c.sixteen-key.new.self c.new.result.items) (lines_are c)
+          ∙ ap (λ (xs : List (ShardView ShardState Entry)). desk (empty_book ∷ []) (map line_of config.statics) xs c.of.result c.sixteen-key.new.self c.new.result.items) shards
+          ∙ ap (λ (hs : List Holder). desk (empty_book ∷ []) (map line_of config.statics) opens hs c.sixteen-key.new.self c.new.result.items) (holders_are c)
+          ∙ ap (λ (x : Drawn). desk (empty_book ∷ []) (map line_of config.statics) opens (map holder_of config.statics) x c.new.result.items) (draws_are c)
+          ∙ ap (λ (is : List Item). desk (empty_book ∷ []) (map line_of config.statics) opens (map holder_of config.statics) first is) c.new.ensures.items;
     }
 
-pub shards-opens-requires-clause-circuits : goal.shards-opens-requires-clause-circuits
-shards-opens-requires-clause-circuits c =
+pub shards-requires-clause-circuits : goal.shards-requires-clause-circuits
+shards-requires-clause-circuits c =
     let k = c.requires.rules in
     let config = c.args.config in
     let shards : c.rules-rules.result.shards ≡ config.shards = ap (λ (r : Rules). r.shards) c.rules-rules.ensures in
@@ -140,8 +145,8 @@ shards-opens-requires-clause-circuits c =
       profiles = c.requires.profiles;
     })
 
-pub shards-opens-requires-clause-offers : goal.shards-opens-requires-clause-offers
-shards-opens-requires-clause-offers c =
+pub shards-requires-clause-offers : goal.shards-requires-clause-offers
+shards-requires-clause-offers c =
     let made = c.rules-rules.ensures in
     omega (
       arith,
