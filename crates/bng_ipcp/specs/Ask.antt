@@ -1,7 +1,7 @@
 -- What a contract sees of the gateway's side of IPCP.
 use Rattle.std.specs.Prelude.{Option}
-use Rattle.bng_ipcp.specs.declared.asked.IpcpOptions.{IpcpOptions}
-use Rattle.bng_ipcp.specs.declared.asked.SentRequest.{SentRequest}
+use Rattle.bng_ipcp.specs.declared.configure_request.IpcpOptions.{IpcpOptions}
+use Rattle.bng_ipcp.specs.declared.configure_request.SentRequest.{SentRequest}
 
 pub record Ask : Type 0 where
   -- what the next Configure-Request asks for

@@ -3,12 +3,11 @@ ghost use Rattle.std.specs.Prelude.{◌≡◌, Some, None};
 ghost use Rattle.bng_base.specs.PppGrammar.{packet_text, options_text};
 ghost use Rattle.bng_ppp_wire.specs.View.{packet_of};
 
-use crate::asked::{IpcpOptions, SentRequest, put_address};
-use crate::reply::{is_acked, is_part, left_out};
-use crate::taken::Taken;
+use crate::configure_reply::{Taken, left_out};
+use crate::configure_request::{IpcpOptions, SentRequest, asked};
 use bng_base::{Frame, HEADROOM, Ip4};
-use bng_ppp_wire::code::{CONFIGURE_ACK, CONFIGURE_NAK, CONFIGURE_REJECT, CONFIGURE_REQUEST};
-use bng_ppp_wire::{Packet, options};
+use bng_ppp_wire::code::CONFIGURE_REQUEST;
+use bng_ppp_wire::{Packet, Reply, put_made, read_reply};
 use std::marker::Model;
 
 /// The gateway's side of IPCP on one link: what its next Configure-Request asks for, and the last one that it sent.
@@ -29,8 +28,8 @@ impl Model for IpcpAsk {
 }
 
 impl IpcpAsk {
-    ghost use Rattle.bng_ipcp.specs.Asked.{asked};
-    ghost use Rattle.bng_ipcp.specs.Reply.{Takes};
+    ghost use Rattle.bng_ipcp.specs.ConfigureRequest.{asked as asked_of};
+    ghost use Rattle.bng_ipcp.specs.ConfigureReply.{Takes};
 
     /// A side that has sent nothing yet and asks for the gateway's address.
     pub fn new(address: Ip4) -> IpcpAsk
@@ -54,14 +53,15 @@ impl IpcpAsk {
     /// Writes the Configure-Request with this Identifier, as an IPCP packet, and keeps what it asked for.
     pub fn request(&mut self, id: u8, into: &mut Frame)
         ensures text { into.new ≡ record {
-          payload = packet_text (record { code = CONFIGURE_REQUEST; id = id; body = options_text (asked self.old.wanted) });
+          payload = packet_text (record { code = CONFIGURE_REQUEST; id = id; body = options_text (asked_of self.old.wanted) });
           headroom = HEADROOM;
         } }
         ensures sent { self.new ≡ record self.old { sent = Some (record { id = id; options = self.old.wanted }) } }
     {
         let wanted = self.wanted;
+        let list = asked(&wanted);
         let mut body = Frame::new();
-        put_address(wanted.address, &mut body);
+        put_made(list.as_slice(), &mut body);
         let request = Packet {
             code: CONFIGURE_REQUEST,
             id,
@@ -86,20 +86,15 @@ impl IpcpAsk {
         let Some(sent) = self.sent else {
             return Taken::Ignored;
         };
-        if reply.id != sent.id {
-            return Taken::Ignored;
-        }
-        let Ok(found) = options(reply) else {
-            return Taken::Ignored;
-        };
-        match reply.code {
-            CONFIGURE_ACK if is_acked(&sent.options, reply.body) => Taken::Accepted,
-            CONFIGURE_NAK => Taken::Changed,
-            CONFIGURE_REJECT if is_part(&sent.options, found.as_slice(), reply.body) => {
-                self.wanted = left_out(&self.wanted, found.as_slice());
+        let asked = asked(&sent.options);
+        match read_reply(sent.id, asked.as_slice(), reply) {
+            Reply::Ack => Taken::Accepted,
+            Reply::Nak(_) => Taken::Changed,
+            Reply::Reject(rejected) => {
+                self.wanted = left_out(&self.wanted, rejected.as_slice());
                 Taken::Changed
             }
-            _ => Taken::Ignored,
+            Reply::Other => Taken::Ignored,
         }
     }
 }

@@ -1,14 +1,11 @@
-ghost use Rattle.std.specs.Prelude.{◌≡◌, ◌≤◌, ◌++◌, [], ◌↔◌, length, map, filter, All};
+ghost use Rattle.std.specs.Prelude.{◌≡◌, ◌<◌, ◌≤◌, ◌+◌, ◌++◌, [], ◌↔◌, length, All};
 ghost use Rattle.bng_ppp_wire.specs.View.{option_of, options_of};
-ghost use Rattle.bng_ipcp.specs.Made.{made_of, all_made_of};
-ghost use Rattle.bng_ipcp.specs.Judgement.{IsJudgement, class_of, not_good as class_not_good, right_address as address_of, suggested as suggestion, is_nak, added, rejected as all_rejected, naked as all_naked};
+ghost use Rattle.bng_ipcp.specs.Judgement.{IsJudgement, class_of, added, address_row as row_of_address, server_rows, rows_of};
 
-use crate::made::{MadeOpt, made};
 use crate::option::{IP_ADDRESS, PRIMARY_DNS, SECONDARY_DNS};
-use crate::reply::names;
 use arrayvec::ArrayVec;
 use bng_base::Ip4;
-use bng_ppp_wire::Opt;
+use bng_ppp_wire::{Class, Good, Judged, Opt, Row, Width};
 
 /// What a Configure-Request is judged by.
 #[derive(Clone, Copy, PartialEq, Eq, Debug)]
@@ -21,25 +18,6 @@ pub struct IpcpRules {
     pub no_more_naks: bool,
 }
 
-/// The class of an option of a Configure-Request.
-#[derive(Clone, Copy, PartialEq, Eq, Debug)]
-pub enum Class {
-    Ack,
-    Nak,
-    Reject,
-}
-
-/// How a Configure-Request is answered.
-#[derive(Debug, Drop)]
-pub enum Judged<'a> {
-    /// A Configure-Ack with the options of the request.
-    Ack,
-    /// A Configure-Nak with these options.
-    Nak(ArrayVec<MadeOpt, 65>),
-    /// A Configure-Reject with these options of the request.
-    Reject(ArrayVec<Opt<'a>, 64>),
-}
-
 /// Judges the options of a Configure-Request, of which there are at most 64 (RFC 1661 sections 5.2 to 5.4).
 ///
 /// A Configure-Reject lists the options whose type is not negotiated, whose length is wrong, or for which no server is
@@ -50,109 +28,47 @@ pub fn judge<'a>(request: &[Opt<'a>], rules: &IpcpRules) -> Judged<'a>
     ensures answer { IsJudgement rules.now (options_of request.now) result }
     ensures ack { (result ≡ Judged.Ack) ↔ (All (λ o. class_of rules.now (option_of o) ≡ Class.Ack) request.now × (added rules.now (options_of request.now) ≡ [])) }
 {
-    first_class(request, rules)
+    let rows = rows(rules);
+    bng_ppp_wire::judge(rows.as_slice(), rules.no_more_naks, request)
 }
 
-// The first class that has an option.
-fn first_class<'a>(request: &[Opt<'a>], rules: &IpcpRules) -> Judged<'a>
-    requires { length request.now ≤ 64 }
-    ensures { IsJudgement rules.now (options_of request.now) result }
+// The options that are negotiated.
+fn rows(rules: &IpcpRules) -> ArrayVec<Row, 3>
+    ensures { result.items ≡ rows_of rules.now }
 {
-    let rejected = rejected(request, rules);
-    if !rejected.is_empty() {
-        return Judged::Reject(rejected);
-    }
-    let naked = naked(request, rules);
-    if !naked.is_empty() {
-        return Judged::Nak(naked);
-    }
-    Judged::Ack
+    let mut rows = ArrayVec::new();
+    rows.push(address_row(rules.lease));
+    add_server(PRIMARY_DNS, rules.dns[0], &mut rows);
+    add_server(SECONDARY_DNS, rules.dns[1], &mut rows);
+    rows
 }
 
-// The options of a Configure-Reject.
-fn rejected<'a>(request: &[Opt<'a>], rules: &IpcpRules) -> ArrayVec<Opt<'a>, 64>
-    requires { length request.now ≤ 64 }
-    ensures { options_of result.items ≡ all_rejected rules.now (options_of request.now) }
+// IP-Address: the lease alone.
+fn address_row(lease: Ip4) -> Row
+    ensures { result ≡ row_of_address lease }
 {
-    let mut list = ArrayVec::new();
-    for option in request {
-        if class_in(option, rules) == Class::Reject {
-            list.push(*option);
-        }
-    }
-    list
-}
-
-// The options of a Configure-Nak.
-fn naked(request: &[Opt<'_>], rules: &IpcpRules) -> ArrayVec<MadeOpt, 65>
-    requires { length request.now ≤ 64 }
-    ensures { all_made_of result.items ≡ all_naked rules.now (options_of request.now) }
-{
-    let mut list = suggestions(request, rules);
-    if !rules.no_more_naks && !names(request, IP_ADDRESS) {
-        list.push(made(IP_ADDRESS, &rules.lease.0.to_be_bytes()));
-    }
-    list
-}
-
-// The right addresses in place of those of the request.
-fn suggestions(request: &[Opt<'_>], rules: &IpcpRules) -> ArrayVec<MadeOpt, 65>
-    requires { length request.now ≤ 64 }
-    ensures are { all_made_of result.items ≡ map (suggestion rules.now) (filter (λ o. is_nak (class_of rules.now o)) (options_of request.now)) }
-    ensures few { length result.items ≤ 64 }
-{
-    let mut list = ArrayVec::new();
-    for option in request {
-        if class_in(option, rules) == Class::Nak {
-            list.push(suggested(option, rules));
-        }
-    }
-    list
-}
-
-fn class_in(option: &Opt<'_>, rules: &IpcpRules) -> Class
-    ensures { result ≡ class_of rules.now (option_of option.now) }
-{
-    let [a, b, c, d] = option.value else {
-        return Class::Reject;
-    };
-    let address = u32::from_be_bytes([*a, *b, *c, *d]);
-    match right_address(rules, option.kind) {
-        None => Class::Reject,
-        Some(right) if address == right.0 => Class::Ack,
-        Some(_) => not_good(rules),
+    Row {
+        kind: IP_ADDRESS,
+        width: Width::Four,
+        good: Good::Only(lease.0),
+        suggestion: lease.0,
+        must_be_named: true,
     }
 }
 
-// The class of an option that is negotiated and has another address.
-fn not_good(rules: &IpcpRules) -> Class
-    ensures { result ≡ class_not_good rules.now }
+// The address of a DNS server, where one is configured.
+fn add_server(kind: u8, server: Option<Ip4>, rows: &mut ArrayVec<Row, 3>)
+    requires { length rows.old.items < 3 }
+    ensures are { rows.new.items ≡ rows.old.items ++ server_rows kind server }
+    ensures few { length rows.new.items ≤ length rows.old.items + 1 }
 {
-    if rules.no_more_naks {
-        Class::Reject
-    } else {
-        Class::Nak
-    }
-}
-
-// The address that an option of this type is to have.
-fn right_address(rules: &IpcpRules, kind: u8) -> Option<Ip4>
-    ensures { result ≡ address_of rules.now kind }
-{
-    match kind {
-        IP_ADDRESS => Some(rules.lease),
-        PRIMARY_DNS => rules.dns[0],
-        SECONDARY_DNS => rules.dns[1],
-        _ => None,
-    }
-}
-
-// What a Configure-Nak has in an option's place.
-fn suggested(option: &Opt<'_>, rules: &IpcpRules) -> MadeOpt
-    ensures { made_of result ≡ suggestion rules.now (option_of option.now) }
-{
-    match right_address(rules, option.kind) {
-        Some(right) => made(option.kind, &right.0.to_be_bytes()),
-        None => made(option.kind, &[]),
+    if let Some(server) = server {
+        rows.push(Row {
+            kind,
+            width: Width::Four,
+            good: Good::Only(server.0),
+            suggestion: server.0,
+            must_be_named: false,
+        });
     }
 }

@@ -6,17 +6,15 @@
 #![tactic(auto)]
 
 mod ask;
-mod asked;
+mod configure_reply;
+mod configure_request;
 mod judgement;
-mod made;
 pub mod option;
-mod reply;
-mod taken;
 #[cfg(test)]
 mod tests;
 
 pub use crate::ask::IpcpAsk;
-pub use crate::asked::{IpcpOptions, SentRequest};
-pub use crate::judgement::{Class, IpcpRules, Judged, judge};
-pub use crate::made::MadeOpt;
-pub use crate::taken::Taken;
+pub use crate::configure_reply::Taken;
+pub use crate::configure_request::{IpcpOptions, SentRequest};
+pub use crate::judgement::{IpcpRules, judge};
+pub use bng_ppp_wire::{Class, Judged, MadeOpt};

@@ -1,3 +1,1 @@
-pub mod AskedLaws
-pub mod ReplyLaws
-pub mod JudgementLaws
+pub mod TableLaws

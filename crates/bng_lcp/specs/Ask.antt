@@ -1,8 +1,8 @@
 -- What a contract sees of the gateway's side of LCP.
 use Rattle.std.specs.Prelude.{ℕ, List, Option}
 use Rattle.bng_base.specs.declared.settings.AuthKind.{AuthKind}
-use Rattle.bng_lcp.specs.declared.asked.LcpOptions.{LcpOptions}
-use Rattle.bng_lcp.specs.declared.asked.SentRequest.{SentRequest}
+use Rattle.bng_lcp.specs.declared.configure_request.LcpOptions.{LcpOptions}
+use Rattle.bng_lcp.specs.declared.configure_request.SentRequest.{SentRequest}
 
 pub record Ask : Type 0 where
   -- the largest MRU that is taken

@@ -1,6 +1,5 @@
 pub mod Options
-pub mod Made
 pub mod Judgement
-pub mod Asked
+pub mod ConfigureRequest
 pub mod Ask
-pub mod Reply
+pub mod ConfigureReply

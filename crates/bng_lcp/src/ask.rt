@@ -3,16 +3,16 @@ ghost use Rattle.std.specs.Prelude.{◌≡◌, ◌<◌, Some, None, length, slic
 ghost use Rattle.bng_base.specs.PppGrammar.{packet_text, options_text};
 ghost use Rattle.bng_ppp_wire.specs.View.{option_of, options_of, packet_of};
 
-use crate::asked::{LcpOptions, SentRequest, put_options};
-use crate::magic::magic_from;
-use crate::nak::{auth_after, is_mru_within};
+use crate::authentication_protocol::auth_after;
+use crate::configure_reply::{Taken, left_out};
+use crate::configure_request::{LcpOptions, SentRequest, asked};
+use crate::magic_number::magic_from;
+use crate::maximum_receive_unit::is_mru_within;
 use crate::option::{AUTHENTICATION_PROTOCOL, MAGIC_NUMBER, MAXIMUM_RECEIVE_UNIT};
-use crate::reject::{is_acked, is_part, left_out, names};
-use crate::taken::Taken;
 use arrayvec::ArrayVec;
 use bng_base::{AuthKind, Frame, HEADROOM};
-use bng_ppp_wire::code::{CONFIGURE_ACK, CONFIGURE_NAK, CONFIGURE_REJECT, CONFIGURE_REQUEST};
-use bng_ppp_wire::{Opt, Packet, options};
+use bng_ppp_wire::code::CONFIGURE_REQUEST;
+use bng_ppp_wire::{Opt, Packet, Reply, names, put_made, read_reply};
 use std::marker::Model;
 
 /// The gateway's side of LCP on one link: what its next Configure-Request asks for, and the last one that it sent.
@@ -34,8 +34,8 @@ impl Model for LcpAsk {
 
 impl LcpAsk {
     ghost use Rattle.bng_lcp.specs.Judgement.{magic_from as magic_of};
-    ghost use Rattle.bng_lcp.specs.Asked.{asked};
-    ghost use Rattle.bng_lcp.specs.Reply.{changed_by as change, Takes};
+    ghost use Rattle.bng_lcp.specs.ConfigureRequest.{asked as asked_of};
+    ghost use Rattle.bng_lcp.specs.ConfigureReply.{changed_by as change, Takes};
 
     /// A side that has sent nothing yet and asks for the limit as its Maximum-Receive-Unit, for the first of the ways to
     /// authenticate, and for a magic number. `limit` is the largest Maximum-Receive-Unit that it takes, in octets, and
@@ -73,14 +73,15 @@ impl LcpAsk {
     /// Writes the Configure-Request with this Identifier, as an LCP packet, and keeps what it asked for.
     pub fn request(&mut self, id: u8, into: &mut Frame)
         ensures text { into.new ≡ record {
-          payload = packet_text (record { code = CONFIGURE_REQUEST; id = id; body = options_text (asked self.old.wanted) });
+          payload = packet_text (record { code = CONFIGURE_REQUEST; id = id; body = options_text (asked_of self.old.wanted) });
           headroom = HEADROOM;
         } }
         ensures sent { self.new ≡ record self.old { sent = Some (record { id = id; options = self.old.wanted }) } }
     {
         let wanted = self.wanted;
+        let list = asked(&wanted);
         let mut body = Frame::new();
-        put_options(wanted.mru, Some(wanted.auth), wanted.magic, &mut body);
+        put_made(list.as_slice(), &mut body);
         let request = Packet {
             code: CONFIGURE_REQUEST,
             id,
@@ -106,27 +107,22 @@ impl LcpAsk {
         let Some(sent) = self.sent else {
             return Taken::Ignored;
         };
-        if reply.id != sent.id {
-            return Taken::Ignored;
-        }
-        let Ok(found) = options(reply) else {
-            return Taken::Ignored;
-        };
-        match reply.code {
-            CONFIGURE_ACK if is_acked(&sent.options, reply.body) => Taken::Accepted,
-            CONFIGURE_NAK => {
+        let asked = asked(&sent.options);
+        match read_reply(sent.id, asked.as_slice(), reply) {
+            Reply::Ack => Taken::Accepted,
+            Reply::Nak(suggested) => {
                 let fresh = u32::from_be_bytes([random[0], random[1], random[2], random[3]]);
-                self.wanted = self.after_nak(found.as_slice(), magic_from(fresh));
+                self.wanted = self.after_nak(suggested.as_slice(), magic_from(fresh));
                 Taken::Changed
             }
-            CONFIGURE_REJECT if is_part(&sent.options, found.as_slice(), reply.body) => {
-                if names(found.as_slice(), AUTHENTICATION_PROTOCOL) {
+            Reply::Reject(rejected) => {
+                if names(rejected.as_slice(), AUTHENTICATION_PROTOCOL) {
                     return Taken::Unwilling;
                 }
-                self.wanted = left_out(&self.wanted, found.as_slice());
+                self.wanted = left_out(&self.wanted, rejected.as_slice());
                 Taken::Changed
             }
-            _ => Taken::Ignored,
+            Reply::Other => Taken::Ignored,
         }
     }
 

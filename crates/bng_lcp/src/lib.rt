@@ -6,19 +6,18 @@
 #![tactic(auto)]
 
 mod ask;
-mod asked;
+mod authentication_protocol;
+mod configure_reply;
+mod configure_request;
 mod judgement;
-mod made;
-mod magic;
-mod nak;
+mod magic_number;
+mod maximum_receive_unit;
 pub mod option;
-mod reject;
-mod taken;
 #[cfg(test)]
 mod tests;
 
 pub use crate::ask::LcpAsk;
-pub use crate::asked::{LcpOptions, SentRequest};
-pub use crate::judgement::{Class, Judged, LcpRules, judge};
-pub use crate::made::MadeOpt;
-pub use crate::taken::Taken;
+pub use crate::configure_reply::Taken;
+pub use crate::configure_request::{LcpOptions, SentRequest};
+pub use crate::judgement::{LcpRules, judge};
+pub use bng_ppp_wire::{Class, Judged, MadeOpt};

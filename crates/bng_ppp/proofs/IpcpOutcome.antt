@@ -8,19 +8,20 @@ use Rattle.bng_base.specs.declared.address.Ip4.{Ip4}
 use Rattle.bng_base.specs.PppGrammar.{PppOption, ControlPacket}
 use Rattle.bng_ppp_wire.specs.View.{options_of}
 use Rattle.bng_ipcp.specs.declared.judgement.IpcpRules.{IpcpRules}
-use Rattle.bng_ipcp.specs.declared.judgement.Judged.{Judged}
-use Rattle.bng_ipcp.specs.declared.judgement.Judged.TheVariants as judged
-use Rattle.bng_ipcp.specs.declared.taken.Taken.{Taken}
-use Rattle.bng_ipcp.specs.declared.taken.Taken.TheVariants.{Accepted, Changed, Ignored}
+use Rattle.bng_ppp_wire.specs.declared.judgement.Judged.{Judged}
+use Rattle.bng_ppp_wire.specs.declared.judgement.Judged.TheVariants as judged
+use Rattle.bng_ipcp.specs.declared.configure_reply.Taken.{Taken}
+use Rattle.bng_ipcp.specs.declared.configure_reply.Taken.TheVariants.{Accepted, Changed, Ignored}
 use Rattle.bng_ipcp.specs.Judgement.{IsJudgement}
-use Rattle.bng_ipcp.specs.Made.{all_made_of}
+use Rattle.bng_ppp_wire.specs.MadeOption.{all_made_of}
 use Rattle.bng_ipcp.specs.Ask.{Ask}
-use Rattle.bng_ipcp.specs.Reply.{Acks, Naks, Rejects, Takes}
+use Rattle.bng_ipcp.specs.ConfigureReply.{Acks, Naks, Rejects, Takes}
 use Rattle.bng_ppp.specs.declared.ipcp_counters.IpcpKept.{IpcpKept}
 use Rattle.bng_ppp.specs.declared.ipcp_codes.IpcpKind.{IpcpKind}
 use Rattle.bng_ppp.specs.declared.ipcp_codes.IpcpKind.TheVariants.{Request, Reply, Plain, Unknown}
 use Rattle.bng_ppp.specs.IpcpAutomaton.{IpcpWhy, IpcpDoing, IpcpFollows, all_ipcp_acted}
-use Rattle.bng_ppp.specs.IpcpConfigureRequest.{IpcpJudges, ipcp_rules_of, ipcp_event_of, ipcp_answer_of}
+use Rattle.bng_ppp.specs.IpcpConfigureRequest.{IpcpJudges, ipcp_rules_of, ipcp_answer_of}
+use Rattle.bng_ppp.specs.Judgement.{event_of}
 use Rattle.bng_ppp.specs.IpcpPacket.{IpcpReplies, IpcpAfterReply, IpcpHearsKind}
 use Rattle.bng_ppp.proofs.OneOutcome.{options_one}
 
@@ -31,7 +32,7 @@ ipcp_follows_one event c now before a b f g =
     f.done ∙ ap (go f.machine) same.0 ∙ ap (λ (m : Machine). go m g.actions) same.1 ∙ sym g.done
 
 -- two judgements of one request are answered alike
-judged_one : (r : IpcpRules) (k : IpcpKept) (p : ControlPacket) (os : List PppOption) (i j : Judged) → IsJudgement r os i → IsJudgement r os j → (ipcp_event_of i ≡ ipcp_event_of j) × (ipcp_answer_of k p i ≡ ipcp_answer_of k p j)
+judged_one : (r : IpcpRules) (k : IpcpKept) (p : ControlPacket) (os : List PppOption) (i j : Judged) → IsJudgement r os i → IsJudgement r os j → (event_of i ≡ event_of j) × (ipcp_answer_of k p i ≡ ipcp_answer_of k p j)
 judged_one r k p os judged.Ack judged.Ack a b = (refl, refl)
 judged_one r k p os judged.Ack (judged.Nak made) a b = absurd (b.2 a.1)
 judged_one r k p os judged.Ack (judged.Reject options) a b = absurd (b.1 a.0)
@@ -83,8 +84,8 @@ module _ (now : ℕ) (d a b : IpcpDoing) where
       let same = options_one more os p.body are' are in
       let is_os : IsJudgement (ipcp_rules_of dns d.ipcp.kept) os i = subst (λ (xs : List PppOption). IsJudgement (ipcp_rules_of dns d.ipcp.kept) xs i) same is' in
       let alike = judged_one (ipcp_rules_of dns d.ipcp.kept) d.ipcp.kept p os i j is_os is in
-      let m_event : IpcpFollows (ipcp_event_of j) (ipcp_answer_of d.ipcp.kept p i) now d b = subst (λ (e : Event). IpcpFollows e (ipcp_answer_of d.ipcp.kept p i) now d b) alike.0 m' in
-      let m_answer : IpcpFollows (ipcp_event_of j) (ipcp_answer_of d.ipcp.kept p j) now d b = subst (λ (w : IpcpWhy). IpcpFollows (ipcp_event_of j) w now d b) alike.1 m_event in
+      let m_event : IpcpFollows (event_of j) (ipcp_answer_of d.ipcp.kept p i) now d b = subst (λ (e : Event). IpcpFollows e (ipcp_answer_of d.ipcp.kept p i) now d b) alike.0 m' in
+      let m_answer : IpcpFollows (event_of j) (ipcp_answer_of d.ipcp.kept p j) now d b = subst (λ (w : IpcpWhy). IpcpFollows (event_of j) w now d b) alike.1 m_event in
       ipcp_follows_one _ _ now d a b m m_answer
   judges_one p dns (inl (os, j, are, few, is, m)) (inr (long, h)) = absurd (omega (arith, few, long os are))
   judges_one p dns (inr (long, h)) (inl (os, j, are, few, is, m)) = absurd (omega (arith, few, long os are))

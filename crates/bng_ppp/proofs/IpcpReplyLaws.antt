@@ -2,9 +2,9 @@
 use Rattle.std.proofs.Common.{ℕ, ap}
 use Rattle.bng_automaton.specs.declared.event.Event.TheVariants.{Rcn}
 use Rattle.bng_base.specs.PppGrammar.{ControlPacket}
-use Rattle.bng_ipcp.specs.declared.taken.Taken.TheVariants.{Changed, Ignored}
+use Rattle.bng_ipcp.specs.declared.configure_reply.Taken.TheVariants.{Changed, Ignored}
 use Rattle.bng_ipcp.specs.Ask.{Ask}
-use Rattle.bng_ipcp.specs.Reply.{Takes}
+use Rattle.bng_ipcp.specs.ConfigureReply.{Takes}
 use Rattle.bng_ppp.specs.IpcpState.{IpcpState}
 use Rattle.bng_ppp.specs.IpcpAutomaton.{IpcpDoing, IpcpFollows, ipcp_plain}
 use Rattle.bng_ppp.specs.IpcpPacket.{IpcpReplies, ipcp_taken}

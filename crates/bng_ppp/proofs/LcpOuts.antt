@@ -6,12 +6,12 @@ use Rattle.bng_automaton.specs.declared.action.Action.{Action}
 use Rattle.bng_automaton.specs.declared.action.Action.TheVariants.{Tlu, Tld, Tls, Tlf, Irc, Zrc, Scr, Sca, Scn, Str, Sta, Scj, Ser}
 use Rattle.bng_automaton.specs.declared.event.Event.{Event}
 use Rattle.bng_base.specs.PppGrammar.{ControlPacket, PppOption, packet_text, options_text, ppp_text}
-use Rattle.bng_lcp.specs.declared.judgement.Judged.{Judged}
-use Rattle.bng_lcp.specs.declared.judgement.Judged.TheVariants as judged
-use Rattle.bng_lcp.specs.declared.taken.Taken.{Taken}
-use Rattle.bng_lcp.specs.declared.taken.Taken.TheVariants.{Accepted, Changed, Ignored, Unwilling}
+use Rattle.bng_ppp_wire.specs.declared.judgement.Judged.{Judged}
+use Rattle.bng_ppp_wire.specs.declared.judgement.Judged.TheVariants as judged
+use Rattle.bng_lcp.specs.declared.configure_reply.Taken.{Taken}
+use Rattle.bng_lcp.specs.declared.configure_reply.Taken.TheVariants.{Accepted, Changed, Ignored, Unwilling}
 use Rattle.bng_lcp.specs.Ask.{Ask}
-use Rattle.bng_lcp.specs.Asked.{asked}
+use Rattle.bng_lcp.specs.ConfigureRequest.{asked}
 use Rattle.bng_ppp_wire.specs.View.{packet_of}
 use Rattle.bng_ppp_wire.specs.declared.code.TheConstants.{CONFIGURE_REQUEST, TERMINATE_REQUEST, TERMINATE_ACK, ECHO_REQUEST}
 use Rattle.bng_ppp_wire.specs.declared.protocol.TheConstants as protocol
@@ -71,12 +71,12 @@ module _ (P : List ℕ → Type 0) (of_lcp : (octets : List ℕ) → IsLcp octet
   all_append [] ys h i = i
   all_append (x ∷ xs) ys h i = (h.0, all_append xs ys h.1 i)
 
-  packet_sent : (p : ControlPacket) (outs : List (List ℕ)) → is_lcp_code p.code ≡ true → All outs → All (sent p outs)
+  packet_sent : (p : ControlPacket) (outs : List (List ℕ)) → is_lcp_code p.code ≡ true → All outs → All (sent protocol.LCP p outs)
   packet_sent p outs code h =
       let octets = ppp_text (record { protocol = protocol.LCP; info = packet_text p }) in
       all_append outs (octets ∷ []) h (of_lcp octets (record { info = packet_text p; spelled = refl; packet = p; info_is = refl; code = code }), tt)
 
-  some_sent : (p : Option ControlPacket) (outs : List (List ℕ)) → IsLcpAnswer p → All outs → All (sent_some p outs)
+  some_sent : (p : Option ControlPacket) (outs : List (List ℕ)) → IsLcpAnswer p → All outs → All (sent_some protocol.LCP p outs)
   some_sent None outs code h = h
   some_sent (Some p) outs code h = packet_sent p outs code h
 
@@ -87,10 +87,10 @@ module _ (P : List ℕ → Type 0) (of_lcp : (octets : List ℕ) → IsLcp octet
   one_acted c echo now d Tlf is h = h
   one_acted c echo now d Irc is h = h
   one_acted c echo now d Zrc is h = h
-  one_acted c echo now d Scr is h = packet_sent (record { code = CONFIGURE_REQUEST; id = (requested c.timed d.link.kept).request_id; body = options_text (asked d.link.ask.wanted) }) d.said.outs refl h
+  one_acted c echo now d Scr is h = packet_sent (record { code = CONFIGURE_REQUEST; id = (requested c.timed d.link.kept.ids).request; body = options_text (asked d.link.ask.wanted) }) d.said.outs refl h
   one_acted c echo now d Sca is h = some_sent c.answer d.said.outs is h
   one_acted c echo now d Scn is h = some_sent c.answer d.said.outs is h
-  one_acted c echo now d Str is h = packet_sent (record { code = TERMINATE_REQUEST; id = (ending c.timed d.link.kept).terminate_id; body = [] }) d.said.outs refl h
+  one_acted c echo now d Str is h = packet_sent (record { code = TERMINATE_REQUEST; id = (ending c.timed d.link.kept.ids).terminate; body = [] }) d.said.outs refl h
   one_acted c echo now d Sta is h = packet_sent (record { code = TERMINATE_ACK; id = c.id; body = [] }) d.said.outs refl h
   one_acted c echo now d Scj is h = some_sent c.answer d.said.outs is h
   one_acted c echo now d Ser is h = some_sent c.answer d.said.outs is h
@@ -108,7 +108,7 @@ module _ (P : List ℕ → Type 0) (of_lcp : (octets : List ℕ) → IsLcp octet
 follows_lcp : (event : Event) (c : Why) (echo now : ℕ) (before after : Doing) → IsLcpAnswer c.answer → AreLcp before.said.outs → Follows event c echo now before after → AreLcp after.said.outs
 follows_lcp event c echo now before after is h f = follows_says IsLcp (λ octets x. x) event c echo now before after is h f
 
-one_packet : (p : ControlPacket) → is_lcp_code p.code ≡ true → AreLcp (sent p [])
+one_packet : (p : ControlPacket) → is_lcp_code p.code ≡ true → AreLcp (sent protocol.LCP p [])
 one_packet p code = packet_sent IsLcp (λ octets x. x) p [] code tt
 
 -- Steps -----------------------------------------------------------------------------------------------------------------
@@ -163,7 +163,7 @@ module _ (echo now : ℕ) (old : LinkState) (says : Said) (new : LinkState) wher
   reminds_lcp (inl (out, some, m)) = moves_lcp _ _ _ tt m
   reminds_lcp (inr (inl (out, none, m))) = moves_lcp _ _ _ tt m
   reminds_lcp (inr (inr (inl (runs, due, many, h)))) = loses_lcp h
-  reminds_lcp (inr (inr (inr (inl (runs, due, few, said, link))))) = subst (λ (s : Said). AreLcp s.outs) (sym said) (one_packet (record { code = ECHO_REQUEST; id = old.kept.next_id; body = big_bytes 4 (own_magic old) }) refl)
+  reminds_lcp (inr (inr (inr (inl (runs, due, few, said, link))))) = subst (λ (s : Said). AreLcp s.outs) (sym said) (one_packet (record { code = ECHO_REQUEST; id = old.kept.ids.next; body = big_bytes 4 (own_magic old) }) refl)
   reminds_lcp (inr (inr (inr (inr (runs, early, h))))) = rests_lcp h
 
 -- a step of a link, whatever it is told

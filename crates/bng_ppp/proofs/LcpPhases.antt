@@ -5,8 +5,8 @@ use Rattle.bng_automaton.specs.declared.event.Event.TheVariants.{Up, Open}
 use Rattle.bng_automaton.specs.Machine.{Machine}
 use Rattle.bng_base.specs.declared.settings.AuthKind.{AuthKind}
 use Rattle.bng_base.specs.PppGrammar.{ControlPacket}
-use Rattle.bng_lcp.specs.declared.taken.Taken.{Taken}
-use Rattle.bng_lcp.specs.declared.taken.Taken.TheVariants.{Accepted, Changed, Ignored, Unwilling}
+use Rattle.bng_lcp.specs.declared.configure_reply.Taken.{Taken}
+use Rattle.bng_lcp.specs.declared.configure_reply.Taken.TheVariants.{Accepted, Changed, Ignored, Unwilling}
 use Rattle.bng_lcp.specs.Ask.{Ask}
 use Rattle.bng_ppp_wire.specs.View.{packet_of}
 use Rattle.bng_ppp.specs.declared.codes.Kind.{Kind}

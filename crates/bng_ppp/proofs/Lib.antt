@@ -4,7 +4,6 @@ pub mod RoomLaws
 pub mod MruLaws
 pub mod LcpOuts
 pub mod OneOutcome
-pub mod IpcpRejectLaws
 pub mod IpcpReplyLaws
 pub mod WholeLaws
 pub mod IpcpOutcome

@@ -12,15 +12,15 @@ use Rattle.bng_base.proofs.PieceLaws.{one_list}
 use Rattle.bng_ppp_wire.proofs.OptionLaws.{is_code}
 use Rattle.bng_ppp_wire.specs.View.{packet_of, options_of}
 use Rattle.bng_lcp.specs.declared.judgement.LcpRules.{LcpRules}
-use Rattle.bng_lcp.specs.declared.judgement.Judged.{Judged}
-use Rattle.bng_lcp.specs.declared.judgement.Judged.TheVariants as judged
-use Rattle.bng_lcp.specs.declared.asked.SentRequest.{SentRequest}
-use Rattle.bng_lcp.specs.declared.taken.Taken.{Taken}
-use Rattle.bng_lcp.specs.declared.taken.Taken.TheVariants.{Accepted, Changed, Ignored, Unwilling}
+use Rattle.bng_ppp_wire.specs.declared.judgement.Judged.{Judged}
+use Rattle.bng_ppp_wire.specs.declared.judgement.Judged.TheVariants as judged
+use Rattle.bng_lcp.specs.declared.configure_request.SentRequest.{SentRequest}
+use Rattle.bng_lcp.specs.declared.configure_reply.Taken.{Taken}
+use Rattle.bng_lcp.specs.declared.configure_reply.Taken.TheVariants.{Accepted, Changed, Ignored, Unwilling}
 use Rattle.bng_lcp.specs.Judgement.{IsJudgement}
-use Rattle.bng_lcp.specs.Made.{all_made_of}
+use Rattle.bng_ppp_wire.specs.MadeOption.{all_made_of}
 use Rattle.bng_lcp.specs.Ask.{Ask}
-use Rattle.bng_lcp.specs.Reply.{Acks, Naks, Rejects, Takes}
+use Rattle.bng_lcp.specs.ConfigureReply.{Acks, Naks, Rejects, Takes}
 use Rattle.bng_ppp.specs.declared.counters.Kept.{Kept}
 use Rattle.bng_ppp.specs.declared.codes.Kind.{Kind}
 use Rattle.bng_ppp.specs.declared.codes.Kind.TheVariants.{Request, Reply, Plain, Echo, Mute, EchoReply, Unknown}
@@ -35,7 +35,8 @@ use Rattle.bng_ppp.specs.Automaton.{Why, plain, Doing, all_acted, Follows, Moves
 use Rattle.bng_ppp.specs.LowerLayer.{Loses, finishes, Asks, Starts}
 use Rattle.bng_ppp.specs.Frame.{IsHeard}
 use Rattle.bng_ppp.specs.Codes.{kind_of}
-use Rattle.bng_ppp.specs.ConfigureRequest.{rules_of, event_of, answer_of, Judges}
+use Rattle.bng_ppp.specs.ConfigureRequest.{rules_of, answer_of, Judges}
+use Rattle.bng_ppp.specs.Judgement.{event_of}
 use Rattle.bng_ppp.specs.ConfigureReply.{AfterReply, Replies}
 use Rattle.bng_ppp.specs.LinkRelation.{HearsKind, Hears, HearsFrame, LinkSteps}
 use Rattle.bng_ppp.specs.Timers.{Reminds}

@@ -4,11 +4,11 @@ use Rattle.std.specs.List.{All, AllByRecursion}
 use Rattle.bng_base.specs.PppGrammar.{PppOption, OptionFits, AreOptions, option_text, options_text}
 use Rattle.bng_ppp_wire.specs.declared.view.Opt.{Opt}
 use Rattle.bng_ppp_wire.specs.View.{option_of, options_of}
-use Rattle.bng_lcp.specs.declared.judgement.LcpRules.{LcpRules}
-use Rattle.bng_lcp.specs.declared.judgement.Judged.{Judged}
-use Rattle.bng_lcp.specs.declared.judgement.Judged.TheVariants as judged
-use Rattle.bng_lcp.specs.Judgement.{IsJudgement, rejected, is_reject, class_of}
-use Rattle.bng_ppp.specs.ConfigureRequest.{IsSpellable}
+use Rattle.bng_ppp_wire.specs.declared.option_table.Row.{Row}
+use Rattle.bng_ppp_wire.specs.declared.judgement.Judged.{Judged}
+use Rattle.bng_ppp_wire.specs.declared.judgement.Judged.TheVariants as judged
+use Rattle.bng_ppp_wire.specs.Judgement.{IsJudgement, rejected, is_reject, class_of}
+use Rattle.bng_ppp.specs.Judgement.{IsSpellable}
 
 pub kept_fit : (p : PppOption → Bool) (xs : List PppOption) → AllByRecursion OptionFits xs → AllByRecursion OptionFits (filter p xs)
 kept_fit p [] h = tt
@@ -34,10 +34,11 @@ each_fits (o ∷ os) h = at_place (each_fits os h.1)
     at_place rest zero d lt = h.0
     at_place rest (suc k) d lt = rest k d (omega (arith, lt))
 
-pub spellable : (r : LcpRules) (request : List PppOption) (body : List ℕ) (j : Judged) → AreOptions request body → length body ≤ 4090 → IsJudgement r request j → IsSpellable j
-spellable r request body judged.Ack lists long is = tt
-spellable r request body (judged.Nak made) lists long is = tt
-spellable r request body (judged.Reject options) lists long is =
-    let fit : AllByRecursion OptionFits (options_of options.items) = subst (AllByRecursion OptionFits) (sym is.0) (kept_fit (λ o. is_reject (class_of r o)) request lists.fit) in
-    let same : length (options_text (options_of options.items)) ≡ length (options_text (rejected r request)) = ap (λ (os : List PppOption). length (options_text os)) is.0 in
-    (each_fits options.items fit, omega (arith, same, kept_short (λ o. is_reject (class_of r o)) request, ap length lists.spelled, long))
+pub spellable : (rows : List Row) (no_more_naks : Bool) (request : List PppOption) (body : List ℕ) (j : Judged) → AreOptions request body → length body ≤ 4090 → IsJudgement rows no_more_naks request j → IsSpellable j
+spellable rows no_more_naks request body judged.Ack lists long is = tt
+spellable rows no_more_naks request body (judged.Nak made) lists long is = tt
+spellable rows no_more_naks request body (judged.Reject options) lists long is =
+    let rejects : PppOption → Bool = λ o. is_reject (class_of rows no_more_naks o) in
+    let fit : AllByRecursion OptionFits (options_of options.items) = subst (AllByRecursion OptionFits) (sym is.0) (kept_fit rejects request lists.fit) in
+    let same : length (options_text (options_of options.items)) ≡ length (options_text (rejected rows no_more_naks request)) = ap (λ (os : List PppOption). length (options_text os)) is.0 in
+    (each_fits options.items fit, omega (arith, same, kept_short rejects request, ap length lists.spelled, long))

@@ -2,9 +2,9 @@
 use Rattle.std.proofs.Common.{◌≡◌, ℕ, List, ap, ◌∙◌}
 use Rattle.bng_automaton.specs.declared.event.Event.TheVariants.{Rcn}
 use Rattle.bng_base.specs.PppGrammar.{ControlPacket}
-use Rattle.bng_lcp.specs.declared.taken.Taken.TheVariants.{Changed, Ignored}
+use Rattle.bng_lcp.specs.declared.configure_reply.Taken.TheVariants.{Changed, Ignored}
 use Rattle.bng_lcp.specs.Ask.{Ask}
-use Rattle.bng_lcp.specs.Reply.{Takes}
+use Rattle.bng_lcp.specs.ConfigureReply.{Takes}
 use Rattle.bng_ppp.specs.LinkState.{LinkState}
 use Rattle.bng_ppp.specs.Said.{Said, quiet}
 use Rattle.bng_ppp.specs.Automaton.{plain, Moves}

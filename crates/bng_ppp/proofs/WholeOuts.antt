@@ -12,12 +12,12 @@ use Rattle.bng_base.specs.declared.address.Ip4.{Ip4}
 use Rattle.bng_base.specs.declared.settings.AuthKind.{AuthKind}
 use Rattle.bng_base.specs.declared.settings.AuthKind.TheVariants as kind
 use Rattle.bng_base.specs.PppGrammar.{ControlPacket, packet_text, options_text, ppp_text}
-use Rattle.bng_ipcp.specs.declared.judgement.Judged.{Judged}
-use Rattle.bng_ipcp.specs.declared.judgement.Judged.TheVariants as judged
-use Rattle.bng_ipcp.specs.declared.taken.Taken.{Taken}
-use Rattle.bng_ipcp.specs.declared.taken.Taken.TheVariants.{Accepted, Changed, Ignored}
+use Rattle.bng_ppp_wire.specs.declared.judgement.Judged.{Judged}
+use Rattle.bng_ppp_wire.specs.declared.judgement.Judged.TheVariants as judged
+use Rattle.bng_ipcp.specs.declared.configure_reply.Taken.{Taken}
+use Rattle.bng_ipcp.specs.declared.configure_reply.Taken.TheVariants.{Accepted, Changed, Ignored}
 use Rattle.bng_ipcp.specs.Ask.{Ask as IpcpAsk}
-use Rattle.bng_ipcp.specs.Asked.{asked}
+use Rattle.bng_ipcp.specs.ConfigureRequest.{asked}
 use Rattle.bng_ppp_wire.specs.View.{packet_of}
 use Rattle.bng_ppp_wire.specs.declared.code.TheConstants.{CONFIGURE_REQUEST, TERMINATE_REQUEST, TERMINATE_ACK}
 use Rattle.bng_ppp_wire.specs.declared.protocol.TheConstants as protocol
@@ -35,8 +35,8 @@ use Rattle.bng_ppp.specs.declared.whole_input.WholeInput.{WholeInput}
 use Rattle.bng_ppp.specs.declared.whole_input.WholeInput.TheVariants as told
 use Rattle.bng_ppp.specs.Authentication.{reply_sent, challenge_of, challenge_sent}
 use Rattle.bng_ppp.specs.Automaton.{plain}
-use Rattle.bng_ppp.specs.IpcpAutomaton.{IpcpWhy, IpcpDoing, IpcpFollows, ipcp_sent, ipcp_sent_some, ipcp_acted, all_ipcp_acted}
-use Rattle.bng_ppp.specs.IpcpCounters.{ipcp_requested, ipcp_ending}
+use Rattle.bng_ppp.specs.IpcpAutomaton.{IpcpWhy, IpcpDoing, IpcpFollows, ipcp_acted, all_ipcp_acted}
+use Rattle.bng_ppp.specs.Identifiers.{requested, ending}
 use Rattle.bng_ppp.specs.IpcpPacket.{IpcpHearsKind, IpcpAfterReply}
 use Rattle.bng_ppp.specs.IpcpConfigureRequest.{IpcpJudges, ipcp_answer_of}
 use Rattle.bng_ppp.specs.IpcpCodes.{ipcp_kind_of}
@@ -50,7 +50,7 @@ use Rattle.bng_ppp.specs.Verdict.{Refuses, Settles}
 use Rattle.bng_ppp.specs.WholeTimers.{AuthReminds, AboveReminds}
 use Rattle.bng_ppp.specs.PppState.{PppState, is_open}
 use Rattle.bng_ppp.specs.Said.{Said, quiet}
-use Rattle.bng_ppp.specs.Encapsulation.{sent_on}
+use Rattle.bng_ppp.specs.Encapsulation.{sent, sent_some}
 use Rattle.bng_ppp.proofs.LcpOuts.{IsLcp, AreLcp, follows_says, hears_lcp, steps_lcp}
 use Rattle.bng_ppp.proofs.MessageLaws.{IsWritten, AreWritten}
 
@@ -60,7 +60,7 @@ all_append : (xs ys : List (List ℕ)) → AreWritten xs → AreWritten ys → A
 all_append [] ys h i = i
 all_append (x ∷ xs) ys h i = (h.0, all_append xs ys h.1 i)
 
-sent_written : (n : ℕ) (p : ControlPacket) (outs : List (List ℕ)) → is_written n p.code ≡ true → AreWritten outs → AreWritten (sent_on n (packet_text p) outs)
+sent_written : (n : ℕ) (p : ControlPacket) (outs : List (List ℕ)) → is_written n p.code ≡ true → AreWritten outs → AreWritten (sent n p outs)
 sent_written n p outs code h = all_append outs _ h (record { number = n; packet = p; written = code; spelled = refl }, tt)
 
 lcp_code : (c : ℕ) → is_lcp_code c ≡ true → is_written protocol.LCP c ≡ true
@@ -109,10 +109,10 @@ ipcp_code c e = or-second (is_ipcp_code c) e
     or-second true h = refl
     or-second false h = absurd cc
 
-ipcp_written : (p : ControlPacket) (outs : List (List ℕ)) → is_ipcp_code p.code ≡ true → AreWritten outs → AreWritten (ipcp_sent p outs)
+ipcp_written : (p : ControlPacket) (outs : List (List ℕ)) → is_ipcp_code p.code ≡ true → AreWritten outs → AreWritten (sent protocol.IPCP p outs)
 ipcp_written p outs code h = sent_written protocol.IPCP p outs (ipcp_code p.code code) h
 
-some_written : (p : Option ControlPacket) (outs : List (List ℕ)) → IsIpcpAnswer p → AreWritten outs → AreWritten (ipcp_sent_some p outs)
+some_written : (p : Option ControlPacket) (outs : List (List ℕ)) → IsIpcpAnswer p → AreWritten outs → AreWritten (sent_some protocol.IPCP p outs)
 some_written None outs is h = h
 some_written (Some p) outs is h = ipcp_written p outs is h
 
@@ -126,10 +126,10 @@ one_acted c d Tls is h = h
 one_acted c d Tlf is h = h
 one_acted c d Irc is h = h
 one_acted c d Zrc is h = h
-one_acted c d Scr is h = ipcp_written (record { code = CONFIGURE_REQUEST; id = (ipcp_requested c.timed d.ipcp.kept).request_id; body = options_text (asked d.ipcp.ask.wanted) }) d.said.outs refl h
+one_acted c d Scr is h = ipcp_written (record { code = CONFIGURE_REQUEST; id = (requested c.timed d.ipcp.kept.ids).request; body = options_text (asked d.ipcp.ask.wanted) }) d.said.outs refl h
 one_acted c d Sca is h = some_written c.answer d.said.outs is h
 one_acted c d Scn is h = some_written c.answer d.said.outs is h
-one_acted c d Str is h = ipcp_written (record { code = TERMINATE_REQUEST; id = (ipcp_ending c.timed d.ipcp.kept).terminate_id; body = [] }) d.said.outs refl h
+one_acted c d Str is h = ipcp_written (record { code = TERMINATE_REQUEST; id = (ending c.timed d.ipcp.kept.ids).terminate; body = [] }) d.said.outs refl h
 one_acted c d Sta is h = ipcp_written (record { code = TERMINATE_ACK; id = c.id; body = [] }) d.said.outs refl h
 one_acted c d Scj is h = some_written c.answer d.said.outs is h
 one_acted c d Ser is h = some_written c.answer d.said.outs is h

@@ -1,13 +1,13 @@
 -- The peer's authentication, by RFC 1334 section 2 and RFC 1994 section 4.
 use Rattle.std.specs.Prelude.{◌≡◌, ℕ, Bool, List, Option, Some, None, ◌∷◌, ◌++◌}
-use Rattle.bng_base.specs.PppGrammar.{ControlPacket, packet_text}
+use Rattle.bng_base.specs.PppGrammar.{ControlPacket}
 use Rattle.bng_auth.specs.Questions.{PapQuestion, ChapQuestion, PapTakes, ChapTakes, PapSettles, ChapSettles}
 use Rattle.bng_auth.specs.Replying.{Said, reply_packet}
 use Rattle.bng_auth.specs.declared.step.AuthStep.{AuthStep}
 use Rattle.bng_auth.specs.declared.step.AuthStep.TheVariants.{Ignore}
 use Rattle.bng_ppp_wire.specs.declared.code.TheConstants.{CHALLENGE}
 use Rattle.bng_ppp_wire.specs.declared.protocol.TheConstants as protocol
-use Rattle.bng_ppp.specs.Encapsulation.{sent_on}
+use Rattle.bng_ppp.specs.Encapsulation.{sent}
 use Rattle.bng_ppp.specs.ProtocolReject.{protocol_of}
 use Rattle.bng_ppp.specs.declared.authentication.Authentication.{Authentication}
 use Rattle.bng_ppp.specs.declared.authentication.Authentication.TheVariants as auth
@@ -27,11 +27,11 @@ AuthSettles (auth.Chap q sent) found text reply new = (s : Said) × (after : Cha
 -- a reply goes out
 abbrev pub reply_sent : Option Said → List (List ℕ) → List (List ℕ)
 reply_sent None outs = outs
-reply_sent (Some s) outs = sent_on (protocol_of s.kind) (packet_text (reply_packet s)) outs
+reply_sent (Some s) outs = sent (protocol_of s.kind) (reply_packet s) outs
 
 -- the Challenge: Value-Size 16, Value and the gateway's name (RFC 1994 section 4.1)
 abbrev pub challenge_of : List ℕ → ChapQuestion → ControlPacket
 challenge_of name q = record { code = CHALLENGE; id = q.id; body = 16 ∷ (q.challenge ++ name) }
 
 abbrev pub challenge_sent : List ℕ → ChapQuestion → List (List ℕ) → List (List ℕ)
-challenge_sent name q outs = sent_on protocol.CHAP (packet_text (challenge_of name q)) outs
+challenge_sent name q outs = sent protocol.CHAP (challenge_of name q) outs

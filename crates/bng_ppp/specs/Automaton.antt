@@ -5,13 +5,14 @@ use Rattle.bng_automaton.specs.Steps.{Steps}
 use Rattle.bng_automaton.specs.declared.action.Action.{Action}
 use Rattle.bng_automaton.specs.declared.action.Action.TheVariants.{Tlu, Tld, Tls, Tlf, Irc, Zrc, Scr, Sca, Scn, Str, Sta, Scj, Ser}
 use Rattle.bng_automaton.specs.declared.event.Event.{Event}
-use Rattle.bng_base.specs.PppGrammar.{ControlPacket, packet_text, options_text}
+use Rattle.bng_base.specs.PppGrammar.{ControlPacket, options_text}
 use Rattle.bng_ppp_wire.specs.View.{packet_of}
 use Rattle.bng_ppp_wire.specs.declared.code.TheConstants.{CONFIGURE_REQUEST, TERMINATE_REQUEST, TERMINATE_ACK}
+use Rattle.bng_ppp_wire.specs.declared.protocol.TheConstants as protocol
 use Rattle.bng_ppp_wire.specs.declared.view.Packet.{Packet}
-use Rattle.bng_lcp.specs.Asked.{asked}
+use Rattle.bng_lcp.specs.ConfigureRequest.{asked}
 use Rattle.bng_ppp.specs.Counters.{echo_after}
-use Rattle.bng_ppp.specs.Encapsulation.{sent_text, sent, sent_some}
+use Rattle.bng_ppp.specs.Encapsulation.{sent, sent_some}
 use Rattle.bng_ppp.specs.Identifiers.{requested, ending, next_of}
 use Rattle.bng_ppp.specs.LinkState.{LinkState}
 use Rattle.bng_ppp.specs.Said.{Said, quiet}
@@ -60,28 +61,28 @@ kept_up echo now k = record k { was_opened = true; unanswered = 0; next_echo = e
 -- Send-Configure-Request
 abbrev pub configured : Why → Doing → Doing
 configured c d =
-    let k = requested c.timed d.link.kept in
+    let ids = requested c.timed d.link.kept.ids in
     record {
-      link = record d.link { ask = record d.link.ask { sent = Some (record { id = k.request_id; options = d.link.ask.wanted }) }; kept = k };
-      said = record d.said { outs = sent_text (packet_text (record { code = CONFIGURE_REQUEST; id = k.request_id; body = options_text (asked d.link.ask.wanted) })) d.said.outs };
+      link = record d.link { ask = record d.link.ask { sent = Some (record { id = ids.request; options = d.link.ask.wanted }) }; kept = record d.link.kept { ids = ids } };
+      said = record d.said { outs = sent protocol.LCP (record { code = CONFIGURE_REQUEST; id = ids.request; body = options_text (asked d.link.ask.wanted) }) d.said.outs };
     }
 
 -- Send-Terminate-Request, without Data
 abbrev pub terminated : Why → Doing → Doing
 terminated c d =
-    let k = ending c.timed d.link.kept in
+    let ids = ending c.timed d.link.kept.ids in
     record {
-      link = record d.link { kept = k };
-      said = record d.said { outs = sent (record { code = TERMINATE_REQUEST; id = k.terminate_id; body = [] }) d.said.outs };
+      link = record d.link { kept = record d.link.kept { ids = ids } };
+      said = record d.said { outs = sent protocol.LCP (record { code = TERMINATE_REQUEST; id = ids.terminate; body = [] }) d.said.outs };
     }
 
 -- Send-Terminate-Ack, without Data
 abbrev pub acknowledged : Why → Doing → Doing
-acknowledged c d = record d { said = record d.said { outs = sent (record { code = TERMINATE_ACK; id = c.id; body = [] }) d.said.outs } }
+acknowledged c d = record d { said = record d.said { outs = sent protocol.LCP (record { code = TERMINATE_ACK; id = c.id; body = [] }) d.said.outs } }
 
 -- the packet that answers goes out
 abbrev pub answered : Why → Doing → Doing
-answered c d = record d { said = record d.said { outs = sent_some c.answer d.said.outs } }
+answered c d = record d { said = record d.said { outs = sent_some protocol.LCP c.answer d.said.outs } }
 
 -- one action
 abbrev pub acted : Why → ℕ → ℕ → Doing → Action → Doing
@@ -99,7 +100,7 @@ acted c echo now d Sca = answered c (record d { link = record d.link { kept = re
 acted c echo now d Scn = answered c (record d { link = record d.link { kept = record d.link.kept { mru = c.mru; naks = c.naks } } })
 acted c echo now d Str = terminated c d
 acted c echo now d Sta = acknowledged c d
-acted c echo now d Scj = answered c (record d { link = record d.link { kept = record d.link.kept { next_id = next_of d.link.kept.next_id } } })
+acted c echo now d Scj = answered c (record d { link = record d.link { kept = record d.link.kept { ids = record d.link.kept.ids { next = next_of d.link.kept.ids.next } } } })
 acted c echo now d Ser = answered c d
 
 -- the actions of a cell, one after the other

@@ -7,4 +7,4 @@ use Rattle.bng_ppp.specs.MaximumReceiveUnit.{body_most}
 
 -- a Code-Reject has the rejected packet, cut to the peer's MRU
 abbrev pub code_reject : LinkState → ControlPacket → ControlPacket
-code_reject s p = record { code = CODE_REJECT; id = s.kept.next_id; body = take (body_most s.kept) (packet_text p) }
+code_reject s p = record { code = CODE_REJECT; id = s.kept.ids.next; body = take (body_most s.kept) (packet_text p) }

@@ -3,16 +3,16 @@ use Rattle.std.specs.Prelude.{true, ℕ, List}
 use Rattle.bng_automaton.specs.declared.event.Event.TheVariants.{Close, Rca, Rcn}
 use Rattle.bng_base.specs.PppGrammar.{ControlPacket}
 use Rattle.bng_lcp.specs.Ask.{Ask}
-use Rattle.bng_lcp.specs.Reply.{Takes}
-use Rattle.bng_lcp.specs.declared.taken.Taken.{Taken}
-use Rattle.bng_lcp.specs.declared.taken.Taken.TheVariants.{Accepted, Changed, Ignored, Unwilling}
+use Rattle.bng_lcp.specs.ConfigureReply.{Takes}
+use Rattle.bng_lcp.specs.declared.configure_reply.Taken.{Taken}
+use Rattle.bng_lcp.specs.declared.configure_reply.Taken.TheVariants.{Accepted, Changed, Ignored, Unwilling}
 use Rattle.bng_ppp.specs.Automaton.{plain, Moves, Rests}
 use Rattle.bng_ppp.specs.LinkState.{LinkState}
 use Rattle.bng_ppp.specs.Said.{Said}
 
 -- a reply that is not ignored was taken
 abbrev pub taken : LinkState → Ask → LinkState
-taken old ask = record old { ask = ask; kept = record old.kept { answered = true } }
+taken old ask = record old { ask = ask; kept = record old.kept { ids = record old.kept.ids { answered = true } } }
 
 abbrev pub AfterReply : Taken → ControlPacket → ℕ → ℕ → LinkState → Ask → Said → LinkState → Type 0
 AfterReply Accepted p echo now old ask says new = Moves Rca (plain old.kept p.id) echo now (taken old ask) says new

@@ -1,21 +1,14 @@
 -- A Configure-Request of the peer, by RFC 1661 sections 4.6 and 5.1.
-use Rattle.std.specs.List.{All}
-use Rattle.std.specs.Prelude.{ℕ, nat_le, List, false, Some, ◌≤◌, length, ⊤, ◌⊎◌, ◌<◌}
+use Rattle.std.specs.Prelude.{ℕ, nat_le, List, false, Some, ◌≤◌, length, ◌⊎◌, ◌<◌}
 use Rattle.byteorder.specs.Endian.{big_number}
-use Rattle.bng_automaton.specs.declared.event.Event.{Event}
-use Rattle.bng_automaton.specs.declared.event.Event.TheVariants.{RcrPlus, RcrMinus}
-use Rattle.bng_base.specs.PppGrammar.{ControlPacket, PppOption, options_text, OptionFits, AreOptions}
-use Rattle.bng_ppp_wire.specs.View.{options_of, option_of}
-use Rattle.bng_ppp_wire.specs.declared.code.TheConstants.{CONFIGURE_ACK, CONFIGURE_NAK, CONFIGURE_REJECT}
-use Rattle.bng_ppp_wire.specs.declared.view.Opt.{Opt}
+use Rattle.bng_base.specs.PppGrammar.{ControlPacket, PppOption, AreOptions}
+use Rattle.bng_ppp_wire.specs.declared.judgement.Judged.{Judged}
+use Rattle.bng_ppp_wire.specs.declared.judgement.Judged.TheVariants as judged
 use Rattle.bng_lcp.specs.Judgement.{IsJudgement}
-use Rattle.bng_lcp.specs.Made.{all_made_of}
-use Rattle.bng_lcp.specs.declared.judgement.Judged.{Judged}
-use Rattle.bng_lcp.specs.declared.judgement.Judged.TheVariants as judged
 use Rattle.bng_lcp.specs.declared.judgement.LcpRules.{LcpRules}
 use Rattle.bng_ppp.specs.Automaton.{Why, Moves, Rests}
-use Rattle.bng_ppp.specs.Counters.{more_naks}
 use Rattle.bng_ppp.specs.Echo.{own_magic}
+use Rattle.bng_ppp.specs.Judgement.{event_of, answer_to, naks_after}
 use Rattle.bng_ppp.specs.LinkState.{LinkState}
 use Rattle.bng_ppp.specs.MaximumReceiveUnit.{mru_of}
 use Rattle.bng_ppp.specs.Said.{Said}
@@ -31,26 +24,15 @@ rules_of s random = record {
   no_more_naks = nat_le 5 s.kept.naks;
 }
 
--- the event of a Configure-Request
-abbrev pub event_of : Judged → Event
-event_of judged.Ack = RcrPlus
-event_of (judged.Nak made) = RcrMinus
-event_of (judged.Reject rejected) = RcrMinus
-
-abbrev pub answer_with : Kept → ControlPacket → ℕ → List ℕ → ℕ → ℕ → Why
-answer_with k p code body mru naks = record { timed = false; id = p.id; answer = Some (record { code = code; id = p.id; body = body }); mru = mru; naks = naks }
+-- the peer's Maximum-Receive-Unit once its request is answered
+abbrev pub mru_after : Kept → List PppOption → Judged → ℕ
+mru_after k options judged.Ack = mru_of k.limit options
+mru_after k options (judged.Nak made) = k.mru
+mru_after k options (judged.Reject rejected) = k.mru
 
 -- how it is answered
 abbrev pub answer_of : Kept → ControlPacket → List PppOption → Judged → Why
-answer_of k p options judged.Ack = answer_with k p CONFIGURE_ACK p.body (mru_of k.limit options) 0
-answer_of k p options (judged.Nak made) = answer_with k p CONFIGURE_NAK (options_text (all_made_of made.items)) k.mru (more_naks k.naks)
-answer_of k p options (judged.Reject rejected) = answer_with k p CONFIGURE_REJECT (options_text (options_of rejected.items)) k.mru k.naks
-
--- the options of a Configure-Reject can be written, and fit a packet
-abbrev pub IsSpellable : Judged → Type 0
-IsSpellable judged.Ack = ⊤
-IsSpellable (judged.Nak made) = ⊤
-IsSpellable (judged.Reject rejected) = All (λ (o : Opt). OptionFits (option_of o)) rejected.items × (length (options_text (options_of rejected.items)) ≤ 4090)
+answer_of k p options j = record { timed = false; id = p.id; answer = Some (answer_to p j); mru = mru_after k options j; naks = naks_after k.naks j }
 
 -- A Configure-Request is judged. One whose options are malformed, or more than 64, is ignored.
 abbrev pub Judges : ControlPacket → ℕ → ℕ → List ℕ → LinkState → Said → LinkState → Type 0

@@ -3,6 +3,7 @@ use Rattle.std.specs.Prelude.{ℕ, unwrap_or, ◌++◌, take, drop, ◌≤◌, I
 use Rattle.byteorder.specs.Endian.{big_bytes}
 use Rattle.bng_base.specs.PppGrammar.{ControlPacket}
 use Rattle.bng_ppp_wire.specs.declared.code.TheConstants.{ECHO_REPLY, ECHO_REQUEST}
+use Rattle.bng_ppp_wire.specs.declared.protocol.TheConstants as protocol
 use Rattle.bng_ppp.specs.Automaton.{Doing}
 use Rattle.bng_ppp.specs.Counters.{echo_after}
 use Rattle.bng_ppp.specs.Encapsulation.{sent}
@@ -26,6 +27,6 @@ EchoIsDue s now = IsSomeAnd s.kept.next_echo (λ t. t ≤ now)
 -- an Echo-Request goes out
 abbrev pub echoes : ℕ → ℕ → LinkState → Doing
 echoes echo now s = record {
-  link = record s { kept = record s.kept { next_id = next_of s.kept.next_id; unanswered = s.kept.unanswered + 1; next_echo = echo_after echo now } };
-  said = record quiet { outs = sent (record { code = ECHO_REQUEST; id = s.kept.next_id; body = big_bytes 4 (own_magic s) }) [] };
+  link = record s { kept = record s.kept { ids = record s.kept.ids { next = next_of s.kept.ids.next }; unanswered = s.kept.unanswered + 1; next_echo = echo_after echo now } };
+  said = record quiet { outs = sent protocol.LCP (record { code = ECHO_REQUEST; id = s.kept.ids.next; body = big_bytes 4 (own_magic s) }) [] };
 }

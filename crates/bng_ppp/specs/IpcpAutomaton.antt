@@ -5,14 +5,13 @@ use Rattle.bng_automaton.specs.Steps.{Steps}
 use Rattle.bng_automaton.specs.declared.action.Action.{Action}
 use Rattle.bng_automaton.specs.declared.action.Action.TheVariants.{Tlu, Tld, Tls, Tlf, Irc, Zrc, Scr, Sca, Scn, Str, Sta, Scj, Ser}
 use Rattle.bng_automaton.specs.declared.event.Event.{Event}
-use Rattle.bng_base.specs.PppGrammar.{ControlPacket, packet_text, options_text}
+use Rattle.bng_base.specs.PppGrammar.{ControlPacket, options_text}
 use Rattle.bng_ppp_wire.specs.View.{packet_of}
 use Rattle.bng_ppp_wire.specs.declared.code.TheConstants.{CONFIGURE_REQUEST, TERMINATE_REQUEST, TERMINATE_ACK}
 use Rattle.bng_ppp_wire.specs.declared.protocol.TheConstants as protocol
-use Rattle.bng_ipcp.specs.Asked.{asked}
-use Rattle.bng_ppp.specs.Encapsulation.{sent_on}
-use Rattle.bng_ppp.specs.Identifiers.{next_of}
-use Rattle.bng_ppp.specs.IpcpCounters.{ipcp_requested, ipcp_ending}
+use Rattle.bng_ipcp.specs.ConfigureRequest.{asked}
+use Rattle.bng_ppp.specs.Encapsulation.{sent, sent_some}
+use Rattle.bng_ppp.specs.Identifiers.{requested, ending, next_of}
 use Rattle.bng_ppp.specs.IpcpState.{IpcpState}
 use Rattle.bng_ppp.specs.Said.{Said}
 use Rattle.bng_ppp.specs.declared.ipcp_automaton.IpcpCause.{IpcpCause}
@@ -49,39 +48,31 @@ pub record IpcpDoing : Type 0 where
   pub ipcp : IpcpState
   pub said : Said
 
--- a packet of IPCP goes out
-abbrev pub ipcp_sent : ControlPacket → List (List ℕ) → List (List ℕ)
-ipcp_sent p outs = sent_on protocol.IPCP (packet_text p) outs
-
-abbrev pub ipcp_sent_some : Option ControlPacket → List (List ℕ) → List (List ℕ)
-ipcp_sent_some None outs = outs
-ipcp_sent_some (Some p) outs = ipcp_sent p outs
-
 -- Send-Configure-Request
 abbrev pub ipcp_configured : IpcpWhy → IpcpDoing → IpcpDoing
 ipcp_configured c d =
-    let k = ipcp_requested c.timed d.ipcp.kept in
+    let ids = requested c.timed d.ipcp.kept.ids in
     record {
-      ipcp = record d.ipcp { ask = record d.ipcp.ask { sent = Some (record { id = k.request_id; options = d.ipcp.ask.wanted }) }; kept = k };
-      said = record d.said { outs = ipcp_sent (record { code = CONFIGURE_REQUEST; id = k.request_id; body = options_text (asked d.ipcp.ask.wanted) }) d.said.outs };
+      ipcp = record d.ipcp { ask = record d.ipcp.ask { sent = Some (record { id = ids.request; options = d.ipcp.ask.wanted }) }; kept = record d.ipcp.kept { ids = ids } };
+      said = record d.said { outs = sent protocol.IPCP (record { code = CONFIGURE_REQUEST; id = ids.request; body = options_text (asked d.ipcp.ask.wanted) }) d.said.outs };
     }
 
 -- Send-Terminate-Request, without Data
 abbrev pub ipcp_terminated : IpcpWhy → IpcpDoing → IpcpDoing
 ipcp_terminated c d =
-    let k = ipcp_ending c.timed d.ipcp.kept in
+    let ids = ending c.timed d.ipcp.kept.ids in
     record {
-      ipcp = record d.ipcp { kept = k };
-      said = record d.said { outs = ipcp_sent (record { code = TERMINATE_REQUEST; id = k.terminate_id; body = [] }) d.said.outs };
+      ipcp = record d.ipcp { kept = record d.ipcp.kept { ids = ids } };
+      said = record d.said { outs = sent protocol.IPCP (record { code = TERMINATE_REQUEST; id = ids.terminate; body = [] }) d.said.outs };
     }
 
 -- Send-Terminate-Ack, without Data
 abbrev pub ipcp_acknowledged : IpcpWhy → IpcpDoing → IpcpDoing
-ipcp_acknowledged c d = record d { said = record d.said { outs = ipcp_sent (record { code = TERMINATE_ACK; id = c.id; body = [] }) d.said.outs } }
+ipcp_acknowledged c d = record d { said = record d.said { outs = sent protocol.IPCP (record { code = TERMINATE_ACK; id = c.id; body = [] }) d.said.outs } }
 
 -- the packet that answers goes out
 abbrev pub ipcp_answered : IpcpWhy → IpcpDoing → IpcpDoing
-ipcp_answered c d = record d { said = record d.said { outs = ipcp_sent_some c.answer d.said.outs } }
+ipcp_answered c d = record d { said = record d.said { outs = sent_some protocol.IPCP c.answer d.said.outs } }
 
 -- one action
 abbrev pub ipcp_acted : IpcpWhy → IpcpDoing → Action → IpcpDoing
@@ -96,7 +87,7 @@ ipcp_acted c d Sca = ipcp_answered c (record d { ipcp = record d.ipcp { kept = r
 ipcp_acted c d Scn = ipcp_answered c (record d { ipcp = record d.ipcp { kept = record d.ipcp.kept { naks = c.naks } } })
 ipcp_acted c d Str = ipcp_terminated c d
 ipcp_acted c d Sta = ipcp_acknowledged c d
-ipcp_acted c d Scj = ipcp_answered c (record d { ipcp = record d.ipcp { kept = record d.ipcp.kept { next_id = next_of d.ipcp.kept.next_id } } })
+ipcp_acted c d Scj = ipcp_answered c (record d { ipcp = record d.ipcp { kept = record d.ipcp.kept { ids = record d.ipcp.kept.ids { next = next_of d.ipcp.kept.ids.next } } } })
 ipcp_acted c d Ser = ipcp_answered c d
 
 -- the actions of a cell, one after the other

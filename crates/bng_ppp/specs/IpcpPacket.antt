@@ -5,9 +5,9 @@ use Rattle.bng_base.specs.PppGrammar.{ControlPacket, packet_text}
 use Rattle.bng_base.specs.declared.address.Ip4.{Ip4}
 use Rattle.bng_ppp_wire.specs.declared.code.TheConstants.{CODE_REJECT}
 use Rattle.bng_ipcp.specs.Ask.{Ask}
-use Rattle.bng_ipcp.specs.Reply.{Takes}
-use Rattle.bng_ipcp.specs.declared.taken.Taken.{Taken}
-use Rattle.bng_ipcp.specs.declared.taken.Taken.TheVariants.{Accepted, Changed, Ignored}
+use Rattle.bng_ipcp.specs.ConfigureReply.{Takes}
+use Rattle.bng_ipcp.specs.declared.configure_reply.Taken.{Taken}
+use Rattle.bng_ipcp.specs.declared.configure_reply.Taken.TheVariants.{Accepted, Changed, Ignored}
 use Rattle.bng_ppp.specs.IpcpAutomaton.{IpcpDoing, IpcpFollows, ipcp_plain, ipcp_answering}
 use Rattle.bng_ppp.specs.IpcpConfigureRequest.{IpcpJudges}
 use Rattle.bng_ppp.specs.declared.ipcp_codes.IpcpKind.{IpcpKind}
@@ -16,7 +16,7 @@ use Rattle.bng_ppp.specs.declared.ipcp_counters.IpcpKept.{IpcpKept}
 
 -- a reply that is not ignored was taken
 abbrev pub ipcp_taken : IpcpDoing → Ask → IpcpDoing
-ipcp_taken d ask = record d { ipcp = record d.ipcp { ask = ask; kept = record d.ipcp.kept { answered = true } } }
+ipcp_taken d ask = record d { ipcp = record d.ipcp { ask = ask; kept = record d.ipcp.kept { ids = record d.ipcp.kept.ids { answered = true } } } }
 
 abbrev pub IpcpAfterReply : Taken → ControlPacket → ℕ → IpcpDoing → Ask → IpcpDoing → Type 0
 IpcpAfterReply Accepted p now d ask after = IpcpFollows Rca (ipcp_plain d.ipcp.kept p.id) now (ipcp_taken d ask) after
@@ -32,7 +32,7 @@ pub record IpcpReplies (p : ControlPacket) (now : ℕ) (d : IpcpDoing) (after : 
 
 -- a Code-Reject has the rejected packet, cut to the peer's Maximum-Receive-Unit
 abbrev pub ipcp_code_reject : IpcpKept → ℕ → ControlPacket → ControlPacket
-ipcp_code_reject k mru p = record { code = CODE_REJECT; id = k.next_id; body = take (mru - 4) (packet_text p) }
+ipcp_code_reject k mru p = record { code = CODE_REJECT; id = k.ids.next; body = take (mru - 4) (packet_text p) }
 
 -- a packet of IPCP
 abbrev pub IpcpHearsKind : IpcpKind → ControlPacket → List (Option Ip4) → ℕ → ℕ → IpcpDoing → IpcpDoing → Type 0

@@ -1,8 +1,9 @@
 -- What a contract sees of IPCP on a link, and of one that was told nothing.
-use Rattle.std.specs.Prelude.{Some, None, true}
+use Rattle.std.specs.Prelude.{Some, None}
 use Rattle.bng_automaton.specs.Machine.{Machine}
 use Rattle.bng_base.specs.declared.address.Ip4.{Ip4}
 use Rattle.bng_ipcp.specs.Ask.{Ask}
+use Rattle.bng_ppp.specs.Identifiers.{first_ids}
 use Rattle.bng_ppp.specs.LinkState.{unused}
 use Rattle.bng_ppp.specs.declared.ipcp_counters.IpcpKept.{IpcpKept}
 
@@ -22,5 +23,5 @@ abbrev pub ipcp_unused : Ip4 → IpcpState
 ipcp_unused none = record {
   machine = unused;
   ask = first_ask none;
-  kept = record { next_id = 1; request_id = 0; terminate_id = 0; answered = true; naks = 0; lease = none };
+  kept = record { ids = first_ids; naks = 0; lease = none };
 }

@@ -1,7 +1,7 @@
+pub mod Identifiers
 pub mod LinkState
 pub mod Said
 pub mod Room
-pub mod Identifiers
 pub mod Encapsulation
 pub mod Counters
 pub mod Automaton
@@ -13,9 +13,9 @@ pub mod CodeReject
 pub mod Codes
 pub mod ConfigureReply
 pub mod Echo
+pub mod Judgement
 pub mod ConfigureRequest
 pub mod Frame
-pub mod IpcpCounters
 pub mod IpcpState
 pub mod IpcpAutomaton
 pub mod IpcpCodes

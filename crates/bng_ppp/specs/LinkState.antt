@@ -7,6 +7,7 @@ use Rattle.bng_automaton.specs.declared.state.State.TheVariants.{Initial, Starti
 use Rattle.bng_base.specs.declared.settings.AuthKind.{AuthKind}
 use Rattle.bng_lcp.specs.Ask.{Ask}
 use Rattle.bng_lcp.specs.Judgement.{magic_from}
+use Rattle.bng_ppp.specs.Identifiers.{first_ids}
 use Rattle.bng_ppp.specs.declared.counters.Kept.{Kept}
 use Rattle.bng_ppp.specs.declared.rules.LinkKind.{LinkKind}
 use Rattle.bng_ppp.specs.declared.rules.LinkKind.TheVariants.{Pppoe, L2tp}
@@ -31,10 +32,7 @@ unused = record { state = Initial; counter = 0; started = None; max_configure = 
 abbrev pub kept_first : ℕ → Kept
 kept_first limit = record {
   limit = limit;
-  next_id = 1;
-  request_id = 0;
-  terminate_id = 0;
-  answered = true;
+  ids = first_ids;
   mru = limit;
   naks = 0;
   was_opened = false;

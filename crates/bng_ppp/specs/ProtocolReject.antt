@@ -14,7 +14,7 @@ use Rattle.bng_ppp.specs.Said.{quiet}
 
 -- a Protocol-Reject has the rejected frame from its protocol on, cut to the peer's MRU
 abbrev pub protocol_reject : LinkState → List ℕ → ControlPacket
-protocol_reject s octets = record { code = PROTOCOL_REJECT; id = s.kept.next_id; body = take (body_most s.kept) octets }
+protocol_reject s octets = record { code = PROTOCOL_REJECT; id = s.kept.ids.next; body = take (body_most s.kept) octets }
 
 abbrev pub protocol_of : AuthKind → ℕ
 protocol_of Chap = protocol.CHAP
@@ -32,6 +32,6 @@ is_rejected s n = is_opened s.lcp.state && not (passes_over s.ask.wanted.auth n)
 abbrev pub hears_other : Bool → List ℕ → LinkState → Doing
 hears_other false octets s = record { link = s; said = quiet }
 hears_other true octets s = record {
-  link = record s { kept = record s.kept { next_id = next_of s.kept.next_id } };
-  said = record quiet { outs = sent (protocol_reject s octets) [] };
+  link = record s { kept = record s.kept { ids = record s.kept.ids { next = next_of s.kept.ids.next } } };
+  said = record quiet { outs = sent protocol.LCP (protocol_reject s octets) [] };
 }

@@ -8,14 +8,13 @@ ghost use Rattle.std.specs.List.{sum_by};
 
 use crate::counters::Kept;
 use crate::echo::echo_at;
-use crate::encapsulation::send_some;
+use crate::encapsulation::{send_bare, send_some};
 use crate::identifiers::next_id;
 use crate::link::Link;
 use crate::step::Steps;
-use crate::terminate::bare;
 use bng_automaton::{Action, Event};
-use bng_ppp_wire::Packet;
 use bng_ppp_wire::code::TERMINATE_ACK;
+use bng_ppp_wire::{Packet, protocol};
 
 /// What the actions of an event send and keep.
 #[derive(Clone, Copy, Debug)]
@@ -185,15 +184,15 @@ impl Link {
             Action::Sca | Action::Scn => {
                 self.kept.mru = cause.mru;
                 self.kept.naks = cause.naks;
-                send_some(&cause.answer, steps);
+                send_some(protocol::LCP, &cause.answer, steps);
             }
             Action::Str => self.terminate(cause, steps),
-            Action::Sta => bare(TERMINATE_ACK, cause.id, steps),
+            Action::Sta => send_bare(protocol::LCP, TERMINATE_ACK, cause.id, steps),
             Action::Scj => {
-                self.kept.next_id = next_id(self.kept.next_id);
-                send_some(&cause.answer, steps);
+                self.kept.ids.next = next_id(self.kept.ids.next);
+                send_some(protocol::LCP, &cause.answer, steps);
             }
-            Action::Ser => send_some(&cause.answer, steps),
+            Action::Ser => send_some(protocol::LCP, &cause.answer, steps),
         }
     }
 }

@@ -32,7 +32,7 @@ impl Link {
         let _done = packet.write(&mut body);
         let answer = Packet {
             code: CODE_REJECT,
-            id: self.kept.next_id,
+            id: self.kept.ids.next,
             body: cut(body.payload(), body_most(self.kept.mru)),
         };
         self.reply_by(Event::Ruc, packet.id, &answer, echo, now, steps)

@@ -42,7 +42,7 @@ impl Link {
         ensures moves { Moves event (plain self.old.kept id) echo now (taken self.old self.old.ask) (said steps.new) self.new }
         ensures few { length steps.new.outs.items ≤ most_of event }
     {
-        self.kept.answered = true;
+        self.kept.ids.answered = true;
         self.plainly(event, id, echo, now, steps)
     }
 }

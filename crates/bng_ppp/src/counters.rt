@@ -2,6 +2,8 @@
 ghost use Rattle.std.specs.Prelude.{◌≡◌};
 ghost use Rattle.bng_ppp.specs.Counters.{more_naks as one_more};
 
+use crate::identifiers::Identifiers;
+
 /// So many Configure-Naks go out without a Configure-Ack between (Max-Failure, RFC 1661 section 4.6).
 pub const NAKS_MOST: u8 = 5;
 
@@ -13,14 +15,8 @@ pub const ECHOES_UNANSWERED_MOST: u8 = 3;
 pub struct Kept {
     /// The largest Maximum-Receive-Unit that is taken, in octets.
     pub limit: u16,
-    /// The Identifier of the next packet that is a new one.
-    pub next_id: u8,
-    /// The Identifier of the last Configure-Request.
-    pub request_id: u8,
-    /// The Identifier of the last Terminate-Request.
-    pub terminate_id: u8,
-    /// A Configure-Ack, -Nak or -Reject was taken since the last Configure-Request.
-    pub answered: bool,
+    /// The Identifiers of the packets that the gateway originates.
+    pub ids: Identifiers,
     /// The peer's Maximum-Receive-Unit, in octets.
     pub mru: u16,
     /// How many Configure-Naks were sent since the last Configure-Ack.

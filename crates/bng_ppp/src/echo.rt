@@ -6,7 +6,6 @@ ghost use Rattle.bng_ppp_wire.specs.View.{packet_of};
 ghost use Rattle.bng_ppp.specs.Said.{said, quiet as says_nothing};
 ghost use Rattle.bng_ppp.specs.Automaton.{answering, Moves};
 
-use crate::counters::Kept;
 use crate::encapsulation::send;
 use crate::identifiers::next_id;
 use crate::link::Link;
@@ -14,8 +13,8 @@ use crate::maximum_receive_unit::{body_most, cut};
 use crate::step::Steps;
 use bng_automaton::Event;
 use bng_base::Frame;
-use bng_ppp_wire::Packet;
 use bng_ppp_wire::code::{ECHO_REPLY, ECHO_REQUEST};
+use bng_ppp_wire::{Packet, protocol};
 
 /// When the next Echo-Request is due after this moment, where they go out every `echo` seconds.
 pub(crate) fn echo_at(echo: u16, now: u64) -> Option<u64>
@@ -79,15 +78,12 @@ impl Link {
         let magic = self.own_magic().to_be_bytes();
         let packet = Packet {
             code: ECHO_REQUEST,
-            id: self.kept.next_id,
+            id: self.kept.ids.next,
             body: &magic,
         };
-        send(&packet, steps);
-        self.kept = Kept {
-            next_id: next_id(self.kept.next_id),
-            unanswered: self.kept.unanswered + 1,
-            next_echo: echo_at(echo, now),
-            ..self.kept
-        };
+        send(protocol::LCP, &packet, steps);
+        self.kept.ids.next = next_id(self.kept.ids.next);
+        self.kept.unanswered += 1;
+        self.kept.next_echo = echo_at(echo, now);
     }
 }

@@ -1,8 +1,31 @@
-//! The Identifiers of the packets that a link originates (RFC 1661 section 5).
+//! The Identifiers of the packets that the gateway originates (RFC 1661 section 5).
 ghost use Rattle.std.specs.Prelude.{◌≡◌};
-ghost use Rattle.bng_ppp.specs.Identifiers.{next_of, requested as kept_requested, ending as kept_ending};
+ghost use Rattle.bng_ppp.specs.Identifiers.{next_of, first_ids, requested as ids_requested, ending as ids_ending};
 
-use crate::counters::Kept;
+/// The Identifiers of the packets that an automaton originates.
+#[derive(Clone, Copy, Debug)]
+pub struct Identifiers {
+    /// That of the next packet that is a new one.
+    pub next: u8,
+    /// That of the last Configure-Request.
+    pub request: u8,
+    /// That of the last Terminate-Request.
+    pub terminate: u8,
+    /// A Configure-Ack, -Nak or -Reject was taken since the last Configure-Request.
+    pub answered: bool,
+}
+
+/// The Identifiers of an automaton that has sent nothing.
+pub(crate) fn first() -> Identifiers
+    ensures { result ≡ first_ids }
+{
+    Identifiers {
+        next: 1,
+        request: 0,
+        terminate: 0,
+        answered: true,
+    }
+}
 
 /// The Identifier after this one.
 pub(crate) fn next_id(id: u8) -> u8
@@ -11,34 +34,34 @@ pub(crate) fn next_id(id: u8) -> u8
     id.wrapping_add(1)
 }
 
-// What is kept once a Configure-Request is sent.
-pub(crate) fn requested(kept: Kept, timed: bool) -> Kept
-    ensures { result ≡ kept_requested timed kept }
+/// The Identifiers once a Configure-Request is sent.
+pub(crate) fn requested(ids: Identifiers, timed: bool) -> Identifiers
+    ensures { result ≡ ids_requested timed ids }
 {
-    if timed && !kept.answered {
-        return Kept {
+    if timed && !ids.answered {
+        return Identifiers {
             answered: false,
-            ..kept
+            ..ids
         };
     }
-    Kept {
-        request_id: kept.next_id,
-        next_id: next_id(kept.next_id),
+    Identifiers {
+        request: ids.next,
+        next: next_id(ids.next),
         answered: false,
-        ..kept
+        ..ids
     }
 }
 
-// What is kept once a Terminate-Request is sent.
-pub(crate) fn ending(kept: Kept, timed: bool) -> Kept
-    ensures { result ≡ kept_ending timed kept }
+/// The Identifiers once a Terminate-Request is sent.
+pub(crate) fn ending(ids: Identifiers, timed: bool) -> Identifiers
+    ensures { result ≡ ids_ending timed ids }
 {
     if timed {
-        return kept;
+        return ids;
     }
-    Kept {
-        terminate_id: kept.next_id,
-        next_id: next_id(kept.next_id),
-        ..kept
+    Identifiers {
+        terminate: ids.next,
+        next: next_id(ids.next),
+        ..ids
     }
 }

@@ -4,6 +4,7 @@ ghost use Rattle.bng_ppp.specs.IpcpState.{ipcp_unused, first_ask};
 ghost use Rattle.bng_ppp.specs.LinkState.{is_opened as opened_in};
 
 use crate::counters::NAKS_MOST;
+use crate::identifiers::first;
 use crate::ipcp_counters::IpcpKept;
 use crate::link::{MAX_CONFIGURE, MAX_TERMINATE};
 use bng_automaton::{Automaton, State};
@@ -36,10 +37,7 @@ impl Ipcp {
             machine: Automaton::new(MAX_CONFIGURE, MAX_TERMINATE, NAKS_MOST),
             ask: IpcpAsk::new(Ip4(0)),
             kept: IpcpKept {
-                next_id: 1,
-                request_id: 0,
-                terminate_id: 0,
-                answered: true,
+                ids: first(),
                 naks: 0,
                 lease: Ip4(0),
             },

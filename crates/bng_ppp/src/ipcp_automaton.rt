@@ -1,19 +1,16 @@
-//! The events and actions of IPCP's automaton (RFC 1332 section 2), and the packets without a body that it sends.
-ghost use Rattle.std.specs.Prelude.{◌≡◌, ◌+◌, ◌<◌, ◌≤◌, length, option_map, [], ◌^◌};
-ghost use Rattle.bng_ppp_wire.specs.View.{packet_of};
-ghost use Rattle.bng_ppp.specs.IpcpAutomaton.{ipcp_sent, ipcp_sent_some, ipcp_why, ipcp_plain, IpcpFollows, all_ipcp_acted, ipcp_acted, ipcp_terminated};
+//! The events and actions of IPCP's automaton (RFC 1332 section 2).
+ghost use Rattle.std.specs.Prelude.{◌≡◌, ◌+◌, ◌<◌, ◌≤◌, length, ◌^◌};
+ghost use Rattle.bng_ppp.specs.IpcpAutomaton.{ipcp_why, ipcp_plain, IpcpFollows, all_ipcp_acted, ipcp_acted, ipcp_terminated};
 ghost use Rattle.bng_ppp.specs.Said.{said};
 ghost use Rattle.bng_ppp.specs.Automaton.{AnswerFits};
 ghost use Rattle.bng_ppp.specs.Room.{most_of, sends};
 ghost use Rattle.std.specs.List.{sum_by};
 
-use crate::encapsulation::put_protocol;
-use crate::identifiers::next_id;
+use crate::encapsulation::{send_bare, send_some};
+use crate::identifiers::{ending, next_id};
 use crate::ipcp::Ipcp;
-use crate::ipcp_counters::ending;
 use crate::step::Steps;
 use bng_automaton::{Action, Event};
-use bng_base::Frame;
 use bng_ppp_wire::code::{TERMINATE_ACK, TERMINATE_REQUEST};
 use bng_ppp_wire::{Packet, protocol};
 
@@ -28,45 +25,6 @@ pub(crate) struct IpcpCause<'a> {
     pub answer: Option<Packet<'a>>,
     /// How many Configure-Naks have gone out without a Configure-Ack between, once the peer's Configure-Request is answered.
     pub naks: u8,
-}
-
-// Sends a packet of IPCP.
-fn send(packet: &Packet<'_>, steps: &mut Steps)
-    requires fits { length packet.now.body.now ≤ 4090 }
-    requires room { length steps.old.outs.items < 4 }
-    ensures said { said steps.new ≡ record (said steps.old) { outs = ipcp_sent (packet_of packet.now) (said steps.old).outs } }
-    ensures few { length steps.new.outs.items ≤ length steps.old.outs.items + 1 }
-{
-    let mut text = Frame::new();
-    let _done = packet.write(&mut text);
-    put_protocol(protocol::IPCP, &mut text);
-    steps.outs.push(text);
-}
-
-// Sends a packet of IPCP, where there is one.
-fn send_some(packet: &Option<Packet<'_>>, steps: &mut Steps)
-    requires fits { AnswerFits packet.now }
-    requires room { length steps.old.outs.items < 4 }
-    ensures said { said steps.new ≡ record (said steps.old) { outs = ipcp_sent_some (option_map packet_of packet.now) (said steps.old).outs } }
-    ensures few { length steps.new.outs.items ≤ length steps.old.outs.items + 1 }
-{
-    if let Some(packet) = packet {
-        send(packet, steps);
-    }
-}
-
-// Sends a packet of IPCP without a body.
-fn bare(code: u8, id: u8, steps: &mut Steps)
-    requires room { length steps.old.outs.items < 4 }
-    ensures said { said steps.new ≡ record (said steps.old) { outs = ipcp_sent (record { code = code; id = id; body = [] }) (said steps.old).outs } }
-    ensures few { length steps.new.outs.items ≤ length steps.old.outs.items + 1 }
-{
-    let packet = Packet {
-        code,
-        id,
-        body: &[],
-    };
-    send(&packet, steps);
 }
 
 impl Ipcp {
@@ -144,15 +102,15 @@ impl Ipcp {
             Action::Scr => self.configure(cause, steps),
             Action::Sca | Action::Scn => {
                 self.kept.naks = cause.naks;
-                send_some(&cause.answer, steps);
+                send_some(protocol::IPCP, &cause.answer, steps);
             }
             Action::Str => self.terminate(cause, steps),
-            Action::Sta => bare(TERMINATE_ACK, cause.id, steps),
+            Action::Sta => send_bare(protocol::IPCP, TERMINATE_ACK, cause.id, steps),
             Action::Scj => {
-                self.kept.next_id = next_id(self.kept.next_id);
-                send_some(&cause.answer, steps);
+                self.kept.ids.next = next_id(self.kept.ids.next);
+                send_some(protocol::IPCP, &cause.answer, steps);
             }
-            Action::Ser => send_some(&cause.answer, steps),
+            Action::Ser => send_some(protocol::IPCP, &cause.answer, steps),
         }
     }
 
@@ -163,7 +121,12 @@ impl Ipcp {
         ensures after { self.new ≡ (ipcp_terminated (ipcp_why cause.now) (record { ipcp = self.old; said = said steps.old })).ipcp }
         ensures said { said steps.new ≡ (ipcp_terminated (ipcp_why cause.now) (record { ipcp = self.old; said = said steps.old })).said }
     {
-        self.kept = ending(self.kept, cause.timed);
-        bare(TERMINATE_REQUEST, self.kept.terminate_id, steps);
+        self.kept.ids = ending(self.kept.ids, cause.timed);
+        send_bare(
+            protocol::IPCP,
+            TERMINATE_REQUEST,
+            self.kept.ids.terminate,
+            steps,
+        );
     }
 }

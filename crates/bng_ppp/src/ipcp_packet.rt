@@ -65,7 +65,7 @@ impl Ipcp {
         ensures few { length steps.new.outs.items ≤ length steps.old.outs.items + most_of event }
         ensures follows { IpcpFollows event (ipcp_plain self.old.kept id) now (ipcp_taken (record { ipcp = self.old; said = said steps.old }) self.old.ask) (record { ipcp = self.new; said = said steps.new }) }
     {
-        self.kept.answered = true;
+        self.kept.ids.answered = true;
         self.plainly(event, id, now, steps);
     }
 
@@ -85,7 +85,7 @@ impl Ipcp {
             id: packet.id,
             answer: Some(Packet {
                 code: CODE_REJECT,
-                id: self.kept.next_id,
+                id: self.kept.ids.next,
                 body: cut(body.payload(), body_most(mru)),
             }),
             naks: self.kept.naks,

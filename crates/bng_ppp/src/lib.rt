@@ -27,6 +27,7 @@ mod ipcp_codes;
 mod ipcp_configure_request;
 mod ipcp_counters;
 mod ipcp_packet;
+mod judgement;
 mod laws;
 mod layers;
 mod link;
@@ -40,6 +41,8 @@ mod terminate;
 mod tests;
 mod timers;
 mod verdict;
+#[cfg(test)]
+mod whole_fixtures;
 mod whole_frame;
 mod whole_input;
 mod whole_link;
@@ -50,6 +53,7 @@ mod whole_timers;
 
 pub use crate::authentication::Authentication;
 pub use crate::counters::{ECHOES_UNANSWERED_MOST, Kept, NAKS_MOST};
+pub use crate::identifiers::Identifiers;
 pub use crate::ipcp_counters::IpcpKept;
 pub use crate::laws::{
     frames_read_back, lcp_frames_read_back, lcp_has_one_outcome, link_frames_read_back,

@@ -7,6 +7,7 @@ ghost use Rattle.bng_ppp.specs.Echo.{EchoIsDue};
 ghost use Rattle.bng_automaton.specs.Timer.{TimerIsOut};
 
 use crate::counters::{Kept, NAKS_MOST};
+use crate::identifiers::first;
 use crate::lower_layer::first_ask;
 use crate::rules::{Input, LinkKind, LinkRules, limit};
 use crate::step::Steps;
@@ -57,10 +58,7 @@ impl Link {
             ask: first_ask(limit, &[AuthKind::Chap], random),
             kept: Kept {
                 limit,
-                next_id: 1,
-                request_id: 0,
-                terminate_id: 0,
-                answered: true,
+                ids: first(),
                 mru: limit,
                 naks: 0,
                 was_opened: false,

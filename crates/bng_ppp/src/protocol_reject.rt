@@ -41,11 +41,11 @@ impl Link {
         if self.rejects(number) {
             let packet = Packet {
                 code: PROTOCOL_REJECT,
-                id: self.kept.next_id,
+                id: self.kept.ids.next,
                 body: cut(octets, body_most(self.kept.mru)),
             };
-            send(&packet, steps);
-            self.kept.next_id = next_id(self.kept.next_id);
+            send(protocol::LCP, &packet, steps);
+            self.kept.ids.next = next_id(self.kept.ids.next);
         }
     }
 

@@ -1,7 +1,7 @@
 ghost use Rattle.std.specs.Prelude.{◌≡◌, ◌<◌, ◌≤◌, ◌↔◌, List, length, IfOk, IsOkAnd, MatchResult, All};
 ghost use Rattle.bng_base.specs.PppGrammar.{PppOption, AreOptions, OptionFits, options_text};
 ghost use Rattle.bng_ppp_wire.specs.View.{option_of, options_of};
-ghost use Rattle.bng_ppp_wire.specs.Listing.{WhyNoOptions};
+ghost use Rattle.bng_ppp_wire.specs.Listing.{WhyNoOptions, names as has_type};
 
 use crate::view::{Opt, Packet};
 use arrayvec::ArrayVec;
@@ -70,4 +70,16 @@ pub fn write_options(options: &[Opt<'_>], into: &mut Frame) -> Written
         into.put_back(option.value);
     }
     Written::Done
+}
+
+/// Whether an option of this type is listed.
+pub fn names(options: &[Opt<'_>], kind: u8) -> bool
+    ensures { result ≡ has_type (options_of options.now) kind }
+{
+    for option in options {
+        if option.kind == kind {
+            return true;
+        }
+    }
+    false
 }

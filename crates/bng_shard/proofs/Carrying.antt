@@ -1,7 +1,7 @@
 -- What was done with a packet of a term, of what is known of its parts.
 use Rattle.std.proofs.Common.{◌≡◌, ℕ, true, false, List, [], ◌∷◌, ◌++◌, Option, Some, None, length, inl, inr, refl, sym, ap, subst, ◌∙◌, arith}
 use Rattle.std.specs.Prelude.{◌≢◌, ◌==◌, find, option_map}
-use Rattle.std.specs.Option.{option_and_then}
+use Rattle.std.specs.Option.{option_and_then, option_flatten}
 use Rattle.std.proofs.lemmas.Bool.Decides.{nat_tests}
 use Rattle.std.proofs.lemmas.List.{append-nil}
 use Rattle.bng_base.specs.declared.address.Ip4.{Ip4}
@@ -41,25 +41,10 @@ pub service_with : (v : Service) (l : Lease) → lease_in v ≡ Some l → v ≡
 service_with (Provisioned k) l e = ap (λ (x : Lease). Provisioned x) (same_some k l e)
 service_with (Discovered m) l e = absurd (none_some l e)
 
--- a session whose term has a view has a lease
-pub leased : (v : Service) (view : TermView) → view_in v ≡ Some view → lease_in v ≡ None → ⊥
-leased (Provisioned l) view e none = none_some l (sym none)
-leased (Discovered m) view e none = none_some view e
-
--- where a view was found there is a session with a lease
-pub has_session : (found : Option Session) (view : Option TermView) → option_map view_of found ≡ Some view → found ≡ None → ⊥
-has_session None view e none = none_some view e
-has_session (Some x) view e none = none_some x (sym none)
-
-pub has_holder : (found : Option Session) (view : TermView) → option_and_then view_of found ≡ Some view → found ≡ None → ⊥
-has_holder None view e none = none_some view e
-has_holder (Some x) view e none = none_some x (sym none)
-
 -- the view of the session that was found, if one was found
-pub found_view : (found : Option (Option TermView)) (o : Option Session) → found ≡ option_map view_of o
-    → (flat : Option TermView) → flat ≡ option_and_then (λ (v : Option TermView). v) found → flat ≡ option_and_then view_of o
-found_view found None e flat is = is ∙ ap (λ (f : Option (Option TermView)). option_and_then (λ (v : Option TermView). v) f) e
-found_view found (Some x) e flat is = is ∙ ap (λ (f : Option (Option TermView)). option_and_then (λ (v : Option TermView). v) f) e
+pub flat_view : (o : Option Session) → option_flatten (option_map view_of o) ≡ option_and_then view_of o
+flat_view None = refl
+flat_view (Some x) = refl
 
 same_address : (a b : Ip4) → a.0 ≡ b.0 → a ≡ b
 same_address a b e = let make : ℕ → Ip4 = λ n. record { 0 = n } in ap make e

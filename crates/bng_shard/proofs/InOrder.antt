@@ -42,7 +42,7 @@ apart_of (c ∷ cs) h = (
 -- Sums ------------------------------------------------------------------------------------------------------------------
 
 -- x as often as m is one of the numbers
-hits : ℕ → List ℕ → ℕ → ℕ
+abbrev hits : ℕ → List ℕ → ℕ → ℕ
 hits m [] x = 0
 hits m (n ∷ ns) x = cond (eqb m n) x 0 + hits m ns x
 
@@ -65,7 +65,7 @@ hits_within m a (suc k) x low high =
 module _ (f : Static → ℕ) where
   here : (b : Bool) (c : Static) (cs : List Static) → sum_by f (cond b (c ∷ cs) cs) ≡ cond b (f c) 0 + sum_by f cs
   here true c cs = sum_by-cons f c cs
-  here false c cs = refl
+  here false c cs = omega arith
 
   one_more : (c : Static) (cs : List Static) (ns : List ℕ) → sum_by f (flat_map (circuit_at (c ∷ cs)) ns) ≡ hits (number c) ns (f c) + sum_by f (flat_map (circuit_at cs) ns)
   one_more c cs [] = refl
@@ -78,17 +78,18 @@ module _ (f : Static → ℕ) where
   none [] = refl
   none (n ∷ ns) = ap (sum_by f) (flat_map-cons (circuit_at []) n ns) ∙ none ns
 
+  sum_among : (shard k : ℕ) → k ≡ 1022 → (cs : List Static) → AllByRecursion (λ c. IsNumberOf shard c.session.0) cs → sum_by f (flat_map (circuit_at cs) (range_with_len (shard * 1024 + 1) k)) ≡ sum_by f cs
+  sum_among shard k all [] h = none (range_with_len (shard * 1024 + 1) k)
+  sum_among shard k all (c ∷ cs) h =
+      let more = one_more c cs (range_with_len (shard * 1024 + 1) k) in
+      let high = h.0.1 in
+      let here = hits_within (number c) (shard * 1024 + 1) k (f c) h.0.0 (omega (arith, high, all)) in
+      let rest = sum_among shard k all cs h.1 in
+      more ∙ ap (λ (n : ℕ). n + sum_by f (flat_map (circuit_at cs) (range_with_len (shard * 1024 + 1) k))) here ∙ ap (λ (n : ℕ). f c + n) rest ∙ sym (sum_by-cons f c cs)
+
   -- what is summed over the circuits is summed over them by rising number
   pub sum_in_order : (shard : ℕ) (cs : List Static) → AllByRecursion (λ c. IsNumberOf shard c.session.0) cs → sum_by f (in_order shard cs) ≡ sum_by f cs
-  sum_in_order shard [] h = none (range_with_len (shard * 1024 + 1) 1022)
-  sum_in_order shard (c ∷ cs) h =
-      omega (
-        arith,
-        one_more c cs (range_with_len (shard * 1024 + 1) 1022),
-        hits_within (number c) (shard * 1024 + 1) 1022 (f c) h.0.0 (omega (arith, h.0.1)),
-        sum_in_order shard cs h.1,
-        sum_by-cons f c cs,
-      )
+  sum_in_order shard cs h = sum_among shard 1022 refl cs h
 
 -- What holds of each circuit -------------------------------------------------------------------------------------------
 

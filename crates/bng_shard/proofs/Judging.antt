@@ -38,13 +38,13 @@ module _ (s : State) (number : ℕ) (offers : PortRules) (p : PppoeFrame) (tags 
   pub other : (a : Answer) → Some a ≡ first_row (table offers p tags (is_some found) true) → (a ≡ answer.Make → ⊥) → (v : Option ℕ) × IsAnswer s number offers p tags v a
   other a row not_make =
       let (v, is) = vacancy_of s in
-      (v, is, other_answer offers p tags a known (is_some v) (row_known a row) not_make)
+      (v, (is, other_answer offers p tags a known (is_some v) (row_known a row) not_make))
 
   -- a new session, or none where there may be none more
   pub make_or_refuse : (reply : Reply) → Some answer.Make ≡ first_row (table offers p tags (is_some found) true) → ((n : SessionNo) → reply ≡ Make n → IsVacancy s (Some n.0))
       → ((reply ≡ Refuse AcSystemError) × IsVacancy s None) ⊎ ((n : SessionNo) × (reply ≡ Make n)) → IsReply reply s number offers p tags
   make_or_refuse reply row make (inl (is, full)) =
-      subst (λ (x : Reply). IsReply x s number offers p tags) (sym is) (None, full, refused offers p tags known (row_known answer.Make row))
+      subst (λ (x : Reply). IsReply x s number offers p tags) (sym is) (None, (full, refused offers p tags known (row_known answer.Make row)))
   make_or_refuse reply row make (inr (n, is)) =
       subst (λ (x : Reply). IsReply x s number offers p tags) (sym is) (make n is, row_known answer.Make row)
 

@@ -33,4 +33,7 @@ pub mod Controls
 pub mod Vacating
 pub mod DueLaws
 pub mod InRange
-pub mod Opened
+pub mod BookLaws
+pub mod OneCircuit
+pub mod Circuits
+pub mod Scanning

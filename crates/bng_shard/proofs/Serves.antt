@@ -1,5 +1,5 @@
 -- What a shard keeps beside its sessions, when a session comes and when one goes.
-use Rattle.std.proofs.Common.{◌≡◌, ◌≢◌, ℕ, ◌+◌, ◌<◌, ◌≤◌, Bool, true, false, not, cond, List, [], ◌∷◌, ◌++◌, Option, Some, None, is_some, Contains, sum_by, inl, inr, refl, sym, ap, subst, ◌∙◌, arith}
+use Rattle.std.proofs.Common.{◌≡◌, ◌≢◌, ℕ, ◌+◌, ◌-◌, ◌<◌, ◌≤◌, Bool, true, false, not, cond, List, [], ◌∷◌, ◌++◌, Option, Some, None, is_some, Contains, sum_by, inl, inr, refl, sym, ap, subst, ◌∙◌, arith}
 use Rattle.std.proofs.lemmas.Bool.{cases_eq, false≢true}
 use Rattle.std.proofs.lemmas.List.Elements.{Contains-push, Contains-push_cases, Contains-append_left}
 use Rattle.bng_base.specs.declared.address.SessionNo.{SessionNo}
@@ -154,5 +154,18 @@ module _ (s : Sessions Session) (n : ℕ) where
   pub ended_take : (x : Session) → value_at s n ≡ Some x → leaves x ≡ false → ended_in (without s n) ≡ ended_in s
   ended_take x here stays =
       let sums = sum-without s n (λ (y : Session). cond (leaves y) 1 0) x here in
-      let none = ap (λ (b : Bool). cond b 1 0) stays in
+      let none = ap {B = ℕ} (λ (b : Bool). cond b 1 0) stays in
       omega (arith, sums, none)
+
+  -- how many sessions discovery made, when one of them goes
+  pub made_less : (after : Sessions Session) (made : ℕ) (x : Session) → value_at s n ≡ Some x → made_one x.service ≡ 1 → made ≡ sum_by (λ (y : Session). made_one y.service) (values s) → after ≡ without s n → made - 1 ≡ sum_by (λ (y : Session). made_one y.service) (values after)
+  made_less after made x here one is left =
+      let sums = made_take x here one in
+      let same = ap (λ (t : Sessions Session). sum_by (λ (y : Session). made_one y.service) (values t)) left in
+      omega (arith, sums, is, same)
+
+  pub made_more : (after : Sessions Session) (made : ℕ) (x : Session) → value_at s n ≡ None → made_one x.service ≡ 1 → made ≡ sum_by (λ (y : Session). made_one y.service) (values s) → after ≡ with_value s n x → made + 1 ≡ sum_by (λ (y : Session). made_one y.service) (values after)
+  made_more after made x vacant one is put =
+      let sums = made_put x vacant one in
+      let same = ap (λ (t : Sessions Session). sum_by (λ (y : Session). made_one y.service) (values t)) put in
+      omega (arith, sums, is, same)

@@ -137,3 +137,11 @@ module _ (s0 s : Sessions Session) (made : ℕ) (h : Settles s0 s [] made) where
 
   pub ended_none : ended_in s ≡ 0
   ended_none = sum_nothing (λ (x : Session). cond (leaves x) 1 0) (values s) (λ x c. let n = numbered s x c in ap (λ (b : Bool). cond b 1 0) (stays n.0 x n.1))
+
+pub some_there : {A : Type 0} (o : Option A) → is_some o ≡ true → (a : A) × (o ≡ Some a)
+some_there None h = absurd (false≢true h)
+some_there (Some a) h = (a, refl)
+
+pub none_there : {A : Type 0} (o : Option A) → is_some o ≡ false → o ≡ None
+none_there None h = refl
+none_there (Some a) h = absurd (false≢true (sym h))

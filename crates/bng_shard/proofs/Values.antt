@@ -258,7 +258,7 @@ module _ {V : Type 0} where
   few_between [] low high h within = omega arith
   few_between (e ∷ es) low high h within =
       let here = within e.0 e.1 (first_found e es) in
-      let rest = few_between es (e.0 + 1) high (second _ _ h) (λ n x f.
+      let rest : length es ≤ high + 1 - (e.0 + 1) = few_between es (e.0 + 1) high (second _ _ h) (λ n x f.
           let over = above e.0 n x es (first _ _ h) f in
           let last = within n x (behind e es n x (first _ _ h) f) in
           (omega (arith, over), last.1)) in

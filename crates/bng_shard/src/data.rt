@@ -20,6 +20,7 @@ use bng_pppoe_wire::Pppoe;
 
 // The octets of a datagram, apart from its item.
 fn copied(frame: &Frame) -> Frame
+    requires { frame.now.headroom ≡ 64 }
     ensures payload { result.payload ≡ frame.now.payload }
     ensures headroom { result.headroom ≡ 64 }
 {
@@ -82,9 +83,9 @@ pub(crate) fn hear_data(
     let mut packet = copied(&item.frame);
     take_from_frame(&mut packet, size);
     let fate = up(view_of(session), &mut packet);
-    if fate != Fate::Forwarded {
+    let Fate::Forwarded = fate else {
         return fate;
-    }
+    };
     let Some(session) = session else {
         unreachable!();
     };
@@ -117,9 +118,9 @@ fn hear_packet(
     let holder = served.holder_of(header.dst);
     let mut packet = copied(&item.frame);
     let fate = down(view_of(holder).flatten(), header, &mut packet);
-    if fate != Fate::Forwarded {
+    let Fate::Forwarded = fate else {
         return fate;
-    }
+    };
     let Some(session) = holder else {
         unreachable!();
     };

@@ -1,9 +1,10 @@
 ghost use Rattle.std.specs.Prelude.{◌≡◌, ◌<◌, ◌≤◌, ◌^◌, [], ◌∷◌, Some, ℕ, IfOk, length, true};
-ghost use Rattle.bng_base.specs.declared.settings.Static.{Static as Provisioned};
 ghost use Rattle.bng_shard.specs.declared.rules.Rules.{Rules as Ways};
 ghost use Rattle.bng_shard.specs.Frames.{charge_of};
+ghost use Rattle.bng_shard.specs.Opening.{lease_from, provisioned};
 ghost use Rattle.bng_shard.specs.Protocol.{opened};
 ghost use Rattle.bng_shard.specs.Sums.{AreLow, IsLow};
+ghost use Rattle.bng_slots.specs.Sessions.{IsNumberOf};
 
 use crate::{Charged, Rules, Shard, Traffic};
 use arrayvec::ArrayVec;
@@ -92,7 +93,9 @@ fn links() -> LinkRules
 
 // One shard, and the port 1.
 fn rules(alloc: Global) -> Result<Rules, AllocError>
-    ensures { IfOk result (λ r. 0 < length r.link.auth.items) }
+    ensures auth { IfOk result (λ r. 0 < length r.link.auth.items) }
+    ensures access { IfOk result (λ r. length r.access ≡ 1) }
+    ensures offers { IfOk result (λ r. length r.offers ≡ 1) }
 {
     let port = AccessPort {
         local: peer(9010),
@@ -230,7 +233,7 @@ fn a_host_is_offered_a_session_and_its_request_sent_twice_makes_one(
     rt: HostRuntime,
 ) -> Result<(), Fail> {
     let alloc = rt.alloc();
-    let mut shard = Shard::open(alloc, 0, rules(alloc)?, Vec::new(alloc))?;
+    let mut shard = Shard::open(alloc, 0, rules(alloc)?, &[])?;
     let access = ItemKind::Access(1);
     let mut tally = NOTHING;
     let outs = round(&rt, alloc, &mut shard, &mut tally, 0, item(access, &PADI));
@@ -250,7 +253,7 @@ fn a_host_is_offered_a_session_and_its_request_sent_twice_makes_one(
 #[test]
 fn ten_thousand_calls_make_no_session(rt: HostRuntime) -> Result<(), Fail> {
     let alloc = rt.alloc();
-    let mut shard = Shard::open(alloc, 0, rules(alloc)?, Vec::new(alloc))?;
+    let mut shard = Shard::open(alloc, 0, rules(alloc)?, &[])?;
     let mut tally = NOTHING;
     for host in 0..10_000 {
         let call = item(ItemKind::Access(1), &padi(host));
@@ -267,7 +270,7 @@ fn a_full_shard_refuses_and_is_free_again_where_no_host_goes_on(
     rt: HostRuntime,
 ) -> Result<(), Fail> {
     let alloc = rt.alloc();
-    let mut shard = Shard::open(alloc, 0, rules(alloc)?, Vec::new(alloc))?;
+    let mut shard = Shard::open(alloc, 0, rules(alloc)?, &[])?;
     for host in 1..1023 {
         let outs = request(&rt, alloc, &mut shard, host);
         assert_eq!(rt;
@@ -286,7 +289,11 @@ fn a_full_shard_refuses_and_is_free_again_where_no_host_goes_on(
     Ok(())
 }
 
-fn circuit() -> Static {
+fn circuit() -> Static
+    ensures number { IsNumberOf 1 result.session.0 }
+    ensures port { result.port ≡ 1 }
+    ensures profile { result.profile ≡ 0 }
+{
     let mut user = ArrayVec::new();
     user.push(b'f');
     Static {
@@ -299,9 +306,22 @@ fn circuit() -> Static {
     }
 }
 
+// The shard 1 with this circuit.
+fn open_with(alloc: Global, circuit: &Static) -> Result<Shard, Fail>
+    requires number { IsNumberOf 1 circuit.now.session.0 }
+    requires port { circuit.now.port ≡ 1 }
+    requires profile { circuit.now.profile ≡ 0 }
+    ensures { IfOk result (λ s. (rules : Ways) × (s ≡ opened 1 rules (circuit.now ∷ []))) }
+{
+    let rules = rules(alloc)?;
+    let circuits = std::slice::from_ref(circuit);
+    let shard = Shard::open(alloc, 1, rules, circuits)?;
+    Ok(shard)
+}
+
 // A packet of its term of so many octets, from the subscriber, that was sent.
 fn sent(circuit: &Static, octets: u16) -> OutRecord
-    ensures charge { result.charge ≡ Some (charge_of circuit.now 0 true octets) }
+    ensures charge { result.charge ≡ Some (charge_of (provisioned circuit.now 1) (lease_from circuit.now 1) true octets) }
     ensures sent { result.sent ≡ true }
 {
     OutRecord {
@@ -331,8 +351,10 @@ fn sent(circuit: &Static, octets: u16) -> OutRecord
 }
 
 // Charges the first packet of a shard that has one circuit.
-fn charge_first(shard: &mut Shard, out: &OutRecord) -> Charged
-    requires charged { (rules : Ways) × (circuit : Provisioned) × (octets : ℕ) × (shard.old ≡ opened 1 rules (circuit ∷ [])) × (out.now.charge ≡ Some (charge_of circuit 0 true octets)) }
+fn charge_first(shard: &mut Shard, circuit: &Static, out: &OutRecord) -> Charged
+    requires number { IsNumberOf 1 circuit.now.session.0 }
+    requires opened { (rules : Ways) × (shard.old ≡ opened 1 rules (circuit.now ∷ [])) }
+    requires charged { (octets : ℕ) × (out.now.charge ≡ Some (charge_of (provisioned circuit.now 1) (lease_from circuit.now 1) true octets)) }
     requires sent { out.now.sent ≡ true }
 {
     shard.charge(out)
@@ -343,12 +365,12 @@ fn a_packet_counts_for_its_term(rt: HostRuntime) -> Result<(), Fail> {
     let alloc = rt.alloc();
     let circuit = circuit();
     let packet = sent(&circuit, 84);
-    let mut shard = Shard::open(alloc, 1, rules(alloc)?, Vec::from_array(alloc, [circuit])?)?;
+    let mut shard = open_with(alloc, &circuit)?;
     let charged = Charged::Packet {
         input: true,
         octets: 84,
     };
-    assert_eq!(rt; charge_first(&mut shard, &packet), charged);
+    assert_eq!(rt; charge_first(&mut shard, &circuit, &packet), charged);
     let carried = Some(Traffic {
         input: 84,
         output: 0,

@@ -49,10 +49,10 @@ module _ {V : Type 0} (s : Sessions V) (n : ℕ) where
   pub with_value-without : (v : V) → with_value (without s n) n v ≡ with_value s n v
   with_value-without v =
       let each : (q : ℕ) → get (with_value (without s n) n v).by_number q ≡ get (with_value s n v).by_number q = λ q.
-          get-insert nat_cmp_total (without s n).by_number n v q
-          ∙ ap (λ o. cond (eq_by_cmp nat_cmp q n) (Some v) o) (get-remove nat_cmp_total s.by_number n q)
-          ∙ same_branch (eq_by_cmp nat_cmp q n) (Some v) None (get s.by_number q)
-          ∙ sym (get-insert nat_cmp_total s.by_number n v q) in
+      get-insert nat_cmp_total (without s n).by_number n v q
+      ∙ ap (λ o. cond (eq_by_cmp nat_cmp q n) (Some v) o) (get-remove nat_cmp_total s.by_number n q)
+      ∙ same_branch (eq_by_cmp nat_cmp q n) (Some v) None (get s.by_number q)
+      ∙ sym (get-insert nat_cmp_total s.by_number n v q) in
       ap (λ m. record { shard = s.shard; by_number = m }) (same_map nat_cmp_total nat_cmp-IsAntisymmetric (with_value (without s n) n v).by_number (with_value s n v).by_number each)
 
   pub used-with_value : (v : V) → value_at s n ≡ None → used (with_value s n v) ≡ used s + 1

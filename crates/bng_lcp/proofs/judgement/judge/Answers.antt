@@ -1,5 +1,18 @@
-use Rattle.bng_lcp.proofs.JudgementLaws.{ack_iff}
+use Rattle.std.proofs.Common.{◌≡◌, ◌↔◌, List, [], subst, All}
+use Rattle.bng_ppp_wire.specs.declared.option_table.Row.{Row}
+use Rattle.bng_ppp_wire.specs.declared.judgement.Class.TheVariants as class
+use Rattle.bng_ppp_wire.specs.declared.judgement.Judged.TheVariants as judged
+use Rattle.bng_ppp_wire.specs.View.{option_of, options_of}
+use Rattle.bng_ppp_wire.specs.Judgement.{class_of, added}
+use Rattle.bng_lcp.proofs.TableLaws.{none_added}
 use Rattle.bng_lcp.proofs.judgement.judge.Goals as goal
 
 pub returns-clause-ack : goal.returns-clause-ack
-returns-clause-ack c = ack_iff c.args.rules.now c.args.request.now c.first_class.result c.first_class.ensures
+returns-clause-ack c =
+    let n = c.args.rules.now.no_more_naks in
+    let request = c.args.request.now in
+    let P : List Row → Type 0 = λ rows.
+    (c.judge.result ≡ judged.Ack)
+    ↔ (All (λ o. class_of rows n (option_of o) ≡ class.Ack) request × (added rows n (options_of request) ≡ [])) in
+    let ack = subst P c.rows-rows.ensures c.judge.ensures.ack in
+    (λ e. (ack.0 e).0, λ all. ack.1 (all, none_added c.args.rules.now (options_of request)))

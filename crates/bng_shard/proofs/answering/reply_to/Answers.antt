@@ -40,7 +40,8 @@ pub returns-in-Some : goal.returns-in-Some
 returns-in-Some c = λ ts are.
     let d = (goal.at.returns-in-Some c).After-answer in
     let again = not_make d Again c.in-Again.is (λ e. let never : ⊥ = cc in never) ts are in
-    (again.0, again.1, session_again c.args.served.now c.args.number c.args.offers.now (frame_of c.args.frame.now) ts d.repeated-found.result (found_is d ts are) c.in-Some.session c.in-Some.is)
+    let (x, at, same) = session_again c.args.served.now c.args.number c.args.offers.now (frame_of c.args.frame.now) ts d.repeated-found.result (found_is d ts are) c.in-Some.session c.in-Some.is in
+    (again.0, again.1, x, at, same)
 
 pub returns-in-None : goal.returns-in-None
 returns-in-None c = λ ts are.

@@ -25,7 +25,7 @@ put-requires-clause-vacant c =
 pub put-requires-clause-made : goal.put-requires-clause-made
 put-requires-clause-made c =
     ap (λ (y : Session). made_one y.service) c.end.ensures
-    ∙ made_of_ended c.take-session.result.service (live_there c.args.served.now c.args.number.0 c.take-session.result c.requires c.take-session.ensures.value)
+    ∙ made_of_ended c.take-session.result.service (live_there c.args.served.now c.args.number.0 c.take-session.result c.requires.lives c.take-session.ensures.value)
 
 pub returns : goal.returns
 returns c x is =

@@ -1,4 +1,21 @@
 use Rattle.bng_pppoe_wire.specs.View.{frame_of}
 use Rattle.bng_ppp.specs.declared.rules.Input.TheVariants.{Frame}
-use Rattle.bng_shard.proofs.Controls.{lives_there, no_session, stays_idle, ends_it, hears_it}
+use Rattle.bng_shard.proofs.Controls.{no_session, stays_idle, ends_it, hears_it}
 use Rattle.bng_shard.proofs.frames.hear_control.Goals as goal
+
+pub returns-in-Unknown-clause-does : goal.returns-in-Unknown-clause-does
+returns-in-Unknown-clause-does c =
+    no_session c.args.rules.now c.args.served.now c.args.at c.args.item.now c.args.outs.now.items c.requires.here c.args.number (frame_of c.args.frame.now) c.in-Unknown.ensures c.args.now
+
+pub returns-in-Ignored-clause-does : goal.returns-in-Ignored-clause-does
+returns-in-Ignored-clause-does c =
+    stays_idle c.args.rules.now c.args.served.now c.args.at c.args.item.now c.args.outs.now.items c.requires.here c.args.number (frame_of c.args.frame.now) c.in-Ignored.ensures c.args.now
+
+pub returns-then-frame-clause-does : goal.returns-then-frame-clause-does
+returns-then-frame-clause-does c =
+    ends_it c.args.rules.now c.args.served.now c.args.at c.args.item.now c.args.outs.now.items c.requires.here c.args.number (frame_of c.args.frame.now) c.in-Heard.ensures c.if-frame.true c.end_session.new.served c.end_session.ensures c.args.now
+
+pub returns-else-frame-clause-does : goal.returns-else-frame-clause-does
+returns-else-frame-clause-does c =
+    hears_it c.args.rules.now c.args.served.now c.args.at c.args.item.now c.args.outs.now.items c.requires.here c.args.number (frame_of c.args.frame.now) (Frame c.args.frame.now.payload) (λ e x x' sent d. d) c.in-Heard.ensures c.if-frame.false
+    c.args.now c.drive_at.new.served c.drive_at.new.outs.items c.drive_at.ensures.driven c.drive_at.ensures.few

@@ -1,7 +1,7 @@
 use Rattle.std.proofs.Common.{◌≡◌, take}
 use Rattle.std.specs.Prelude.{fold}
 use Rattle.bng_ppp_wire.specs.View.{options_of}
-use Rattle.bng_lcp.specs.Reply.{changed_by}
+use Rattle.bng_lcp.specs.ConfigureReply.{changed_by}
 use Rattle.bng_lcp.proofs.ask.LcpAsk.after_nak.Given as goal
 
 abbrev pub invariant-loop-option : goal.invariant-loop-option

@@ -1,5 +1,5 @@
 use Rattle.std.proofs.Common.{◌-◌}
-use Rattle.bng_shard.proofs.Opened.{Opens}
+use Rattle.bng_shard.proofs.Circuits.{Opens}
 use Rattle.bng_shard.proofs.served.Served.open.Given as goal
 
 abbrev pub invariant-loop-n : goal.invariant-loop-n

@@ -1,0 +1,83 @@
+-- A shard with one circuit: what holds of the circuit holds of all, and its term has the one row.
+use Rattle.std.proofs.Common.{◌≡◌, ℕ, zero, suc, ◌+◌, ◌*◌, ◌^◌, ◌<◌, ◌≤◌, Bool, true, false, cond, List, [], ◌∷◌, ◌++◌, map, Option, Some, IfSome, inl, inr, refl, sym, ap, subst, ◌∙◌, arith, eqb}
+use Rattle.std.specs.List.{All, AllPairs, flat_map, range_with_len}
+use Rattle.std.proofs.lemmas.Bool.{cases_eq, eq-eqb, ne_eqb}
+use Rattle.std.proofs.lemmas.List.Concat.{flat_map-cons}
+use Rattle.bng_base.specs.declared.item.Charge.{Charge}
+use Rattle.bng_base.specs.declared.item.OutRecord.{OutRecord}
+use Rattle.bng_base.specs.declared.settings.Static.{Static}
+use Rattle.bng_engine.specs.Lists.{AnyOf}
+use Rattle.bng_engine.specs.Protocol.{HasKey, IsOwned}
+use Rattle.bng_engine.specs.Terms.{Key, Term, keys, key_in}
+use Rattle.bng_engine.specs.Views.{Row, new_row, row_keys}
+use Rattle.bng_slots.specs.Sessions.{IsNumberOf}
+use Rattle.bng_shard.specs.declared.rules.Rules.{Rules}
+use Rattle.bng_shard.specs.Frames.{charge_of}
+use Rattle.bng_shard.specs.Opening.{circuit_at, in_order, lease_from, provisioned}
+use Rattle.bng_shard.specs.Protocol.{opened, term_of, terms_after}
+use Rattle.bng_shard.specs.Sums.{RowsAreLow}
+use Rattle.bng_shard.proofs.InOrder.{number, opened_terms}
+
+pub only_one : {X : Type 0} (P : X → Type 0) (x : X) → P x → All P (x ∷ [])
+only_one P x h zero d lt = h
+only_one P x h (suc k) d lt = absurd (omega (arith, lt))
+
+pub no_pair : {X : Type 0} (R : X → X → Type 0) (x : X) → AllPairs R (x ∷ [])
+no_pair R x i j d lt within = absurd (omega (arith, lt, within))
+
+-- Its place among the numbers of the shard -------------------------------------------------------------------------------
+
+module _ (c : Static) where
+  at_number : (n : ℕ) → number c ≡ n → circuit_at (c ∷ []) n ≡ c ∷ []
+  at_number n e = ap (λ (b : Bool). cond b (c ∷ []) []) (eq-eqb (number c) n e)
+
+  elsewhere : (n : ℕ) → (number c ≡ n → ⊥) → circuit_at (c ∷ []) n ≡ []
+  elsewhere n ne = ap (λ (b : Bool). cond b (c ∷ []) []) (ne_eqb (number c) n ne)
+
+  past : (a k : ℕ) → number c < a → flat_map (circuit_at (c ∷ [])) (range_with_len a k) ≡ []
+  past a zero lt = refl
+  past a (suc k) lt =
+      flat_map-cons (circuit_at (c ∷ [])) a (range_with_len (a + 1) k)
+      ∙ ap (λ (cs : List Static). cs ++ flat_map (circuit_at (c ∷ [])) (range_with_len (a + 1) k)) (elsewhere a (λ e. omega (arith, e, lt)))
+      ∙ past (a + 1) k (omega (arith, lt))
+
+  among : (a k : ℕ) → a ≤ number c → number c < a + k → flat_map (circuit_at (c ∷ [])) (range_with_len a k) ≡ c ∷ []
+  among a zero low high = absurd (omega (arith, low, high))
+  among a (suc k) low high =
+      elim (cases_eq (number c) a) [
+        | inl e ↦
+            flat_map-cons (circuit_at (c ∷ [])) a (range_with_len (a + 1) k)
+            ∙ ap (λ (cs : List Static). cs ++ flat_map (circuit_at (c ∷ [])) (range_with_len (a + 1) k)) (at_number a e)
+            ∙ ap (λ (cs : List Static). c ∷ cs) (past (a + 1) k (omega (arith, e)))
+        | inr ne ↦
+            flat_map-cons (circuit_at (c ∷ [])) a (range_with_len (a + 1) k)
+            ∙ ap (λ (cs : List Static). cs ++ flat_map (circuit_at (c ∷ [])) (range_with_len (a + 1) k)) (elsewhere a ne)
+            ∙ among (a + 1) k (higher a ne low) (omega (arith, high))
+      ]
+    where
+      higher : (a : ℕ) → (number c ≡ a → ⊥) → a ≤ number c → a + 1 ≤ number c
+      higher a ne low = omega (arith, low, ne)
+
+  one_in_order : (shard : ℕ) → IsNumberOf shard c.session.0 → in_order shard (c ∷ []) ≡ c ∷ []
+  one_in_order shard of = among (shard * 1024 + 1) 1022 of.0 (omega (arith, of.1))
+
+  -- Its row ---------------------------------------------------------------------------------------------------------------
+
+  abbrev row : Row
+  row = new_row (term_of (provisioned c 1) (lease_from c 1)).key
+
+  pub one_row : (r : Rules) (shard : ℕ) → IsNumberOf shard c.session.0 → (opened shard r (c ∷ [])).rows ≡ row ∷ []
+  one_row r shard of =
+      ap (λ (ts : List Term). map new_row (keys ts)) (opened_terms r shard (c ∷ []) (tt, tt))
+      ∙ ap (λ (cs : List Static). map new_row (keys (terms_after 0 cs))) (one_in_order shard of)
+
+  -- nothing was carried
+  pub row_low : (r : Rules) (shard most : ℕ) → IsNumberOf shard c.session.0 → RowsAreLow most (opened shard r (c ∷ [])).rows
+  row_low r shard most of = subst (RowsAreLow most) (sym (one_row r shard of)) (λ q input. omega arith)
+
+  -- a packet of its term is of that row
+  pub row_owned : (r : Rules) (shard : ℕ) → IsNumberOf shard c.session.0 → (o : OutRecord) (input : Bool) (octets : ℕ) → o.charge ≡ Some (charge_of (provisioned c 1) (lease_from c 1) input octets)
+      → IsOwned (row_keys (opened shard r (c ∷ [])).rows) o
+  row_owned r shard of o input octets e =
+      subst (λ (rows : List Row). IsOwned (row_keys rows) o) (sym (one_row r shard of))
+      (subst (λ (charge : Option Charge). IfSome charge (λ p. AnyOf (HasKey p) (row_keys (row ∷ [])))) (sym e) (inl refl))

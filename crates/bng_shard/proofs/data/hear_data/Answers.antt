@@ -1,0 +1,43 @@
+use Rattle.std.proofs.Common.{◌≡◌, ℕ, true, List, [], ◌∷◌, ◌++◌, Option, Some, length, option_map, ap, subst, sym, ◌∙◌}
+use Rattle.bng_base.specs.declared.fate.Fate.TheVariants.{Forwarded}
+use Rattle.bng_base.specs.declared.item.Charge.{Charge}
+use Rattle.bng_base.specs.declared.outside.Role.TheVariants.{Core}
+use Rattle.bng_forward.specs.Fates.{Carries, UpFate}
+use Rattle.bng_forward.specs.Framed.{IsFrameWith}
+use Rattle.bng_forward.specs.Packets.{IsPassedOn}
+use Rattle.bng_pppoe_wire.specs.View.{frame_of}
+use Rattle.bng_shard.specs.declared.session.Session.{Session}
+use Rattle.bng_shard.specs.Deed.{out}
+use Rattle.bng_shard.specs.Frames.{found_up}
+use Rattle.bng_shard.specs.State.{view_of}
+use Rattle.bng_shard.proofs.Arriving.{frame_with}
+use Rattle.bng_shard.proofs.Carrying.{drops_up, goes_up}
+use Rattle.bng_shard.proofs.data.hear_data.Goals as goal
+use Rattle.bng_shard.proofs.data.hear_data.Goals.{After-up-fate}
+
+-- what was found for the frame
+found : (c : After-up-fate) → c.view_of.result ≡ found_up c.args.served.now c.args.number (frame_of c.args.frame.now)
+found c = c.view_of.ensures ∙ ap (λ (o : Option Session). option_map view_of o) c.session_of-session.ensures
+
+-- the packet is what the frame carries
+carried : (c : After-up-fate) (info : List ℕ) → Carries (frame_of c.args.frame.now) info → c.take_from_frame.new.frame.payload ≡ info
+carried c info carries =
+    c.take_from_frame.ensures.packet info
+    (subst (λ (octets : List ℕ). IsFrameWith info octets) (sym c.copied-packet.ensures.payload) (frame_with c.args.rules.now.access c.args.number c.args.item.now (frame_of c.args.frame.now) info c.requires.came carries))
+
+pub returns-in_default-clause-does : goal.returns-in_default-clause-does
+returns-in_default-clause-does c moment info carries =
+    let d = (goal.at.returns-in_default-clause-does c).After-up-fate in
+    drops_up c.args.rules.now c.args.served.now c.args.at c.args.item.now c.args.outs.now.items c.requires.here c.args.number (frame_of c.args.frame.now) info c.view_of.result c.up-fate.result (found d)
+    (subst (λ (octets : List ℕ). UpFate c.view_of.result octets c.up-fate.result) (carried d info carries) c.up-fate.ensures.fate) c.in_default.not-Forwarded moment
+
+pub returns-clause-does : goal.returns-clause-does
+returns-clause-does c moment info carries =
+    let d = (goal.at.returns-clause-does c).After-up-fate in
+    let on : c.up-fate.result ≡ Forwarded = c.in-Forwarded.is in
+    let (v, may, passed) = c.up-fate.ensures.forwarded on in
+    let up = subst (λ (octets : List ℕ). UpFate c.view_of.result octets Forwarded) (carried d info carries) (subst (λ f. UpFate c.view_of.result c.take_from_frame.new.frame.payload f) on c.up-fate.ensures.fate) in
+    goes_up c.args.rules.now c.args.served.now c.args.at c.args.item.now c.args.outs.now.items c.requires.here c.args.number (frame_of c.args.frame.now) info c.up-fate.new.packet.payload c.view_of.result c.in-Some.session.now c.in-Some-lease.lease
+    (length c.payload.result.now) c.push_out.new.outs.items (found d) (sym c.in-Some.ensures) (sym c.in-Some-lease.ensures) up
+    (v, may, subst (λ (octets : List ℕ). IsPassedOn v octets c.up-fate.new.packet.payload) (carried d info carries) passed) (ap length (sym c.payload.ensures.octets))
+    (c.push_out.ensures.items ∙ ap (λ (x : Charge). c.args.outs.now.items ++ out c.args.at Core c.args.rules.now.core_peer c.up-fate.new.packet.payload (Some x) ∷ []) c.charge_of-charge.ensures) moment

@@ -1,0 +1,90 @@
+use Rattle.std.proofs.Common.{rules, ◌≡◌, ◌∙◌, ℕ, ◌+◌, ◌-◌, ◌*◌, ◌≤◌, List, [], Some, sym, ap, subst, refl, arith, length}
+use Rattle.bng_base.specs.declared.address.SessionNo.{SessionNo}
+use Rattle.bng_slots.specs.Sessions.{Sessions, NoneShares, with_value}
+use Rattle.bng_shard.specs.declared.session.Session.{Session}
+use Rattle.bng_shard.specs.Indexed.{address_of, term_of}
+use Rattle.bng_shard.specs.Serving.{AreLeaving}
+use Rattle.bng_shard.specs.State.{circuit_of}
+use Rattle.bng_shard.proofs.Circuits.{Opens, at, few_begun, opened_ended, opened_is, opened_leaving, opened_made, opened_of_shard, opened_own, opens_none, opens_pass, opens_put, shares_address, shares_circuit, shares_term, vacant_there}
+use Rattle.bng_shard.proofs.served.Served.open.Goals as goal
+use Rattle.bng_shard.proofs.served.Served.open.Goals.{in-Some, in_default-circuit_with}
+
+pub loop-n-init : goal.loop-n-init
+loop-n-init c =
+    let none : 0 ≡ c.args.number * 1024 + 1 - (c.args.number * 1024 + 1) = omega arith in
+    subst (λ (k : ℕ). Opens c.args.number c.args.circuits.now k c.in-Ok.sessions 0) none (opens_none c.args.number c.args.circuits.now c.in-Ok.sessions c.in-Ok.ensures.shard c.in-Ok.ensures.vacant)
+
+pub overflow_add-begun : goal.overflow_add-begun
+overflow_add-begun c =
+    let few = few_begun c.args.number c.args.circuits.now (c.loop-n.n - (c.args.number * 1024 + 1)) c.loop-n.sessions c.loop-n.begun c.loop-n.invariant c.requires.sessions in
+    let l = c.loop-n-test.true in
+    omega (arith, few, l)
+
+pub put-requires-clause-vacant : goal.put-requires-clause-vacant
+put-requires-clause-vacant c =
+    let first = c.args.number * 1024 + 1 in
+    let low : c.args.number * 1024 + 1 ≤ c.loop-n.n = search rules in
+    let here = at c.args.number c.args.circuits.now first c.loop-n.n c.loop-n.sessions c.loop-n.begun c.loop-n.invariant refl low in
+    vacant_there c.args.number c.args.circuits.now (c.loop-n.n - first) c.loop-n.sessions c.loop-n.begun c.loop-n.invariant c.loop-n.n here
+
+pub put-requires-clause-circuit : goal.put-requires-clause-circuit
+put-requires-clause-circuit c =
+    let first = c.args.number * 1024 + 1 in
+    let low : c.args.number * 1024 + 1 ≤ c.loop-n.n = search rules in
+    let here = at c.args.number c.args.circuits.now first c.loop-n.n c.loop-n.sessions c.loop-n.begun c.loop-n.invariant refl low in
+    subst (λ (x : Session). NoneShares (λ (y : Session). Some (circuit_of y)) c.loop-n.sessions x) (sym c.provisioned.ensures)
+    (shares_circuit c.args.number c.args.circuits.now (c.loop-n.n - first) c.loop-n.sessions c.loop-n.begun c.loop-n.invariant c.loop-n.n c.in-Some.circuit.now here c.in-Some.ensures.found (c.loop-n.begun + 1))
+
+pub put-requires-clause-address : goal.put-requires-clause-address
+put-requires-clause-address c =
+    let first = c.args.number * 1024 + 1 in
+    let low : c.args.number * 1024 + 1 ≤ c.loop-n.n = search rules in
+    let here = at c.args.number c.args.circuits.now first c.loop-n.n c.loop-n.sessions c.loop-n.begun c.loop-n.invariant refl low in
+    subst (λ (x : Session). NoneShares address_of c.loop-n.sessions x) (sym c.provisioned.ensures)
+    (shares_address c.args.number c.args.circuits.now (c.loop-n.n - first) c.loop-n.sessions c.loop-n.begun c.loop-n.invariant c.loop-n.n c.in-Some.circuit.now here c.in-Some.ensures.found c.requires.addresses (c.loop-n.begun + 1))
+
+pub put-requires-clause-term : goal.put-requires-clause-term
+put-requires-clause-term c =
+    let first = c.args.number * 1024 + 1 in
+    let low : c.args.number * 1024 + 1 ≤ c.loop-n.n = search rules in
+    let here = at c.args.number c.args.circuits.now first c.loop-n.n c.loop-n.sessions c.loop-n.begun c.loop-n.invariant refl low in
+    subst (λ (x : Session). NoneShares term_of c.loop-n.sessions x) (sym c.provisioned.ensures)
+    (shares_term c.args.number c.args.circuits.now (c.loop-n.n - first) c.loop-n.sessions c.loop-n.begun c.loop-n.invariant c.loop-n.n c.in-Some.circuit.now here c.in-Some.ensures.found (c.loop-n.begun + 1))
+
+pub loop-n-preserved : goal.loop-n-preserved
+loop-n-preserved c =
+    let first = c.args.number * 1024 + 1 in
+    let low : c.args.number * 1024 + 1 ≤ c.loop-n.n = search rules in
+    elim c.match-circuit_with.branch [
+      | in-Some w ↦ opens_put c.args.number c.args.circuits.now first c.loop-n.n c.loop-n.sessions c.loop-n.begun c.loop-n.invariant refl low w.in-Some.circuit.now w.in-Some.ensures.found c.match-circuit_with.sessions c.match-circuit_with.begun w.begun-is
+          (w.sessions-is ∙ w.put.ensures ∙ ap (with_value c.loop-n.sessions c.loop-n.n) w.provisioned.ensures)
+      | in_default-circuit_with w ↦ opens_pass c.args.number c.args.circuits.now first c.loop-n.n c.loop-n.sessions c.loop-n.begun c.loop-n.invariant refl low w.in_default-circuit_with.ensures.none c.match-circuit_with.sessions c.match-circuit_with.begun w.begun-is w.sessions-is
+    ]
+
+pub invariant_of-result : goal.invariant_of-result
+invariant_of-result c =
+    let past = c.loop-n-test.false in
+    let all : c.loop-n.n - (c.args.number * 1024 + 1) ≡ 1022 = search rules in
+    let opens = subst (λ (k : ℕ). Opens c.args.number c.args.circuits.now k c.loop-n.sessions c.loop-n.begun) all c.loop-n.invariant in
+    let none = c.in_ok-leaving.ensures.items in
+    let room = c.in_ok-leaving.ensures.capacity in
+    record {
+      own = opened_own c.args.number c.args.circuits.now c.loop-n.sessions c.loop-n.begun opens;
+      of_shard = opened_of_shard c.args.number c.args.circuits.now c.loop-n.sessions c.loop-n.begun opens;
+      made = sym (opened_made c.args.number c.args.circuits.now c.loop-n.sessions c.loop-n.begun opens);
+      leaving = subst (λ (ns : List SessionNo). AreLeaving c.loop-n.sessions ns) (sym none) (opened_leaving c.args.number c.args.circuits.now c.loop-n.sessions c.loop-n.begun opens);
+      counted = opened_ended c.args.number c.args.circuits.now c.loop-n.sessions c.loop-n.begun opens ∙ sym (ap (λ (ns : List SessionNo). length ns) none);
+      room = omega (arith, room);
+    }
+
+pub returns-clause-opened : goal.returns-clause-opened
+returns-clause-opened c =
+    let all : c.loop-n.n - (c.args.number * 1024 + 1) ≡ 1022 = search rules in
+    let opens = subst (λ (k : ℕ). Opens c.args.number c.args.circuits.now k c.loop-n.sessions c.loop-n.begun) all c.loop-n.invariant in
+    opened_is c.args.number c.args.circuits.now c.loop-n.sessions c.loop-n.begun opens c.requires.own
+
+pub returns-clause-none : goal.returns-clause-none
+returns-clause-none c =
+    let all : c.loop-n.n - (c.args.number * 1024 + 1) ≡ 1022 = search rules in
+    let opens = subst (λ (k : ℕ). Opens c.args.number c.args.circuits.now k c.loop-n.sessions c.loop-n.begun) all c.loop-n.invariant in
+    opened_made c.args.number c.args.circuits.now c.loop-n.sessions c.loop-n.begun opens
