@@ -22,7 +22,7 @@ use Rattle.bng_desk.specs.declared.reading.Ended.TheVariants.{Full, Dry, Broken}
 use Rattle.bng_desk.specs.Items.{DataReading, kind_of, arrived, taken_items, drawn_from}
 use Rattle.bng_desk.specs.Random.{Drawn, draw}
 use Rattle.bng_desk.specs.Reading.{EndsRight, is_empty, receives, taken_in, receiving, ending_stretch}
-use Rattle.bng_desk.specs.Taking.{Takes}
+use Rattle.bng_desk.specs.Intake.{Takes}
 use Rattle.bng_desk.specs.Turn.{reading_stretch, data_stretch, arrivals_in}
 use Rattle.bng_desk.proofs.Drawing.{drawn_length, drawn_more, draws_more}
 

@@ -19,7 +19,8 @@ use Rattle.bng_desk.specs.Kept.{rested}
 use Rattle.bng_desk.specs.Model.{Desk}
 use Rattle.bng_desk.specs.Random.{Drawn}
 use Rattle.bng_desk.specs.Reading.{is_empty}
-use Rattle.bng_desk.specs.Taking.{Gathers, HoldsOne}
+use Rattle.bng_desk.specs.Intake.{Gathers}
+use Rattle.bng_desk.specs.Taking.{HoldsOne}
 use Rattle.bng_desk.specs.Turn.{Turn, MakesTurn, after, is_idle, wait_for, deadline_in, waiting_stretch, answer_if, told_if, told_after}
 use Rattle.bng_desk.proofs.Done.{round_done, is_after, phases}
 use Rattle.bng_desk.proofs.Readying.{Shards}

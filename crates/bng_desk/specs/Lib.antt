@@ -9,4 +9,5 @@ pub mod Report
 pub mod Turn
 pub mod Opening
 pub mod Taking
+pub mod Intake
 pub mod Kept

@@ -1,5 +1,5 @@
--- The phases of a turn, each over what it changes.
-use Rattle.std.specs.Prelude.{◌≡◌, ◌⊎◌, ℕ, ◌+◌, ◌*◌, ◌≤◌, ◌<◌, Bool, true, false, cond, List, [], ◌∷◌, ◌++◌, All, length, map, sum_by, count_by, ◌||◌, filter, not, slice_index_or, slice_set, take}
+-- A round in the desk: its items are dealt to the shards, and the shards are settled.
+use Rattle.std.specs.Prelude.{◌≡◌, ◌⊎◌, ℕ, ◌+◌, ◌*◌, ◌≤◌, ◌<◌, Bool, true, false, cond, List, [], ◌∷◌, ◌++◌, All, length, map, sum_by, count_by, ◌||◌, filter, not, slice_index_or, slice_set}
 use Rattle.std.specs.List.{AllByRecursion, AllZip, AllPairs, flat_map}
 use Rattle.bng_base.specs.declared.book.Book.{Book}
 use Rattle.bng_base.specs.declared.fate.Fate.{Fate}
@@ -9,7 +9,6 @@ use Rattle.bng_base.specs.declared.item.Item.{Item}
 use Rattle.bng_base.specs.declared.item.ItemKind.{ItemKind}
 use Rattle.bng_base.specs.declared.item.Loose.{Loose}
 use Rattle.bng_base.specs.declared.item.OutRecord.{OutRecord}
-use Rattle.bng_base.specs.declared.outside.Role.{Role}
 use Rattle.bng_base.specs.declared.round.RoundRecord.{RoundRecord}
 use Rattle.bng_base.specs.Told.{PlantTold}
 use Rattle.bng_base.specs.Stretch.{ExtendsPlant}
@@ -31,50 +30,20 @@ use Rattle.bng_shard.specs.declared.whose.Whose.TheVariants.{Loose as IsLoose, S
 use Rattle.bng_shard.specs.Hearing.{outs_most}
 use Rattle.bng_shard.specs.Protocol.{ShardState, Handled, pppoe, sessions_of, terms_of, entry_of, Handles}
 use Rattle.bng_shard.specs.Room.{is_tick, is_end}
-use Rattle.bng_shard.specs.Sums.{IsLow, AreLow, RowsAreLow}
+use Rattle.bng_shard.specs.Sums.{AreLow, RowsAreLow}
 use Rattle.bng_shard.specs.Whose.{IsWhose}
 use Rattle.bng_desk.specs.declared.drops.Drops.{Drops}
 use Rattle.bng_desk.specs.declared.holding.Named.{Named}
 use Rattle.bng_desk.specs.Counting.{drops_of, plus}
-use Rattle.bng_desk.specs.Items.{DataReading, taken_items, ticks_of, drawn_from, entries_in, loose_item, loose_in}
-use Rattle.bng_desk.specs.Random.{Drawn}
-use Rattle.bng_desk.specs.Reading.{EndsRight, is_empty}
+use Rattle.bng_desk.specs.Items.{entries_in, loose_item, loose_in}
 use Rattle.bng_desk.specs.Round.{Round, IsRound, StandsWithin, views_of, held_by, entries_of, is_failed, with_failed, sends_stretch, drops_in, record_of, refused_of, refused_record, with_refused}
-use Rattle.bng_desk.specs.Turn.{data_stretch, arrivals_in, data_roles, most_of}
 
 -- a shard as the desk has it, and as the engine sees it
 abbrev pub Shown : Type 0
 Shown = ShardView ShardState Entry
 
-abbrev pub Seen : Type 0
-Seen = ShardView ShardState Handled
-
--- Intake ----------------------------------------------------------------------------------------------------------------
-
--- these roles were read, one after the other, and what was taken stands after the items before, each with its own random octets
-pub record Takes (roles : List Role) (most : Role → ℕ) (few : ℕ) (old new : PlantTold) (draws draws' : Drawn) (items items' : List Item) (quiet : Bool) : Type 0 where
-  pub readings : List DataReading
-  pub are_roles : map (λ r. r.role) readings ≡ roles
-  pub read : All (λ r. EndsRight (most r.role) (length r.arrivals) r.ended) readings
-  pub told : ExtendsPlant old new (data_stretch readings)
-  pub items_are : items' ≡ items ++ drawn_from draws.seed draws.drawn (taken_items readings)
-  pub number : length (taken_items readings) ≤ few
-  pub draws_are : draws' ≡ record draws { drawn = draws.drawn + length (taken_items readings) }
-  pub quiet_is : quiet ≡ is_empty (arrivals_in readings)
-
--- What a turn takes while serving: these roles were read, and the items are what was taken and the Ticks that are due, each with its
--- own random octets. The first so many came from the outside.
-pub record Gathers (r : Rules) (shards : List Shown) (moment : ℕ) (old new : PlantTold) (draws draws' : Drawn) (items : List Item) (quiet : Bool) (taken : ℕ) : Type 0 where
-  pub readings : List DataReading
-  pub are_roles : map (λ r. r.role) readings ≡ data_roles r
-  pub read : All (λ x. EndsRight (most_of r x.role) (length x.arrivals) x.ended) readings
-  pub told : ExtendsPlant old new (data_stretch readings)
-  pub items_are : items ≡ drawn_from draws.seed draws.drawn (taken_items readings ++ ticks_of moment shards)
-  pub draws_are : draws' ≡ record draws { drawn = draws.drawn + length items }
-  pub quiet_is : quiet ≡ is_empty (arrivals_in readings)
-  pub outside : refused_of items ≡ take taken items
-
--- The round -------------------------------------------------------------------------------------------------------------
+abbrev pub Sight : Type 0
+Sight = ShardView ShardState Handled
 
 -- nothing of a round is there
 abbrev pub IsEmpty : Shown → Type 0
@@ -152,12 +121,12 @@ pub record DealsOne (r : Rules) (holders : List Holder) (place moment : ℕ) (it
   pub deals : DealsTo whose place moment item shards shards' loose loose' tally tally' fate
 
 -- the shards, from this one on, have the entries of the items that stand in them
-abbrev pub AreDealt : ℕ → ℕ → List Item → List Whose → List Seen → Type 0
+abbrev pub AreDealt : ℕ → ℕ → List Item → List Whose → List Sight → Type 0
 AreDealt shard moment items whose [] = Unit {0}
 AreDealt shard moment items whose (v ∷ vs) = (entries_of v ≡ entries_in 0 shard 0 moment items whose) × AreDealt (shard + 1) moment items whose vs
 
 -- no term may begin in its round, and none has ended or begun
-pub record IsPlain (v : Seen) : Type 0 where
+pub record IsPlain (v : Sight) : Type 0 where
   pub allowance : v.allowance ≡ 0
   pub stops : v.stops ≡ []
   pub starts : v.starts ≡ []
@@ -168,7 +137,7 @@ pub record Deals (r : Rules) (holders : List Holder) (moment : ℕ) (items : Lis
   pub whose : List Whose
   pub is_whose : AllZip (IsWhose r holders) items whose
   pub inside : AllByRecursion (StandsWithin (length shards)) whose
-  pub seen : List Seen
+  pub seen : List Sight
   pub round : InRound pppoe (views_of shards) (held_by holders) (tally ∷ []) seen (held_by holders) (tally' ∷ [])
   pub shown : AllZip (Shows pppoe) shards' seen
   pub plain : All IsPlain seen
@@ -179,7 +148,7 @@ pub record Deals (r : Rules) (holders : List Holder) (moment : ℕ) (items : Lis
   pub few : sum_by (λ v. length v.outs) shards' ≤ outs_of_items items
 
 -- what a shard shows, the engine sees within its turn, before its first send
-pub record IsTurning (v : Shown) (was now : Seen) : Type 0 where
+pub record IsTurning (v : Shown) (was now : Sight) : Type 0 where
   pub turn : InTurn pppoe was now
   pub shows : Shows pppoe v now
   pub sends : now.sends ≡ []
@@ -187,19 +156,19 @@ pub record IsTurning (v : Shown) (was now : Seen) : Type 0 where
   pub starts : now.starts ≡ []
 
 pub record Turns (v : Shown) : Type 0 where
-  pub was : Seen
-  pub now : Seen
+  pub was : Sight
+  pub now : Sight
   pub turning : IsTurning v was now
 
 pub record AllTurn (vs : List Shown) : Type 0 where
-  pub was : List Seen
-  pub now : List Seen
+  pub was : List Sight
+  pub now : List Sight
   pub turning : Zip3 IsTurning vs was now
 
 -- A shard's outs were sent, each once and in their order, and each answer was charged; its round is over.
 pub record SettledTo (v v' : Shown) (sends : List OutRecord) : Type 0 where
   pub are_outs : map unsent sends ≡ map unsent v.outs
-  pub settles : (was now : Seen) → IsTurning v was now → IsSettled pppoe was now (with_lists v' now.journal now.outs sends)
+  pub settles : (was now : Sight) → IsTurning v was now → IsSettled pppoe was now (with_lists v' now.journal now.outs sends)
   pub number : v'.number ≡ v.number
   pub allowance : v'.allowance ≡ v.allowance
   pub empty : IsEmpty v'
@@ -218,7 +187,7 @@ pub record Sends (v v' : Shown) (old new : PlantTold) (outs outs' : List OutReco
   pub falls : Falls tally sends tally'
 
 -- the desk has the shard as the engine left it
-pub record IsLeftBy (w : Shown) (v : Seen) : Type 0 where
+pub record IsLeftBy (w : Shown) (v : Sight) : Type 0 where
   pub number : w.number ≡ v.number
   pub state : w.state ≡ v.state
   pub rows : w.rows ≡ v.rows
@@ -226,11 +195,11 @@ pub record IsLeftBy (w : Shown) (v : Seen) : Type 0 where
 
 -- The shards' outs were sent, in the order of the shards, each once; what was sent was charged, what failed was taken off the tally, and
 -- the shards are ready for the next round.
-pub record SettlesAll (was now : List Seen) (old new : PlantTold) (shards' : List Shown) (outs : List OutRecord) (journals : List (List Entry)) (drops drops' : Drops) (tally tally' : Book) : Type 0 where
-  pub settled : List Seen
+pub record SettlesAll (was now : List Sight) (old new : PlantTold) (shards' : List Shown) (outs : List OutRecord) (journals : List (List Entry)) (drops drops' : Drops) (tally tally' : Book) : Type 0 where
+  pub settled : List Sight
   pub settles : Zip3 (IsSettled pppoe) was now settled
   pub left : AllZip IsLeftBy shards' settled
-  pub allowances : AllZip (λ (x y : Seen). y.allowance ≡ x.allowance) now settled
+  pub allowances : AllZip (λ (x y : Sight). y.allowance ≡ x.allowance) now settled
   pub outs_are : outs ≡ all_sends settled
   pub journals_are : journals ≡ map entries_of now
   pub told : ExtendsPlant old new (sends_stretch (all_sends settled))

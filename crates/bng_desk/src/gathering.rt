@@ -1,6 +1,7 @@
 //! The items of a turn while serving.
 ghost use Rattle.std.specs.Prelude.{◌≡◌, ◌≤◌, ◌<◌, ◌+◌, ◌*◌, ◌^◌, [], length, vec_capacity};
-ghost use Rattle.bng_desk.specs.Taking.{AreInOrder, AreItems, Gathers, outs_of_items};
+ghost use Rattle.bng_desk.specs.Intake.{Gathers};
+ghost use Rattle.bng_desk.specs.Taking.{AreInOrder, AreItems, outs_of_items};
 
 use crate::due::add_ticks;
 use crate::intake::take_data;

@@ -1,7 +1,7 @@
 //! What was taken from the access ports and the core, as the items of a round.
 ghost use Rattle.std.specs.Prelude.{◌≡◌, ◌∷◌, [], ◌+◌, ◌≤◌, ◌<◌, ◌^◌, length, vec_capacity};
 ghost use Rattle.bng_desk.specs.Items.{kind_of};
-ghost use Rattle.bng_desk.specs.Taking.{Takes};
+ghost use Rattle.bng_desk.specs.Intake.{Takes};
 ghost use Rattle.bng_desk.specs.Turn.{most_of, ports_up_to, data_roles};
 
 use crate::calls::receive;

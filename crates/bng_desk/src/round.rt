@@ -10,7 +10,7 @@ ghost use Rattle.bng_shard.specs.Sums.{Has, IsMore, IsLow, AreLow, RowsAreLow};
 ghost use Rattle.bng_shard.specs.Whose.{IsWhose};
 ghost use Rattle.bng_desk.specs.Counting.{Within, plus};
 ghost use Rattle.bng_desk.specs.Round.{with_failed};
-ghost use Rattle.bng_desk.specs.Taking.{Shown as View, Seen as Sight, IsEmpty, HasFewSessions, HasRows, AreInOrder, AreItems, IsLight, Covers, DealsOne, Deals, is_lost, lost_part, IsTurning, Turns, AllTurn, Sends, SettlesAll};
+ghost use Rattle.bng_desk.specs.Taking.{Shown, Sight, IsEmpty, HasFewSessions, HasRows, AreInOrder, AreItems, IsLight, Covers, DealsOne, Deals, is_lost, lost_part, IsTurning, Turns, AllTurn, Sends, SettlesAll};
 
 use crate::calls::send;
 use crate::drops::{Drops, count};
@@ -80,7 +80,7 @@ fn deal(
     requires moment { now < 2 ^ 60 }
     requires whole { item.frame.headroom ≡ 64 }
     requires room { All (λ v. 0 < v.room) shards.old }
-    requires once { (n : ℕ) (d : View) → n < length shards.old → IsWhose rules.now pool.now item (Whose.Stands n) → Admits (slice_index_or shards.old n d) item.kind }
+    requires once { (n : ℕ) (d : Shown) → n < length shards.old → IsWhose rules.now pool.now item (Whose.Stands n) → Admits (slice_index_or shards.old n d) item.kind }
     requires low_books { All (λ v. AreLow (2 ^ 63) v.books) shards.old }
     requires low_tally { IsLow (2 ^ 63) tally.old }
     requires loose_room { length loose.old.items < vec_capacity loose.old }

@@ -8,8 +8,10 @@ use Rattle.bng_base.specs.declared.item.OutRecord.{OutRecord}
 use Rattle.bng_base.specs.declared.settings.Static.{Static}
 use Rattle.bng_engine.specs.Lists.{AnyOf}
 use Rattle.bng_engine.specs.Protocol.{HasKey, IsOwned}
-use Rattle.bng_engine.specs.Terms.{Key, Term, keys, key_in}
-use Rattle.bng_engine.specs.Views.{Row, new_row, row_keys}
+use Rattle.bng_engine.specs.Quantities.{Quantity, Octets, Packets}
+use Rattle.bng_engine.specs.Sums.{is_any}
+use Rattle.bng_engine.specs.Terms.{Term, keys}
+use Rattle.bng_engine.specs.Views.{Row, new_row, row_keys, rows_where}
 use Rattle.bng_slots.specs.Sessions.{IsNumberOf}
 use Rattle.bng_shard.specs.declared.rules.Rules.{Rules}
 use Rattle.bng_shard.specs.Frames.{charge_of}
@@ -71,9 +73,15 @@ module _ (c : Static) where
       ap (λ (ts : List Term). map new_row (keys ts)) (opened_terms r shard (c ∷ []) (tt, tt))
       ∙ ap (λ (cs : List Static). map new_row (keys (terms_after 0 cs))) (one_in_order shard of)
 
+  nothing_carried : (most : ℕ) (q : Quantity) (input : Bool) → rows_where q is_any input (row ∷ []) ≤ most
+  nothing_carried most Octets true = omega arith
+  nothing_carried most Octets false = omega arith
+  nothing_carried most Packets true = omega arith
+  nothing_carried most Packets false = omega arith
+
   -- nothing was carried
   pub row_low : (r : Rules) (shard most : ℕ) → IsNumberOf shard c.session.0 → RowsAreLow most (opened shard r (c ∷ [])).rows
-  row_low r shard most of = subst (RowsAreLow most) (sym (one_row r shard of)) (λ q input. omega arith)
+  row_low r shard most of = subst (RowsAreLow most) (sym (one_row r shard of)) (nothing_carried most)
 
   -- a packet of its term is of that row
   pub row_owned : (r : Rules) (shard : ℕ) → IsNumberOf shard c.session.0 → (o : OutRecord) (input : Bool) (octets : ℕ) → o.charge ≡ Some (charge_of (provisioned c 1) (lease_from c 1) input octets)

@@ -6,16 +6,22 @@ use Rattle.std.proofs.lemmas.Bool.{ne_eqb}
 use Rattle.std.proofs.lemmas.List.Elements.{recursion_from_All}
 use Rattle.bng_base.specs.declared.settings.AccessPort.{AccessPort}
 use Rattle.bng_base.specs.declared.settings.Static.{Static}
+use Rattle.bng_base.specs.declared.book.Book.{Book}
+use Rattle.bng_base.specs.declared.item.Entry.{Entry}
+use Rattle.bng_base.specs.declared.item.OutRecord.{OutRecord}
+use Rattle.bng_engine.specs.Quantities.{empty_book}
 use Rattle.bng_engine.specs.Terms.{keys}
+use Rattle.bng_engine.specs.Views.{Row, new_row}
 use Rattle.bng_slots.specs.Listed.{values}
 use Rattle.bng_shard.specs.declared.rules.Rules.{Rules}
 use Rattle.bng_shard.specs.declared.session.Session.{Session}
 use Rattle.bng_shard.specs.Fits.{ArePlaced}
 use Rattle.bng_shard.specs.Opening.{in_order, numbered_after, opened_slots}
-use Rattle.bng_shard.specs.Protocol.{terms_after, terms_of}
+use Rattle.bng_shard.specs.Protocol.{opened as opened_shard, terms_after, terms_of}
 use Rattle.bng_shard.specs.State.{State, port_at}
 use Rattle.bng_shard.proofs.Driving.{there}
 use Rattle.bng_shard.proofs.InOrder.{all_in_order, apart_of, opened_entries, opened_terms}
+use Rattle.bng_shard.proofs.Stepping.{view}
 use Rattle.bng_shard.proofs.Values.{stands}
 
 -- a number that counts one of the ports is that of a port
@@ -45,3 +51,13 @@ module _ (r : Rules) where
         let same : values s.sessions ≡ map (λ e. e.1) (numbered_after 0 (in_order shard cs)) =
         ap (λ (t : State). values t.sessions) opened ∙ ap (λ es. map (λ e. e.1) es) (opened_entries shard cs (apart_of cs apart)) in
         placed_in 0 (in_order shard cs) x (all_in_order IsHere shard cs (recursion_from_All IsHere cs ports)) (subst (λ (xs : List Session). Contains xs x) same listed)
+
+-- the fields of a shard that was opened
+pub opened_view : (r : Rules) (number : ℕ) (cs : List Static) (s : State) (rows : List Row) (passed : Book) (journal : List Entry) (outs : List OutRecord) → s ≡ opened_slots number cs
+    → rows ≡ map new_row (keys (terms_of (record { rules = r; slots = s }))) → passed ≡ empty_book → journal ≡ [] → outs ≡ [] → view r s rows passed 0 journal outs 0 ≡ opened_shard number r cs
+opened_view r number cs s rows passed journal outs opened are nothing none no_outs =
+    ap (λ (b : Book). view r s rows b 0 journal outs 0) nothing
+    ∙ ap (λ (es : List Entry). view r s rows empty_book 0 es outs 0) none
+    ∙ ap (λ (os : List OutRecord). view r s rows empty_book 0 [] os 0) no_outs
+    ∙ ap (λ (rs : List Row). view r s rs empty_book 0 [] [] 0) are
+    ∙ ap (λ (t : State). view r t (map new_row (keys (terms_of (record { rules = r; slots = t })))) empty_book 0 [] [] 0) opened

@@ -9,7 +9,8 @@ use Rattle.bng_shard.specs.Protocol.{ShardState}
 use Rattle.bng_desk.specs.Items.{drawn_from, taken_items, ticks_of}
 use Rattle.bng_desk.specs.Random.{Drawn}
 use Rattle.bng_desk.specs.Round.{refused_of}
-use Rattle.bng_desk.specs.Taking.{Takes, Gathers, AreItems, AreInOrder, outs_of_items}
+use Rattle.bng_desk.specs.Intake.{Takes, Gathers}
+use Rattle.bng_desk.specs.Taking.{AreItems, AreInOrder, outs_of_items}
 use Rattle.bng_desk.specs.Turn.{data_roles, most_of}
 use Rattle.bng_desk.proofs.Drawing.{drawn_length, drawn_more, draws_more}
 use Rattle.bng_desk.proofs.ItemLaws.{are_items, outs_of_turn}

@@ -1,6 +1,6 @@
 use Rattle.std.proofs.Common.{Bool, [], ◌∷◌, length, refl, sym, subst, arith}
 use Rattle.bng_base.specs.declared.outside.Role.TheVariants.{Core}
-use Rattle.bng_desk.specs.Taking.{Takes}
+use Rattle.bng_desk.specs.Intake.{Takes}
 use Rattle.bng_desk.specs.Turn.{most_of, ports_up_to, data_roles}
 use Rattle.bng_desk.proofs.TakeLaws.{roles_more, role_as, takes_length}
 use Rattle.bng_desk.proofs.intake.take_data.Goals as goal

@@ -4,7 +4,7 @@ use Rattle.std.proofs.lemmas.List.FromFn.{map-range_with_len_more}
 use Rattle.bng_base.specs.declared.outside.Role.{Role}
 use Rattle.bng_base.specs.declared.outside.Role.TheVariants.{Access}
 use Rattle.bng_base.specs.declared.settings.AccessPort.{AccessPort}
-use Rattle.bng_desk.specs.Taking.{Takes}
+use Rattle.bng_desk.specs.Intake.{Takes}
 use Rattle.bng_desk.specs.Turn.{most_of, ports_up_to}
 use Rattle.bng_desk.proofs.TakeLaws.{roles_none, roles_wider, roles_more, role_as, takes_length, takes_drawn}
 use Rattle.bng_desk.proofs.intake.take_ports.Goals as goal

@@ -1,5 +1,5 @@
 use Rattle.std.proofs.Common.{◌≡◌, ◌*◌, vec_capacity}
-use Rattle.bng_desk.specs.Taking.{Takes}
+use Rattle.bng_desk.specs.Intake.{Takes}
 use Rattle.bng_desk.specs.Turn.{most_of, ports_up_to}
 use Rattle.bng_desk.proofs.intake.take_ports.Given as goal
 

@@ -1,4 +1,4 @@
-use Rattle.std.proofs.Common.{ap, refl, sym, ◌∙◌}
+use Rattle.std.proofs.Common.{Some, ap, refl, sym, ◌∙◌}
 use Rattle.bng_base.specs.declared.address.SessionNo.{SessionNo}
 use Rattle.bng_discovery.specs.declared.answers.Answer.TheVariants.{Offer, Refuse}
 use Rattle.bng_discovery.specs.Reply.{pado_of, refusal_of}
@@ -22,7 +22,7 @@ make-requires-clause-tags c = (
   c.requires.few.0,
   c.requires.few.1,
   c.requires.few.2,
-  short_uniq c.args.served.now c.args.number c.in-Some-offers_of.offers.now (frame_of c.args.frame.now) c.requires.few.0 _ c.requires.is c.requires.few.1 (c.in-Make.ensures c.requires.few.0 c.requires.few.1),
+  short_uniq c.args.served.now c.args.number c.in-Some-offers_of.offers.now (frame_of c.args.frame.now) c.requires.few.0 (Some c.in-Make.session.0) c.requires.is c.requires.few.1 (c.in-Make.ensures c.requires.few.0 c.requires.few.1),
 )
 
 pub returns-in-Offer-clause-does : goal.returns-in-Offer-clause-does

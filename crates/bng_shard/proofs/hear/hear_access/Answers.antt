@@ -1,11 +1,28 @@
-use Rattle.std.proofs.Common.{ℕ, List, inl, refl, ap}
+use Rattle.std.proofs.Common.{ℕ, List, inl, inr, refl, ap, subst, arith}
 use Rattle.bng_base.specs.declared.fate.Fate.TheVariants.{Dropped}
 use Rattle.bng_base.specs.declared.fate.DropCause.TheVariants.{Malformed}
 use Rattle.bng_base.specs.FateOf.{Arrival}
-use Rattle.bng_shard.specs.Frames.{HearsAccess}
+use Rattle.bng_base.specs.declared.settings.AccessPort.{AccessPort}
+use Rattle.bng_forward.specs.Fates.{IsFrame}
+use Rattle.bng_pppoe_wire.specs.View.{frame_of}
+use Rattle.bng_shard.specs.Frames.{HearsAccess, HearsFrame}
+use Rattle.bng_shard.proofs.Arriving.{does_more}
 use Rattle.bng_shard.proofs.Carrying.{nothing_done}
 use Rattle.bng_shard.proofs.Holding.{no_frame}
 use Rattle.bng_shard.proofs.hear.hear_access.Goals as goal
+
+pub returns-in-Some-clause-does : goal.returns-in-Some-clause-does
+returns-in-Some-clause-does c =
+    let r = c.args.rules.now in
+    let s = c.args.served.now in
+    let item = c.args.item.now in
+    let p = frame_of c.in-Some.frame in
+    let taken : List ℕ → Arrival = λ octets. record { from = item.from; cut = item.cut; octets = octets } in
+    let came : IsFrame r.access c.args.number (taken item.frame.payload) p =
+    subst (λ (octets : List ℕ). IsFrame r.access c.args.number (taken octets) p) c.payload.ensures.octets
+    (subst (λ (ports : List AccessPort). IsFrame ports c.args.number (taken c.payload.result.now) p) c.as_slice.ensures c.in-Some.ensures.found) in
+    does_more s c.hear_frame.new.served c.args.outs.now.items c.hear_frame.new.outs.items c.args.at c.args.now item c.hear_frame.result (λ e d. HearsFrame r s e c.args.number p d) (λ e d. HearsAccess r s e c.args.number d) 10 10
+    (omega arith) (λ d says. inr (p, came, says)) c.hear_frame.ensures.does
 
 pub returns-in-None-clause-does : goal.returns-in-None-clause-does
 returns-in-None-clause-does c =

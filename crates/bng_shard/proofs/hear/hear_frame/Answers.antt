@@ -1,10 +1,10 @@
-use Rattle.std.proofs.Common.{sym}
+use Rattle.std.proofs.Common.{refl}
 use Rattle.bng_pppoe_wire.specs.View.{frame_of}
 use Rattle.bng_shard.proofs.Arriving.{by_discovery, by_data, by_control}
 use Rattle.bng_shard.proofs.hear.hear_frame.Goals as goal
 
 pub hear_data-requires-clause-carries : goal.hear_data-requires-clause-carries
-hear_data-requires-clause-carries c = (c.in-Some.info.now, c.in-Some.ensures.found, sym c.len.ensures)
+hear_data-requires-clause-carries c = (c.in-Some.info.now, c.in-Some.ensures.found, refl)
 
 pub returns-then-not-names_session-clause-does : goal.returns-then-not-names_session-clause-does
 returns-then-not-names_session-clause-does c =

@@ -7,7 +7,8 @@ use Rattle.bng_desk.specs.declared.holding.Named.{Named}
 use Rattle.bng_desk.specs.Kept.{IsKept, all_turns, rested, octets_most, drops_most}
 use Rattle.bng_desk.specs.Model.{Desk, is_over, state_of}
 use Rattle.bng_desk.specs.Random.{Drawn}
-use Rattle.bng_desk.specs.Taking.{HasFewSessions, Gathers, HoldsOne}
+use Rattle.bng_desk.specs.Intake.{Gathers}
+use Rattle.bng_desk.specs.Taking.{HasFewSessions, HoldsOne}
 use Rattle.bng_desk.specs.Turn.{MakesTurn, wait_for, deadline_in}
 use Rattle.bng_desk.proofs.DropLaws.{within_wider}
 use Rattle.bng_desk.proofs.Dwindling.{WorksBy, one_works}

@@ -3,7 +3,8 @@ use Rattle.bng_engine.specs.Terms.{keys}
 use Rattle.bng_engine.specs.Views.{row_keys}
 use Rattle.bng_shard.specs.Opening.{in_order}
 use Rattle.bng_shard.specs.Protocol.{terms_of}
-use Rattle.bng_shard.proofs.Opened.{opened_keys, opened_placed}
+use Rattle.bng_shard.specs.Running.{rows_in}
+use Rattle.bng_shard.proofs.Opened.{opened_keys, opened_placed, opened_view}
 use Rattle.bng_shard.proofs.RowLaws.{new_keys}
 use Rattle.bng_shard.proofs.RowSums.{rows_numbered}
 use Rattle.bng_shard.proofs.shard.Shard.open.Goals as goal
@@ -24,3 +25,8 @@ invariant_of-result c =
       journal_room = omega (arith, ap length c.new.ensures.items);
       outs_room = λ some. omega (arith, some);
     }
+
+pub returns-clause-opened : goal.returns-clause-opened
+returns-clause-opened c =
+    opened_view c.args.rules c.args.number c.args.circuits.now c.in-Ok.served (rows_in c.in-Ok-rows_of.rows.items) c.empty.result c.new.result.items c.new-2.result.items c.in-Ok.ensures.opened (c.in-Ok-rows_of.ensures c.args.rules)
+    c.empty.ensures c.new.ensures.items c.new-2.ensures.items

@@ -1,4 +1,4 @@
-use Rattle.std.proofs.Common.{◌≡◌, ◌≤◌, ◌-◌, ◌∷◌, [], ap, sym, subst, ◌∙◌, arith, length, length-append, refl, true, false, List}
+use Rattle.std.proofs.Common.{◌≡◌, ◌≤◌, ◌-◌, ◌^◌, ◌∷◌, [], ap, sym, subst, ◌∙◌, arith, length, length-append, refl, true, false, List}
 use Rattle.bng_base.specs.declared.item.Entry.{Entry}
 use Rattle.bng_base.specs.declared.item.OutRecord.{OutRecord}
 use Rattle.bng_engine.specs.Books.{BooksRise}
@@ -7,7 +7,7 @@ use Rattle.bng_shard.specs.Fits.{owed}
 use Rattle.bng_shard.specs.Protocol.{Handles, ShardState, entry_of}
 use Rattle.bng_shard.specs.Room.{is_tick, is_end, has_tick, has_end}
 use Rattle.bng_shard.specs.Running.{rows_in}
-use Rattle.bng_shard.specs.Sums.{Rises}
+use Rattle.bng_shard.specs.Sums.{AreLow, Rises}
 use Rattle.bng_shard.proofs.Stepping.{view, still_fit, still_placed, handles, owed_more, slice_after}
 use Rattle.bng_shard.proofs.shard.Shard.step.Goals as goal
 
@@ -30,6 +30,11 @@ invariant_of-self c =
       journal_room = omega (arith, was.journal_room, ap length items, length-append a.journal.items (e ∷ []), room, c.requires.room, c.push_reserved.ensures.capacity);
       outs_room = λ some. omega (arith, was.outs_room (omega (arith, some)), ap length does.outs_are, length-append a.outs.items does.deed.outs, does.few, ap owed items, spent, c.hear-fate.ensures.capacity);
     }
+
+pub book-requires-clause-low : goal.book-requires-clause-low
+book-requires-clause-low c =
+    let low = subst (λ (v : ShardView ShardState Entry). AreLow (2 ^ 63) v.books) (sym c.self.view_is) c.requires.low_books in
+    low 0 (omega arith)
 
 pub returns : goal.returns
 returns c =
