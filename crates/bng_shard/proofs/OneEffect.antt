@@ -26,7 +26,7 @@ use Rattle.bng_forward.specs.Packets.{IsPassedOn}
 use Rattle.bng_forward.proofs.Exclusive.{up_once, down_once}
 use Rattle.bng_forward.proofs.Readings.{one_frame, one_header}
 use Rattle.bng_lcp.specs.Ask.{Ask}
-use Rattle.bng_lcp.specs.declared.asked.SentRequest.{SentRequest}
+use Rattle.bng_lcp.specs.declared.configure_request.SentRequest.{SentRequest}
 use Rattle.bng_ppp.specs.declared.rules.Input.TheVariants.{Start, Timer}
 use Rattle.bng_ppp.specs.LinkState.{LinkState, IsFirstAsk}
 use Rattle.bng_ppp.specs.Said.{Said}
