@@ -152,8 +152,8 @@ module _ (pick : Key → Bool) (picks : Static → Bool) (agree : (c : Static) (
         let all = recursion_from_All (λ c. eqb (shard_of c) n ≡ true) cs (filter_passes (λ c. eqb (shard_of c) n) config.statics) in
         let apart = apart_filter session_in (λ c. eqb (shard_of c) n) config.statics (sessions_apart config rules) in
         let in_order_apart =
-            apart_where_once session_in (in_order n cs)
-            (λ m. omega (arith, sum_in_order (λ (x : Static). one_if (eqb (session_in x) m)) n cs own, once_where_apart session_in m cs apart)) in
+        apart_where_once session_in (in_order n cs)
+        (λ m. omega (arith, sum_in_order (λ (x : Static). one_if (eqb (session_in x) m)) n cs own, once_where_apart session_in m cs apart)) in
         rows_sum v.rows 0 (in_order n cs) has in_order_apart
         ∙ sum_in_order (of_rows v.rows) n cs own
         ∙ sum_same_in (of_rows v.rows) carried cs (in_shard v n cs e all)

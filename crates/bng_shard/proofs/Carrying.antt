@@ -134,19 +134,22 @@ module _ (r : Rules) (s : State) (a : At) (item : Item) (outs : List OutRecord) 
         says = (
           Forwarded,
           down,
-          inl (refl, record {
-            x = x;
-            found = at;
-            lease = l;
-            service = service;
-            address = held_address s v.dst x l at service;
-            port = port;
-            its_port = its_port;
-            packet = packet;
-            passed = passed;
-            again = subst (λ (f : List ℕ). IsFrameTo port x.mac x.number.0 packet f) framed again;
-            done = refl;
-          }),
+          inl (
+            refl,
+            record {
+              x = x;
+              found = at;
+              lease = l;
+              service = service;
+              address = held_address s v.dst x l at service;
+              port = port;
+              its_port = its_port;
+              packet = packet;
+              passed = passed;
+              again = subst (λ (f : List ℕ). IsFrameTo port x.mac x.number.0 packet f) framed again;
+              done = refl;
+            },
+          ),
         );
         outs_are = pushed ∙ ap (λ (f : List ℕ). outs ++ sent a f ∷ []) framed ∙ ap (λ (b : At). outs ++ sent b (circuit_frame port x.mac x.number.0 packet) ∷ []) (its_place s a moment item here);
         few = omega arith;

@@ -71,12 +71,12 @@ found_among k [] m x e = absurd (none_some x e)
 found_among k (c ∷ cs) m x e =
     elim (eq_by_cmp nat_cmp m c.session.0) as (λ b. eq_by_cmp nat_cmp m c.session.0 ≡ b → cond b (Some (provisioned c (k + 1))) (find_at nat_cmp m (numbered_after (k + 1) cs)) ≡ Some x → Among (c ∷ cs) m x) [
       | true ↦ λ t f. record {
-          c = c;
-          serial = k + 1;
-          holds = (0, omega arith, refl);
-          number = sym (number_same m c.session.0 t);
-          is = sym (same_some (provisioned c (k + 1)) x f);
-        }
+        c = c;
+        serial = k + 1;
+        holds = (0, omega arith, refl);
+        number = sym (number_same m c.session.0 t);
+        is = sym (same_some (provisioned c (k + 1)) x f);
+      }
       | false ↦ λ t f.
           let rest = found_among (k + 1) cs m x f in
           record {
@@ -252,7 +252,7 @@ module _ (number : ℕ) (circuits : List Static) (k : ℕ) (sessions : Sessions 
   pub opens_other : circuit_at circuits (number * 1024 + 1 + k) ≡ [] → Opens number circuits (suc k) sessions begun
   opens_other none =
       let same : up_to (number * 1024 + 1) circuits (suc k) ≡ up_to (number * 1024 + 1) circuits k =
-          up_to_more (number * 1024 + 1) circuits k ∙ ap (λ (cs : List Static). up_to (number * 1024 + 1) circuits k ++ cs) none ∙ append-nil (up_to (number * 1024 + 1) circuits k) in
+      up_to_more (number * 1024 + 1) circuits k ∙ ap (λ (cs : List Static). up_to (number * 1024 + 1) circuits k ++ cs) none ∙ append-nil (up_to (number * 1024 + 1) circuits k) in
       record {
         shard = h.shard;
         stand = h.stand ∙ ap (numbered_after 0) (sym same);
@@ -301,7 +301,7 @@ module _ (number : ℕ) (circuits : List Static) (k : ℕ) (sessions : Sessions 
     opens_more serial next =
         let cs = up_to (number * 1024 + 1) circuits k in
         let more : up_to (number * 1024 + 1) circuits (suc k) ≡ cs ++ c ∷ [] =
-            up_to_more (number * 1024 + 1) circuits k ∙ ap (λ (ds : List Static). cs ++ ds) (ap (circuit_at circuits) (sym at) ∙ is) in
+        up_to_more (number * 1024 + 1) circuits k ∙ ap (λ (ds : List Static). cs ++ ds) (ap (circuit_at circuits) (sym at) ∙ is) in
         let lower : (d : Static) → Contains cs d → d.session.0 < n = λ d held. let high = (within circuits (number * 1024 + 1) k d held).2 in omega (arith, high, at) in
         let count = h.counted in
         let last : 0 + length cs + 1 ≡ serial = omega (arith, count, next) in
@@ -387,5 +387,5 @@ module _ (number : ℕ) (circuits : List Static) (sessions : Sessions Session) (
       let map = from_entries_of sessions.by_number (numbered_after 0 (in_order number circuits)) h.stand in
       let one : Static → ℕ = λ _. 1 in
       let count : begun ≡ length circuits =
-          h.counted ∙ sym (ones (in_order number circuits)) ∙ sum_in_order one number circuits (recursion_from_All (λ (c : Static). IsNumberOf number c.session.0) circuits own) ∙ ones circuits in
+      h.counted ∙ sym (ones (in_order number circuits)) ∙ sum_in_order one number circuits (recursion_from_All (λ (c : Static). IsNumberOf number c.session.0) circuits own) ∙ ones circuits in
       λ i. record { sessions = record { shard = h.shard i; by_number = map i }; begun = count i }

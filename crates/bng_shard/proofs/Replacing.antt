@@ -21,10 +21,10 @@ use Rattle.bng_shard.proofs.Values.{same_some}
 pub with_same : (ss : Sessions Session) (n : ℕ) (x : Session) → value_at ss n ≡ Some x → with_value ss n x ≡ ss
 with_same ss n x is =
     let each : (q : ℕ) → get (with_value ss n x).by_number q ≡ get ss.by_number q = λ q.
-        elim (cases_eq q n) [
-          | inl e ↦ ap (λ k. value_at (with_value ss n x) k) e ∙ value_at-with_value ss n x ∙ sym is ∙ ap (λ k. value_at ss k) (sym e)
-          | inr d ↦ value_at-with_other ss n x q d
-        ] in
+    elim (cases_eq q n) [
+      | inl e ↦ ap (λ k. value_at (with_value ss n x) k) e ∙ value_at-with_value ss n x ∙ sym is ∙ ap (λ k. value_at ss k) (sym e)
+      | inr d ↦ value_at-with_other ss n x q d
+    ] in
     ap (λ m. record { shard = ss.shard; by_number = m }) (same_map nat_cmp_total nat_cmp-IsAntisymmetric (with_value ss n x).by_number ss.by_number each)
 
 module _ (s s₁ : State) (n m : ℕ) (taken : s₁ ≡ record s { sessions = without s.sessions n }) (same : m ≡ n) where

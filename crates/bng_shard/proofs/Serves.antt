@@ -116,8 +116,7 @@ module _ (s : Sessions Session) (n : ℕ) where
         let one : x.number ≡ q = same_session_number x.number q (is ∙ sym same) in
         (λ c. after, λ d. subst (Contains (numbers ++ x.number ∷ [])) one (Contains-push numbers x.number))
     | inr differ ↦
-        let other = ap does_leave (value_at-with_other s n x q.0 differ) in
-        (
+        let other = ap does_leave (value_at-with_other s n x q.0 differ) in (
           λ c. elim (Contains-push_cases numbers x.number q c) [
             | inl old ↦ other ∙ (h q).0 old
             | inr e ↦ absurd (differ (sym (ap (λ (k : SessionNo). k.0) e) ∙ is))

@@ -23,15 +23,18 @@ is_used ss a x is = ap (λ (o : Option Session). is_some o) is
 from_first : (ss : Sessions Session) (a k : ℕ) (o : Option Session) → value_at ss a ≡ o → Scan ss (a + 1) k → Scan ss a (suc k)
 from_first ss a k None is rest = inl (a, record { from = omega arith; below = omega arith; vacant = is; lower = λ m low high. absurd (omega (arith, low, high)) })
 from_first ss a k (Some x) is (inl (n, h)) =
-    inl (n, record {
-      from = omega (arith, h.from);
-      below = omega (arith, h.below);
-      vacant = h.vacant;
-      lower = λ m low high. elim (cases_eq m a) [
-        | inl e ↦ subst (λ (k : ℕ). IsSome (value_at ss k)) (sym e) (is_used ss a x is)
-        | inr d ↦ h.lower m (omega (arith, low, d)) high
-      ];
-    })
+    inl (
+      n,
+      record {
+        from = omega (arith, h.from);
+        below = omega (arith, h.below);
+        vacant = h.vacant;
+        lower = λ m low high. elim (cases_eq m a) [
+          | inl e ↦ subst (λ (k : ℕ). IsSome (value_at ss k)) (sym e) (is_used ss a x is)
+          | inr d ↦ h.lower m (omega (arith, low, d)) high
+        ];
+      },
+    )
 from_first ss a k (Some x) is (inr all) =
     inr (λ m low high. elim (cases_eq m a) [
       | inl e ↦ subst (λ (k : ℕ). IsSome (value_at ss k)) (sym e) (is_used ss a x is)
@@ -43,11 +46,14 @@ scan ss a zero = inr (λ m low high. absurd (omega (arith, low, high)))
 scan ss a (suc k) = from_first ss a k (value_at ss a) refl (scan ss (a + 1) k)
 
 of_scan : (s : State) → Scan s.sessions (s.sessions.shard * 1024 + 1) 1022 → (v : Option ℕ) × IsVacancy s v
-of_scan s (inl (n, h)) = (Some n, record {
-  of_shard = (h.from, omega (arith, h.below));
-  vacant = h.vacant;
-  lower_used = λ m is lt. h.lower m is.0 lt;
-})
+of_scan s (inl (n, h)) = (
+  Some n,
+  record {
+    of_shard = (h.from, omega (arith, h.below));
+    vacant = h.vacant;
+    lower_used = λ m is lt. h.lower m is.0 lt;
+  },
+)
 of_scan s (inr all) = (None, λ n is. all n is.0 (omega (arith, is.1)))
 
 pub vacancy_of : (s : State) → (v : Option ℕ) × IsVacancy s v

@@ -184,11 +184,11 @@ module _ {V : Type 0} where
             let over = above e.0 n w es (first _ _ h) f in
             absurd (omega (arith, under, over))
         | Equal ↦ λ r f. record {
-            before = [];
-            after = map (λ p. p.1) es;
-            were = ap (λ x. x ∷ map (λ p. p.1) es) (same_some e.1 w f);
-            become = λ v. ap (λ o. map (λ p. p.1) (by_order o ((n, v) ∷ e ∷ es) ((e.0, v) ∷ es) (e ∷ put nat_cmp n v es))) r;
-          }
+          before = [];
+          after = map (λ p. p.1) es;
+          were = ap (λ x. x ∷ map (λ p. p.1) es) (same_some e.1 w f);
+          become = λ v. ap (λ o. map (λ p. p.1) (by_order o ((n, v) ∷ e ∷ es) ((e.0, v) ∷ es) (e ∷ put nat_cmp n v es))) r;
+        }
         | Greater ↦ λ r f. behind_first n e es (w ∷ []) r (split_used n w es (second _ _ h) f)
       ] refl is
 
@@ -197,11 +197,11 @@ module _ {V : Type 0} where
   split_vacant n (e ∷ es) is =
       elim (nat_cmp n e.0) as (λ r. nat_cmp n e.0 ≡ r → cond (is_eq r) (Some e.1) (find_at nat_cmp n es) ≡ None → Split n (e ∷ es) []) [
         | Less ↦ λ r f. record {
-            before = [];
-            after = map (λ p. p.1) (e ∷ es);
-            were = refl;
-            become = λ v. ap (λ o. map (λ p. p.1) (by_order o ((n, v) ∷ e ∷ es) ((e.0, v) ∷ es) (e ∷ put nat_cmp n v es))) r;
-          }
+          before = [];
+          after = map (λ p. p.1) (e ∷ es);
+          were = refl;
+          become = λ v. ap (λ o. map (λ p. p.1) (by_order o ((n, v) ∷ e ∷ es) ((e.0, v) ∷ es) (e ∷ put nat_cmp n v es))) r;
+        }
         | Equal ↦ λ r f. absurd (none_some e.1 (sym f))
         | Greater ↦ λ r f. behind_first n e es [] r (split_vacant n es f)
       ] refl is
@@ -243,8 +243,8 @@ module _ {V : Type 0} where
   kept_was p [] n x h is = absurd (none_some x is)
   kept_was p (e ∷ es) n x h is =
       let later : find_at nat_cmp n (filter (λ e. p e.1) es) ≡ Some x → (find_at nat_cmp n (e ∷ es) ≡ Some x) × (p x ≡ true) = λ f.
-          let rest = kept_was p es n x (second _ _ h) f in
-          (behind e es n x (first _ _ h) rest.0, rest.1) in
+      let rest = kept_was p es n x (second _ _ h) f in
+      (behind e es n x (first _ _ h) rest.0, rest.1) in
       elim (p e.1) as (λ b. p e.1 ≡ b → find_at nat_cmp n (cond b (e ∷ filter (λ e. p e.1) es) (filter (λ e. p e.1) es)) ≡ Some x → (find_at nat_cmp n (e ∷ es) ≡ Some x) × (p x ≡ true)) [
         | true ↦ λ passes f.
             elim (eq_by_cmp nat_cmp n e.0) as (λ t. cond t (Some e.1) (find_at nat_cmp n (filter (λ e. p e.1) es)) ≡ Some x → eq_by_cmp nat_cmp n e.0 ≡ t → (find_at nat_cmp n (e ∷ es) ≡ Some x) × (p x ≡ true)) [
@@ -259,9 +259,9 @@ module _ {V : Type 0} where
   few_between (e ∷ es) low high h within =
       let here = within e.0 e.1 (first_found e es) in
       let rest : length es ≤ high + 1 - (e.0 + 1) = few_between es (e.0 + 1) high (second _ _ h) (λ n x f.
-          let over = above e.0 n x es (first _ _ h) f in
-          let last = within n x (behind e es n x (first _ _ h) f) in
-          (omega (arith, over), last.1)) in
+      let over = above e.0 n x es (first _ _ h) f in
+      let last = within n x (behind e es n x (first _ _ h) f) in
+      (omega (arith, over), last.1)) in
       omega (arith, here.0, here.1, rest)
 
   length_values : (es : List (ℕ × V)) → length (map (λ e. e.1) es) ≡ length es
@@ -416,7 +416,7 @@ module _ {V : Type 0} where
   pub kept_from : (p : V → Bool) (s : Sessions V) (n : ℕ) (x : V) → value_at (kept p s) n ≡ Some x → (value_at s n ≡ Some x) × (p x ≡ true)
   kept_from p s n x is =
       let was = kept_was p (entries s.by_number) n x (entries_sorted s.by_number)
-          (sym (get-from_sorted nat_cmp (filter (λ e. p e.1) (entries s.by_number)) n (sorted_kept p (entries s.by_number) (entries_sorted s.by_number))) ∙ is) in
+      (sym (get-from_sorted nat_cmp (filter (λ e. p e.1) (entries s.by_number)) n (sorted_kept p (entries s.by_number) (entries_sorted s.by_number))) ∙ is) in
       (get-entries s.by_number n ∙ was.0, was.1)
 
   pub none_kept : (p : V → Bool) (s : Sessions V) (n : ℕ) → ((x : V) → value_at s n ≡ Some x → p x ≡ false) → value_at (kept p s) n ≡ None

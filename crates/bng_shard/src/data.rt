@@ -14,7 +14,9 @@ use crate::rules::Rules;
 use crate::sending::{At, push_out};
 use crate::served::Served;
 use crate::session::{Lease, Session};
-use bng_base::{Charge, Circuit, DropCause, Fate, Frame, Ipv4, Item, OutRecord, Role, SessionNo, TermId};
+use bng_base::{
+    Charge, Circuit, DropCause, Fate, Frame, Ipv4, Item, OutRecord, Role, SessionNo, TermId,
+};
 use bng_forward::{Arrived, TermView, down, packet_from, put_in_frame, take_from_frame, up};
 use bng_pppoe_wire::Pppoe;
 

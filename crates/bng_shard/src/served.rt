@@ -28,7 +28,6 @@ pub struct Served {
 impl Model for Served {
     ghost use Rattle.bng_shard.specs.State.{State};
     ghost use Rattle.bng_shard.specs.Serving.{Keeps};
-
     ghost use Rattle.bng_shard.specs.Codes.{state_code};
 
     ghost Value = { State };

@@ -176,7 +176,14 @@ impl Session {
     }
 
     /// Tells its link an input, where discovery made it. Where LCP finished it has ended.
-    pub(crate) fn step(&mut self, rules: &LinkRules, input: Input<'_>, now: u64, random: &[u8; 16], steps: &mut Steps)
+    pub(crate) fn step(
+        &mut self,
+        rules: &LinkRules,
+        input: Input<'_>,
+        now: u64,
+        random: &[u8; 16],
+        steps: &mut Steps,
+    )
         requires moment { now < 2 ^ 60 }
         requires auth { 0 < length rules.now.auth.items }
         requires made { made_one self.old.service ≡ 1 }

@@ -50,7 +50,6 @@ impl Model for Shard {
     ghost use Rattle.bng_base.specs.declared.item.Entry.{Entry};
     ghost use Rattle.bng_engine.specs.Views.{ShardView};
     ghost use Rattle.bng_shard.specs.Protocol.{ShardState};
-
     ghost use Rattle.std.specs.Coded.{codes};
     ghost use Rattle.bng_shard.specs.Codes.{state_code};
 
@@ -184,7 +183,14 @@ impl Shard {
             place,
         };
         let before = self.outs.as_slice().len();
-        let fate = hear(&mut self.served, &self.rules, at, now, &item, &mut self.outs);
+        let fate = hear(
+            &mut self.served,
+            &self.rules,
+            at,
+            now,
+            &item,
+            &mut self.outs,
+        );
         let sends = &self.outs.as_slice()[before..];
         book(&mut self.passed, sends);
         tally(ledger, sends);

@@ -37,16 +37,7 @@ fn tick_once(
     let Some(session) = served.first_due(now) else {
         return false;
     };
-    drive_at(
-        served,
-        session,
-        rules,
-        at,
-        Input::Timer,
-        now,
-        random,
-        outs,
-    );
+    drive_at(served, session, rules, at, Input::Timer, now, random, outs);
     true
 }
 

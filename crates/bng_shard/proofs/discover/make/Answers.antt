@@ -33,8 +33,7 @@ put-requires-clause-made c = ap (λ (y : Session). made_one y.service) c.drive.e
 
 pub returns-clause-made : goal.returns-clause-made
 returns-clause-made c ts are =
-    let d = (goal.at.returns-clause-made c).After-drive in
-    (
+    let d = (goal.at.returns-clause-made c).After-drive in (
       c.new_session-made.result,
       c.drive.new.session,
       subst (λ (u : Option (List ℕ)). IsNewSession c.args.session.0 c.args.number c.args.frame.now.src u c.args.random.now c.new_session-made.result) (c.host_uniq-asked.ensures ts are) c.new_session-made.ensures,

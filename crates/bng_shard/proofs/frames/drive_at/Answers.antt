@@ -34,8 +34,7 @@ put-requires-clause-made c = ap (λ (y : Session). made_one y.service) c.drive.e
 
 pub returns-clause-driven : goal.returns-clause-driven
 returns-clause-driven c x is =
-    let d = (goal.at.returns-clause-driven c).After-drive in
-    (
+    let d = (goal.at.returns-clause-driven c).After-drive in (
       c.drive.new.session,
       subst (λ (y : Session). Driven c.args.rules.now c.args.at c.args.input c.args.now c.args.random.now y c.drive.new.session c.args.outs.now.items c.drive.new.outs.items) (same_some c.take-session.result x (c.take-session.ensures.value ∙ is))
           c.drive.ensures.driven,

@@ -34,8 +34,7 @@ pub returns-clause-ended : goal.returns-clause-ended
 returns-clause-ended c =
     let d = (goal.at.returns-clause-ended c).After-end in
     let (padt, ends, sent) = c.send_padt.ensures.items in
-    let next = put_back c.args.served.now c.take-session.new.self c.in-Some.number.0 c.end.new.self.number.0 c.take-session.ensures.after (same_number d) c.put.new.self c.end.new.self c.put.ensures in
-    (
+    let next = put_back c.args.served.now c.take-session.new.self c.in-Some.number.0 c.end.new.self.number.0 c.take-session.ensures.after (same_number d) c.put.new.self c.end.new.self c.put.ensures in (
       c.in-Some.number.0,
       c.in-Some.ensures.found,
       c.take-session.result,

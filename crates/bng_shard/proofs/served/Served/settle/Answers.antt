@@ -27,8 +27,7 @@ loop-number-preserved-then-is_some c =
     let h : Settles s0 s (numbers ++ c.in-Some.number ∷ []) made = subst (λ (ns : List SessionNo). Settles s0 s ns made) c.in-Some.ensures.items c.loop-number.invariant.0 in
     let there = some_there (value_at s c.in-Some.number.0) (sym (ap is_some c.remove.ensures.value) ∙ sym c.is_some.ensures ∙ c.if-is_some.true) in
     let room = c.loop-number.invariant.2 in
-    let same_room = c.pop.ensures.capacity in
-    (
+    let same_room = c.pop.ensures.capacity in (
       subst (λ (t : Sessions Session). Settles s0 t numbers (made - 1)) (sym c.remove.ensures.after) (settles_more s0 s numbers c.in-Some.number made h there.0 (made - 1) there.1 refl),
       c.loop-number.invariant.1,
       omega (arith, room, same_room),
@@ -43,8 +42,7 @@ loop-number-preserved c =
     let h : Settles s0 s (numbers ++ c.in-Some.number ∷ []) made = subst (λ (ns : List SessionNo). Settles s0 s ns made) c.in-Some.ensures.items c.loop-number.invariant.0 in
     let none = none_there (value_at s c.in-Some.number.0) (sym (ap is_some c.remove.ensures.value) ∙ sym c.is_some.ensures ∙ c.if-is_some.false) in
     let room = c.loop-number.invariant.2 in
-    let same_room = c.pop.ensures.capacity in
-    (
+    let same_room = c.pop.ensures.capacity in (
       subst (λ (t : Sessions Session). Settles s0 t numbers made) (sym c.remove.ensures.after) (settles_absent s0 s numbers c.in-Some.number made h none),
       c.loop-number.invariant.1,
       omega (arith, room, same_room),
