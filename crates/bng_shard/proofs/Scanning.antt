@@ -1,7 +1,8 @@
 -- The sessions of a shard by rising number, and the one that leases an address.
-use Rattle.std.proofs.Common.{◌≡◌, ◌≢◌, ◌↔◌, ℕ, ◌+◌, ◌-◌, ◌*◌, ◌<◌, ◌≤◌, ◌==◌, Bool, true, false, Option, Some, None, is_some, find, option_map, option_and_then, inl, inr, refl, sym, ap, ◌∙◌, arith}
+use Rattle.std.proofs.Common.{◌≡◌, ◌≢◌, ◌↔◌, ℕ, ◌+◌, ◌-◌, ◌*◌, ◌<◌, ◌≤◌, ◌==◌, ◌&&◌, Bool, true, false, List, sum_by, Option, Some, None, is_some, find, option_map, option_and_then, inl, inr, refl, sym, ap, ◌∙◌, arith}
 use Rattle.std.proofs.lemmas.Bool.{cases_lt, eqb-true, eq-eqb, false≢true}
 use Rattle.bng_base.specs.declared.address.Ip4.{Ip4}
+use Rattle.bng_base.specs.declared.address.Mac.{Mac}
 use Rattle.bng_base.specs.declared.address.SessionNo.{SessionNo}
 use Rattle.bng_slots.specs.Sessions.{Sessions, IsNumberOf, read_at, value_at}
 use Rattle.bng_slots.specs.Listed.{values}
@@ -9,10 +10,12 @@ use Rattle.bng_shard.specs.declared.session.Lease.{Lease}
 use Rattle.bng_shard.specs.declared.session.Service.{Service}
 use Rattle.bng_shard.specs.declared.session.Service.TheVariants.{Provisioned, Discovered}
 use Rattle.bng_shard.specs.declared.session.Session.{Session}
+use Rattle.bng_shard.specs.Discovery.{is_repeated, is_repeated_in}
 use Rattle.bng_shard.specs.Indexed.{address_of}
 use Rattle.bng_shard.specs.Serving.{AreOfShard}
-use Rattle.bng_shard.specs.State.{State, holder_of, leases, leases_in, lease_in}
+use Rattle.bng_shard.specs.State.{State, holder_of, is_on, leases, leases_in, lease_in, made_one}
 use Rattle.bng_shard.proofs.Earliest.{read_there}
+use Rattle.bng_shard.proofs.Serves.{made_there}
 use Rattle.bng_shard.proofs.Values.{find_first, find_none, find_only, none_some, same_some}
 
 module _ (p : Session → Bool) (s : Sessions Session) (own : AreOfShard s) where
@@ -28,6 +31,23 @@ module _ (p : Session → Bool) (s : Sessions Session) (own : AreOfShard s) wher
 
   pub none_of_them : (first n : ℕ) → first ≡ s.shard * 1024 + 1 → first + 1022 ≤ n → ((m : ℕ) (y : Session) → first ≤ m → m < n → value_at s m ≡ Some y → p y ≡ false) → find p (values s) ≡ None
   none_of_them first n from past h = find_none p s (λ m y e. let high = (own m (ap is_some e)).1 in lower first n from h m y (omega (arith, high, from, past)) e)
+
+repeated_made : (v : Service) (host_uniq : Option (List ℕ)) → is_repeated_in host_uniq v ≡ true → made_one v ≡ 1
+repeated_made (Provisioned l) host_uniq e = absurd (false≢true e)
+repeated_made (Discovered m) host_uniq e = refl
+
+and_false : (b : Bool) → (b && false) ≡ false
+and_false true = refl
+and_false false = refl
+
+-- where discovery made no session, none was made for the same request
+pub none_made : (s : Sessions Session) (port : ℕ) (mac : Mac) (host_uniq : Option (List ℕ)) → sum_by (λ (y : Session). made_one y.service) (values s) ≡ 0 → find (is_repeated port mac host_uniq) (values s) ≡ None
+none_made s port mac host_uniq none =
+    find_none (is_repeated port mac host_uniq) s (λ n x is.
+    elim (is_repeated_in host_uniq x.service) as (λ b. is_repeated_in host_uniq x.service ≡ b → (is_on port mac x && b) ≡ false) [
+      | true ↦ λ e. let some = made_there s n x is (repeated_made x.service host_uniq e) in absurd (omega (arith, some, none))
+      | false ↦ λ e. and_false (is_on port mac x)
+    ] refl)
 
 same_address : (a b : Ip4) → a.0 ≡ b.0 → a ≡ b
 same_address a b e = λ i. record { 0 = e i }

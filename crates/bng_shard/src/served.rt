@@ -172,6 +172,9 @@ impl Served {
     pub(crate) fn repeated(&self, port: u8, mac: Mac, asked: Option<&[u8]>) -> Option<SessionNo>
         ensures { result ≡ option_map (λ x. x.number) (repeated self.now port mac (option_map (λ o. o.now) asked.entry)) }
     {
+        if self.made == 0 {
+            return None;
+        }
         let first = self.sessions.shard() * 1024 + 1;
         for n in first..first + NUMBERS {
             let number = SessionNo(n);
