@@ -81,3 +81,9 @@ returns-clause-opened c =
     let open_shard = λ (n : ℕ). opened n c.args.rules.now (of_shard c.args.circuits.items n) in
     let count = list_count (λ x. x.items) (of_shard c.args.circuits.items) (done ++ rest.items) c.args.rules.now.shards was.left in
     was.opens ∙ ap (λ (n : ℕ). map open_shard (range_with_len 0 n)) (omega (arith, was.number, count, c.in-None.ensures.steps.0, rest.ok, length-append done rest.items))
+
+pub overflow_add-number : goal.overflow_add-number
+overflow_add-number c =
+    let was = c.loop-circuits.invariant in
+    let next = list_next (λ x. x.items) (of_shard c.args.circuits.items) c.loop-circuits.yielded c.next.new.self.rest.items c.loop-circuits.circuits-iterator.rest.items c.in-Some.circuits c.args.rules.now.shards c.loop-circuits.number was.left c.in-Some.ensures.steps.0 was.number in
+    omega (arith, next.0, c.requires.few)
