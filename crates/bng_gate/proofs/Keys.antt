@@ -28,6 +28,7 @@ use Rattle.bng_shard.specs.Opening.{in_order}
 use Rattle.bng_shard.specs.Protocol.{ShardState, Handled, terms_of, terms_after, terms_of_circuits, pppoe, opened}
 use Rattle.bng_shard.specs.Reader.{IsWhole}
 use Rattle.bng_shard.proofs.InOrder.{all_in_order, opened_terms}
+use Rattle.bng_shard.proofs.Terms.{settled_terms}
 use Rattle.bng_shard.proofs.StepLaws.{pppoe_laws, pppoe_still, step_terms, step_whole}
 use Rattle.bng_desk.specs.Opening.{shard_of, statics_of}
 use Rattle.bng_desk.specs.Round.{views_of}
@@ -106,7 +107,7 @@ keys_in_round : (v v' : ShardView ShardState Handled) → Moves pppoe v v' → k
 keys_in_round v v' m = ap keys (terms_stay v.state v'.journal m.steps)
 
 keys_stay : (v v' : ShardView ShardState Handled) (ks : List Key) → Moves pppoe v v' → HasKeys v ks → HasKeys v' ks
-keys_stay v v' ks m has = ap (λ (s : ShardState). keys (terms_of s)) m.state ∙ keys_in_round v v' m ∙ has
+keys_stay v v' ks m has = ap (λ (s : ShardState). keys (terms_of s)) m.state ∙ ap keys (settled_terms (after pppoe v.state v'.journal).slots) ∙ keys_in_round v v' m ∙ has
 
 sends_ours : (Q : Key → Type 0) (v v' : ShardView ShardState Handled) (ks : List Key) → Moves pppoe v v' → HasKeys v ks → AllByRecursion Q ks → AllByRecursion (IsOurs Q) v'.sends
 sends_ours Q v v' ks m has all =

@@ -1,5 +1,5 @@
 -- A desk that was opened over a configuration: its terms are those of the circuits.
-use Rattle.std.proofs.Common.{◌≡◌, ◌||◌, ℕ, zero, suc, ◌+◌, Bool, true, false, List, [], ◌∷◌, ◌/◌, cond, map, length, refl, sym, ap, subst, ◌∙◌, arith, eqb, zero-add}
+use Rattle.std.proofs.Common.{◌≡◌, ◌||◌, ℕ, zero, suc, ◌+◌, ◌*◌, Bool, true, false, List, [], ◌∷◌, ◌/◌, cond, map, length, refl, sym, ap, subst, ◌∙◌, arith, eqb, zero-add}
 use Rattle.std.specs.Prelude.{filter}
 use Rattle.std.specs.List.{All, AllByRecursion, sum_by, count_by, range_with_len}
 use Rattle.std.proofs.lemmas.Bool.{eqb-true, ne_eqb}
