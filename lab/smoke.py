@@ -109,28 +109,24 @@ def forwards_bursts_in_order(checks, command, patience):
         checks.same("each of the 1,000 is counted once", (status, out), (0, report(20 * len(numbers))))
 
 
-def loses_no_more_than_what_it_had_no_memory_for(checks):
-    """With 64 shards a round wants some hundred megabytes that the opening does not want. The program is started with
-    as little memory as it can be opened with, and gets more after a packet came."""
-    later = packet(number=2)
-    for megabytes in range(32, 1024, 32):
+def goes_on_after_memory_was_refused(checks):
+    """With 64 shards a turn wants memory for its lists, and then for a round of all shards, each some hundred megabytes.
+    The program is started with too little for the one or for the other, and gets more after a packet came."""
+    first, second = packet(ttl=63), packet(ttl=63, number=2)
+    whole, part = report(168), report(84, WantOfMemory=1)
+    for what, megabytes, comes, wanted in (("lists", 64, [first, second], whole), ("its round", 256, [second], part)):
         with Lab(keys="shards = 64\n") as lab:
             limit = lambda: resource.setrlimit(resource.RLIMIT_AS, (megabytes << 20, resource.RLIM_INFINITY))
-            try:
-                lab.start([PROGRAM, "serve", lab.configuration], preexec_fn=limit)
-            except RuntimeError:
-                continue
+            lab.start([PROGRAM, "serve", lab.configuration], preexec_fn=limit)
             lab.send(frame(PACKET))
             time.sleep(1)
             resource.prlimit(lab.program.pid, resource.RLIMIT_AS, (resource.RLIM_INFINITY, resource.RLIM_INFINITY))
-            lab.send(frame(later))
-            lowered = packet(ttl=63, number=2)
-            checks.same("once there is memory again, packets pass", lab.receive(lab.core)[0], lowered)
+            lab.send(frame(packet(number=2)))
+            came = lab.receive_all(lab.core, len(comes))
+            checks.same(f"after turns without memory for {what} packets pass", came, comes)
             lab.stop()
             status, out, _ = lab.end()
-            checks.same("a packet without memory is counted as that", (status, out), (0, report(84, WantOfMemory=1)))
-            return
-    checks.same("the program can be opened with a gigabyte", False, True)
+            checks.same(f"what had no memory for {what} is counted", (status, out), (0, wanted))
 
 
 def refuses_bad_configurations(checks):
@@ -189,7 +185,7 @@ def try_all(checks):
         drops_and_counts_bad_input(checks, built, 10)
         forwards_bursts_in_order(checks, built, 10)
         serves_sessions(checks, built, 10)
-        loses_no_more_than_what_it_had_no_memory_for(checks)
+        goes_on_after_memory_was_refused(checks)
         refuses_bad_beginnings(checks)
         refuses_bad_configurations(checks)
         says_when_nobody_takes_its_report(checks)
