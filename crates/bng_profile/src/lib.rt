@@ -6,7 +6,6 @@
 //! book.
 #![tactic(auto)]
 
-mod count;
 mod profiles;
 #[cfg(test)]
 mod tests;

@@ -1,9 +1,9 @@
 //! The list of profiles.
 ghost use Rattle.std.specs.Prelude.{◌≡◌, ◌<◌, ◌≤◌, ℕ, map, length, replicate, slice_get, slice_set, IfOk, IfSome, IfNone, IsTrue};
 ghost use mathlib.Core.Logic.{◌↔◌};
-ghost use Rattle.bng_profile.specs.Books.{AreDifferent, names_of, empty_book, IsBelow, Holds, passed, taken_off};
+ghost use Rattle.bng_profile.specs.Books.{AreDifferent, names_of, IsBelow, Holds};
+ghost use Rattle.bng_base.specs.Books.{empty_book, entered, taken_off};
 
-use crate::count;
 use arrayvec::ArrayVec;
 use bng_base::{Book, Profile};
 use std::alloc::Global;
@@ -53,13 +53,7 @@ impl Profiles {
             let Ok(()) = names.push(copied(&profile.name)) else {
                 return Err(ProfileError::OutOfMemory);
             };
-            let empty = Book {
-                input: 0,
-                output: 0,
-                input_packets: 0,
-                output_packets: 0,
-            };
-            let Ok(()) = books.push(empty) else {
+            let Ok(()) = books.push(Book::empty()) else {
                 return Err(ProfileError::OutOfMemory);
             };
         }
@@ -95,10 +89,9 @@ impl Profiles {
         ensures names { self.new.names ≡ self.old.names }
         ensures places { length self.new.books ≡ length self.old.books }
         ensures books { (b : _) → slice_get self.old.books profile ≡ Some b
-            → self.new.books ≡ slice_set self.old.books profile (passed b input octets) }
+            → self.new.books ≡ slice_set self.old.books profile (entered b input octets) }
     {
-        let place = profile as usize;
-        self.books[place] = count::passed(self.books[place], input, octets);
+        self.books[usize::from(profile)].enter(input, octets);
     }
 
     /// Takes a packet that was counted off the book of the profile at that place, as where its send failed.
@@ -111,11 +104,10 @@ impl Profiles {
         ensures books { (b : _) → slice_get self.old.books profile ≡ Some b
             → self.new.books ≡ slice_set self.old.books profile (taken_off b input octets) }
         // It undoes `pass`.
-        ensures undone { (b : _) → slice_get self.old.books profile ≡ Some (passed b input octets)
+        ensures undone { (b : _) → slice_get self.old.books profile ≡ Some (entered b input octets)
             → slice_get self.new.books profile ≡ Some b }
     {
-        let place = profile as usize;
-        self.books[place] = count::taken_off(self.books[place], input, octets);
+        self.books[usize::from(profile)].take_off(input, octets);
     }
 }
 

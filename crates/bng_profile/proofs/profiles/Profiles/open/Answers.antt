@@ -1,7 +1,8 @@
 use Rattle.std.proofs.Common.{rules, ◌≡◌, ◌+◌, ◌<◌, ℕ, suc, [], ◌∷◌, ◌++◌, map, take, length, slice_get, Some, sym, ap, ◌∙◌, refl, arith}
 use Rattle.std.proofs.lemmas.Option.{slice_get_read}
 use Rattle.std.proofs.lemmas.List.{map-append, replicate-append-replicate}
-use Rattle.bng_profile.specs.Books.{names_of, empty_book}
+use Rattle.bng_base.specs.Books.{empty_book}
+use Rattle.bng_profile.specs.Books.{names_of}
 use Rattle.bng_profile.proofs.Places.{take_more}
 use Rattle.bng_profile.proofs.profiles.Profiles.open.Goals as goal
 
