@@ -21,7 +21,7 @@ use Rattle.bng_acct.specs.Attributes.{attributes, front, rest, station, unless_s
 use Rattle.bng_acct.specs.Request.{AreClasses, HoldsRequest}
 use Rattle.bng_acct.proofs.GoingOn.{both}
 
-fit : (fs : List Field) → AllByRecursion IsPlain fs → AllByRecursion Fits fs
+pub fit : (fs : List Field) → AllByRecursion IsPlain fs → AllByRecursion Fits fs
 fit [] h = tt
 fit (f ∷ fs) h = (h.0.fits, fit fs h.1)
 
@@ -62,14 +62,12 @@ header = 4 ∷ 0 ∷ 0 ∷ 0 ∷ replicate 16 0
 abbrev pub packet_of : AcctRules → Record → List Field → Packet
 packet_of rules r classes = record { code = 4; id = 0; authenticator = replicate 16 0; attributes = attributes rules r classes }
 
--- octets after a header, with their length, are the packet's spelling
-spells : (p : Packet) (whole : List ℕ) → p.code ≡ 4 → p.id ≡ 0 → p.authenticator ≡ replicate 16 0 → whole ≡ header ++ attributes_text p.attributes
+-- octets that are a packet without its length, and then have it, are the packet's spelling
+pub spells : (p : Packet) (whole : List ℕ) → whole ≡ p.code ∷ p.id ∷ 0 ∷ 0 ∷ (p.authenticator ++ attributes_text p.attributes)
     → length whole ≡ 20 + length (attributes_text p.attributes) → take 2 whole ++ big_bytes 2 (length whole) ++ drop 4 whole ≡ spelling p
 unfolding spelling
-spells p whole code id zeros is size =
-    ap (λ (n : ℕ). take 2 whole ++ big_bytes 2 n ++ drop 4 whole) size
-    ∙ ap (λ (w : List ℕ). take 2 w ++ big_bytes 2 (20 + length (attributes_text p.attributes)) ++ drop 4 w) is
-    ∙ rw (code, id, zeros) refl
+spells p whole is size =
+    ap (λ (n : ℕ). take 2 whole ++ big_bytes 2 n ++ drop 4 whole) size ∙ ap (λ (w : List ℕ). take 2 w ++ big_bytes 2 (20 + length (attributes_text p.attributes)) ++ drop 4 w) is
 
 pub request : (rules : AcctRules) (r : Record) (middle whole : List ℕ) (frame : Bytes) (fs : List Field)
     → AreClasses fs r.facts.class.items → GoesOn header middle (front rules r fs) → GoesOn middle whole (rest rules r) → length whole ≤ 1024
@@ -78,7 +76,7 @@ request rules r middle whole frame fs are one two small payload headroom =
     let all = both one two in
     let p = packet_of rules r fs in
     let size : length whole ≡ 20 + length (attributes_text p.attributes) = ap length all.text ∙ length-append header (attributes_text p.attributes) in
-    let spelled : frame.payload ≡ spelling p = payload ∙ spells p whole refl refl refl all.text size in
+    let spelled : frame.payload ≡ spelling p = payload ∙ spells p whole all.text size in
     let reads : IsRadius p (spelling p ++ []) = spelling_reads p [] refl (fit p.attributes all.plain) (omega (arith, size, small)) in
     record {
       packet = p;

@@ -3,10 +3,10 @@
 //! A term is one authenticated use of a circuit. Its Start, its Interims and its Stop are formed by [`Spool::start`],
 //! [`Spool::interim`] and [`Spool::stop`], handed out in the order in which they were formed by [`Spool::next`], each as
 //! an Accounting-Request that is still to be numbered and signed, and kept until [`Spool::acked`]. `open` takes all the
-//! memory that a spool needs.
+//! memory that a spool needs. [`attributes`] and [`texts`] have what an Access-Request has in common with them.
 #![tactic(auto)]
 
-mod attributes;
+pub mod attributes;
 mod facts;
 mod held;
 pub mod law;
@@ -19,7 +19,7 @@ mod rules;
 mod sheet;
 mod spares;
 mod spool;
-mod texts;
+pub mod texts;
 mod tree;
 
 pub use crate::facts::{Moment, Record, RecordNo, StatusType, TermFacts};

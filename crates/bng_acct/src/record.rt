@@ -1,25 +1,16 @@
 //! A record as a request.
-ghost use Rattle.std.specs.Prelude.{◌≡◌, ◌+◌, ◌≤◌, ◌∷◌, ◌++◌, [], List, length, take, drop, min, ◌/◌, ◌%◌, ◌^◌};
-ghost use Rattle.byteorder.specs.Endian.{big_bytes};
+ghost use Rattle.std.specs.Prelude.{◌≡◌, ◌+◌, ◌≤◌, ◌∷◌, ◌++◌, [], List, length, min, ◌/◌, ◌%◌, ◌^◌};
 ghost use Rattle.bng_radius_wire.specs.Attributes.{Field};
-ghost use Rattle.bng_acct.specs.Attributes.{octets, identity, station, sender, unless_start, low_octets, seconds, usage, in_stop, cause, gigawords, port, front, rest, GoesOn};
+ghost use Rattle.bng_acct.specs.Attributes.{octets, identity, sender, unless_start, low_octets, seconds, usage, in_stop, cause, gigawords, port, front, rest, GoesOn};
 ghost use Rattle.bng_acct.specs.Texts.{session_id as id_of};
 ghost use Rattle.bng_acct.specs.Request.{AreClasses, HoldsRequest};
 
-use crate::attributes::{put, put_number};
+use crate::attributes::{FRAMED, PPP, VIRTUAL, put, put_length, put_number, put_station};
 use crate::facts::{Moment, Record, StatusType, TermFacts};
 use crate::rules::AcctRules;
-use crate::texts::{port_id, session_id, station_id};
-use bng_base::{Book, Circuit, Frame};
+use crate::texts::{port_id, session_id};
+use bng_base::{Book, Frame};
 use bng_radius_wire::kinds;
-
-// Framed, and PPP (RFC 2865 sections 5.6 and 5.7).
-const FRAMED: u32 = 2;
-
-const PPP: u32 = 1;
-
-// Virtual (RFC 2865 section 5.41).
-const VIRTUAL: u32 = 5;
 
 // An Accounting-Request (RFC 2866 section 4.1) whose identifier, length and authenticator are still to be written.
 const HEADER: [u8; 20] = [4, 0, 0, 0, 0, 0, 0, 0, 0, 0, 0, 0, 0, 0, 0, 0, 0, 0, 0, 0];
@@ -48,19 +39,6 @@ fn put_classes(facts: &TermFacts, into: &mut Frame)
     ensures headroom { into.new.headroom ≡ 64 }
 {
     into.put_back(facts.class.as_slice());
-}
-
-fn put_station(circuit: Circuit, into: &mut Frame)
-    requires headroom { into.old.headroom ≡ 64 }
-    requires room { length into.old.payload ≤ 800 }
-    ensures goes_on { GoesOn into.old.payload into.new.payload (station circuit) }
-    ensures size { length into.new.payload ≤ length into.old.payload + 19 }
-    ensures headroom { into.new.headroom ≡ 64 }
-{
-    match circuit {
-        Circuit::Pppoe { mac, .. } => put(into, kinds::CALLING_STATION_ID, &station_id(mac)),
-        Circuit::L2tp { .. } => {}
-    }
 }
 
 fn put_sender(rules: &AcctRules, status: StatusType, into: &mut Frame)
@@ -215,17 +193,6 @@ fn put_rest(rules: &AcctRules, report: &Record, into: &mut Frame)
     put_cause(status, report.moment, into);
     put_gigawords(status, carried, into);
     put_port(&report.facts, report.moment, into);
-}
-
-// Writes the Length of the packet that a frame holds.
-fn put_length(into: &mut Frame)
-    requires header { 20 ≤ length into.old.payload }
-    requires size { length into.old.payload ≤ 1024 }
-    ensures payload { into.new.payload ≡ take 2 into.old.payload ++ big_bytes 2 (length into.old.payload) ++ drop 4 into.old.payload }
-    ensures headroom { into.new.headroom ≡ into.old.headroom }
-{
-    let length = into.payload().len() as u16;
-    into.overwrite(2, &length.to_be_bytes());
 }
 
 /// Writes a record as a request. The facts' Classes are whole attributes, 32 at most, and the record was formed no sooner

@@ -113,7 +113,7 @@ fn l2tp_id(peer: Peer, tunnel: TunnelNo, session: SessionNo) -> ArrayVec<u8, 34>
 }
 
 /// The NAS-Port-Id (RFC 2869 section 5.17) of a circuit.
-pub(crate) fn port_id(circuit: Circuit) -> ArrayVec<u8, 34>
+pub fn port_id(circuit: Circuit) -> ArrayVec<u8, 34>
     ensures { result.items ≡ port_id circuit }
 {
     match circuit {
