@@ -72,6 +72,24 @@ impl Client {
         })
     }
 
+    /// The server that the requests of the lane go to.
+    pub fn server(&self, lane: Lane) -> Peer
+        ensures { result ≡ server_of self.now lane }
+    {
+        match lane {
+            Lane::Auth => self.auth_server,
+            Lane::Acct => self.acct_server,
+        }
+    }
+
+    /// The secret that is shared with the servers, 64 octets at most.
+    pub fn secret(&self) -> &[u8]
+        ensures octets { result.now ≡ self.now.secret }
+        ensures size { length result.now ≤ 64 }
+    {
+        self.secret.as_slice()
+    }
+
     /// Whether fewer than 256 requests of the lane are out.
     pub fn room(&self, lane: Lane) -> bool
         ensures { IsTrue result ↔ (taken (table_of self.now lane).places < 256) }

@@ -1,0 +1,25 @@
+use arrayvec::ArrayVec;
+use bng_access::NasRules;
+use bng_base::{Ip4, Peer};
+
+/// No server: a lane has no server for accounting.
+pub const NOBODY: Peer = Peer {
+    ip: Ip4(0),
+    port: 0,
+};
+
+/// What a lane is opened with: what its requests say of the gateway, the server and the secret that it shares, and how
+/// often a request is sent in all.
+#[derive(Drop)]
+pub struct LaneRules {
+    pub nas: NasRules,
+    pub server: Peer,
+    pub secret: ArrayVec<u8, 64>,
+    pub tries: u8,
+}
+
+/// Why a lane was not opened.
+#[derive(Clone, Copy, PartialEq, Eq, Debug)]
+pub enum LaneError {
+    OutOfMemory,
+}
