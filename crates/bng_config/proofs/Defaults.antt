@@ -6,9 +6,9 @@ use Rattle.toml.specs.Data.{Data, as_integer}
 use Rattle.bng_base.specs.declared.settings.AuthKind.{AuthKind}
 use Rattle.bng_base.specs.declared.settings.AuthKind.TheVariants.{Chap, Pap}
 use Rattle.bng_config.specs.declared.fault.Key.{Key}
-use Rattle.bng_config.specs.declared.fault.Key.TheVariants.{GatewayName, GatewayShards, GatewayServices, GatewayAuth, GatewayEcho}
+use Rattle.bng_config.specs.declared.fault.Key.TheVariants.{GatewayName, GatewayShards, GatewayServices, GatewayAuth, GatewayEcho, RadiusTries}
 use Rattle.bng_config.specs.Rules.{IsServiceName}
-use Rattle.bng_config.specs.Configuration.{StandsAt, StandsOr, HasForm, IsNew, IsFitOrAbsent, IsSound, IsName, IsNumber, AreServices, AreKinds, natural_or, shards_of, most_shards, longest_echo}
+use Rattle.bng_config.specs.Configuration.{StandsAt, StandsOr, HasForm, IsNew, IsFitOrAbsent, IsSound, IsName, IsNumber, AreServices, AreKinds, natural_or, shards_of, most_shards, longest_echo, most_tries}
 use Rattle.bng_config.proofs.Faults.{fit_of, unfit_of}
 
 -- a value of this form stands at the key, or nothing does
@@ -23,7 +23,7 @@ pub unfit_or_of : {X : Type 0} {document : Data} {key : Key} (Form : Data → X 
 unfit_or_of Form Default default is none form (inl h) = none default (inl (h, is))
 unfit_or_of Form Default default is none form (inr h) = unfit_of Form (λ x h. none x (inr h)) form h
 
--- the keys of the gateway, where what stands there is read, and where it is not
+-- the keys of the gateway and the tries, where what stands there is read, and where it is not
 module _ (document : Data) where
   pub name_sound : (n : ArrayVec ℕ) → StandsAt document GatewayName (λ d. IsName d n) → IsSound document GatewayName
   name_sound n h = fit_of IsName n h (λ d is. (n, is)) tt
@@ -51,6 +51,12 @@ module _ (document : Data) where
 
   pub echo_faulty : ((n : ℕ) → ¬ StandsOr document GatewayEcho (λ d. IsNumber 0 longest_echo d n) (n ≡ 30)) → ¬ IsSound document GatewayEcho
   echo_faulty none = unfit_or_of (IsNumber 0 longest_echo) (λ x. x ≡ 30) 30 refl none (λ d h. h)
+
+  pub tries_sound : (n : ℕ) → StandsOr document RadiusTries (λ d. IsNumber 1 most_tries d n) (n ≡ 4) → IsSound document RadiusTries
+  tries_sound n h = fit_or_of (IsNumber 1 most_tries) (λ x. x ≡ 4) n h (λ d is. (n, is)) (λ d. tt)
+
+  pub tries_faulty : ((n : ℕ) → ¬ StandsOr document RadiusTries (λ d. IsNumber 1 most_tries d n) (n ≡ 4)) → ¬ IsSound document RadiusTries
+  tries_faulty none = unfit_or_of (IsNumber 1 most_tries) (λ x. x ≡ 4) 4 refl none (λ d h. h)
 
 -- a number that is in range, by itself or by default
 pub range_or : {document : Data} {key : Key} (low high default n : ℕ) → low ≤ default → default ≤ high

@@ -1,5 +1,5 @@
 -- A configuration that is read keeps the rules.
-use Rattle.std.proofs.Common.{◌≡◌, ◌≢◌, ℕ, zero, suc, ◌<◌, ◌≤◌, List, [], ◌∷◌, ◌++◌, length, map, Some, get_or, subst, ◌∙◌, arith, inl, inr}
+use Rattle.std.proofs.Common.{◌≡◌, ◌≢◌, ℕ, zero, suc, ◌<◌, ◌≤◌, List, [], ◌∷◌, ◌++◌, length, map, Some, get_or, sym, subst, ◌∙◌, arith, inl, inr}
 use Rattle.std.specs.List.{AllPairs, All}
 use Rattle.std.proofs.lemmas.List.{length-map, get_or-map}
 use Rattle.toml.specs.Data.{Data, Items, array, table}
@@ -7,10 +7,10 @@ use Rattle.bng_base.specs.declared.address.Peer.{Peer}
 use Rattle.bng_base.specs.declared.settings.AccessPort.{AccessPort}
 use Rattle.bng_config.specs.declared.config.Config.{Config}
 use Rattle.bng_config.specs.declared.fault.Key.{Key}
-use Rattle.bng_config.specs.declared.fault.Key.TheVariants.{Access, Statics}
-use Rattle.bng_config.specs.Keys.{path_of, gateway_keys, end_keys, access_keys, static_keys}
-use Rattle.bng_config.specs.Configuration.{IsSound, AreSound, value_at, entries, item_count, port_keys, circuit_keys, shards_of, most_shards, longest_echo, Configures, IsRead}
-use Rattle.bng_config.specs.Rules.{IsGatewayName, IsServiceName, IsSessionOf, IsPlaced, KeepsRules, ends_of}
+use Rattle.bng_config.specs.declared.fault.Key.TheVariants.{Access, Statics, RadiusAuthLocal}
+use Rattle.bng_config.specs.Keys.{path_of, gateway_keys, end_keys, access_keys, static_keys, radius_keys}
+use Rattle.bng_config.specs.Configuration.{StandsAt, IsFit, IsSound, AreSound, value_at, entries, item_count, port_keys, circuit_keys, shards_of, most_shards, longest_echo, most_tries, Configures, IsRead}
+use Rattle.bng_config.specs.Rules.{IsGatewayName, IsServiceName, IsSharedSecret, IsSessionOf, IsPlaced, KeepsRules, ends_of}
 use Rattle.bng_config.proofs.New.{other_end, other_session, other_address}
 use Rattle.bng_config.proofs.Defaults.{known_shards, range_or, services_kept, kinds_kept}
 use Rattle.bng_config.proofs.Faults.{sound_front, sound_back, sound_entry}
@@ -54,20 +54,26 @@ few_of document (inr h) =
     rw (entries_of document Statics h.value form.items h.found form.list) form.few
 
 module _ (document : Data) (c : Config) (h : Configures document c) where
-  sound_rest : AreSound document (end_keys ++ port_keys document ++ circuit_keys document)
-  sound_rest = sound_back document gateway_keys (end_keys ++ port_keys document ++ circuit_keys document) h.sound
+  sound_rest : AreSound document (end_keys ++ port_keys document ++ circuit_keys document ++ radius_keys)
+  sound_rest = sound_back document gateway_keys (end_keys ++ port_keys document ++ circuit_keys document ++ radius_keys) h.sound
 
   sound_ends : AreSound document end_keys
-  sound_ends = sound_front document end_keys (port_keys document ++ circuit_keys document) sound_rest
+  sound_ends = sound_front document end_keys (port_keys document ++ circuit_keys document ++ radius_keys) sound_rest
+
+  sound_behind : AreSound document (port_keys document ++ circuit_keys document ++ radius_keys)
+  sound_behind = sound_back document end_keys (port_keys document ++ circuit_keys document ++ radius_keys) sound_rest
 
   sound_lists : AreSound document (port_keys document ++ circuit_keys document)
-  sound_lists = sound_back document end_keys (port_keys document ++ circuit_keys document) sound_rest
+  sound_lists = sound_front document (port_keys document ++ circuit_keys document) radius_keys sound_behind
 
   sound_ports : AreSound document (port_keys document)
   sound_ports = sound_front document (port_keys document) (circuit_keys document) sound_lists
 
   sound_circuits : AreSound document (circuit_keys document)
   sound_circuits = sound_back document (port_keys document) (circuit_keys document) sound_lists
+
+  sound_radius : AreSound document radius_keys
+  sound_radius = sound_back document (port_keys document ++ circuit_keys document) radius_keys sound_behind
 
   port_count : length c.access ≡ item_count sound_ports.0.is.form.items
   port_count = h.all_ports ∙ entries_of document Access sound_ports.0.value sound_ports.0.is.form.items sound_ports.0.found sound_ports.0.is.form.list
@@ -98,12 +104,30 @@ module _ (document : Data) (c : Config) (h : Configures document c) where
       let fit = sound_ends.1.0 in
       other_end c.core_local c.control_local fit.value fit.found h.core_local h.control_local fit.is.new
 
+  auth_fit : StandsAt document RadiusAuthLocal (IsFit document RadiusAuthLocal)
+  auth_fit = sound_radius.1.0
+
+  auth_not_control : c.control_local ≢ c.auth_local
+  auth_not_control = other_end c.auth_local c.control_local auth_fit.value auth_fit.found h.auth_local h.control_local auth_fit.is.new.0
+
+  auth_not_core : c.core_local ≢ c.auth_local
+  auth_not_core = other_end c.auth_local c.core_local auth_fit.value auth_fit.found h.auth_local h.core_local auth_fit.is.new.1
+
+  auth_differs : (i : ℕ) (d : AccessPort) → i < length c.access → c.auth_local ≢ (get_or c.access i d).local
+  auth_differs i d less e =
+      let there : i < entries document Access = subst (λ n. i < n) h.all_ports less in
+      other_end c.auth_local (get_or c.access i d).local auth_fit.value auth_fit.found h.auth_local (h.access i d less).local (auth_fit.is.new.2 i there) (sym e)
+
   ends : AllPairs (λ a b. a ≢ b) (ends_of c)
   ends =
-      pairs_cons (λ a b. a ≢ b) c.control_local (c.core_local ∷ map (λ a. a.local) c.access)
-      (before_cons c.control_local c.core_local (map (λ a. a.local) c.access) ends_differ (over_map c.access c.control_local control_differs))
-      (pairs_cons (λ a b. a ≢ b) c.core_local (map (λ a. a.local) c.access) (over_map c.access c.core_local core_differs)
-      (pairs_map (λ a. a.local) (λ a b. a ≢ b) c.access new_ports))
+      let locals : List Peer = map (λ a. a.local) c.access in
+      pairs_cons (λ a b. a ≢ b) c.control_local (c.core_local ∷ c.auth_local ∷ locals)
+      (before_cons c.control_local c.core_local (c.auth_local ∷ locals) ends_differ
+      (before_cons c.control_local c.auth_local locals auth_not_control (over_map c.access c.control_local control_differs)))
+      (pairs_cons (λ a b. a ≢ b) c.core_local (c.auth_local ∷ locals)
+      (before_cons c.core_local c.auth_local locals auth_not_core (over_map c.access c.core_local core_differs))
+      (pairs_cons (λ a b. a ≢ b) c.auth_local locals (over_map c.access c.auth_local auth_differs)
+      (pairs_map (λ a. a.local) (λ a b. a ≢ b) c.access new_ports)))
 
   sessions : AllPairs (λ a b. a.session ≢ b.session) c.statics
   sessions i j d less long =
@@ -147,6 +171,12 @@ module _ (document : Data) (c : Config) (h : Configures document c) where
   echo : (0 ≤ c.echo) × (c.echo ≤ 3600)
   echo = range_or 0 longest_echo 30 c.echo (omega arith) (omega arith) h.echo
 
+  secret : IsSharedSecret c.secret.items
+  secret = h.secret.is.is
+
+  tries : (1 ≤ c.tries) × (c.tries ≤ 10)
+  tries = range_or 1 most_tries 4 c.tries (omega arith) (omega arith) h.tries
+
   pub kept : KeepsRules c
   kept =
       let count = port_count in
@@ -170,6 +200,9 @@ module _ (document : Data) (c : Config) (h : Configures document c) where
         few_statics = omega arith;
         placed = placed;
         sharded = sharded;
+        secret = secret;
+        some_tries = tries.0;
+        few_tries = tries.1;
         ends = ends;
         sessions = sessions;
         addresses = addresses;

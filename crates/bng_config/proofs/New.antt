@@ -10,10 +10,10 @@ use Rattle.bng_base.specs.declared.address.SessionNo.{SessionNo}
 use Rattle.bng_base.specs.declared.settings.AccessPort.{AccessPort}
 use Rattle.bng_base.specs.declared.settings.Static.{Static}
 use Rattle.bng_config.specs.declared.fault.Key.{Key}
-use Rattle.bng_config.specs.declared.fault.Key.TheVariants.{ControlLocal, CoreLocal, AccessLocal, StaticSession, StaticAddress}
+use Rattle.bng_config.specs.declared.fault.Key.TheVariants.{ControlLocal, CoreLocal, Access, AccessLocal, StaticSession, StaticAddress, RadiusAuthLocal}
 use Rattle.bng_config.specs.Address.{peer_text, address_text}
 use Rattle.bng_config.specs.Keys.{path_of}
-use Rattle.bng_config.specs.Configuration.{StandsAt, IsSound, Differs, IsPeer, IsSession, IsAddress, IsPort, IsCircuit, EachPlace, value_at, shards_of}
+use Rattle.bng_config.specs.Configuration.{StandsAt, IsSound, Differs, IsFreeEnd, IsPeer, IsSession, IsAddress, IsPort, IsCircuit, EachPlace, value_at, entries, shards_of}
 use Rattle.bng_config.proofs.Faults.{fit_of}
 use Rattle.bng_config.proofs.OneReading.{peer_once, session_once, address_at_once}
 
@@ -90,23 +90,46 @@ addresses_differ document key address [] are here none i less = absurd (omega ar
 addresses_differ document key address (x ∷ xs) are here none i less =
     address_differs address (get_or (x ∷ xs) i x).address here (are i x less).address (λ e. none_at (λ circuit. circuit.address ≡ address) (x ∷ xs) none i x less (sym e))
 
+-- an end that none of the sockets has, and one that some has
+module _ (document : Data) (key : Key) (place : ℕ) (control core local : Peer) (earlier : List AccessPort)
+    (at_control : StandsAt document ControlLocal (λ d. IsPeer d control)) (at_core : StandsAt document CoreLocal (λ d. IsPeer d core))
+    (all : length earlier ≡ place) (are : EachPlace (IsPort document) earlier) (here : StandsAt document key (λ d. IsPeer d local)) where
+  end_free : ((local ≡ control) ⊎ (local ≡ core) ⊎ Any (λ port. port.local ≡ local) earlier → ⊥) → IsFreeEnd document place here.value
+  end_free free = (
+    end_differs local control here at_control (λ e. free (inl e)),
+    end_differs local core here at_core (λ e. free (inr (inl e))),
+    λ i less. ends_differ document key local earlier are here (λ any. free (inr (inr any))) i (omega arith),
+  )
+
+  end_shared : (v : Data) → value_at (path_of key) document ≡ Some v → (local ≡ control) ⊎ (local ≡ core) ⊎ Any (λ port. port.local ≡ local) earlier → ¬ IsFreeEnd document place v
+  end_shared v at (inl same) free = other_end local control v at here at_control free.0 (sym same)
+  end_shared v at (inr (inl same)) free = other_end local core v at here at_core free.1 (sym same)
+  end_shared v at (inr (inr (i, port, less, is, has))) free =
+      let same : (get_or earlier i port).local ≡ local = rw is has in
+      other_end local (get_or earlier i port).local v at here (are i port less).local (free.2 i (omega arith)) same
+
 -- an end of a port that no earlier socket has, and one that some has
 module _ (document : Data) (place : ℕ) (control core local : Peer) (earlier : List AccessPort)
     (at_control : StandsAt document ControlLocal (λ d. IsPeer d control)) (at_core : StandsAt document CoreLocal (λ d. IsPeer d core))
     (all : length earlier ≡ place) (are : EachPlace (IsPort document) earlier) (here : StandsAt document (AccessLocal place) (λ d. IsPeer d local)) where
   pub end_sound : ((local ≡ control) ⊎ (local ≡ core) ⊎ Any (λ port. port.local ≡ local) earlier → ⊥) → IsSound document (AccessLocal place)
-  end_sound free = fit_of IsPeer local here (λ d h. (local, h)) (
-    end_differs local control here at_control (λ e. free (inl e)),
-    end_differs local core here at_core (λ e. free (inr (inl e))),
-    λ i less. ends_differ document (AccessLocal place) local earlier are here (λ any. free (inr (inr any))) i (omega arith),
-  )
+  end_sound free = fit_of IsPeer local here (λ d h. (local, h)) (end_free document (AccessLocal place) place control core local earlier at_control at_core all are here free)
 
   pub end_taken : (local ≡ control) ⊎ (local ≡ core) ⊎ Any (λ port. port.local ≡ local) earlier → ¬ IsSound document (AccessLocal place)
-  end_taken (inl same) sound = other_end local control sound.value sound.found here at_control sound.is.new.0 (sym same)
-  end_taken (inr (inl same)) sound = other_end local core sound.value sound.found here at_core sound.is.new.1 (sym same)
-  end_taken (inr (inr (i, port, less, at, has))) sound =
-      let same : (get_or earlier i port).local ≡ local = rw at has in
-      other_end local (get_or earlier i port).local sound.value sound.found here (are i port less).local (sound.is.new.2 i (omega arith)) same
+  end_taken taken sound =
+      end_shared document (AccessLocal place) place control core local earlier at_control at_core all are here sound.value sound.found taken sound.is.new
+
+-- an end of the socket for authentication that no other socket has, and one that some has
+module _ (document : Data) (control core local : Peer) (ports : List AccessPort)
+    (at_control : StandsAt document ControlLocal (λ d. IsPeer d control)) (at_core : StandsAt document CoreLocal (λ d. IsPeer d core))
+    (all : length ports ≡ entries document Access) (are : EachPlace (IsPort document) ports) (here : StandsAt document RadiusAuthLocal (λ d. IsPeer d local)) where
+  pub auth_end_sound : ((local ≡ control) ⊎ (local ≡ core) ⊎ Any (λ port. port.local ≡ local) ports → ⊥) → IsSound document RadiusAuthLocal
+  auth_end_sound free =
+      fit_of IsPeer local here (λ d h. (local, h)) (end_free document RadiusAuthLocal (entries document Access) control core local ports at_control at_core all are here free)
+
+  pub auth_end_taken : (local ≡ control) ⊎ (local ≡ core) ⊎ Any (λ port. port.local ≡ local) ports → ¬ IsSound document RadiusAuthLocal
+  auth_end_taken taken sound =
+      end_shared document RadiusAuthLocal (entries document Access) control core local ports at_control at_core all are here sound.value sound.found taken sound.is.new
 
 -- a session that no earlier circuit has, and one that some has
 module _ (document : Data) (place : ℕ) (session : SessionNo) (earlier : List Static)

@@ -16,11 +16,11 @@ use Rattle.bng_base.specs.declared.settings.AccessPort.{AccessPort}
 use Rattle.bng_base.specs.declared.settings.AuthKind.TheVariants.{Chap, Pap}
 use Rattle.bng_base.specs.declared.settings.Static.{Static}
 use Rattle.bng_config.specs.Address.{address_text, peer_text, mac_text, octet_text, dot, colon}
-use Rattle.bng_config.specs.Configuration.{StandsAt, StandsOr, IsName, IsNumber, AreServices, AreKinds, IsPeer, IsAddress, IsMac, IsSession, IsPortNumber, IsPort, IsCircuit, EachPlace, entries, shards_of, most_shards, longest_echo, Configures, IsRead}
+use Rattle.bng_config.specs.Configuration.{StandsAt, StandsOr, IsName, IsNumber, IsSecret, AreServices, AreKinds, IsPeer, IsAddress, IsMac, IsSession, IsPortNumber, IsPort, IsCircuit, EachPlace, entries, shards_of, most_shards, longest_echo, most_tries, Configures, IsRead}
 use Rattle.bng_config.proofs.Numbers.{decimal_without}
 use Rattle.bng_config.proofs.Addresses.{cut_once, address_parts, address_without, peer_parts, second_text, third_text, fourth_text}
 use Rattle.bng_config.proofs.Octets.{six_of, mac_parts, second_text as second_octets, third_text as third_octets, fourth_text as fourth_octets, fifth_text as fifth_octets, sixth_text as sixth_octets}
-use Rattle.bng_config.proofs.Spellings.{same_items, name_once, number_once as range_once, services_once, kinds_once}
+use Rattle.bng_config.proofs.Spellings.{same_items, name_once, secret_once, number_once as range_once, services_once, kinds_once}
 use Rattle.bng_config.proofs.Exclusive.{one_document}
 
 pub number_once : (m n : ℕ) (x y : List ℕ) → m < 256 → n < 256 → decimal m ++ dot ∷ x ≡ decimal n ++ dot ∷ y → (m ≡ n) × (x ≡ y)
@@ -158,7 +158,28 @@ one_configuration document a b p q =
     let peers : a.core_peer ≡ b.core_peer = one_at IsPeer peer_once a.core_peer b.core_peer p.core_peer q.core_peer in
     let ports : a.access ≡ b.access = one_list (IsPort document) (port_once document) a.access b.access (p.all_ports ∙ sym q.all_ports) p.access q.access in
     let circuits : a.statics ≡ b.statics = one_list (IsCircuit document) (circuit_once document) a.statics b.statics (p.all_circuits ∙ sym q.all_circuits) p.statics q.statics in
-    λ i. record { name = names i; shards = shards i; services = services i; auth = kinds i; echo = echos i; control_local = controls i; core_local = locals i; core_peer = peers i; access = ports i; statics = circuits i }
+    let nas : a.nas_ip ≡ b.nas_ip = one_at IsAddress address_at_once a.nas_ip b.nas_ip p.nas_ip q.nas_ip in
+    let auths : a.auth_local ≡ b.auth_local = one_at IsPeer peer_once a.auth_local b.auth_local p.auth_local q.auth_local in
+    let servers : a.auth_server ≡ b.auth_server = one_at IsPeer peer_once a.auth_server b.auth_server p.auth_server q.auth_server in
+    let secrets : a.secret ≡ b.secret = one_at IsSecret secret_once a.secret b.secret p.secret q.secret in
+    let tries : a.tries ≡ b.tries = one_or (IsNumber 1 most_tries) (λ n. n ≡ 4) (range_once 1 most_tries) (λ x y e f. e ∙ sym f) a.tries b.tries p.tries q.tries in
+    λ i. record {
+      name = names i;
+      shards = shards i;
+      services = services i;
+      auth = kinds i;
+      echo = echos i;
+      control_local = controls i;
+      core_local = locals i;
+      core_peer = peers i;
+      access = ports i;
+      statics = circuits i;
+      nas_ip = nas i;
+      auth_local = auths i;
+      auth_server = servers i;
+      secret = secrets i;
+      tries = tries i;
+    }
 
 -- a text says one configuration
 pub one_reading : (text : List ℕ) (a b : Config) → IsRead text a → IsRead text b → a ≡ b

@@ -15,14 +15,14 @@ use Rattle.bng_base.specs.declared.settings.AuthKind.TheVariants.{Chap, Pap}
 use Rattle.bng_base.specs.declared.settings.Static.{Static}
 use Rattle.bng_config.specs.declared.config.Config.{Config}
 use Rattle.bng_config.specs.declared.fault.Key.{Key}
-use Rattle.bng_config.specs.declared.fault.Key.TheVariants.{GatewayName, GatewayShards, GatewayServices, GatewayAuth, GatewayEcho, ControlLocal, CoreLocal, CorePeer, Access, AccessLocal, AccessPeer, AccessMac, Statics, StaticPort, StaticMac, StaticSession, StaticAddress}
+use Rattle.bng_config.specs.declared.fault.Key.TheVariants.{GatewayName, GatewayShards, GatewayServices, GatewayAuth, GatewayEcho, ControlLocal, CoreLocal, CorePeer, Access, AccessLocal, AccessPeer, AccessMac, Statics, StaticPort, StaticMac, StaticSession, StaticAddress, GatewayNasIp, RadiusAuthLocal, RadiusAuthServer, RadiusSecret, RadiusTries}
 use Rattle.bng_config.specs.declared.fault.Fault.{Fault}
 use Rattle.bng_config.specs.declared.fault.Fault.TheVariants.{TooLong, NotToml, OutsideForm}
 use Rattle.bng_config.specs.declared.fault.ConfigError.{ConfigError}
 use Rattle.bng_config.specs.declared.fault.ConfigError.TheVariants.{Refused, OutOfMemory}
 use Rattle.bng_config.specs.Address.{address_text, peer_text, mac_text}
-use Rattle.bng_config.specs.Keys.{Step, named, placed, path_of, gateway_keys, end_keys, access_keys, static_keys, of_entries}
-use Rattle.bng_config.specs.Rules.{IsGatewayName, IsServiceName, IsSessionOf}
+use Rattle.bng_config.specs.Keys.{Step, named, placed, path_of, gateway_keys, end_keys, access_keys, static_keys, radius_keys, of_entries}
+use Rattle.bng_config.specs.Rules.{IsGatewayName, IsServiceName, IsSharedSecret, IsSessionOf}
 
 -- the longest text that is read, in octets
 abbrev pub longest_text : ℕ
@@ -34,6 +34,10 @@ most_shards = 64
 
 abbrev pub longest_echo : ℕ
 longest_echo = 3600
+
+-- the most sends of an Access-Request
+abbrev pub most_tries : ℕ
+most_tries = 10
 
 -- the most access ports, and the most circuits
 abbrev pub most_ports : ℕ
@@ -80,7 +84,7 @@ circuit_keys document = Statics ∷ of_entries static_keys (entries document Sta
 
 -- the order in which the keys of the document are looked at
 abbrev pub keys : Data → List Key
-keys document = gateway_keys ++ end_keys ++ port_keys document ++ circuit_keys document
+keys document = gateway_keys ++ end_keys ++ port_keys document ++ circuit_keys document ++ radius_keys
 
 -- a list of this many items at least and at most
 pub record IsList (low high : ℕ) (d : Data) : Type 0 where
@@ -93,6 +97,11 @@ pub record IsList (low high : ℕ) (d : Data) : Type 0 where
 pub record IsName (d : Data) (name : ArrayVec ℕ) : Type 0 where
   pub text : d ≡ string name.items
   pub is : IsGatewayName name.items
+
+-- a text that is a secret
+pub record IsSecret (d : Data) (secret : ArrayVec ℕ) : Type 0 where
+  pub text : d ≡ string secret.items
+  pub is : IsSharedSecret secret.items
 
 -- a number of this range
 pub record IsNumber (least most : ℕ) (d : Data) (n : ℕ) : Type 0 where
@@ -174,16 +183,26 @@ HasForm document (StaticPort place) d = (n : ℕ) × IsPortNumber (entries docum
 HasForm document (StaticMac place) d = (m : Mac) × IsMac d m
 HasForm document (StaticSession place) d = (s : SessionNo) × IsSession (shards_of document) d s
 HasForm document (StaticAddress place) d = (a : Ip4) × IsAddress d a
+HasForm document GatewayNasIp d = (a : Ip4) × IsAddress d a
+HasForm document RadiusAuthLocal d = (p : Peer) × IsPeer d p
+HasForm document RadiusAuthServer d = (p : Peer) × IsPeer d p
+HasForm document RadiusSecret d = (s : ArrayVec ℕ) × IsSecret d s
+HasForm document RadiusTries d = (n : ℕ) × IsNumber 1 most_tries d n
 
 -- another value stands at the key, or none
 abbrev pub Differs : Data → Key → Data → Type 0
 Differs document key d = value_at (path_of key) document ≢ Some d
 
+-- neither Control nor the socket towards the core has this end, nor one of this many access ports, counted from the first
+abbrev pub IsFreeEnd : Data → ℕ → Data → Type 0
+IsFreeEnd document ports d =
+    Differs document ControlLocal d × Differs document CoreLocal d × ((i : ℕ) → i < ports → Differs document (AccessLocal i) d)
+
 -- no earlier socket of the gateway has this end, no earlier circuit this session, and none this address
 abbrev pub IsNew : Data → Key → Data → Type 0
 IsNew document CoreLocal d = Differs document ControlLocal d
-IsNew document (AccessLocal place) d =
-    Differs document ControlLocal d × Differs document CoreLocal d × ((i : ℕ) → i < place → Differs document (AccessLocal i) d)
+IsNew document (AccessLocal place) d = IsFreeEnd document place d
+IsNew document RadiusAuthLocal d = IsFreeEnd document (entries document Access) d
 IsNew document (StaticSession place) d = (i : ℕ) → i < place → Differs document (StaticSession i) d
 IsNew document (StaticAddress place) d = (i : ℕ) → i < place → Differs document (StaticAddress i) d
 IsNew document key d = ⊤
@@ -207,13 +226,14 @@ pub record IsFit (document : Data) (key : Key) (d : Data) : Type 0 where
 abbrev pub IsFitOrAbsent : Data → Key → Type 0
 IsFitOrAbsent document key = (value_at (path_of key) document ≡ None) ⊎ StandsAt document key (IsFit document key)
 
--- the key is there, and in its form; four keys of the gateway and the list of circuits may be absent
+-- the key is there, and in its form; four keys of the gateway, the list of circuits and the tries may be absent
 abbrev pub IsSound : Data → Key → Type 0
 IsSound document GatewayShards = IsFitOrAbsent document GatewayShards
 IsSound document GatewayServices = IsFitOrAbsent document GatewayServices
 IsSound document GatewayAuth = IsFitOrAbsent document GatewayAuth
 IsSound document GatewayEcho = IsFitOrAbsent document GatewayEcho
 IsSound document Statics = IsFitOrAbsent document Statics
+IsSound document RadiusTries = IsFitOrAbsent document RadiusTries
 IsSound document key = StandsAt document key (IsFit document key)
 
 -- each of the keys is sound
@@ -265,6 +285,11 @@ pub record Configures (document : Data) (c : Config) : Type 0 where
   pub access : EachPlace (IsPort document) c.access
   pub all_circuits : length c.statics ≡ entries document Statics
   pub statics : EachPlace (IsCircuit document) c.statics
+  pub nas_ip : StandsAt document GatewayNasIp (λ d. IsAddress d c.nas_ip)
+  pub auth_local : StandsAt document RadiusAuthLocal (λ d. IsPeer d c.auth_local)
+  pub auth_server : StandsAt document RadiusAuthServer (λ d. IsPeer d c.auth_server)
+  pub secret : StandsAt document RadiusSecret (λ d. IsSecret d c.secret)
+  pub tries : StandsOr document RadiusTries (λ d. IsNumber 1 most_tries d c.tries) (c.tries ≡ 4)
 
 -- the text is UTF-8, and is TOML for these members
 pub record IsDocument (text : List ℕ) (members : Members) : Type 0 where

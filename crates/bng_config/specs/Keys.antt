@@ -3,7 +3,7 @@ use Rattle.std.specs.Prelude.{ℕ, zero, suc, ◌+◌, List, [], ◌∷◌, ◌+
 use Rattle.std.specs.Fmt.{decimal}
 use Rattle.std.specs.List.{join_with_byte}
 use Rattle.bng_config.specs.declared.fault.Key.{Key}
-use Rattle.bng_config.specs.declared.fault.Key.TheVariants.{GatewayName, GatewayShards, GatewayServices, GatewayAuth, GatewayEcho, ControlLocal, CoreLocal, CorePeer, Access, AccessLocal, AccessPeer, AccessMac, Statics, StaticPort, StaticMac, StaticSession, StaticAddress}
+use Rattle.bng_config.specs.declared.fault.Key.TheVariants.{GatewayName, GatewayShards, GatewayServices, GatewayAuth, GatewayEcho, ControlLocal, CoreLocal, CorePeer, Access, AccessLocal, AccessPeer, AccessMac, Statics, StaticPort, StaticMac, StaticSession, StaticAddress, GatewayNasIp, RadiusAuthLocal, RadiusAuthServer, RadiusSecret, RadiusTries}
 use Rattle.bng_config.specs.declared.fault.Fault.{Fault}
 use Rattle.bng_config.specs.declared.fault.Fault.TheVariants.{TooLong, NotToml, OutsideForm}
 
@@ -35,6 +35,11 @@ path_of (StaticPort place) = in_entry (codes "static") place (codes "port")
 path_of (StaticMac place) = in_entry (codes "static") place (codes "mac")
 path_of (StaticSession place) = in_entry (codes "static") place (codes "session")
 path_of (StaticAddress place) = in_entry (codes "static") place (codes "address")
+path_of GatewayNasIp = named (codes "gateway") ∷ named (codes "nas_ip") ∷ []
+path_of RadiusAuthLocal = named (codes "radius") ∷ named (codes "auth_local") ∷ []
+path_of RadiusAuthServer = named (codes "radius") ∷ named (codes "auth_server") ∷ []
+path_of RadiusSecret = named (codes "radius") ∷ named (codes "secret") ∷ []
+path_of RadiusTries = named (codes "radius") ∷ named (codes "tries") ∷ []
 
 -- the keys of the gateway itself, which are looked at first
 abbrev pub gateway_keys : List Key
@@ -50,6 +55,10 @@ access_keys place = AccessLocal place ∷ AccessPeer place ∷ AccessMac place �
 
 abbrev pub static_keys : ℕ → List Key
 static_keys place = StaticPort place ∷ StaticMac place ∷ StaticSession place ∷ StaticAddress place ∷ []
+
+-- the keys of authentication, which are looked at last
+abbrev pub radius_keys : List Key
+radius_keys = GatewayNasIp ∷ RadiusAuthLocal ∷ RadiusAuthServer ∷ RadiusSecret ∷ RadiusTries ∷ []
 
 -- the keys of this many entries
 abbrev pub of_entries : (ℕ → List Key) → ℕ → List Key

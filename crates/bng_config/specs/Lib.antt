@@ -5,4 +5,5 @@ pub mod Parts
 pub mod Configuration
 pub mod Gateway
 pub mod Ends
+pub mod Radius
 pub mod Find

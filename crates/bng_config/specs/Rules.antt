@@ -21,6 +21,11 @@ pub record IsServiceName (name : List ℕ) : Type 0 where
   pub some : 1 ≤ length name
   pub short : length name ≤ 64
 
+-- the secret that is shared with the RADIUS server: 1 to 64 octets
+pub record IsSharedSecret (secret : List ℕ) : Type 0 where
+  pub some : 1 ≤ length secret
+  pub short : length secret ≤ 64
+
 -- a number of a session of one of this many shards: the shard, from 0, times 1,024, and an index of 1 to 1,022
 pub record IsSessionOf (shards number : ℕ) : Type 0 where
   pub shard : number / 1024 < shards
@@ -33,7 +38,7 @@ IsSessionNumber number = IsSessionOf 64 number
 
 -- the gateway's ends of the sockets
 abbrev pub ends_of : Config → List Peer
-ends_of c = c.control_local ∷ c.core_local ∷ map (λ a. a.local) c.access
+ends_of c = c.control_local ∷ c.core_local ∷ c.auth_local ∷ map (λ a. a.local) c.access
 
 -- the circuit is on one of this many ports, with a number that a session may have
 pub record IsPlaced (ports : ℕ) (s : Static) : Type 0 where
@@ -42,8 +47,8 @@ pub record IsPlaced (ports : ℕ) (s : Static) : Type 0 where
   pub number : IsSessionNumber s.session.0
 
 -- a name, 1 to 64 shards, at most 8 services, one or two ways to authenticate, none twice, and at most 3,600 s between
--- Echo-Requests; 1 to 16 ports, at most 1,024 circuits, each on a port and with a session of one of the shards; no two
--- sockets have one end, and no two circuits one session or one address
+-- Echo-Requests; 1 to 16 ports, at most 1,024 circuits, each on a port and with a session of one of the shards; a secret,
+-- and 1 to 10 sends of an Access-Request; no two sockets have one end, and no two circuits one session or one address
 pub record KeepsRules (c : Config) : Type 0 where
   pub name : IsGatewayName c.name.items
   pub some_shard : 1 ≤ c.shards
@@ -59,6 +64,9 @@ pub record KeepsRules (c : Config) : Type 0 where
   pub few_statics : length c.statics ≤ 1024
   pub placed : All (IsPlaced (length c.access)) c.statics
   pub sharded : All (λ s. IsSessionOf c.shards s.session.0) c.statics
+  pub secret : IsSharedSecret c.secret.items
+  pub some_tries : 1 ≤ c.tries
+  pub few_tries : c.tries ≤ 10
   pub ends : AllPairs (λ a b. a ≢ b) (ends_of c)
   pub sessions : AllPairs (λ a b. a.session ≢ b.session) c.statics
   pub addresses : AllPairs (λ a b. a.address ≢ b.address) c.statics

@@ -110,8 +110,8 @@ fn end_at(
     }
 }
 
-// A socket has this end.
-fn is_taken(local: Peer, control: Peer, core: Peer, ports: &[AccessPort]) -> bool
+/// A socket has this end: that of Control, that to the core, or that of one of the ports.
+pub(crate) fn is_taken(local: Peer, control: Peer, core: Peer, ports: &[AccessPort]) -> bool
     ensures { IsTrue result ↔ (local ≡ control) ⊎ (local ≡ core) ⊎ Any (λ port. port.local ≡ local) ports.now }
 {
     local == control || local == core || ports.iter().any(|port| port.local == local)

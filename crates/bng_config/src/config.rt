@@ -1,11 +1,13 @@
 use arrayvec::ArrayVec;
-use bng_base::{AccessPort, AuthKind, Listed, Peer, Static};
+use bng_base::{AccessPort, AuthKind, Ip4, Listed, Peer, Static};
 
 /// What the gateway serves: its name, of 1 to 64 printable octets of ASCII without space; the number of its shards, 1 to
 /// 64; the services that it offers beside any, at most 8 of 1 to 64 octets each; the ways to authenticate that it asks
 /// for, the first one first; the seconds between two Echo-Requests of a link, 0 to 3,600, where 0 asks for none (RFC 1661
-/// section 5.8); its ends of the sockets, the core's other end, the access ports, whose numbers count from 1, and the
-/// provisioned circuits on them.
+/// section 5.8); its ends of the sockets to Control and the core, the core's other end, the access ports, whose numbers
+/// count from 1, and the provisioned circuits on them; and of RADIUS the address that it gives itself in its requests
+/// (NAS-IP-Address, RFC 2865 section 5.4), its end of the socket for authentication, the server's end, the secret of 1 to
+/// 64 octets that the two share (section 3), and how often an Access-Request is sent in all, 1 to 10.
 #[derive(Drop)]
 pub struct Config {
     pub name: ArrayVec<u8, 64>,
@@ -18,4 +20,9 @@ pub struct Config {
     pub core_peer: Peer,
     pub access: Listed<AccessPort>,
     pub statics: Listed<Static>,
+    pub nas_ip: Ip4,
+    pub auth_local: Peer,
+    pub auth_server: Peer,
+    pub secret: ArrayVec<u8, 64>,
+    pub tries: u8,
 }

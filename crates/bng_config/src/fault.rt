@@ -37,6 +37,16 @@ pub enum Key {
     StaticSession(u16),
     /// `static.1.address` at place 0
     StaticAddress(u16),
+    /// `gateway.nas_ip`
+    GatewayNasIp,
+    /// `radius.auth_local`
+    RadiusAuthLocal,
+    /// `radius.auth_server`
+    RadiusAuthServer,
+    /// `radius.secret`
+    RadiusSecret,
+    /// `radius.tries`
+    RadiusTries,
 }
 
 /// How a text is no configuration: the first rule that it breaks.

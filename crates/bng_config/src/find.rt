@@ -71,6 +71,11 @@ pub(crate) fn value_of(document: &Value, key: Key) -> Option<&Value>
         Key::StaticMac(place) => in_list(document, "static", place, "mac"),
         Key::StaticSession(place) => in_list(document, "static", place, "session"),
         Key::StaticAddress(place) => in_list(document, "static", place, "address"),
+        Key::GatewayNasIp => in_table(document, "gateway", "nas_ip"),
+        Key::RadiusAuthLocal => in_table(document, "radius", "auth_local"),
+        Key::RadiusAuthServer => in_table(document, "radius", "auth_server"),
+        Key::RadiusSecret => in_table(document, "radius", "secret"),
+        Key::RadiusTries => in_table(document, "radius", "tries"),
     }
 }
 

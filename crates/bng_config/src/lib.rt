@@ -13,6 +13,7 @@ mod kinds;
 mod mac;
 mod names;
 mod peer;
+mod radius;
 mod reading;
 mod session;
 mod texts;

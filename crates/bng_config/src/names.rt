@@ -68,8 +68,8 @@ fn service_of(value: &Value) -> Option<ArrayVec<u8, 64>>
     }
 }
 
-// The octets of a text of 1 to 64.
-fn octets_of(text: &[u8]) -> Option<ArrayVec<u8, 64>>
+/// The octets of a text of 1 to 64.
+pub(crate) fn octets_of(text: &[u8]) -> Option<ArrayVec<u8, 64>>
     ensures found { IfSome result (λ o. (o.items ≡ text.now) × (1 ≤ length text.now) × (length text.now ≤ 64)) }
     ensures none { IfNone result (1 ≤ length text.now → ¬ (length text.now ≤ 64)) }
 {

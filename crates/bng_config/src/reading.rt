@@ -12,6 +12,7 @@ use crate::config::Config;
 use crate::ends::ends_of;
 use crate::fault::{ConfigError, Fault};
 use crate::gateway::gateway_of;
+use crate::radius::radius_of;
 use bng_base::Listed;
 use std::alloc::Global;
 use toml::Value;
@@ -58,6 +59,12 @@ fn configuration_of(alloc: Global, document: &Value) -> Result<Config, ConfigErr
     let ends = ends_of(document)?;
     let access = ports_of(alloc, document, ends.control_local, ends.core_local)?;
     let statics = circuits_of(alloc, document, gateway.shards, access.len())?;
+    let radius = radius_of(
+        document,
+        ends.control_local,
+        ends.core_local,
+        access.as_slice(),
+    )?;
     Ok(Config {
         name: gateway.name,
         shards: gateway.shards,
@@ -69,5 +76,10 @@ fn configuration_of(alloc: Global, document: &Value) -> Result<Config, ConfigErr
         core_peer: ends.core_peer,
         access: Listed::of(access),
         statics: Listed::of(statics),
+        nas_ip: radius.nas_ip,
+        auth_local: radius.auth_local,
+        auth_server: radius.auth_server,
+        secret: radius.secret,
+        tries: radius.tries,
     })
 }

@@ -5,6 +5,7 @@ use std::process::Abort;
 use std::test::Fail;
 
 mod gateway;
+mod radius;
 
 const WHOLE: &str = r#"[gateway]
 name = "bng1"
@@ -40,9 +41,10 @@ address = "10.0.0.2"
 user = "fixed1"
 "#;
 
-const LISTS: &str = r#"gateway = { name = "bng1", shards = 64 }
+const LISTS: &str = r#"gateway = { name = "bng1", nas_ip = "192.168.1.16", shards = 64 }
 control.local = "127.0.0.1:9002"
 core = { local = "127.0.0.1:9000", peer = "127.0.0.1:9001" }
+radius = { auth_local = "127.0.0.1:9003", auth_server = "127.0.0.1:1812", secret = "xyzzy5461" }
 [[access]]
 local = "127.0.0.1:9010"
 peer = "127.0.0.1:9011"
@@ -68,9 +70,10 @@ session = 1
 address = "255.255.255.255"
 "#;
 
-const ENDS: &str = r#"gateway.name = "bng1"
+const ENDS: &str = r#"gateway = { name = "bng1", nas_ip = "192.168.1.16" }
 control.local = "127.0.0.1:9002"
 core = { local = "127.0.0.1:9000", peer = "127.0.0.1:9001" }
+radius = { auth_local = "127.0.0.1:9003", auth_server = "127.0.0.1:1812", secret = "xyzzy5461" }
 "#;
 
 const fn loopback(port: u16) -> Peer {
@@ -115,6 +118,11 @@ fn a_whole_configuration_is_read(rt: HostRuntime) {
     assert_eq!(rt; statics[0].address, Ip4(0x0a00_0002));
     assert_eq!(rt; statics[0].user.len(), 0);
     assert_eq!(rt; statics[0].profile, 0);
+    assert_eq!(rt; config.nas_ip, Ip4(0xc0a8_0110));
+    assert_eq!(rt; config.auth_local, loopback(9003));
+    assert_eq!(rt; config.auth_server, loopback(1812));
+    assert_eq!(rt; config.secret.as_slice(), b"xyzzy5461".as_slice());
+    assert_eq!(rt; config.tries, 4);
 }
 
 #[test]

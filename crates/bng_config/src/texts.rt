@@ -50,6 +50,11 @@ fn push_key(text: &mut ArrayString<32>, key: Key)
         Key::StaticMac(place) => push_entry(text, "static", place, "mac"),
         Key::StaticSession(place) => push_entry(text, "static", place, "session"),
         Key::StaticAddress(place) => push_entry(text, "static", place, "address"),
+        Key::GatewayNasIp => text.push_str("gateway.nas_ip"),
+        Key::RadiusAuthLocal => text.push_str("radius.auth_local"),
+        Key::RadiusAuthServer => text.push_str("radius.auth_server"),
+        Key::RadiusSecret => text.push_str("radius.secret"),
+        Key::RadiusTries => text.push_str("radius.tries"),
     }
 }
 

@@ -7,13 +7,13 @@ ghost use Rattle.bng_base.specs.declared.address.Mac.{Mac as Hardware};
 ghost use Rattle.bng_base.specs.declared.address.Peer.{Peer as End};
 ghost use Rattle.bng_base.specs.declared.address.SessionNo.{SessionNo as Number};
 ghost use Rattle.bng_base.specs.declared.settings.AuthKind.{AuthKind as Kind};
-ghost use Rattle.bng_config.specs.Configuration.{StandsAt, StandsOr, IsName, IsNumber, AreServices, AreKinds, IsPeer, IsAddress, IsMac, IsSession, IsPortNumber};
+ghost use Rattle.bng_config.specs.Configuration.{StandsAt, StandsOr, IsName, IsNumber, IsSecret, AreServices, AreKinds, IsPeer, IsAddress, IsMac, IsSession, IsPortNumber};
 
 use crate::fault::Key;
 use crate::find::{integer_at, text_at, value_of};
 use crate::kinds::{kinds_of, two_kinds};
 use crate::mac::mac_of;
-use crate::names::{name_of, services_of};
+use crate::names::{name_of, octets_of, services_of};
 use crate::peer::{address_of, peer_of};
 use crate::session::session_of;
 use arrayvec::ArrayVec;
@@ -98,6 +98,21 @@ pub(crate) fn peer_at(document: &Value, key: Key) -> Result<Peer, Key>
     match text_at(document, key) {
         Some(text) => match peer_of(text) {
             Some(peer) => Ok(peer),
+            None => Err(key),
+        },
+        None => Err(key),
+    }
+}
+
+/// The secret at the key, or the key where there is none.
+pub(crate) fn secret_at(document: &Value, key: Key) -> Result<ArrayVec<u8, 64>, Key>
+    ensures found { IfOk result (λ s. StandsAt (view document.now) key (λ d. IsSecret d s)) }
+    ensures refused { IfErr result (λ k. k ≡ key) }
+    ensures none { IsErr result → (s : Few ℕ) → ¬ StandsAt (view document.now) key (λ d. IsSecret d s) }
+{
+    match text_at(document, key) {
+        Some(text) => match octets_of(text.as_bytes()) {
+            Some(secret) => Ok(secret),
             None => Err(key),
         },
         None => Err(key),

@@ -8,6 +8,7 @@ use std::test::Fail;
 const REST: &str = r#"
 control.local = "127.0.0.1:9002"
 core = { local = "127.0.0.1:9000", peer = "127.0.0.1:9001" }
+radius = { auth_local = "127.0.0.1:9003", auth_server = "127.0.0.1:1812", secret = "xyzzy5461" }
 access = [{ local = "127.0.0.1:9010", peer = "127.0.0.1:9011", mac = "02:00:00:00:00:fe" }]
 "#;
 
@@ -27,7 +28,11 @@ fn gateway_of(rt: &impl Abort, alloc: Global, line: &str) -> Result<Config, Allo
 
 #[test]
 fn a_gateway_needs_no_more_than_its_name(rt: HostRuntime) -> Result<(), Fail> {
-    let config = gateway_of(&rt, rt.alloc(), "gateway.name = \"~!\"")?;
+    let config = gateway_of(
+        &rt,
+        rt.alloc(),
+        "gateway = { name = \"~!\", nas_ip = \"192.168.1.16\" }",
+    )?;
     assert_eq!(rt; config.name.as_slice(), b"~!".as_slice());
     assert_eq!(rt; config.shards, 4);
     assert_eq!(rt; config.services.len(), 0);
@@ -45,13 +50,13 @@ fn the_ends_of_each_range_are_in_it(rt: HostRuntime) -> Result<(), Fail> {
     let lowest = gateway_of(
         &rt,
         alloc,
-        "gateway = { name = \"n\", shards = 1, echo = 0 }",
+        "gateway = { name = \"n\", nas_ip = \"0.0.0.0\", shards = 1, echo = 0 }",
     )?;
     assert_eq!(rt; lowest.shards, 1);
     assert_eq!(rt; lowest.echo, 0);
     let line = changed(
         alloc,
-        "gateway = { name = \"LONGEST\", shards = 64, echo = 3600 }",
+        "gateway = { name = \"LONGEST\", nas_ip = \"255.255.255.255\", shards = 64, echo = 3600 }",
         "LONGEST",
         LONGEST,
     )?;
@@ -67,7 +72,7 @@ fn services_are_read_in_order(rt: HostRuntime) -> Result<(), Fail> {
     let alloc = rt.alloc();
     let line = changed(
         alloc,
-        "gateway = { name = \"n\", services = [\"a b\", \"LONGEST\", \"c\", \"\u{e9}\", \"a b\", \"6\", \"7\", \"8\"] }",
+        "gateway = { name = \"n\", nas_ip = \"192.168.1.16\", services = [\"a b\", \"LONGEST\", \"c\", \"\u{e9}\", \"a b\", \"6\", \"7\", \"8\"] }",
         "LONGEST",
         LONGEST,
     )?;
@@ -101,7 +106,7 @@ fn the_first_way_to_authenticate_comes_first(rt: HostRuntime) -> Result<(), Fail
     for (list, kinds) in rows {
         let line = changed(
             alloc,
-            "gateway = { name = \"n\", auth = LIST }",
+            "gateway = { name = \"n\", nas_ip = \"192.168.1.16\", auth = LIST }",
             "LIST",
             list,
         )?;

@@ -3,7 +3,7 @@ use Rattle.std.proofs.lemmas.Result.{err_from_is_err_and}
 use Rattle.toml.specs.View.{view}
 use Rattle.bng_config.specs.Configuration.{IsFirstOf, IsFirstFault, port_keys, circuit_keys, most_shards}
 use Rattle.bng_config.proofs.Defaults.{known_shards, range_or}
-use Rattle.bng_config.proofs.Parts.{first_of_gateway, first_of_ends, first_of_ports, first_of_circuits, sound_keys, told_of}
+use Rattle.bng_config.proofs.Parts.{first_of_gateway, first_of_ends, first_of_ports, first_of_circuits, first_of_radius, sound_keys, told_of}
 use Rattle.bng_config.proofs.reading.configuration_of.Goals as goal
 
 pub returns-in_err-gateway-clause-refused : goal.returns-in_err-gateway-clause-refused
@@ -29,6 +29,12 @@ returns-in_err-statics-clause-refused c =
     rw (p.1, p.2) (told_of (IsFirstOf document (circuit_keys document)) (IsFirstFault document) _
     (λ key. first_of_circuits document key c.in_ok-gateway.ensures.sound c.in_ok-ends.ensures.sound c.in_ok-access.ensures.sound) c.in_err-statics.ensures.refused)
 
+pub returns-in_err-radius-clause-refused : goal.returns-in_err-radius-clause-refused
+returns-in_err-radius-clause-refused c =
+    let p = err_from_is_err_and c.from_residual-in_err-radius.result c.from_residual-in_err-radius.ensures.1 in
+    rw (p.1, p.2) (first_of_radius (view c.args.document.now) c.in_err-radius.field-0.0 c.in_ok-gateway.ensures.sound c.in_ok-ends.ensures.sound c.in_ok-access.ensures.sound c.in_ok-statics.ensures.sound
+    c.in_err-radius.ensures.refused)
+
 pub circuits_of-requires-clause-shards : goal.circuits_of-requires-clause-shards
 circuits_of-requires-clause-shards c = known_shards (view c.args.document.now) c.in_ok-gateway.gateway.shards c.in_ok-gateway.ensures.found.shards
 
@@ -40,10 +46,11 @@ returns-clause-found c =
     let document = view c.args.document.now in
     let gateway = c.in_ok-gateway.ensures.found in
     let ends = c.in_ok-ends.ensures.found in
+    let radius = c.in_ok-radius.ensures.found in
     let ports : c.of.result ≡ c.in_ok-access.access.items = c.of.ensures in
     let circuits : c.of-2.result ≡ c.in_ok-statics.statics.items = c.of-2.ensures in
     rw (ports, circuits) record {
-      sound = sound_keys document c.in_ok-gateway.ensures.sound c.in_ok-ends.ensures.sound c.in_ok-access.ensures.sound c.in_ok-statics.ensures.sound;
+      sound = sound_keys document c.in_ok-gateway.ensures.sound c.in_ok-ends.ensures.sound c.in_ok-access.ensures.sound c.in_ok-statics.ensures.sound c.in_ok-radius.ensures.sound;
       name = gateway.name;
       shards = gateway.shards;
       services = gateway.services;
@@ -56,4 +63,9 @@ returns-clause-found c =
       access = c.in_ok-access.ensures.found;
       all_circuits = c.in_ok-statics.ensures.all;
       statics = c.in_ok-statics.ensures.found;
+      nas_ip = radius.nas_ip;
+      auth_local = radius.auth_local;
+      auth_server = radius.auth_server;
+      secret = radius.secret;
+      tries = radius.tries;
     }
