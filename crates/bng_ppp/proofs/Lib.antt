@@ -11,7 +11,10 @@ pub mod AuthOutcome
 pub mod WholeOutcome
 pub mod DueLaws
 pub mod MessageLaws
+pub mod AuthLaws
 pub mod WholeOuts
 pub mod PhaseLaws
 pub mod LcpPhases
 pub mod WholePhases
+pub mod WholeQuestions
+pub mod Claimed

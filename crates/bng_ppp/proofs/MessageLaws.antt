@@ -44,7 +44,7 @@ message_one n m p q small little short e =
 -- What goes out -----------------------------------------------------------------------------------------------------------
 
 -- the numbers of the protocols that the gateway writes
-small : (n c : ℕ) → is_written n c ≡ true → n < 65536
+pub small : (n c : ℕ) → is_written n c ≡ true → n < 65536
 small n c e = grind (arith, nat_tests)
 
 one_back : (octets : List ℕ) → IsWritten octets → length octets ≤ 4160 → ReadsBack octets

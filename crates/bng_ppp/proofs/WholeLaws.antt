@@ -14,7 +14,7 @@ use Rattle.bng_ppp.specs.IpcpAutomaton.{ipcp_plain}
 use Rattle.bng_ppp.specs.IpcpState.{IpcpState, first_ask}
 use Rattle.bng_ppp.specs.Frame.{IsHeard}
 use Rattle.bng_ppp.specs.Layers.{Turn, begun, with_auth_until, LcpCloses, IpcpMoves}
-use Rattle.bng_ppp.specs.Verdict.{Refuses, Accepts}
+use Rattle.bng_ppp.specs.Verdict.{Refuses, Begins, BeginsFor, Accepts}
 use Rattle.bng_ppp.specs.WholeFrame.{RejectsIpcp}
 use Rattle.bng_ppp.specs.PppState.{PppState}
 use Rattle.bng_ppp.proofs.OneOutcome.{frame_one}
@@ -37,25 +37,26 @@ module _ (r : LinkRules) (now : ℕ) where
     closes = subst (λ (o : List (List ℕ)). LcpCloses r now random (record (with_auth_until t settled None) { outs = o }) after) sent closes;
   }
 
-  abbrev pub accepted : Ip4 → PppState → Authentication → IpcpState → List (List ℕ) → Turn → Turn
-  accepted lease old settled ipcp outs t = record t { link = record old { auth = settled; auth_due = None; ipcp = ipcp; live = true }; outs = outs }
-
-  pub accepts : (lease : Ip4) (text : List ℕ) (old : PppState) (t opened after : Turn) (reply : Option Reply) (settled : Authentication) (ipcp : IpcpState) (outs : List (List ℕ))
-      → AuthSettles old.auth true text reply settled → t ≡ begun old → outs ≡ reply_sent reply t.outs → ipcp ≡ record old.ipcp { ask = first_ask r.address; kept = record old.ipcp.kept { lease = lease } }
-      → IpcpMoves Open (ipcp_plain ipcp.kept 0) now (accepted lease old settled ipcp outs t) opened → IpcpMoves Up (ipcp_plain opened.link.ipcp.kept 0) now opened after → Accepts r lease text now old after
-  accepts lease text old t opened after reply settled ipcp outs settles fresh sent is on up =
-      let next : IpcpState = record old.ipcp { ask = first_ask r.address; kept = record old.ipcp.kept { lease = lease } } in
+  pub accepts : (lease : Option Ip4) (text : List ℕ) (old : PppState) (t after : Turn) (reply : Option Reply) (settled : Authentication) (outs : List (List ℕ))
+      → AuthSettles old.auth true text reply settled → t ≡ begun old → outs ≡ reply_sent reply t.outs
+      → BeginsFor lease r now (record (with_auth_until t settled None) { outs = outs }) after → Accepts r lease text now old after
+  accepts lease text old t after reply settled outs settles fresh sent begins =
       let sent_from : outs ≡ reply_sent reply [] = sent ∙ ap (λ (u : Turn). reply_sent reply u.outs) fresh in
-      let with_ipcp : IpcpMoves Open (ipcp_plain next.kept 0) now (accepted lease old settled next outs t) opened = subst (λ (i : IpcpState). IpcpMoves Open (ipcp_plain i.kept 0) now (accepted lease old settled i outs t) opened) is on in
-      let with_outs : IpcpMoves Open (ipcp_plain next.kept 0) now (accepted lease old settled next (reply_sent reply []) t) opened = subst (λ (o : List (List ℕ)). IpcpMoves Open (ipcp_plain next.kept 0) now (accepted lease old settled next o t) opened) sent_from with_ipcp in
+      let with_outs = subst (λ (o : List (List ℕ)). BeginsFor lease r now (record (with_auth_until t settled None) { outs = o }) after) sent_from begins in
       record {
         reply = reply;
         settled = settled;
         settles = settles;
-        opened = opened;
-        on_open = subst (λ (u : Turn). IpcpMoves Open (ipcp_plain next.kept 0) now (accepted lease old settled next (reply_sent reply []) u) opened) fresh with_outs;
-        on_up = up;
+        begins = subst (λ (u : Turn). BeginsFor lease r now (record (with_auth_until u settled None) { outs = reply_sent reply [] }) after) fresh with_outs;
       }
+
+  pub begins : (lease : Ip4) (t opened after : Turn) (ipcp : IpcpState) → ipcp ≡ record t.link.ipcp { ask = first_ask r.address; kept = record t.link.ipcp.kept { lease = lease } }
+      → IpcpMoves Open (ipcp_plain ipcp.kept 0) now (record t { link = record t.link { ipcp = ipcp; live = true } }) opened → IpcpMoves Up (ipcp_plain opened.link.ipcp.kept 0) now opened after → Begins r lease now t after
+  begins lease t opened after ipcp is on up = record {
+    opened = opened;
+    on_open = subst (λ (i : IpcpState). IpcpMoves Open (ipcp_plain i.kept 0) now (record t { link = record t.link { ipcp = i; live = true } }) opened) is on;
+    on_up = up;
+  }
 
 -- octets that are no packet of LCP are no Protocol-Reject
 pub no_reject : (octets : List ℕ) (h : Heard) → IsHeard octets h → ((p : _) → h ≡ Lcp p → ⊥) → RejectsIpcp octets → ⊥

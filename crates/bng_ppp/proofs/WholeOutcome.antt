@@ -22,7 +22,6 @@ use Rattle.bng_ppp.specs.Automaton.{Doing, plain}
 use Rattle.bng_ppp.specs.Authentication.{reply_sent}
 use Rattle.bng_ppp.specs.Claims.{Claim, claim_of}
 use Rattle.bng_ppp.specs.IpcpAutomaton.{IpcpWhy, ipcp_plain}
-use Rattle.bng_ppp.specs.IpcpState.{first_ask}
 use Rattle.bng_ppp.specs.IpcpCodes.{ipcp_kind_of}
 use Rattle.bng_ppp.specs.LinkState.{LinkState}
 use Rattle.bng_ppp.specs.Said.{Said}
@@ -30,7 +29,7 @@ use Rattle.bng_ppp.specs.PppState.{PppState, is_open, is_for_auth, is_for_ipcp}
 use Rattle.bng_ppp.specs.Layers.{Turn, begun, leaves, with_lcp, with_ipcp, ipcp_of, IpcpMoves, Above, LcpStep, LcpSteps, LcpCloses, lcp_told, lcp_hears, with_auth, with_auth_until}
 use Rattle.bng_ppp.specs.PppRelation.{PppSaid, PppGoes, PppSteps, said_of, after_turn, ended_by}
 use Rattle.bng_ppp.specs.WholeFrame.{IsWay, HearsAuth, AuthDoes, HearsIpcp, HearsLcp, HearsWay, HearsOctets}
-use Rattle.bng_ppp.specs.Verdict.{Refuses, Accepts, Settles}
+use Rattle.bng_ppp.specs.Verdict.{Refuses, Begins, BeginsFor, Accepts, Settles}
 use Rattle.bng_ppp.specs.WholeTimers.{AuthReminds, AboveReminds, PppReminds, IsLossCause}
 use Rattle.bng_ppp.proofs.OneOutcome.{follows_one, frame_one, packet_one, hears_one, reminds_one, steps_one}
 use Rattle.bng_ppp.proofs.IpcpOutcome.{ipcp_follows_one, ipcp_kind_one}
@@ -194,19 +193,24 @@ module _ (r : LinkRules) (now : ℕ) (random : List ℕ) where
   told_one : (what : Input) (old : PppState) (a b : Turn) → LcpSteps r (lcp_told r what now random) now random old a → LcpSteps r (lcp_told r what now random) now random old b → a ≡ b
   told_one what old a b x y = lcp_steps_one (lcp_told r what now random) old a b (λ says other new next h k. steps_one r what now random old.lcp says other new next h k) x y
 
-  accepts_one : (lease : Ip4) (text : List ℕ) (old : PppState) (a b : Turn) → Accepts r lease text now old a → Accepts r lease text now old b → a ≡ b
+  begins_one : (lease : Ip4) (t a b : Turn) → Begins r lease now t a → Begins r lease now t b → a ≡ b
+  begins_one lease t a b x y =
+      let opened = ipcp_moves_one Open _ _ y.opened x.opened y.on_open x.on_open in
+      ipcp_moves_one Up _ x.opened a b x.on_up (subst (λ (u : Turn). IpcpMoves Up (ipcp_plain u.link.ipcp.kept 0) now u b) opened y.on_up)
+
+  begins_for_one : (lease : Option Ip4) (t a b : Turn) → BeginsFor lease r now t a → BeginsFor lease r now t b → a ≡ b
+  begins_for_one None t a b x y = x ∙ sym y
+  begins_for_one (Some lease) t a b x y = begins_one lease t a b x y
+
+  accepts_one : (lease : Option Ip4) (text : List ℕ) (old : PppState) (a b : Turn) → Accepts r lease text now old a → Accepts r lease text now old b → a ≡ b
   accepts_one lease text old a b x y =
       let same = auth_settles_one old.auth true text y.reply x.reply y.settled x.settled y.settles x.settles in
-      let T : Option Reply → Authentication → Turn = λ s n. record (begun old) {
-        link = record old { auth = n; auth_due = None; ipcp = record old.ipcp { ask = first_ask r.address; kept = record old.ipcp.kept { lease = lease } }; live = true };
-        outs = reply_sent s [];
-      } in
-      let first : IpcpMoves Open (ipcp_plain old.ipcp.kept 0) now (T x.reply y.settled) y.opened = subst (λ (s : Option Reply). IpcpMoves Open (ipcp_plain old.ipcp.kept 0) now (T s y.settled) y.opened) same.0 y.on_open in
-      let both : IpcpMoves Open (ipcp_plain old.ipcp.kept 0) now (T x.reply x.settled) y.opened = subst (λ (n : Authentication). IpcpMoves Open (ipcp_plain old.ipcp.kept 0) now (T x.reply n) y.opened) same.1 first in
-      let opened = ipcp_moves_one Open (ipcp_plain old.ipcp.kept 0) (T x.reply x.settled) y.opened x.opened both x.on_open in
-      ipcp_moves_one Up _ x.opened a b x.on_up (subst (λ (t : Turn). IpcpMoves Up (ipcp_plain t.link.ipcp.kept 0) now t b) opened y.on_up)
+      let B : Option Reply → Authentication → Type 0 = λ s n. BeginsFor lease r now (record (with_auth_until (begun old) n None) { outs = reply_sent s [] }) b in
+      let first : B x.reply y.settled = subst (λ (s : Option Reply). B s y.settled) same.0 y.begins in
+      let both : B x.reply x.settled = subst (λ (n : Authentication). B x.reply n) same.1 first in
+      begins_for_one lease _ a b x.begins both
 
-  settles_one : (still found : Bool) (lease : Ip4) (text : List ℕ) (old : PppState) (a b : Turn) → Settles still found r lease text now random old a → Settles still found r lease text now random old b → a ≡ b
+  settles_one : (still found : Bool) (lease : Option Ip4) (text : List ℕ) (old : PppState) (a b : Turn) → Settles still found r lease text now random old a → Settles still found r lease text now random old b → a ≡ b
   settles_one true true lease text old a b x y = accepts_one lease text old a b x y
   settles_one true false lease text old a b x y = refuses_one text (begun old) a b x y
   settles_one false found lease text old a b x y = x ∙ sym y

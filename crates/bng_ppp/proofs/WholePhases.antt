@@ -30,7 +30,7 @@ use Rattle.bng_ppp.specs.LinkState.{is_down, is_opened, LinkState}
 use Rattle.bng_ppp.specs.Phases.{is_begun, KeepsPhases}
 use Rattle.bng_ppp.specs.Layers.{Turn, begun, leaves, ipcp_of, IpcpMoves, Above, authenticates, silenced, LcpStep, LcpSteps, LcpCloses, lcp_told, lcp_hears, with_auth, with_auth_until}
 use Rattle.bng_ppp.specs.WholeFrame.{IsWay, HearsAuth, AuthDoes, HearsWay}
-use Rattle.bng_ppp.specs.Verdict.{Refuses, Accepts, Settles}
+use Rattle.bng_ppp.specs.Verdict.{Refuses, BeginsFor, Accepts, Settles}
 use Rattle.bng_ppp.specs.WholeTimers.{AuthReminds, AboveReminds}
 use Rattle.bng_ppp.specs.PppRelation.{PppGoes, PppSaid, PppSteps, after_turn}
 use Rattle.bng_ppp.specs.PppState.{PppState, is_open, is_accepted, passes, is_for_ipcp}
@@ -40,14 +40,14 @@ use Rattle.bng_ppp.proofs.LcpPhases.{TellsOpened, steps_open, hears_open}
 
 -- Tests -----------------------------------------------------------------------------------------------------------------
 
-not_both : {X : Type 0} (b : Bool) → b ≡ true → b ≡ false → X
+pub not_both : {X : Type 0} (b : Bool) → b ≡ true → b ≡ false → X
 not_both b e f = absurd cc
 
-first_true : (a b : Bool) → (a && b) ≡ true → a ≡ true
+pub first_true : (a b : Bool) → (a && b) ≡ true → a ≡ true
 first_true true b e = refl
 first_true false b e = e
 
-second_true : (a b : Bool) → (a && b) ≡ true → b ≡ true
+pub second_true : (a b : Bool) → (a && b) ≡ true → b ≡ true
 second_true true b e = e
 second_true false b e = absurd cc
 
@@ -83,12 +83,12 @@ either false here there = there refl
 
 -- Authentication --------------------------------------------------------------------------------------------------------
 
-accepted_begun : (a : Authentication) → is_accepted a ≡ true → is_begun a ≡ true
+pub accepted_begun : (a : Authentication) → is_accepted a ≡ true → is_begun a ≡ true
 accepted_begun auth.Idle e = e
 accepted_begun (auth.Pap q) e = refl
 accepted_begun (auth.Chap q sent) e = refl
 
-open_unsettled : (a : Authentication) → is_open a ≡ true → is_accepted a ≡ false
+pub open_unsettled : (a : Authentication) → is_open a ≡ true → is_accepted a ≡ false
 open_unsettled auth.Idle e = refl
 open_unsettled (auth.Pap q) e = by_verdict q.verdict (not_true _ (second_true _ _ e))
   where
@@ -102,7 +102,7 @@ open_unsettled (auth.Chap q sent) e = by_verdict q.verdict (not_true _ (second_t
     by_verdict (Some f) h = absurd cc
 
 -- a packet neither accepts a peer nor begins or ends its authentication
-takes_same : (a : Authentication) (p : ControlPacket) (s : AuthStep) (b : Authentication) → AuthTakes a p s b → (is_begun b ≡ is_begun a) × (is_accepted b ≡ is_accepted a)
+pub takes_same : (a : Authentication) (p : ControlPacket) (s : AuthStep) (b : Authentication) → AuthTakes a p s b → (is_begun b ≡ is_begun a) × (is_accepted b ≡ is_accepted a)
 takes_same auth.Idle p s b x = (ap is_begun x.1, ap is_accepted x.1)
 takes_same (auth.Pap q) p s b (after, takes, e) = (ap is_begun e, ap is_accepted e ∙ ap is_yes (verdict_same s takes))
   where
@@ -120,7 +120,7 @@ takes_same (auth.Chap q sent) p s b (after, takes, e) = (ap is_begun e, ap is_ac
     verdict_same Ignore (new, what) = ap (λ (n : ChapQuestion). n.verdict) new
 
 -- a peer that is refused by itself was not accepted
-refuse_unsettled : (a : Authentication) (p : ControlPacket) (b : Authentication) → AuthTakes a p Refuse b → is_accepted a ≡ false
+pub refuse_unsettled : (a : Authentication) (p : ControlPacket) (b : Authentication) → AuthTakes a p Refuse b → is_accepted a ≡ false
 refuse_unsettled auth.Idle p b x = refl
 refuse_unsettled (auth.Pap q) p b (after, (is, new, what), e) = ap (λ (n : PapQuestion). is_yes n.verdict) is
 refuse_unsettled (auth.Chap q sent) p b (after, (is, none, new, what), e) = ap is_yes none
@@ -296,13 +296,18 @@ module _ (r : LinkRules) (now : ℕ) (random : List ℕ) where
   told_keeps : (what : Input) (old : PppState) (after : Turn) → KeepsPhases old → LcpSteps r (lcp_told r what now random) now random old after → Keeps after
   told_keeps what old after h x = lcp_keeps (lcp_told r what now random) old after (λ says new s. steps_open r what now random old.lcp says new s) h x
 
-  accepts_keeps : (lease : Ip4) (text : List ℕ) (old : PppState) (after : Turn) → is_open old.auth ≡ true → KeepsPhases old → Accepts r lease text now old after → Keeps after
-  accepts_keeps lease text old after still h x =
-      let accepted = settles_accepted old.auth text x.reply x.settled still x.settles in
-      let first = served_keeps _ _ _ x.opened accepted (record { authenticates = settles_begun old.auth true text x.reply x.settled x.settles ∙ h.authenticates; network = λ up. accepted; term = λ live stays. accepted }) x.on_open in
+  begins_keeps_for : (lease : Option Ip4) (t after : Turn) → is_accepted t.link.auth ≡ true → Keeps t → BeginsFor lease r now t after → Keeps after
+  begins_keeps_for None t after accepted h e = equal_keeps after t e h
+  begins_keeps_for (Some lease) t after accepted h x =
+      let first = served_keeps _ _ _ x.opened accepted (record { authenticates = h.authenticates; network = λ up. accepted; term = λ live stays. accepted }) x.on_open in
       (served_keeps _ _ x.opened after first.1 first.0 x.on_up).0
 
-  settles_keeps : (still found : Bool) (lease : Ip4) (text : List ℕ) (old : PppState) (after : Turn) → is_open old.auth ≡ still → KeepsPhases old → Settles still found r lease text now random old after → Keeps after
+  accepts_keeps : (lease : Option Ip4) (text : List ℕ) (old : PppState) (after : Turn) → is_open old.auth ≡ true → KeepsPhases old → Accepts r lease text now old after → Keeps after
+  accepts_keeps lease text old after still h x =
+      let accepted = settles_accepted old.auth text x.reply x.settled still x.settles in
+      begins_keeps_for lease _ after accepted (record { authenticates = settles_begun old.auth true text x.reply x.settled x.settles ∙ h.authenticates; network = λ up. accepted; term = λ live stays. accepted }) x.begins
+
+  settles_keeps : (still found : Bool) (lease : Option Ip4) (text : List ℕ) (old : PppState) (after : Turn) → is_open old.auth ≡ still → KeepsPhases old → Settles still found r lease text now random old after → Keeps after
   settles_keeps true true lease text old after e h x = accepts_keeps lease text old after e h x
   settles_keeps true false lease text old after e h x = refuses_keeps text (begun old) after (open_unsettled old.auth e) (begun_keeps old h) x
   settles_keeps false found lease text old after e h x = equal_keeps after _ x (begun_keeps old h)

@@ -32,4 +32,6 @@ pub mod Verdict
 pub mod WholeFrame
 pub mod WholeTimers
 pub mod PppRelation
+pub mod Granting
 pub mod WholeStep
+pub mod Saying

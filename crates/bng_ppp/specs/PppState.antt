@@ -18,7 +18,7 @@ pub record PppState : Type 0 where
   pub ipcp : IpcpState
   -- the identifier of CHAP's next Challenge
   pub next_challenge : ℕ
-  -- a term is live: the peer was accepted, and neither LCP left Opened nor IPCP finished since
+  -- a term is live: the peer was accepted with an address, and neither LCP left Opened nor IPCP finished since
   pub live : Bool
 
 -- authentication's timer runs only once authentication has begun

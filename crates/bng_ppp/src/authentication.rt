@@ -1,6 +1,7 @@
 //! The peer's authentication: by PAP (RFC 1334) or CHAP (RFC 1994), as LCP agreed.
 ghost use Rattle.std.specs.Prelude.{◌≡◌, ◌≤◌, length, option_map, ◌+◌, ◌<◌};
 ghost use Rattle.bng_ppp.specs.PppState.{is_open as open_in, is_accepted as accepted_in, takes_protocol as protocol_in};
+ghost use Rattle.bng_ppp.specs.Phases.{is_begun as begun_in};
 ghost use Rattle.bng_ppp_wire.specs.View.{packet_of};
 ghost use Rattle.bng_ppp.specs.Authentication.{AuthTakes, AuthSettles, challenge_sent, reply_sent};
 ghost use Rattle.bng_auth.specs.Replying.{reply_of};
@@ -33,6 +34,17 @@ impl Authentication {
             Authentication::Idle => false,
             Authentication::Pap(peer) => peer.is_open(),
             Authentication::Chap(peer, _) => peer.is_open(),
+        }
+    }
+
+    /// Whether it has begun.
+    pub(crate) fn is_begun(&self) -> bool
+        ensures { result ≡ begun_in self.now }
+    {
+        match self {
+            Authentication::Idle => false,
+            Authentication::Pap(_) => true,
+            Authentication::Chap(_, _) => true,
         }
     }
 

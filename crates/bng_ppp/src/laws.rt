@@ -1,5 +1,5 @@
 //! The laws that the steps of a link meet.
-ghost use Rattle.std.specs.Prelude.{◌≡◌, ℕ, List};
+ghost use Rattle.std.specs.Prelude.{◌≡◌, ◌⊎◌, ℕ, List, Some, None, IsSome, false};
 ghost use Rattle.bng_ppp.specs.declared.rules.Input.{Input};
 ghost use Rattle.bng_ppp.specs.declared.rules.LinkRules.{LinkRules};
 ghost use Rattle.bng_ppp.specs.LinkState.{LinkState, is_opened};
@@ -11,11 +11,16 @@ ghost use Rattle.bng_ppp.specs.declared.whole_input.WholeInput.{WholeInput};
 ghost use Rattle.bng_ppp.specs.declared.whole_step.WholeSteps.{WholeSteps};
 ghost use Rattle.bng_ppp.specs.PppRelation.{PppSaid, PppSteps};
 ghost use Rattle.bng_ppp.specs.WholeStep.{ppp_said};
-ghost use Rattle.bng_ppp.specs.PppState.{PppState, is_accepted, passes};
+ghost use Rattle.bng_ppp.specs.PppState.{PppState, is_accepted, is_open, passes};
 ghost use Rattle.std.specs.Prelude.{true, ◌<◌, length};
 ghost use Rattle.bng_base.specs.PppGrammar.{ControlPacket, IsPpp, IsControlPacket, packet_text, ppp_text};
 ghost use Rattle.bng_ppp.specs.Messages.{frame_text, ReadsBack};
-ghost use Rattle.bng_ppp.specs.Phases.{KeepsPhases};
+ghost use Rattle.bng_ppp.specs.Phases.{KeepsPhases, is_begun};
+ghost use Rattle.bng_ppp.specs.Claims.{Claim};
+ghost use Rattle.bng_ppp.specs.Granting.{IsYes, MayAccept, is_frame};
+ghost use Rattle.bng_ppp.specs.Layers.{Turn};
+ghost use Rattle.bng_ppp.specs.Saying.{Says};
+ghost use Rattle.bng_ppp.specs.WholeFrame.{HearsOctets};
 
 /// From one state of LCP one input leads to one state, and one list of frames is sent (RFC 1661 section 4): no two cases
 /// of the relation hold at once.
@@ -62,4 +67,37 @@ pub fn steps_keep_phases()
 pub fn phases_tell()
     ensures passing { (s : PppState) → KeepsPhases s → passes s ≡ true → (is_accepted s.auth ≡ true) × (is_opened s.ipcp.machine.state ≡ true) }
     ensures term { (s : PppState) → KeepsPhases s → s.live ≡ true → is_opened s.lcp.lcp.state ≡ true }
+{}
+
+/// A peer is told that it is accepted, by Success of CHAP (RFC 1994 section 4.2) or Authenticate-Ack of PAP (RFC 1334 section
+/// 2.2.2), and is accepted, only where it was accepted before or by the verdict yes on the question that is open. It is so of
+/// every state.
+pub fn yes_needs_a_verdict()
+    ensures said { (r : LinkRules) (now : ℕ) (random : List ℕ) (what : WholeInput) (old : PppState) (says : PppSaid) (new : PppState)
+        → PppSteps r what now random old says new → All (λ f. IsYes f → MayAccept what old.auth) says.outs }
+    ensures accepted { (r : LinkRules) (now : ℕ) (random : List ℕ) (what : WholeInput) (old : PppState) (says : PppSaid) (new : PppState)
+        → PppSteps r what now random old says new → is_accepted new.auth ≡ true → MayAccept what old.auth }
+{}
+
+/// A question is open only where a step asks it or where it was open before, and only a frame makes a link ask: a peer whose
+/// authentication has begun, of whom no question is open and who is not accepted. Authentication that begins, begins without a
+/// question and with a peer that is not accepted. It is so of every state.
+pub fn questions_open_by_asking()
+    ensures asked { (r : LinkRules) (now : ℕ) (random : List ℕ) (what : WholeInput) (old : PppState) (says : PppSaid) (new : PppState) (claim : Claim)
+        → PppSteps r what now random old says new → says.asked ≡ Some claim → (is_open new.auth ≡ true) × (is_begun old.auth ≡ true) × (is_open old.auth ≡ false) × (is_accepted old.auth ≡ false) }
+    ensures opens { (r : LinkRules) (now : ℕ) (random : List ℕ) (what : WholeInput) (old : PppState) (says : PppSaid) (new : PppState)
+        → PppSteps r what now random old says new → is_open new.auth ≡ true → IsSome says.asked ⊎ (is_open old.auth ≡ true) }
+    ensures begun { (r : LinkRules) (now : ℕ) (random : List ℕ) (what : WholeInput) (old : PppState) (says : PppSaid) (new : PppState)
+        → PppSteps r what now random old says new → is_begun new.auth ≡ true → is_begun old.auth ≡ false → (is_open new.auth ≡ false) × (is_accepted new.auth ≡ false) }
+    ensures same { (r : LinkRules) (now : ℕ) (random : List ℕ) (what : WholeInput) (old : PppState) (says : PppSaid) (new : PppState)
+        → PppSteps r what now random old says new → is_accepted new.auth ≡ true → (is_open old.auth ≡ true) ⊎ (is_accepted old.auth ≡ true) }
+    ensures timer { (r : LinkRules) (now : ℕ) (random : List ℕ) (what : WholeInput) (old : PppState) (says : PppSaid) (new : PppState)
+        → PppSteps r what now random old says new → is_frame what ≡ false → says.asked ≡ None }
+{}
+
+/// What a link asks stands in the frame that it hears: the name and the password of an Authenticate-Request of PAP (RFC 1334 section
+/// 2.2.1), or the name and the Value of a Response of CHAP to the Challenge that the link had sent (RFC 1994 section 4.1).
+pub fn questions_stand_in_frames()
+    ensures { (r : LinkRules) (octets : List ℕ) (now : ℕ) (random : List ℕ) (old : PppState) (after : Turn) (claim : Claim)
+        → HearsOctets r octets now random old after → after.asked ≡ Some claim → Says old.auth octets claim }
 {}

@@ -1,6 +1,6 @@
 //! The verdict on a peer.
 ghost use Rattle.std.specs.Prelude.{◌≡◌, ◌<◌, ◌≤◌, ◌^◌, None, length, ◌+◌};
-ghost use Rattle.bng_ppp.specs.Verdict.{Settles, Accepts, Refuses};
+ghost use Rattle.bng_ppp.specs.Verdict.{Settles, Accepts, Refuses, Begins, BeginsFor};
 ghost use Rattle.bng_ppp.specs.PppState.{is_open as open_in};
 ghost use Rattle.bng_ppp.specs.WholeStep.{turn_of, IsFresh};
 
@@ -17,7 +17,7 @@ impl WholeLink {
         &mut self,
         rules: &LinkRules,
         yes: bool,
-        lease: Ip4,
+        lease: Option<Ip4>,
         text: &[u8],
         now: u64,
         random: &[u8; 16],
@@ -39,11 +39,11 @@ impl WholeLink {
         None
     }
 
-    // The peer is accepted: the reply goes out, and IPCP does Open and Up for this lease.
+    // The peer is accepted: the reply goes out, and a term begins where there is a lease.
     fn accept(
         &mut self,
         rules: &LinkRules,
-        lease: Ip4,
+        lease: Option<Ip4>,
         text: &[u8],
         now: u64,
         steps: &mut WholeSteps,
@@ -55,9 +55,29 @@ impl WholeLink {
     {
         let reply = self.auth.settle(true, text);
         self.auth_due = None;
+        send_reply(&reply, &mut steps.layer);
+        self.begin_for(rules, lease, now, steps);
+    }
+
+    // The term of an accepted peer begins where it has an address.
+    fn begin_for(&mut self, rules: &LinkRules, lease: Option<Ip4>, now: u64, steps: &mut WholeSteps)
+        requires moment { now < 2 ^ 60 }
+        requires room { length steps.old.layer.outs.items ≤ 1 }
+        ensures { BeginsFor lease rules.now now (turn_of self.old steps.old) (turn_of self.new steps.new) }
+    {
+        if let Some(lease) = lease {
+            self.begin_term(rules, lease, now, steps);
+        }
+    }
+
+    // A term begins: IPCP does Open and Up for this lease.
+    fn begin_term(&mut self, rules: &LinkRules, lease: Ip4, now: u64, steps: &mut WholeSteps)
+        requires moment { now < 2 ^ 60 }
+        requires room { length steps.old.layer.outs.items ≤ 1 }
+        ensures { Begins rules.now lease now (turn_of self.old steps.old) (turn_of self.new steps.new) }
+    {
         self.live = true;
         self.ipcp.begin(rules.address, lease);
-        send_reply(&reply, &mut steps.layer);
         self.tell_ipcp(Event::Open, now, steps);
         self.tell_ipcp(Event::Up, now, steps);
     }

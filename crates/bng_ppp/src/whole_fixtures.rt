@@ -75,18 +75,19 @@ pub(crate) fn hear(link: &mut WholeLink, rules: &LinkRules, octets: &[u8]) -> Wh
     tell(link, rules, WholeInput::Frame(octets), 0)
 }
 
+// A verdict with the address 10.0.0.2.
 pub(crate) fn verdict(yes: bool, octets: &[u8]) -> WholeInput<'static> {
+    verdict_with(yes, Some(Ip4(0x0a00_0002)), octets)
+}
+
+pub(crate) fn verdict_with(yes: bool, lease: Option<Ip4>, octets: &[u8]) -> WholeInput<'static> {
     let mut text = ArrayVec::new();
     for octet in octets {
         if !text.is_full() {
             text.push(*octet);
         }
     }
-    WholeInput::Verdict {
-        yes,
-        lease: Ip4(0x0a00_0002),
-        text,
-    }
+    WholeInput::Verdict { yes, lease, text }
 }
 
 // A link whose LCP is Opened.

@@ -11,11 +11,11 @@ pub enum WholeInput<'a> {
     Frame(&'a [u8]),
     /// Time has passed.
     Timer,
-    /// The answer to the question that the link asked: whether the peer is accepted, the address that it is to have then,
-    /// and the text of the reply.
+    /// The answer to the question that the link asked: whether the peer is accepted; the address that it is to have then,
+    /// none where no address is given to it yet, and then IPCP does not begin; and the text of the reply.
     Verdict {
         yes: bool,
-        lease: Ip4,
+        lease: Option<Ip4>,
         text: ArrayVec<u8, 253>,
     },
     /// The link is to be closed.

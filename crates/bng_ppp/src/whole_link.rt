@@ -3,11 +3,11 @@ ghost use Rattle.bng_ppp.specs.declared.authentication.Authentication.TheVariant
 ghost use Rattle.std.specs.Prelude.{◌≡◌, ◌∷◌, [], None, false, ◌<◌, ◌^◌, length, ◌≤◌, ◌↔◌, ◌⊎◌, ℕ, option_map, ◌+◌, IsSomeAnd};
 ghost use Rattle.bng_ppp.specs.IpcpState.{ipcp_unused};
 ghost use Rattle.bng_ppp.specs.LinkState.{IsFirstAsk, unused, kept_first, limit_of};
-ghost use Rattle.bng_ppp.specs.Phases.{KeepsPhases};
+ghost use Rattle.bng_ppp.specs.Phases.{is_begun, KeepsPhases};
 ghost use Rattle.bng_ppp.specs.PppRelation.{PppSteps, PppGoes};
 ghost use Rattle.bng_ppp.specs.WholeTimers.{AuthIsDue};
 ghost use Rattle.bng_ppp.specs.WholeStep.{ppp_said, turn_of, IsFresh};
-ghost use Rattle.bng_ppp.specs.PppState.{passes as passes_in};
+ghost use Rattle.bng_ppp.specs.PppState.{is_open, passes as passes_in};
 ghost use Rattle.bng_automaton.specs.Timer.{TimerIsOut};
 ghost use Rattle.bng_ppp.specs.LinkRelation.{earliest as first_of};
 ghost use Rattle.bng_ppp.specs.Echo.{EchoIsDue};
@@ -76,8 +76,8 @@ impl WholeLink {
     ///
     /// Once LCP is Opened the peer authenticates itself as was agreed: a Challenge goes out every 3 s, ten times in all, or
     /// PAP is waited for 30 s; then LCP does Close. The question is asked once; what is heard until its verdict is ignored,
-    /// and after it gets the same reply again. An accepted peer negotiates IPCP; a refused one's LCP does Close. Where LCP
-    /// leaves Opened all this begins anew once it is Opened again. Of LCP the step is what [`Link::step`] is.
+    /// and after it gets the same reply again. An accepted peer negotiates IPCP, once it has an address; a refused one's LCP
+    /// does Close. Where LCP leaves Opened all this begins anew once it is Opened again. Of LCP the step is what [`Link::step`] is.
     pub fn step(
         &mut self,
         rules: &LinkRules,
@@ -127,6 +127,20 @@ impl WholeLink {
         ensures { result ≡ passes_in self.now }
     {
         self.lcp.is_opened() && self.ipcp.is_opened()
+    }
+
+    /// Whether it asked who the peer is and has no verdict yet.
+    pub fn asks(&self) -> bool
+        ensures { result ≡ is_open self.now.auth }
+    {
+        self.auth.is_open()
+    }
+
+    /// Whether the peer's authentication has begun, and its outcome counts still.
+    pub fn authenticates(&self) -> bool
+        ensures { result ≡ is_begun self.now.auth }
+    {
+        self.auth.is_begun()
     }
 
     /// Whether LCP was ever Opened.

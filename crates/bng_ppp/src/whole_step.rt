@@ -1,5 +1,5 @@
 //! What a step of a whole link gives.
-ghost use Rattle.std.specs.Prelude.{◌≡◌};
+ghost use Rattle.std.specs.Prelude.{◌≡◌, ◌≤◌, length};
 ghost use Rattle.bng_ppp.specs.PppRelation.{says_nothing, ended_by};
 ghost use Rattle.bng_ppp.specs.WholeStep.{ppp_said, IsFresh};
 ghost use Rattle.bng_ppp.specs.PppState.{PppState};
@@ -46,7 +46,8 @@ impl WholeSteps {
 
     /// PPP frames, from their protocol on, in the order of sending.
     pub fn outs(&self) -> &[Frame]
-        ensures { result.now ≡ self.now.layer.outs.items }
+        ensures frames { result.now ≡ self.now.layer.outs.items }
+        ensures few { length result.now ≤ 4 }
     {
         self.layer.outs.as_slice()
     }

@@ -1,6 +1,6 @@
 use crate::whole_fixtures::{
     CHALLENGE, CHAP_ACK, PAP_ACK, PAP_REQUEST, RANDOM, REQUEST, RESPONSE, hear, opened, rules,
-    sent, served, tell, verdict,
+    sent, served, tell, verdict, verdict_with,
 };
 use crate::{LinkKind, WholeInput, WholeLink};
 use bng_base::AuthKind;
@@ -155,6 +155,53 @@ fn a_pppd_is_accepted_by_pap_and_gets_its_address_and_servers(rt: HostRuntime) {
     let end = hear(&mut link, &rules, b"\xc0\x21\x05\x04\x00\x04");
     assert_eq!(rt; sent(&end, 0), b"\xc0\x21\x06\x04\x00\x04".as_slice());
     assert!(rt; end.term_ended == Some(1) && !link.passes());
+}
+
+// Frames of IPCP that find it not begun (RFC 1661 section 4.1, Initial): a request, an Ack, a Terminate-Request, a Code-Reject of
+// a Configure-Request and an unknown code.
+const NOT_BEGUN: [&[u8]; 5] = [
+    b"\x80\x21\x01\x01\x00\x0a\x03\x06\x00\x00\x00\x00",
+    b"\x80\x21\x02\x01\x00\x0a\x03\x06\x0a\x00\x00\x01",
+    b"\x80\x21\x05\x02\x00\x04",
+    b"\x80\x21\x07\x03\x00\x08\x01\x01\x00\x04",
+    b"\x80\x21\x09\x05\x00\x08\x00\x00\x00\x00",
+];
+
+#[test]
+fn a_peer_without_an_address_gets_its_reply_and_no_ipcp(rt: HostRuntime) {
+    let peers: [(AuthKind, &[u8], &[u8], &[u8]); 2] = [
+        (
+            AuthKind::Chap,
+            CHAP_ACK,
+            RESPONSE,
+            b"\xc2\x23\x03\x01\x00\x06hi",
+        ),
+        (
+            AuthKind::Pap,
+            PAP_ACK,
+            PAP_REQUEST,
+            b"\xc0\x23\x02\x07\x00\x07\x02hi",
+        ),
+    ];
+    for (kind, ack, request, reply) in peers {
+        let rules = rules(kind, 0);
+        let mut link = opened(&rules, ack);
+        assert!(rt; hear(&mut link, &rules, request).asked.is_some());
+        let yes = tell(&mut link, &rules, verdict_with(true, None, b"hi"), 0);
+        assert_eq!(rt; yes.outs().len(), 1);
+        assert_eq!(rt; sent(&yes, 0), reply);
+        assert!(rt; link.deadline().is_none());
+        for heard in NOT_BEGUN {
+            let passed = hear(&mut link, &rules, heard);
+            assert!(rt; passed.outs().is_empty() && !passed.opened && !link.passes());
+        }
+        assert_eq!(rt; sent(&hear(&mut link, &rules, request), 0), reply);
+        let late = tell(&mut link, &rules, verdict(true, b"hi"), 0);
+        assert!(rt; late.outs().is_empty() && link.deadline().is_none());
+        let end = hear(&mut link, &rules, b"\xc0\x21\x05\x04\x00\x04");
+        assert_eq!(rt; sent(&end, 0), b"\xc0\x21\x06\x04\x00\x04".as_slice());
+        assert!(rt; end.outs().len() == 1 && end.term_ended.is_none());
+    }
 }
 
 #[test]

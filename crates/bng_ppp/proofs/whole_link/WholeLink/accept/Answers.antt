@@ -13,11 +13,9 @@ pub returns : goal.returns
 returns c =
     let i = c.self.inside in
     let old : PppState = record { lcp = i.lcp; auth = i.auth; auth_due = i.auth_due; ipcp = i.ipcp; next_challenge = i.next_challenge; live = i.live } in
-    let P : PppState → Type 0 = λ s. Accepts c.args.rules.now c.args.lease c.args.text.now c.args.now s (turn_of c.tell_ipcp-2.new.self c.tell_ipcp-2.new.steps) in
-    subst P c.self.view_is (accepts c.args.rules.now c.args.now c.args.lease c.args.text.now old (turn_of old c.args.steps.now) (turn_of c.tell_ipcp.new.self c.tell_ipcp.new.steps) _ (option_map reply_of c.settle-reply.result) c.settle-reply.new.self c.begin.new.self (payloads c.send_reply.new.steps.outs.items)
+    let P : PppState → Type 0 = λ s. Accepts c.args.rules.now c.args.lease c.args.text.now c.args.now s (turn_of c.begin_for.new.self c.begin_for.new.steps) in
+    subst P c.self.view_is (accepts c.args.rules.now c.args.now c.args.lease c.args.text.now old (turn_of old c.args.steps.now) (turn_of c.begin_for.new.self c.begin_for.new.steps) (option_map reply_of c.settle-reply.result) c.settle-reply.new.self (payloads c.send_reply.new.steps.outs.items)
     c.settle-reply.ensures
     (subst (λ (s : PppState). turn_of s c.args.steps.now ≡ begun s) (sym c.self.view_is) c.requires.fresh.0)
     (ap (λ (s : Said). s.outs) c.send_reply.ensures.said)
-    c.begin.ensures
-    c.tell_ipcp.ensures.moves
-    c.tell_ipcp-2.ensures.moves)
+    c.begin_for.ensures)
