@@ -1,20 +1,18 @@
 -- The sessions of a shard's provisioned circuits come one after another, by rising number.
-use Rattle.std.proofs.Common.{◌≡◌, ◌≢◌, ◌⊎◌, ℕ, zero, suc, ◌+◌, ◌-◌, ◌*◌, ◌<◌, ◌≤◌, ◌==◌, Bool, true, false, cond, T, List, [], ◌∷◌, ◌++◌, length, get_or, Option, Some, None, is_some, IfSome, IfNone, length-append, Contains, All, AllPairs, HoldsAt, filter, find, flat_map, sum_by, slice_get, option_and_then, option_map, inl, inr, refl, sym, ap, subst, ◌∙◌, arith, append_assoc}
-use Rattle.std.specs.List.{AllByRecursion, range_with_len}
+use Rattle.std.proofs.Common.{◌≡◌, ◌≢◌, ℕ, zero, suc, ◌+◌, ◌-◌, ◌*◌, ◌<◌, ◌≤◌, ◌==◌, Bool, true, false, cond, List, [], ◌∷◌, ◌++◌, length, get_or, Option, Some, None, is_some, IfSome, IfNone, length-append, Contains, All, AllPairs, filter, find, flat_map, sum_by, slice_get, option_map, inl, inr, refl, sym, ap, subst, ◌∙◌, arith}
+use Rattle.std.specs.List.{range_with_len}
 use Rattle.std.specs.Ordering.{nat_cmp, eq_by_cmp}
 use Rattle.std.specs.declared.cmp.Ordering.{Ordering}
 use Rattle.std.specs.declared.cmp.Ordering.TheVariants.{Greater}
 use Rattle.std.specs.Cmp.{nat_cmp_is, nat_cmp_total}
-use Rattle.std.specs.FinMap.{FinMap, empty, entries, from_sorted, put, get-entries, entries-insert, len-entries, len-empty}
+use Rattle.std.specs.FinMap.{empty, entries, put, get-entries, entries-insert, len-entries, len-empty}
 use Rattle.std.specs.FinMap.{find as find_at}
 use Rattle.std.specs.FinMap.Entries.{by_order}
-use Rattle.std.proofs.lemmas.Bool.{cases_eq, cases_lt, eqb-true, false≢true}
+use Rattle.std.proofs.lemmas.Bool.{cases_lt, eqb-true, false≢true}
 use Rattle.std.proofs.lemmas.List.{append-nil}
 use Rattle.std.proofs.lemmas.List.Concat.{flat_map-append}
-use Rattle.std.proofs.lemmas.List.Elements.{All-contains, All-contains_itself, All-filter, Contains-append_cases, Contains-push, at_from_Contains, filter_passes, recursion_from_All}
+use Rattle.std.proofs.lemmas.List.Elements.{All-contains, All-contains_itself, All-filter, Contains-append_cases, at_from_Contains, filter_passes, recursion_from_All}
 use Rattle.std.proofs.lemmas.List.Sums.{sum_by-cons}
-use Rattle.bng_base.specs.declared.address.Ip4.{Ip4}
-use Rattle.bng_base.specs.declared.address.SessionNo.{SessionNo}
 use Rattle.bng_base.specs.declared.circuit.Circuit.{Circuit}
 use Rattle.bng_base.specs.declared.circuit.Circuit.TheVariants.{Pppoe, L2tp}
 use Rattle.bng_base.specs.declared.circuit.TermId.{TermId}
@@ -23,8 +21,9 @@ use Rattle.bng_slots.specs.Sessions.{Sessions, IsNumberOf, NoneShares, value_at,
 use Rattle.bng_slots.specs.Listed.{values}
 use Rattle.bng_shard.specs.declared.session.Session.{Session}
 use Rattle.bng_shard.specs.Indexed.{address_of, term_of}
+use Rattle.bng_shard.specs.Listing.{AreListed, does_pass, passing_in}
 use Rattle.bng_shard.specs.Opening.{circuit_at, in_order, numbered_after, opened_slots, provisioned}
-use Rattle.bng_shard.specs.Serving.{AreOwn, AreOfShard, AreLeaving, does_leave, ended_in}
+use Rattle.bng_shard.specs.Serving.{AreOwn, AreOfShard, AreLeaving, ended_in}
 use Rattle.bng_shard.specs.State.{State, circuit_of, leaves, made_one}
 use Rattle.bng_shard.proofs.Earliest.{read_there}
 use Rattle.bng_shard.proofs.InOrder.{Apart, AtMostOne, apart_of, at_most_one, sum_in_order}
@@ -382,10 +381,21 @@ module _ (number : ℕ) (circuits : List Static) (sessions : Sessions Session) (
   pub opened_ended : ended_in sessions ≡ 0
   opened_ended = sum_nothing (λ (x : Session). cond (leaves x) 1 0) (values sessions) (λ x c. let n = numbered sessions x c in ap (λ (b : Bool). cond b 1 0) (opened_stay n.0 x n.1))
 
-  pub opened_is : All (λ c. IsNumberOf number c.session.0) circuits → ◌≡◌ {A = State} (record { sessions = sessions; begun = begun }) (opened_slots number circuits)
+  -- none passes a test that each provisioned circuit fails, so none is listed
+  opened_fails : (test : Session → Bool) → ((c : Static) (serial : ℕ) → test (provisioned c serial) ≡ false) → (n : ℕ) (o : Option Session) → value_at sessions n ≡ o → does_pass test o ≡ false
+  opened_fails test all n None e = refl
+  opened_fails test all n (Some x) e = let there = stands_for number circuits 1022 sessions begun h n x e in ap test there.is ∙ all there.c there.serial
+
+  pub opened_listed : (test : Session → Bool) → ((c : Static) (serial : ℕ) → test (provisioned c serial) ≡ false) → AreListed test sessions []
+  opened_listed test all n = ap {B = ℕ} (λ (b : Bool). cond b 1 0) (sym (opened_fails test all n (value_at sessions n) refl))
+
+  pub opened_none : (test : Session → Bool) → ((c : Static) (serial : ℕ) → test (provisioned c serial) ≡ false) → passing_in test sessions ≡ 0
+  opened_none test all = sum_nothing (λ (x : Session). cond (test x) 1 0) (values sessions) (λ x c. let n = numbered sessions x c in ap {B = ℕ} (λ (b : Bool). cond b 1 0) (opened_fails test all n.0 (Some x) n.1))
+
+  pub opened_is : All (λ c. IsNumberOf number c.session.0) circuits → ◌≡◌ {A = State} (record { sessions = sessions; begun = begun; asked = 0 }) (opened_slots number circuits)
   opened_is own =
       let map = from_entries_of sessions.by_number (numbered_after 0 (in_order number circuits)) h.stand in
       let one : Static → ℕ = λ _. 1 in
       let count : begun ≡ length circuits =
       h.counted ∙ sym (ones (in_order number circuits)) ∙ sum_in_order one number circuits (recursion_from_All (λ (c : Static). IsNumberOf number c.session.0) circuits own) ∙ ones circuits in
-      λ i. record { sessions = record { shard = h.shard i; by_number = map i }; begun = count i }
+      λ i. record { sessions = record { shard = h.shard i; by_number = map i }; begun = count i; asked = 0 }

@@ -10,7 +10,8 @@ use Rattle.bng_base.specs.declared.item.Entry.{Entry}
 use Rattle.bng_base.specs.declared.item.Item.{Item}
 use Rattle.bng_base.specs.declared.item.OutRecord.{OutRecord}
 use Rattle.bng_base.specs.PppoeGrammar.{PppoeFrame}
-use Rattle.bng_ppp.specs.declared.rules.Input.{Input}
+use Rattle.bng_ppp.specs.PppRelation.{PppSaid}
+use Rattle.bng_ppp.specs.PppState.{PppState}
 use Rattle.bng_slots.specs.Sessions.{value_at}
 use Rattle.bng_shard.specs.Made.{Made}
 use Rattle.bng_shard.specs.declared.frames.Control.TheVariants.{Unknown, Ignored, Heard}
@@ -19,18 +20,18 @@ use Rattle.bng_shard.specs.declared.sending.At.{At}
 use Rattle.bng_shard.specs.declared.session.Service.{Service}
 use Rattle.bng_shard.specs.declared.session.Service.TheVariants.{Provisioned, Discovered}
 use Rattle.bng_shard.specs.declared.session.Session.{Session}
-use Rattle.bng_shard.specs.State.{State, is_on, session_of, where_on, with_session}
+use Rattle.bng_shard.specs.State.{State, is_on, session_of, where_on, with_driven, with_session}
 use Rattle.bng_shard.specs.Controlling.{IsControl}
 use Rattle.bng_shard.specs.Deed.{Deed, at_of, dropped, handled, ignored}
 use Rattle.bng_shard.specs.Doing.{DoesWith}
 use Rattle.bng_shard.specs.Driven.{Driven}
 use Rattle.bng_shard.specs.Frames.{HearsControl, HearsIn}
-use Rattle.bng_shard.specs.Link.{Drives, ended, ended_service, hears, told}
+use Rattle.bng_shard.specs.Link.{Drives, HearsPppFrame, LinkStep, ended, ended_service, hears}
 use Rattle.bng_shard.specs.Protocol.{entry_of}
 use Rattle.bng_shard.specs.Timers.{does_live, lives_at, lives_in}
 use Rattle.bng_shard.proofs.Carrying.{nothing_done}
 use Rattle.bng_shard.proofs.Replacing.{with_same}
-use Rattle.bng_shard.proofs.Speaking.{drives, driven_few}
+use Rattle.bng_shard.proofs.Speaking.{drives, drives_so, driven_few}
 
 where_some : (port : ℕ) (mac : Mac) (o : Option Session) (x : Session) → where_on port mac o ≡ Some x → o ≡ Some x
 where_some port mac None x e = absurd (let never : ⊥ = cc in never)
@@ -122,27 +123,28 @@ module _ (r : Rules) (s : State) (a : At) (item : Item) (outs : List OutRecord) 
         few = omega arith;
       }
 
-  hears_so : (e : Entry) (x x' : Session) (v : Service) (sent : List OutRecord) → x.service ≡ v → lives_in v ≡ true → p.discovery ≡ false → Drives r (at_of s e) x (hears r e p.payload) sent x'
-      → HearsControl v r s e x p (handled s e sent (with_session s p.session x'))
-  hears_so e x x' (Provisioned l) sent is h d step = absurd (let never : ⊥ = cc in never)
-  hears_so e x x' (Discovered m) sent is h d step = inr (d, inr (going m.ended h, sent, x', step, refl))
+  hears_so : (e : Entry) (x x' : Session) (asked' : ℕ) (v : Service) (sent : List OutRecord) → x.service ≡ v → lives_in v ≡ true → p.discovery ≡ false → Drives r (at_of s e) s.asked x (hears r e p.payload) sent x' asked'
+      → HearsControl v r s e x p (handled s e sent (with_driven s p.session x' asked'))
+  hears_so e x x' asked' (Provisioned l) sent is h d step = absurd (let never : ⊥ = cc in never)
+  hears_so e x x' asked' (Discovered m) sent is h d step = inr (d, inr (going m.ended h, sent, x', asked', step, refl))
 
   -- the link of one that lives hears another frame
-  pub hears_it : (input : Input) → ((e : Entry) (x x' : Session) (sent : List OutRecord) → Drives r (at_of s e) x (told r e input) sent x' → Drives r (at_of s e) x (hears r e p.payload) sent x')
-      → IsControl its Heard → p.discovery ≡ false → (now : ℕ) (s' : State) (outs' : List OutRecord)
-      → ((x : Session) → value_at s.sessions p.session ≡ Some x → (x' : Session) × Driven r a input now item.random x x' outs outs' × (s' ≡ with_session s p.session x'))
+  pub hears_it : (Steps : LinkStep) (now : ℕ) → ((old : PppState) (says : PppSaid) (new : PppState) → Steps old says new → HearsPppFrame r.link p.payload now item.random old says new)
+      → IsControl its Heard → p.discovery ≡ false → (s' : State) (outs' : List OutRecord)
+      → ((x : Session) → value_at s.sessions p.session ≡ Some x → (x' : Session) × (asked' : ℕ) × Driven r a Steps s.asked x x' asked' outs outs' × (s' ≡ with_driven s p.session x' asked'))
       → length outs' ≤ length outs + 5 → DoesWith (λ e d. HearsIn its r s e p d) 5 s s' outs outs' a now item Consumed
-  hears_it input turn h d now s' outs' driven few =
+  hears_it Steps now turn h d s' outs' driven few =
       let is = heard_is its h in
       let e = entry_of a.seat a.place now item in
-      let (x', step, next) = driven is.0 (stands_at s number p.src p.session is.0 is.1) in
+      let (x', asked', step, next) = driven is.0 (stands_at s number p.src p.session is.0 is.1) in
       record {
-        deed = handled s e step.more (with_session s p.session x');
+        deed = handled s e step.more (with_driven s p.session x' asked');
         entry = refl;
         fate_is = refl;
         next = sym next;
-        says = subst (λ (o : Option Session). HearsIn o r s e p (handled s e step.more (with_session s p.session x'))) (sym is.1)
-            (hears_so e is.0 x' is.0.service step.more refl is.2 d (turn e is.0 x' step.more (drives r s a now item outs outs' is.0 x' input here step)));
+        says = subst (λ (o : Option Session). HearsIn o r s e p (handled s e step.more (with_driven s p.session x' asked'))) (sym is.1)
+            (hears_so e is.0 x' asked' is.0.service step.more refl is.2 d
+            (drives_so r (at_of s e) s.asked is.0 x' Steps (hears r e p.payload) step.more asked' turn (drives r s a now item outs outs' is.0 x' Steps s.asked asked' here step)));
         outs_are = step.outs_are;
-        few = driven_few r s a now item outs outs' is.0 x' input here step 5 few;
+        few = driven_few r s a now item outs outs' is.0 x' Steps s.asked asked' here step 5 few;
       }

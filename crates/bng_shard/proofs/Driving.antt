@@ -2,20 +2,19 @@
 use Rattle.std.proofs.Common.{◌≡◌, ◌⊎◌, ℕ, ◌-◌, ◌<◌, ◌≤◌, ◌==◌, Bool, true, false, Option, Some, None, inl, inr, List, [], ◌++◌, length, ◌∙◌, refl, sym, ap, subst, append_assoc, append-nil, arith}
 use Rattle.std.specs.Prelude.{if◌then◌else◌, slice_get, get_or}
 use Rattle.std.proofs.lemmas.Option.{slice_get_cases, slice_get_within}
+use Rattle.bng_base.specs.declared.address.SessionNo.{SessionNo}
 use Rattle.bng_base.specs.declared.item.OutRecord.{OutRecord}
 use Rattle.bng_base.specs.declared.settings.AccessPort.{AccessPort}
 use Rattle.bng_discovery.specs.declared.port.PortRules.{PortRules}
-use Rattle.bng_ppp.specs.declared.rules.Input.{Input}
-use Rattle.bng_ppp.specs.LinkState.{LinkState}
-use Rattle.bng_ppp.specs.LinkRelation.{LinkSteps}
-use Rattle.bng_ppp.specs.Said.{Said}
+use Rattle.bng_ppp.specs.PppRelation.{PppSaid}
+use Rattle.bng_ppp.specs.PppState.{PppState}
 use Rattle.bng_shard.specs.Made.{Made}
 use Rattle.bng_shard.specs.declared.rules.Rules.{Rules}
 use Rattle.bng_shard.specs.declared.sending.At.{At}
 use Rattle.bng_shard.specs.declared.session.Service.TheVariants.{Discovered}
 use Rattle.bng_shard.specs.declared.session.Session.{Session}
 use Rattle.bng_shard.specs.State.{port_at, offers_at}
-use Rattle.bng_shard.specs.Link.{IsAt, EndsWith, ppp_outs, padt_outs, with_link}
+use Rattle.bng_shard.specs.Link.{IsAt, EndsWith, LinkStep, asked_after, ppp_outs, padt_outs, with_link}
 use Rattle.bng_shard.specs.Driven.{Driven}
 use Rattle.bng_shard.proofs.Values.{none_some}
 
@@ -42,10 +41,10 @@ closed b outs frames padt sent all e f g = rw e (g ∙ ap (λ (front : List OutR
 open_still : (b : Bool) (outs frames padt sent : List OutRecord) → b ≡ false → sent ≡ outs ++ frames → sent ≡ outs ++ (frames ++ (if b then padt else []))
 open_still b outs frames padt sent e f = rw e (f ∙ ap (λ (more : List OutRecord). outs ++ more) (sym (append-nil frames)))
 
-module _ (r : Rules) (a : At) (input : Input) (now : ℕ) (random : List ℕ) (x : Session) (made : Made) (is_made : x.service ≡ Discovered made) (says : Said) (l : LinkState) (steps : LinkSteps r.link input now random made.link says l) (outs sent : List OutRecord)
+module _ (r : Rules) (a : At) (Steps : LinkStep) (asked : ℕ) (x : Session) (made : Made) (is_made : x.service ≡ Discovered made) (says : PppSaid) (l : PppState) (steps : Steps made.link says l) (outs sent : List OutRecord)
     (frames : (port : AccessPort) → port_at r.access x.port ≡ Some port → sent ≡ outs ++ ppp_outs a x port says.outs) where
   -- LCP finished, and the PADT stands last
-  pub driven_finished : (all padt : List OutRecord) → says.finished ≡ true → EndsWith r a (with_link x made l says.finished) padt → all ≡ sent ++ padt → Driven r a input now random x (with_link x made l says.finished) outs all
+  pub driven_finished : (all padt : List OutRecord) → says.finished ≡ true → EndsWith r a (with_link x made asked says l) padt → all ≡ sent ++ padt → Driven r a Steps asked x (with_link x made asked says l) (asked_after asked says.asked) outs all
   driven_finished all padt finished ends last =
       let last_is : all ≡ sent ++ padt_outs a x ends.port ends.offers = last ∙ ap (λ (o : List OutRecord). sent ++ o) ends.outs_are in
       record {
@@ -61,11 +60,12 @@ module _ (r : Rules) (a : At) (input : Input) (now : ℕ) (random : List ℕ) (x
           steps = steps;
           outs_are = refl;
           session = refl;
+          count = refl;
         };
         outs_are = closed says.finished outs (ppp_outs a x ends.port says.outs) (padt_outs a x ends.port ends.offers) sent all finished (frames ends.port ends.at.port_is) last_is;
       }
 
-  pub driven_on : (port : AccessPort) (offers : PortRules) → IsAt r x port offers → says.finished ≡ false → Driven r a input now random x (with_link x made l says.finished) outs sent
+  pub driven_on : (port : AccessPort) (offers : PortRules) → IsAt r x port offers → says.finished ≡ false → Driven r a Steps asked x (with_link x made asked says l) (asked_after asked says.asked) outs sent
   driven_on port offers at going = record {
     more = ppp_outs a x port says.outs ++ (if says.finished then padt_outs a x port offers else []);
     drives = record {
@@ -79,6 +79,11 @@ module _ (r : Rules) (a : At) (input : Input) (now : ℕ) (random : List ℕ) (x
       steps = steps;
       outs_are = refl;
       session = refl;
+      count = refl;
     };
     outs_are = open_still says.finished outs (ppp_outs a x port says.outs) (padt_outs a x port offers) sent going (frames port at.port_is);
   }
+
+-- a session keeps its number
+pub number_of : {r : Rules} {a : At} {Steps : LinkStep} {asked : ℕ} {x x' : Session} {asked' : ℕ} {outs outs' : List OutRecord} {n : SessionNo} → Driven r a Steps asked x x' asked' outs outs' → x.number ≡ n → x'.number.0 ≡ n.0
+number_of d is = ap (λ (y : Session). y.number.0) d.drives.session ∙ ap (λ (m : SessionNo). m.0) is

@@ -5,6 +5,10 @@ pub mod RowLaws
 pub mod Terms
 pub mod Reading
 pub mod Spelling
+pub mod LinkSteps
+pub mod QuestionLaws
+pub mod Granted
+pub mod GrantLaws
 pub mod Packets
 pub mod Sends
 pub mod StepLaws
@@ -37,3 +41,7 @@ pub mod BookLaws
 pub mod OneCircuit
 pub mod Circuits
 pub mod Scanning
+pub mod Listing
+pub mod Waiting
+pub mod Telling
+pub mod ClaimLaws

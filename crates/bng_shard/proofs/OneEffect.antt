@@ -27,12 +27,16 @@ use Rattle.bng_forward.proofs.Exclusive.{up_once, down_once}
 use Rattle.bng_forward.proofs.Readings.{one_frame, one_header}
 use Rattle.bng_lcp.specs.Ask.{Ask}
 use Rattle.bng_lcp.specs.declared.configure_request.SentRequest.{SentRequest}
-use Rattle.bng_ppp.specs.declared.rules.Input.TheVariants.{Start, Timer}
-use Rattle.bng_ppp.specs.LinkState.{LinkState, IsFirstAsk}
-use Rattle.bng_ppp.specs.Said.{Said}
-use Rattle.bng_ppp.proofs.OneOutcome.{steps_one, hears_one}
+use Rattle.bng_ppp.specs.declared.whole_input.WholeInput.{WholeInput}
+use Rattle.bng_ppp.specs.declared.whole_input.WholeInput.TheVariants.{Start, Timer}
+use Rattle.bng_ppp.specs.LinkState.{IsFirstAsk}
+use Rattle.bng_ppp.specs.PppRelation.{PppSaid}
+use Rattle.bng_ppp.specs.PppState.{PppState}
+use Rattle.bng_ppp.proofs.WholeOutcome.{ppp_steps_one}
 use Rattle.bng_pppoe_wire.proofs.TagLaws.{one_tags}
 use Rattle.bng_slots.specs.Sessions.{value_at, IsLowestVacant}
+use Rattle.bng_verdict.specs.Verdicts.{Saying, IsVerdict}
+use Rattle.bng_verdict.proofs.One.{one_verdict}
 use Rattle.bng_shard.specs.Made.{Made}
 use Rattle.bng_shard.specs.declared.rules.Rules.{Rules}
 use Rattle.bng_shard.specs.declared.sending.At.{At}
@@ -40,14 +44,16 @@ use Rattle.bng_shard.specs.declared.session.Lease.{Lease}
 use Rattle.bng_shard.specs.declared.session.Service.{Service}
 use Rattle.bng_shard.specs.declared.session.Service.TheVariants.{Provisioned, Discovered}
 use Rattle.bng_shard.specs.declared.session.Session.{Session}
-use Rattle.bng_shard.specs.State.{State, port_at, session_of, with_session}
+use Rattle.bng_shard.specs.State.{State, port_at, session_of, with_session, with_driven}
 use Rattle.bng_shard.specs.Deed.{Deed, at_of, out, frame_outs, only, handled, arrival_in}
 use Rattle.bng_shard.specs.Discovery.{Answers, Discovers, IsNewLink, IsVacancy, Makes, Repeats, host_uniq_of, new_session, repeated}
 use Rattle.bng_shard.specs.Frames.{charge_of, forwarded, found_up, found_down, GoesUp, GoesDown, HearsData, HearsPpp, HearsControl, HearsIn, HearsFrame, HearsAccess, HearsPacket, HearsCore}
-use Rattle.bng_shard.specs.Link.{LinkStep, Drives, EndsWith, padt_outs, said_outs, with_link, told, hears, ended}
+use Rattle.bng_shard.specs.Link.{LinkStep, Drives, EndsWith, padt_outs, said_outs, asked_after, with_link, told, hears, settles, ended}
 use Rattle.bng_shard.specs.Protocol.{pppoe}
 use Rattle.bng_shard.specs.Step.{Hears, Step}
 use Rattle.bng_shard.specs.Timers.{Ticks, Ends, HearsTick, HearsEnd, at_once, IsFirstDue, NoneIsDue, ComesFirst, IsLowest, NoneLives}
+use Rattle.bng_shard.specs.Verdicts.{HearsVerdict, Judges}
+use Rattle.bng_shard.proofs.LinkSteps.{frame_of, verdict_of, frame_steps, verdict_steps}
 
 -- what two answers of one search have in common
 same_found : {X : Type 0} (o : Option X) (x y : X) → o ≡ Some x → o ≡ Some y → x ≡ y
@@ -57,7 +63,7 @@ made_or : Made → Service → Made
 made_or m (Provisioned l) = m
 made_or m (Discovered n) = n
 
-same_made : (v : Service) (m n : Made) → v ≡ Discovered m → v ≡ Discovered n → m ≡ n
+pub same_made : (v : Service) (m n : Made) → v ≡ Discovered m → v ≡ Discovered n → m ≡ n
 unfolding made_or
 same_made v m n e f = ap (made_or m) (sym e ∙ f)
 
@@ -72,29 +78,36 @@ same_lease v k l e f = ap (lease_or k) (sym e ∙ f)
 -- Links -----------------------------------------------------------------------------------------------------------------
 
 abbrev IsOne : LinkStep → Type 0
-IsOne Steps = (old new next : LinkState) (says other : Said) → Steps old says new → Steps old other next → (says ≡ other) × (new ≡ next)
+IsOne Steps = (old new next : PppState) (says other : PppSaid) → Steps old says new → Steps old other next → (says ≡ other) × (new ≡ next)
 
-module _ (r : Rules) (a : At) (Steps : LinkStep) (one : IsOne Steps) (x : Session) (outs outs' : List OutRecord) (x' x'' : Session) where
+module _ (r : Rules) (a : At) (asked : ℕ) (Steps : LinkStep) (one : IsOne Steps) (x : Session) (outs outs' : List OutRecord) (x' x'' : Session) (asked' asked'' : ℕ) where
   -- the session's link makes one step
-  drives_one : Drives r a x Steps outs x' → Drives r a x Steps outs' x'' → (outs ≡ outs') × (x' ≡ x'')
+  drives_one : Drives r a asked x Steps outs x' asked' → Drives r a asked x Steps outs' x'' asked'' → (outs ≡ outs') × (x' ≡ x'') × (asked' ≡ asked'')
   drives_one h k =
       let made = same_made x.service h.made k.made h.is_made k.is_made in
       let port = same_found _ h.port k.port h.at.port_is k.at.port_is in
       let offers = same_found _ h.offers k.offers h.at.offers_are k.at.offers_are in
       let steps : Steps h.made.link k.says k.link = subst (λ (m : Made). Steps m.link k.says k.link) (sym made) k.steps in
       let says = one h.made.link h.link k.link h.says k.says h.steps steps in (
-        h.outs_are ∙ ap (λ (q : AccessPort). said_outs a x q h.offers h.says) port ∙ ap (λ (o : PortRules). said_outs a x k.port o h.says) offers ∙ ap (λ (s : Said). said_outs a x k.port k.offers s) says.0 ∙ sym k.outs_are,
-        h.session ∙ ap (λ (m : Made). with_link x m h.link h.says.finished) made ∙ ap (λ (l : LinkState). with_link x k.made l h.says.finished) says.1 ∙ ap (λ (s : Said). with_link x k.made k.link s.finished) says.0 ∙ sym k.session,
+        h.outs_are ∙ ap (λ (q : AccessPort). said_outs a x q h.offers h.says) port ∙ ap (λ (o : PortRules). said_outs a x k.port o h.says) offers ∙ ap (λ (s : PppSaid). said_outs a x k.port k.offers s) says.0 ∙ sym k.outs_are,
+        h.session ∙ ap (λ (m : Made). with_link x m asked h.says h.link) made ∙ ap (λ (l : PppState). with_link x k.made asked h.says l) says.1 ∙ ap (λ (s : PppSaid). with_link x k.made asked s k.link) says.0 ∙ sym k.session,
+        h.count ∙ ap (λ (s : PppSaid). asked_after asked s.asked) says.0 ∙ sym k.count,
       )
 
-told_is_one : (r : Rules) (e : Entry) → IsOne (told r e Timer)
-told_is_one r e old new next says other h k = steps_one r.link Timer e.moment e.item.random old says other new next h k
-
-start_is_one : (r : Rules) (e : Entry) → IsOne (told r e Start)
-start_is_one r e old new next says other h k = steps_one r.link Start e.moment e.item.random old says other new next h k
+told_is_one : (r : Rules) (e : Entry) (input : WholeInput) → IsOne (told r e input)
+told_is_one r e input old new next says other h k = ppp_steps_one r.link e.moment e.item.random input old says other new next h k
 
 frame_is_one : (r : Rules) (e : Entry) (octets : List ℕ) → IsOne (hears r e octets)
-frame_is_one r e octets old new next says other h k = hears_one r.link.echo e.moment old says other new next octets e.item.random h k
+frame_is_one r e octets old new next says other h k =
+    ppp_steps_one r.link e.moment e.item.random (frame_of octets) old says other new next
+    (frame_steps r.link e.moment e.item.random old says new octets h)
+    (frame_steps r.link e.moment e.item.random old other next octets k)
+
+verdict_is_one : (r : Rules) (e : Entry) (v : Saying) → IsOne (settles r e v)
+verdict_is_one r e v old new next says other h k =
+    ppp_steps_one r.link e.moment e.item.random (verdict_of v) old says other new next
+    (verdict_steps r.link e.moment e.item.random old says new v h)
+    (verdict_steps r.link e.moment e.item.random old other next v k)
 
 -- a session that ends is told so in one way
 ends_with_one : (r : Rules) (a : At) (x : Session) (outs outs' : List OutRecord) → EndsWith r a x outs → EndsWith r a x outs' → outs ≡ outs'
@@ -129,8 +142,8 @@ Alone Says = (s : State) (outs outs' : List OutRecord) (s' s'' : State) → Says
 -- one deadline, and those after it
 abbrev TicksAt : ℕ → ℕ → Rules → Entry → State → List OutRecord → State → Type 0
 TicksAt k n r e s outs s' =
-    (x x' : Session) × (value_at s.sessions n ≡ Some x) × (first : List OutRecord) × Drives r (at_of s e) x (told r e Timer) first x'
-    × (rest : List OutRecord) × Ticks k r e (with_session s n x') rest s' × (outs ≡ first ++ rest)
+    (x x' : Session) × (value_at s.sessions n ≡ Some x) × (first : List OutRecord) × (asked' : ℕ) × Drives r (at_of s e) s.asked x (told r e Timer) first x' asked'
+    × (rest : List OutRecord) × Ticks k r e (with_driven s n x' asked') rest s' × (outs ≡ first ++ rest)
 
 abbrev EndsAt : ℕ → ℕ → Rules → Entry → State → List OutRecord → State → Type 0
 EndsAt k n r e s outs s' =
@@ -139,22 +152,23 @@ EndsAt k n r e s outs s' =
 
 module _ (r : Rules) (e : Entry) where
   tick_one : (k n : ℕ) → Alone (Ticks k r e) → Alone (TicksAt k n r e)
-  tick_one k n alone s outs outs' s' s'' (x, x', at, first, drives, rest, more, are) (y, y', at', first', drives', rest', more', are') =
+  tick_one k n alone s outs outs' s' s'' (x, x', at, first, asked', drives, rest, more, are) (y, y', at', first', asked'', drives', rest', more', are') =
       let same = same_found _ x y at at' in
-      let moved : Drives r (at_of s e) x (told r e Timer) first' y' = subst (λ (z : Session). Drives r (at_of s e) z (told r e Timer) first' y') (sym same) drives' in
-      let one = drives_one r (at_of s e) (told r e Timer) (told_is_one r e) x first first' x' y' drives moved in
-      let later : Ticks k r e (with_session s n x') rest' s'' = subst (λ (z : Session). Ticks k r e (with_session s n z) rest' s'') (sym one.1) more' in
-      let last = alone (with_session s n x') rest rest' s' s'' more later in
+      let moved : Drives r (at_of s e) s.asked x (told r e Timer) first' y' asked'' = subst (λ (z : Session). Drives r (at_of s e) s.asked z (told r e Timer) first' y' asked'') (sym same) drives' in
+      let one = drives_one r (at_of s e) s.asked (told r e Timer) (told_is_one r e Timer) x first first' x' y' asked' asked'' drives moved in
+      let counted : Ticks k r e (with_driven s n y' asked') rest' s'' = subst (λ (m : ℕ). Ticks k r e (with_driven s n y' m) rest' s'') (sym one.2) more' in
+      let later : Ticks k r e (with_driven s n x' asked') rest' s'' = subst (λ (z : Session). Ticks k r e (with_driven s n z asked') rest' s'') (sym one.1) counted in
+      let last = alone (with_driven s n x' asked') rest rest' s' s'' more later in
       (are ∙ ap (λ (os : List OutRecord). os ++ rest) one.0 ∙ ap (λ (os : List OutRecord). first' ++ os) last.0 ∙ sym are', last.1)
 
   ticks_one : (k : ℕ) → Alone (Ticks k r e)
   ticks_one zero s outs outs' s' s'' h i = (h.0 ∙ sym i.0, h.1 ∙ sym i.1)
   ticks_one (suc k) s outs outs' s' s'' (inl h) (inl i) = (h.1 ∙ sym i.1, h.2 ∙ sym i.2)
-  ticks_one (suc k) s outs outs' s' s'' (inl h) (inr (n, due, x, x', at, first, drives, rest, more, are)) = absurd (none_due s e.moment n h.0 due)
-  ticks_one (suc k) s outs outs' s' s'' (inr (n, due, x, x', at, first, drives, rest, more, are)) (inl i) = absurd (none_due s e.moment n i.0 due)
-  ticks_one (suc k) s outs outs' s' s'' (inr (n, due, x, x', at, first, drives, rest, more, are)) (inr (n', due', y, y', at', first', drives', rest', more', are')) =
-      let moved : TicksAt k n r e s outs' s'' = subst (λ (m : ℕ). TicksAt k m r e s outs' s'') (sym (first_due_one s e.moment n n' due due')) (y, y', at', first', drives', rest', more', are') in
-      tick_one k n (ticks_one k) s outs outs' s' s'' (x, x', at, first, drives, rest, more, are) moved
+  ticks_one (suc k) s outs outs' s' s'' (inl h) (inr (n, due, x, x', at, first, asked', drives, rest, more, are)) = absurd (none_due s e.moment n h.0 due)
+  ticks_one (suc k) s outs outs' s' s'' (inr (n, due, x, x', at, first, asked', drives, rest, more, are)) (inl i) = absurd (none_due s e.moment n i.0 due)
+  ticks_one (suc k) s outs outs' s' s'' (inr (n, due, x, x', at, first, asked', drives, rest, more, are)) (inr (n', due', y, y', at', first', asked'', drives', rest', more', are')) =
+      let moved : TicksAt k n r e s outs' s'' = subst (λ (m : ℕ). TicksAt k m r e s outs' s'') (sym (first_due_one s e.moment n n' due due')) (y, y', at', first', asked'', drives', rest', more', are') in
+      tick_one k n (ticks_one k) s outs outs' s' s'' (x, x', at, first, asked', drives, rest, more, are) moved
 
   end_one : (k n : ℕ) → Alone (Ends k r e) → Alone (EndsAt k n r e)
   end_one k n alone s outs outs' s' s'' (x, at, padt, rest, with_padt, more, are) (y, at', padt', rest', with_padt', more', are') =
@@ -208,12 +222,24 @@ ask_one limit auth random a b x y =
     asks_equal a.limit b.limit a.allowed b.allowed a.wanted.mru b.wanted.mru a.wanted.auth b.wanted.auth a.wanted.magic b.wanted.magic a.sent b.sent
     (x.limited ∙ sym y.limited) (x.allowed ∙ sym y.allowed) (x.mru ∙ sym y.mru) (same_found (slice_get auth 0) a.wanted.auth b.wanted.auth x.first y.first) (x.magic ∙ sym y.magic) (x.unsent ∙ sym y.unsent)
 
-link_one : (random : List ℕ) (a b : LinkState) → IsNewLink random a → IsNewLink random b → a ≡ b
+link_one : (random : List ℕ) (a b : PppState) → IsNewLink random a → IsNewLink random b → a ≡ b
 link_one random a b x y =
     let lcp = x.lcp ∙ sym y.lcp in
-    let ask = ask_one 1492 (Chap ∷ []) random a.ask b.ask x.ask y.ask in
+    let ask = ask_one 1492 (Chap ∷ []) random a.lcp.ask b.lcp.ask x.ask y.ask in
     let kept = x.kept ∙ sym y.kept in
-    λ i. record { lcp = lcp i; ask = ask i; kept = kept i }
+    let auth = x.auth ∙ sym y.auth in
+    let timer = x.timer ∙ sym y.timer in
+    let ipcp = x.ipcp ∙ sym y.ipcp in
+    let challenge = x.challenge ∙ sym y.challenge in
+    let term = x.term ∙ sym y.term in
+    λ i. record {
+      lcp = record { lcp = lcp i; ask = ask i; kept = kept i };
+      auth = auth i;
+      auth_due = timer i;
+      ipcp = ipcp i;
+      next_challenge = challenge i;
+      live = term i;
+    }
 
 -- Packets ---------------------------------------------------------------------------------------------------------------
 
@@ -263,19 +289,22 @@ module _ (r : Rules) (s : State) (e : Entry) (d d' : Deed) where
   same_handled : (outs outs' : List OutRecord) (t t' : State) → (outs ≡ outs') × (t ≡ t') → d ≡ handled s e outs t → d' ≡ handled s e outs' t' → d ≡ d'
   same_handled outs outs' t t' same h k = h ∙ ap (λ (os : List OutRecord). handled s e os t) same.0 ∙ ap (λ (u : State). handled s e outs' u) same.1 ∙ sym k
 
+  driven_equal : (n : ℕ) (x y : Session) (asked asked' : ℕ) → x ≡ y → asked ≡ asked' → with_driven s n x asked ≡ with_driven s n y asked'
+  driven_equal n x y asked asked' same count = ap (λ (z : Session). with_driven s n z asked) same ∙ ap (λ (m : ℕ). with_driven s n y m) count
+
   makes_one : (number : ℕ) (port : AccessPort) (offers : PortRules) (p : PppoeFrame) (tags : List PppoeTag) → Makes r s e number port offers p tags d → Makes r s e number port offers p tags d' → d ≡ d'
   makes_one number port offers p tags h k =
       let session = vacant_one s h.session k.session h.vacant k.vacant in
       let link = link_one e.item.random h.link k.link h.new k.new in
       let fresh : new_session h.session number p.src (host_uniq_of tags) h.link ≡ new_session k.session number p.src (host_uniq_of tags) k.link =
-      ap (λ (n : ℕ). new_session n number p.src (host_uniq_of tags) h.link) session ∙ ap (λ (l : LinkState). new_session k.session number p.src (host_uniq_of tags) l) link in
-      let starts : Drives r (at_of s e) (new_session h.session number p.src (host_uniq_of tags) h.link) (told r e Start) k.outs k.x =
-      subst (λ (y : Session). Drives r (at_of s e) y (told r e Start) k.outs k.x) (sym fresh) k.starts in
-      let one = drives_one r (at_of s e) (told r e Start) (start_is_one r e) (new_session h.session number p.src (host_uniq_of tags) h.link) h.outs k.outs h.x k.x h.starts starts in
+      ap (λ (n : ℕ). new_session n number p.src (host_uniq_of tags) h.link) session ∙ ap (λ (l : PppState). new_session k.session number p.src (host_uniq_of tags) l) link in
+      let starts : Drives r (at_of s e) s.asked (new_session h.session number p.src (host_uniq_of tags) h.link) (told r e Start) k.outs k.x k.asked =
+      subst (λ (y : Session). Drives r (at_of s e) s.asked y (told r e Start) k.outs k.x k.asked) (sym fresh) k.starts in
+      let one = drives_one r (at_of s e) s.asked (told r e Start) (told_is_one r e Start) (new_session h.session number p.src (host_uniq_of tags) h.link) h.outs k.outs h.x k.x h.asked k.asked h.starts starts in
       let front : ℕ → List OutRecord = λ n. frame_outs (at_of s e) number port (pads_of offers p.src n tags) in
-      same_handled (front h.session ++ h.outs) (front k.session ++ k.outs) (with_session s h.session h.x) (with_session s k.session k.x) (
+      same_handled (front h.session ++ h.outs) (front k.session ++ k.outs) (with_driven s h.session h.x h.asked) (with_driven s k.session k.x k.asked) (
         ap (λ (n : ℕ). front n ++ h.outs) session ∙ ap (λ (os : List OutRecord). front k.session ++ os) one.0,
-        ap (λ (n : ℕ). with_session s n h.x) session ∙ ap (λ (y : Session). with_session s k.session y) one.1,
+        ap (λ (n : ℕ). with_driven s n h.x h.asked) session ∙ driven_equal k.session h.x k.x h.asked k.asked one.1 one.2,
       )
       h.done k.done
 
@@ -320,11 +349,11 @@ module _ (r : Rules) (s : State) (e : Entry) (d d' : Deed) where
 
   ppp_one : (x : Session) (made : Made) (p : PppoeFrame) → HearsPpp r s e x made p d → HearsPpp r s e x made p d' → d ≡ d'
   ppp_one x made p (inl (over, h)) (inl (over', k)) = same_deed _ h k
-  ppp_one x made p (inl (over, h)) (inr (live', outs', x'', drives', k)) = absurd (false≢true (sym live' ∙ over))
-  ppp_one x made p (inr (live, outs, x', drives, h)) (inl (over', k)) = absurd (false≢true (sym live ∙ over'))
-  ppp_one x made p (inr (live, outs, x', drives, h)) (inr (live', outs', x'', drives', k)) =
-      let one = drives_one r (at_of s e) (hears r e p.payload) (frame_is_one r e p.payload) x outs outs' x' x'' drives drives' in
-      same_handled outs outs' (with_session s p.session x') (with_session s p.session x'') (one.0, ap (λ (y : Session). with_session s p.session y) one.1) h k
+  ppp_one x made p (inl (over, h)) (inr (live', outs', x'', asked'', drives', k)) = absurd (false≢true (sym live' ∙ over))
+  ppp_one x made p (inr (live, outs, x', asked', drives, h)) (inl (over', k)) = absurd (false≢true (sym live ∙ over'))
+  ppp_one x made p (inr (live, outs, x', asked', drives, h)) (inr (live', outs', x'', asked'', drives', k)) =
+      let one = drives_one r (at_of s e) s.asked (hears r e p.payload) (frame_is_one r e p.payload) x outs outs' x' x'' asked' asked'' drives drives' in
+      same_handled outs outs' (with_driven s p.session x' asked') (with_driven s p.session x'' asked'') (one.0, driven_equal p.session x' x'' asked' asked'' one.1 one.2) h k
 
   control_one : (v : Service) (x : Session) (p : PppoeFrame) → HearsControl v r s e x p d → HearsControl v r s e x p d' → d ≡ d'
   control_one (Provisioned l) x p h k = same_deed _ h k
@@ -372,6 +401,30 @@ module _ (r : Rules) (s : State) (e : Entry) (d d' : Deed) where
       let same = one_header v v' (arrival_in e).octets is.packet is'.packet in
       packet_one v h (subst (λ (w : Ipv4). HearsPacket r s e w d') (sym same) k)
 
+  judges_one : (v : Saying) → Judges r s e v d → Judges r s e v d' → d ≡ d'
+  judges_one v h k =
+      let x = same_found _ h.x k.x h.found k.found in
+      let drives : Drives r (at_of s e) s.asked h.x (settles r e v) k.outs k.after k.asked =
+      subst (λ (y : Session). Drives r (at_of s e) s.asked y (settles r e v) k.outs k.after k.asked) (sym x) k.drives in
+      let one = drives_one r (at_of s e) s.asked (settles r e v) (verdict_is_one r e v) h.x h.outs k.outs h.after k.after h.asked k.asked h.drives drives in
+      same_handled h.outs k.outs (with_driven s e.item.target h.after h.asked) (with_driven s e.item.target k.after k.asked) (one.0, driven_equal e.item.target h.after k.after h.asked k.asked one.1 one.2) h.done k.done
+
+  said_or_not : (v : Saying) → IsVerdict e.item.frame.payload (Some v) → IsVerdict e.item.frame.payload None → ⊥
+  said_or_not v is none = false≢true (ap is_some (one_verdict e.item.frame.payload None (Some v) none is))
+
+  verdict_entry : HearsVerdict r s e d → HearsVerdict r s e d' → d ≡ d'
+  verdict_entry (inl (asks, v, is, h)) (inl (asks', w, is', k)) =
+      let same = same_Some v w (one_verdict e.item.frame.payload (Some v) (Some w) is is') in
+      judges_one v h (subst (λ (u : Saying). Judges r s e u d') (sym same) k)
+  verdict_entry (inl (asks, v, is, h)) (inr (inl (asks', none', k))) = absurd (said_or_not v is none')
+  verdict_entry (inl (asks, v, is, h)) (inr (inr (other', k))) = absurd (other' asks)
+  verdict_entry (inr (inl (asks, none, h))) (inl (asks', w, is', k)) = absurd (said_or_not w is' none)
+  verdict_entry (inr (inl (asks, none, h))) (inr (inl (asks', none', k))) = same_deed _ h k
+  verdict_entry (inr (inl (asks, none, h))) (inr (inr (other', k))) = same_deed _ h k
+  verdict_entry (inr (inr (other, h))) (inl (asks', w, is', k)) = absurd (other asks')
+  verdict_entry (inr (inr (other, h))) (inr (inl (asks', none', k))) = same_deed _ h k
+  verdict_entry (inr (inr (other, h))) (inr (inr (other', k))) = same_deed _ h k
+
   tick_entry : HearsTick r s e d → HearsTick r s e d' → d ≡ d'
   tick_entry (outs, s', ticks, h) (outs', s'', ticks', k) = same_handled outs outs' s' s'' (ticks_one r e at_once s outs outs' s' s'' ticks ticks') h k
 
@@ -382,7 +435,7 @@ module _ (r : Rules) (s : State) (e : Entry) (d d' : Deed) where
   entry_one (Access number) h k = access_one number h k
   entry_one Core h k = core_one h k
   entry_one Tunnel h k = same_deed _ h k
-  entry_one Verdict h k = same_deed _ h k
+  entry_one Verdict h k = verdict_entry h k
   entry_one Change h k = same_deed _ h k
   entry_one Tick h k = tick_entry h k
   entry_one End h k = end_entry h k

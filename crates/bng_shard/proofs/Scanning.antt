@@ -1,53 +1,51 @@
--- The sessions of a shard by rising number, and the one that leases an address.
-use Rattle.std.proofs.Common.{◌≡◌, ◌≢◌, ◌↔◌, ℕ, ◌+◌, ◌-◌, ◌*◌, ◌<◌, ◌≤◌, ◌==◌, ◌&&◌, Bool, true, false, List, sum_by, Option, Some, None, is_some, find, option_map, option_and_then, inl, inr, refl, sym, ap, ◌∙◌, arith}
-use Rattle.std.proofs.lemmas.Bool.{cases_lt, eqb-true, eq-eqb, false≢true}
+-- The session that was made for a request before, and the one that leases an address.
+use Rattle.std.proofs.Common.{◌≡◌, ◌≢◌, ◌↔◌, ℕ, ◌&&◌, Bool, true, false, not, List, Option, Some, None, find, option_map, option_and_then, refl, sym, ap, ◌∙◌}
+use Rattle.std.proofs.lemmas.Bool.{eqb-true, eq-eqb, false≢true}
 use Rattle.bng_base.specs.declared.address.Ip4.{Ip4}
 use Rattle.bng_base.specs.declared.address.Mac.{Mac}
 use Rattle.bng_base.specs.declared.address.SessionNo.{SessionNo}
-use Rattle.bng_slots.specs.Sessions.{Sessions, IsNumberOf, read_at, value_at}
+use Rattle.bng_slots.specs.Sessions.{Sessions, read_at, value_at}
 use Rattle.bng_slots.specs.Listed.{values}
 use Rattle.bng_shard.specs.declared.session.Lease.{Lease}
 use Rattle.bng_shard.specs.declared.session.Service.{Service}
 use Rattle.bng_shard.specs.declared.session.Service.TheVariants.{Provisioned, Discovered}
 use Rattle.bng_shard.specs.declared.session.Session.{Session}
-use Rattle.bng_shard.specs.Discovery.{is_repeated, is_repeated_in}
+use Rattle.bng_shard.specs.Discovery.{is_repeated, is_repeated_in, same_option}
 use Rattle.bng_shard.specs.Indexed.{address_of}
-use Rattle.bng_shard.specs.Serving.{AreOfShard}
-use Rattle.bng_shard.specs.State.{State, holder_of, is_on, leases, leases_in, lease_in, made_one}
+use Rattle.bng_shard.specs.Listing.{IsLowestPassing, does_pass}
+use Rattle.bng_shard.specs.Serving.{AreOwn, AreYoung, is_young, is_young_in}
+use Rattle.bng_shard.specs.State.{State, holder_of, is_on, leases, leases_in, lease_in}
 use Rattle.bng_shard.proofs.Earliest.{read_there}
-use Rattle.bng_shard.proofs.Serves.{made_there}
-use Rattle.bng_shard.proofs.Values.{find_first, find_none, find_only, none_some, same_some}
+use Rattle.bng_shard.proofs.Listing.{lowest_is, none_is}
+use Rattle.bng_shard.proofs.Values.{find_none, find_only, none_some, same_some}
 
-module _ (p : Session → Bool) (s : Sessions Session) (own : AreOfShard s) where
-  -- none of the numbers below passes, where none of the shard's passed
-  lower : (first n : ℕ) → first ≡ s.shard * 1024 + 1 → ((m : ℕ) (x : Session) → first ≤ m → m < n → value_at s m ≡ Some x → p x ≡ false) → (m : ℕ) (x : Session) → m < n → value_at s m ≡ Some x → p x ≡ false
-  lower first n from h m x l is =
-      let low = (own m (ap is_some is)).0 in
-      h m x (omega (arith, low, from)) l is
+right_true : (a b : Bool) → (a && b) ≡ true → b ≡ true
+right_true true b e = e
+right_true false b e = absurd (false≢true e)
 
-  -- the first one that passes, by rising number
-  pub first_passes : (first n : ℕ) (x : Session) → first ≡ s.shard * 1024 + 1 → ((m : ℕ) (y : Session) → first ≤ m → m < n → value_at s m ≡ Some y → p y ≡ false) → value_at s n ≡ Some x → p x ≡ true → find p (values s) ≡ Some x
-  first_passes first n x from h is passes = find_first p s n x is passes (λ m y l e. lower first n from h m y l e)
+same_number : (a b : SessionNo) → a.0 ≡ b.0 → a ≡ b
+same_number a b e = λ i. record { 0 = e i }
 
-  pub none_of_them : (first n : ℕ) → first ≡ s.shard * 1024 + 1 → first + 1022 ≤ n → ((m : ℕ) (y : Session) → first ≤ m → m < n → value_at s m ≡ Some y → p y ≡ false) → find p (values s) ≡ None
-  none_of_them first n from past h = find_none p s (λ m y e. let high = (own m (ap is_some e)).1 in lower first n from h m y (omega (arith, high, from, past)) e)
+pass_there : (test : Session → Bool) (o : Option Session) → does_pass test o ≡ true → (x : Session) × (o ≡ Some x)
+pass_there test None e = absurd (false≢true e)
+pass_there test (Some x) e = (x, refl)
 
-repeated_made : (v : Service) (host_uniq : Option (List ℕ)) → is_repeated_in host_uniq v ≡ true → made_one v ≡ 1
-repeated_made (Provisioned l) host_uniq e = absurd (false≢true e)
-repeated_made (Discovered m) host_uniq e = refl
+repeated_young : (v : Service) (host_uniq : Option (List ℕ)) → is_repeated_in host_uniq v ≡ true → is_young_in v ≡ true
+repeated_young (Provisioned l) host_uniq e = e
+repeated_young (Discovered m) host_uniq e = right_true (same_option m.host_uniq host_uniq) (not m.ended && not m.link.lcp.kept.was_opened) e
 
-and_false : (b : Bool) → (b && false) ≡ false
-and_false true = refl
-and_false false = refl
-
--- where discovery made no session, none was made for the same request
-pub none_made : (s : Sessions Session) (port : ℕ) (mac : Mac) (host_uniq : Option (List ℕ)) → sum_by (λ (y : Session). made_one y.service) (values s) ≡ 0 → find (is_repeated port mac host_uniq) (values s) ≡ None
-none_made s port mac host_uniq none =
-    find_none (is_repeated port mac host_uniq) s (λ n x is.
-    elim (is_repeated_in host_uniq x.service) as (λ b. is_repeated_in host_uniq x.service ≡ b → (is_on port mac x && b) ≡ false) [
-      | true ↦ λ e. let some = made_there s n x is (repeated_made x.service host_uniq e) in absurd (omega (arith, some, none))
-      | false ↦ λ e. and_false (is_on port mac x)
-    ] refl)
+-- The session for the same request before has the lowest number of the young ones that were made for it.
+pub repeated_number : (s : Sessions Session) (young : List SessionNo) (port : ℕ) (mac : Mac) (host_uniq : Option (List ℕ)) → AreOwn s → AreYoung s young → (lowest : Option SessionNo) → IsLowestPassing (is_repeated port mac host_uniq) s young lowest → lowest ≡ option_map (λ (x : Session). x.number) (find (is_repeated port mac host_uniq) (values s))
+repeated_number s young port mac host_uniq own listed lowest is =
+    let test = is_repeated port mac host_uniq in
+    let passes : (x : Session) → test x ≡ true → is_young x ≡ true = λ x e. repeated_young x.service host_uniq (right_true (is_on port mac x) (is_repeated_in host_uniq x.service) e) in
+    elim lowest as (λ o. IsLowestPassing test s young o → o ≡ option_map (λ (x : Session). x.number) (find test (values s))) [
+      | None ↦ λ none. sym (ap (option_map (λ (x : Session). x.number)) (none_is is_young test passes s young listed none))
+      | Some n ↦ λ low.
+          let first = lowest_is is_young test passes s young listed n low in
+          let there = pass_there test (value_at s n.0) low.0 in
+          sym (ap (option_map (λ (x : Session). x.number)) (first ∙ there.1) ∙ ap (λ (m : SessionNo). Some m) (same_number there.0.number n (own n.0 there.0 there.1)))
+    ] is
 
 same_address : (a b : Ip4) → a.0 ≡ b.0 → a ≡ b
 same_address a b e = λ i. record { 0 = e i }

@@ -1,5 +1,5 @@
 -- What stands in the frames that go out: no packet of a subscriber, but for the frame of a circuit.
-use Rattle.std.proofs.Common.{◌≡◌, ℕ, Bool, true, false, ◌&&◌, List, [], ◌∷◌, None, length, nat_le, if◌then◌else◌, refl, sym, ap, subst, ◌∙◌, arith, eqb}
+use Rattle.std.proofs.Common.{◌≡◌, ℕ, ◌<◌, Bool, true, false, ◌&&◌, List, [], ◌∷◌, None, length, nat_le, if◌then◌else◌, refl, sym, ap, subst, ◌∙◌, arith, eqb}
 use Rattle.std.specs.List.{AllByRecursion}
 use Rattle.std.proofs.lemmas.Bool.Decides.{nat_tests}
 use Rattle.bng_base.specs.declared.address.Mac.{Mac}
@@ -7,21 +7,23 @@ use Rattle.bng_base.specs.declared.frame.TheConstants.{LONGEST}
 use Rattle.bng_base.specs.declared.item.OutRecord.{OutRecord}
 use Rattle.bng_base.specs.declared.outside.Role.TheVariants.{Access}
 use Rattle.bng_base.specs.declared.settings.AccessPort.{AccessPort}
-use Rattle.bng_base.specs.PppGrammar.{ppp_text}
+use Rattle.bng_base.specs.PppGrammar.{packet_text, ppp_text}
 use Rattle.bng_base.specs.PppoeGrammar.{PppoeFrame, pppoe_text}
 use Rattle.bng_discovery.specs.declared.port.PortRules.{PortRules}
 use Rattle.bng_discovery.specs.Reply.{padt_of}
 use Rattle.bng_shard.specs.Reader.{is_session_data, IsNoPacket}
 use Rattle.bng_engine.proofs.Everywhere.{all_append}
 use Rattle.bng_forward.specs.Framed.{session_frame}
-use Rattle.bng_ppp_wire.specs.declared.protocol.TheConstants as protocol
-use Rattle.bng_ppp.specs.Said.{Said}
+use Rattle.byteorder.specs.Endian.{big_number}
+use Rattle.byteorder.specs.Numbers.{big_number-reads_back}
+use Rattle.bng_ppp.specs.Messages.{is_written}
+use Rattle.bng_ppp.specs.PppRelation.{PppSaid}
 use Rattle.bng_pppoe_wire.proofs.Spelled.{six}
 use Rattle.bng_shard.specs.declared.sending.At.{At}
 use Rattle.bng_shard.specs.declared.session.Session.{Session}
 use Rattle.bng_shard.specs.Deed.{out, frame_outs}
 use Rattle.bng_shard.specs.Link.{ppp_outs, padt_outs, said_outs}
-use Rattle.bng_ppp.proofs.LcpOuts.{IsLcp, AreLcp}
+use Rattle.bng_ppp.proofs.MessageLaws.{IsWritten, AreWritten}
 
 -- an out of an entry of that seat, that no one is charged for, and no packet of a subscriber
 pub record IsControl (seat : ℕ) (o : OutRecord) : Type 0 where
@@ -44,11 +46,22 @@ discovery_shown d s code session payload ld ls =
     six (λ (x : List ℕ). is_session_data (pppoe_text (made x s true code session payload)) ≡ false)
     (λ a b c e f g. six (λ (y : List ℕ). is_session_data (pppoe_text (made (a ∷ b ∷ c ∷ e ∷ f ∷ g ∷ []) y true code session payload)) ≡ false) (λ h i j k l m. refl) s ls) d ld
 
--- a session frame of PPP protocol c021
-lcp_shown : (d s : List ℕ) (code session : ℕ) (info : List ℕ) → length d ≡ 6 → length s ≡ 6 → is_session_data (pppoe_text (made d s false code session (ppp_text (record { protocol = protocol.LCP; info = info })))) ≡ false
-lcp_shown d s code session info ld ls =
-    six (λ (x : List ℕ). is_session_data (pppoe_text (made x s false code session (ppp_text (record { protocol = protocol.LCP; info = info })))) ≡ false)
-    (λ a b c e f g. six (λ (y : List ℕ). is_session_data (pppoe_text (made (a ∷ b ∷ c ∷ e ∷ f ∷ g ∷ []) y false code session (ppp_text (record { protocol = protocol.LCP; info = info })))) ≡ false) (λ h i j k l m. refl) s ls) d ld
+-- a session frame whose PPP protocol is not 0021
+ppp_shown : (n : ℕ) (d s : List ℕ) (code session : ℕ) (info : List ℕ) → eqb (big_number 2 (ppp_text (record { protocol = n; info = info }))) 33 ≡ false → length d ≡ 6 → length s ≡ 6
+    → is_session_data (pppoe_text (made d s false code session (ppp_text (record { protocol = n; info = info })))) ≡ false
+ppp_shown n d s code session info other ld ls =
+    six (λ (x : List ℕ). is_session_data (pppoe_text (made x s false code session (ppp_text (record { protocol = n; info = info })))) ≡ false)
+    (λ a b c e f g. six (λ (y : List ℕ). is_session_data (pppoe_text (made (a ∷ b ∷ c ∷ e ∷ f ∷ g ∷ []) y false code session (ppp_text (record { protocol = n; info = info })))) ≡ false) (λ h i j k l m. other) s ls) d ld
+
+-- no packet that a link writes is of IPv4
+written_small : (n c : ℕ) → is_written n c ≡ true → n < 65536
+written_small n c e = grind (arith, nat_tests)
+
+written_other : (n c : ℕ) → is_written n c ≡ true → eqb n 33 ≡ false
+written_other n c e = grind (arith, nat_tests)
+
+other_protocol : (n c : ℕ) (info : List ℕ) → is_written n c ≡ true → eqb (big_number 2 (ppp_text (record { protocol = n; info = info }))) 33 ≡ false
+other_protocol n c info e = ap (λ (m : ℕ). eqb m 33) (big_number-reads_back 2 n info (written_small n c e)) ∙ written_other n c e
 
 -- Outs ------------------------------------------------------------------------------------------------------------------
 
@@ -77,17 +90,19 @@ discovery_control a number port p e =
     frame_control a number port p
     (λ d s. ap (λ (b : Bool). is_session_data (pppoe_text (made p.dst.0 p.src.0 b p.code p.session p.payload))) e ∙ discovery_shown p.dst.0 p.src.0 p.code p.session p.payload d s)
 
--- a session frame of LCP
-lcp_control : (a : At) (number : ℕ) (port : AccessPort) (dst src : Mac) (session : ℕ) (f : List ℕ) → IsLcp f → AreControl a.seat (frame_outs a number port (session_frame dst src session f))
-lcp_control a number port dst src session f is =
+-- a session frame with a packet that a link writes
+written_control : (a : At) (number : ℕ) (port : AccessPort) (dst src : Mac) (session : ℕ) (f : List ℕ) → IsWritten f → AreControl a.seat (frame_outs a number port (session_frame dst src session f))
+written_control a number port dst src session f is =
+    let info = packet_text is.packet in
     subst (λ (g : List ℕ). AreControl a.seat (frame_outs a number port (session_frame dst src session g))) (sym is.spelled)
-    (frame_control a number port (session_frame dst src session (ppp_text (record { protocol = protocol.LCP; info = is.info }))) (lcp_shown dst.0 src.0 0 session is.info))
+    (frame_control a number port (session_frame dst src session (ppp_text (record { protocol = is.number; info = info })))
+    (ppp_shown is.number dst.0 src.0 0 session info (other_protocol is.number is.packet.code info is.written)))
 
 -- PPP frames of a session's link
-ppp_control : (a : At) (x : Session) (port : AccessPort) (fs : List (List ℕ)) → AreLcp fs → AreControl a.seat (ppp_outs a x port fs)
+ppp_control : (a : At) (x : Session) (port : AccessPort) (fs : List (List ℕ)) → AreWritten fs → AreControl a.seat (ppp_outs a x port fs)
 ppp_control a x port [] h = tt
 ppp_control a x port (f ∷ fs) h =
-    all_append (IsControl a.seat) (frame_outs a x.port port (session_frame x.mac port.mac x.number.0 f)) (ppp_outs a x port fs) (lcp_control a x.port port x.mac port.mac x.number.0 f h.0) (ppp_control a x port fs h.1)
+    all_append (IsControl a.seat) (frame_outs a x.port port (session_frame x.mac port.mac x.number.0 f)) (ppp_outs a x port fs) (written_control a x.port port x.mac port.mac x.number.0 f h.0) (ppp_control a x port fs h.1)
 
 -- the PADT of a session
 pub padt_control : (a : At) (x : Session) (port : AccessPort) (offers : PortRules) → AreControl a.seat (padt_outs a x port offers)
@@ -98,6 +113,6 @@ padt_if true a x port offers = padt_control a x port offers
 padt_if false a x port offers = tt
 
 -- what a link says
-pub said_control : (a : At) (x : Session) (port : AccessPort) (offers : PortRules) (says : Said) → AreLcp says.outs → AreControl a.seat (said_outs a x port offers says)
+pub said_control : (a : At) (x : Session) (port : AccessPort) (offers : PortRules) (says : PppSaid) → AreWritten says.outs → AreControl a.seat (said_outs a x port offers says)
 said_control a x port offers says h =
     all_append (IsControl a.seat) (ppp_outs a x port says.outs) (if says.finished then padt_outs a x port offers else []) (ppp_control a x port says.outs h) (padt_if says.finished a x port offers)

@@ -16,7 +16,7 @@ use Rattle.bng_discovery.specs.declared.port.PortRules.{PortRules}
 use Rattle.bng_engine.specs.Lists.{AnyOf}
 use Rattle.bng_engine.specs.Terms.{Term, is_live}
 use Rattle.bng_engine.proofs.Everywhere.{all_append, any_left, any_right}
-use Rattle.bng_ppp.specs.declared.rules.Input.TheVariants.{Start, Timer}
+use Rattle.bng_ppp.specs.declared.whole_input.WholeInput.TheVariants.{Start, Timer}
 use Rattle.bng_slots.specs.Sessions.{value_at, with_value}
 use Rattle.bng_slots.specs.Listed.{values}
 use Rattle.bng_slots.proofs.SessionLaws.{value_at-with_value, value_at-with_other}
@@ -27,15 +27,16 @@ use Rattle.bng_shard.specs.declared.session.Lease.{Lease}
 use Rattle.bng_shard.specs.declared.session.Service.{Service}
 use Rattle.bng_shard.specs.declared.session.Service.TheVariants.{Provisioned, Discovered}
 use Rattle.bng_shard.specs.declared.session.Session.{Session}
-use Rattle.bng_shard.specs.State.{State, is_on, where_on, session_of, leaves, leaves_in, settled, port_at, with_session}
+use Rattle.bng_shard.specs.State.{State, is_on, where_on, session_of, leaves, leaves_in, settled, port_at, with_session, with_driven}
 use Rattle.bng_shard.specs.Deed.{Deed, at_of}
 use Rattle.bng_shard.specs.Discovery.{Answers, Discovers}
 use Rattle.bng_shard.specs.Fits.{ArePlaced}
 use Rattle.bng_shard.specs.Frames.{HearsData, HearsPpp, HearsControl, HearsIn, HearsFrame, HearsAccess, HearsCore}
-use Rattle.bng_shard.specs.Link.{LinkStep, Drives, told, hears, ended, ended_service}
+use Rattle.bng_shard.specs.Link.{LinkStep, Drives, told, hears, settles, ended, ended_service}
 use Rattle.bng_shard.specs.Protocol.{term_of, terms_in, terms_at}
 use Rattle.bng_shard.specs.Step.{Hears, Step}
 use Rattle.bng_shard.specs.Timers.{Ticks, Ends, HearsTick, HearsEnd, at_once, does_live, lives_in, lives_at}
+use Rattle.bng_shard.specs.Verdicts.{HearsVerdict}
 use Rattle.bng_shard.proofs.Values.{found_is, stands, flat_map-with_value, flat_map-kept}
 
 -- the terms of a state
@@ -142,11 +143,15 @@ module _ (r : Rules) where
   another : (s : State) (n : ℕ) (y : Session) → ((x : Session) → value_at s.sessions n ≡ Some x → terms_at x ≡ []) → terms_at y ≡ [] → (ArePlaced r s.sessions → IsThere r y) → Remains r s (with_session s n y)
   another s n y before now there = record { shard = refl; begun = refl; terms = flat_map-with_value terms_at s.sessions n y now before; placed = placed_with s n y there }
 
+  -- and so many questions were asked
+  another_asked : (s : State) (n : ℕ) (y : Session) (asked : ℕ) → Remains r s (with_session s n y) → Remains r s (with_driven s n y asked)
+  another_asked s n y asked h = record { shard = h.shard; begun = h.begun; terms = h.terms; placed = h.placed }
+
   -- what stood there
   one_before : (s : State) (n : ℕ) (x : Session) → value_at s.sessions n ≡ Some x → terms_at x ≡ [] → (z : Session) → value_at s.sessions n ≡ Some z → terms_at z ≡ []
   one_before s n x at e z at' = subst (λ (y : Session). terms_at y ≡ []) (same_Some x z (sym at ∙ at')) e
 
-  module _ (a : At) (x x' : Session) (outs : List OutRecord) (Steps : LinkStep) (h : Drives r a x Steps outs x') where
+  module _ (a : At) (asked : ℕ) (x x' : Session) (outs : List OutRecord) (asked' : ℕ) (Steps : LinkStep) (h : Drives r a asked x Steps outs x' asked') where
     drives_from : terms_at x ≡ []
     drives_from = no_terms x h.made h.is_made
 
@@ -156,8 +161,8 @@ module _ (r : Rules) where
     drives_there : IsThere r x'
     drives_there = (h.port, ap (λ (y : Session). port_at r.access y.port) h.session ∙ h.at.port_is)
 
-    driven : (s : State) (n : ℕ) → ((z : Session) → value_at s.sessions n ≡ Some z → terms_at z ≡ []) → Remains r s (with_session s n x')
-    driven s n before = another s n x' before drives_to (λ p. drives_there)
+    driven : (s : State) (n : ℕ) → ((z : Session) → value_at s.sessions n ≡ Some z → terms_at z ≡ []) → Remains r s (with_driven s n x' asked')
+    driven s n before = another_asked s n x' asked' (another s n x' before drives_to (λ p. drives_there))
 
   -- a session without a term ends
   ends_one : (s : State) (n : ℕ) (x : Session) → value_at s.sessions n ≡ Some x → terms_at x ≡ [] → Remains r s (with_session s n (ended x))
@@ -169,9 +174,9 @@ module _ (r : Rules) where
   ticks_remain : (n : ℕ) (e : Entry) (s : State) (outs : List OutRecord) (s' : State) → Ticks n r e s outs s' → Remains r s s'
   ticks_remain zero e s outs s' h = same s s' h.1
   ticks_remain (suc n) e s outs s' (inl h) = same s s' h.2
-  ticks_remain (suc n) e s outs s' (inr (k, due, x, x', at, first, drives, rest, more, are)) =
-      let from = drives_from (at_of s e) x x' first (told r e Timer) drives in
-      then s (with_session s k x') s' (driven (at_of s e) x x' first (told r e Timer) drives s k (one_before s k x at from)) (ticks_remain n e (with_session s k x') rest s' more)
+  ticks_remain (suc n) e s outs s' (inr (k, due, x, x', at, first, asked', drives, rest, more, are)) =
+      let from = drives_from (at_of s e) s.asked x x' first asked' (told r e Timer) drives in
+      then s (with_driven s k x' asked') s' (driven (at_of s e) s.asked x x' first asked' (told r e Timer) drives s k (one_before s k x at from)) (ticks_remain n e (with_driven s k x' asked') rest s' more)
 
   ends_remain : (n : ℕ) (e : Entry) (s : State) (outs : List OutRecord) (s' : State) → Ends n r e s outs s' → Remains r s s'
   ends_remain zero e s outs s' h = same s s' h.1
@@ -181,7 +186,7 @@ module _ (r : Rules) where
 
 -- Entries ---------------------------------------------------------------------------------------------------------------
 
-next_of : (d f : Deed) → d ≡ f → d.next ≡ f.next
+pub next_of : (d f : Deed) → d ≡ f → d.next ≡ f.next
 next_of d f e = ap (λ (x : Deed). x.next) e
 
 module _ (r : Rules) (s : State) (e : Entry) (d : Deed) where
@@ -198,7 +203,7 @@ module _ (r : Rules) (s : State) (e : Entry) (d : Deed) where
   answers : (answer : Answer) (number : ℕ) (port : AccessPort) (offers : PortRules) (p : PppoeFrame) (tags : List PppoeTag) → Answers answer r s e number port offers p tags d → Remains r s d.next
   answers Offer number port offers p tags h = kept _ h refl
   answers Make number port offers p tags h =
-      after (with_session s h.session h.x) _ h.done refl (driven r (at_of s e) _ h.x h.outs (told r e Start) h.starts s h.session (nothing_there h.session h.vacant.vacant))
+      after (with_driven s h.session h.x h.asked) _ h.done refl (driven r (at_of s e) s.asked _ h.x h.outs h.asked (told r e Start) h.starts s h.session (nothing_there h.session h.vacant.vacant))
   answers Again number port offers p tags h = kept _ h.done refl
   answers (Refuse error) number port offers p tags h = kept _ h refl
   answers Ended number port offers p tags h = kept _ h refl
@@ -214,9 +219,9 @@ module _ (r : Rules) (s : State) (e : Entry) (d : Deed) where
 
   ppp : (x : Session) (made : Made) (p : PppoeFrame) → value_at s.sessions p.session ≡ Some x → HearsPpp r s e x made p d → Remains r s d.next
   ppp x made p at (inl (over, h)) = kept _ h refl
-  ppp x made p at (inr (live, outs, x', drives, h)) =
-      let from = drives_from r (at_of s e) x x' outs (hears r e p.payload) drives in
-      after (with_session s p.session x') _ h refl (driven r (at_of s e) x x' outs (hears r e p.payload) drives s p.session (one_before r s p.session x at from))
+  ppp x made p at (inr (live, outs, x', asked', drives, h)) =
+      let from = drives_from r (at_of s e) s.asked x x' outs asked' (hears r e p.payload) drives in
+      after (with_driven s p.session x' asked') _ h refl (driven r (at_of s e) s.asked x x' outs asked' (hears r e p.payload) drives s p.session (one_before r s p.session x at from))
 
   control : (v : Service) (x : Session) (p : PppoeFrame) → value_at s.sessions p.session ≡ Some x → x.service ≡ v → HearsControl v r s e x p d → Remains r s d.next
   control (Provisioned l) x p at is h = kept _ h refl
@@ -241,6 +246,14 @@ module _ (r : Rules) (s : State) (e : Entry) (d : Deed) where
   core (inr (v, is, (fate, decides, inl (forwards, down)))) = kept _ down.done refl
   core (inr (v, is, (fate, decides, inr (stays, h)))) = kept _ h refl
 
+  judged : HearsVerdict r s e d → Remains r s d.next
+  judged (inl (asks, v, is, h)) =
+      let from = drives_from r (at_of s e) s.asked h.x h.after h.outs h.asked (settles r e v) h.drives in
+      after (with_driven s e.item.target h.after h.asked) _ h.done refl
+      (driven r (at_of s e) s.asked h.x h.after h.outs h.asked (settles r e v) h.drives s e.item.target (one_before r s e.item.target h.x h.found from))
+  judged (inr (inl (asks, is, h))) = kept _ h refl
+  judged (inr (inr (other, h))) = kept _ h refl
+
   tick : HearsTick r s e d → Remains r s d.next
   tick (outs, s', ticks, h) = after s' _ h refl (ticks_remain r at_once e s outs s' ticks)
 
@@ -251,7 +264,7 @@ module _ (r : Rules) (s : State) (e : Entry) (d : Deed) where
   hears_remain (Access number) h = access number h
   hears_remain Core h = core h
   hears_remain Tunnel h = kept _ h refl
-  hears_remain Verdict h = kept _ h refl
+  hears_remain Verdict h = judged h
   hears_remain Change h = kept _ h refl
   hears_remain Tick h = tick h
   hears_remain End h = ends h

@@ -9,8 +9,8 @@ use Rattle.bng_shard.specs.State.{State}
 abbrev pub state_code : Coded State
 state_code =
     code_by
-    (Sessions Session × ℕ)
-    (coded× (sessions_code the_row.coded) coded_ℕ)
-    (λ s. (s.sessions, s.begun))
-    (λ p. record { sessions = p.0; begun = p.1 })
+    (Sessions Session × (ℕ × ℕ))
+    (coded× (sessions_code the_row.coded) (coded× coded_ℕ coded_ℕ))
+    (λ s. (s.sessions, (s.begun, s.asked)))
+    (λ p. record { sessions = p.0; begun = p.1.0; asked = p.1.1 })
     (λ _. refl)

@@ -14,15 +14,18 @@ use Rattle.bng_discovery.specs.declared.port.PortRules.{PortRules}
 use Rattle.bng_discovery.specs.Reply.{pado_of, pads_of, refusal_of}
 use Rattle.bng_discovery.specs.Request.{first_tag}
 use Rattle.bng_discovery.specs.Table.{table, first_row}
-use Rattle.bng_ppp.specs.declared.rules.Input.TheVariants.{Start}
-use Rattle.bng_ppp.specs.LinkState.{LinkState, IsFirstAsk, unused, kept_first}
+use Rattle.bng_ppp.specs.declared.authentication.Authentication.TheVariants.{Idle}
+use Rattle.bng_ppp.specs.declared.whole_input.WholeInput.TheVariants.{Start}
+use Rattle.bng_ppp.specs.IpcpState.{ipcp_unused}
+use Rattle.bng_ppp.specs.LinkState.{IsFirstAsk, unused, kept_first}
+use Rattle.bng_ppp.specs.PppState.{PppState}
 use Rattle.bng_slots.specs.Sessions.{IsLowestVacant, IsNumberOf, value_at}
 use Rattle.bng_slots.specs.Listed.{values}
 use Rattle.bng_shard.specs.declared.rules.Rules.{Rules}
 use Rattle.bng_shard.specs.declared.session.Service.{Service}
 use Rattle.bng_shard.specs.declared.session.Service.TheVariants.{Provisioned, Discovered}
 use Rattle.bng_shard.specs.declared.session.Session.{Session}
-use Rattle.bng_shard.specs.State.{State, is_on, port_at, offers_at, with_session}
+use Rattle.bng_shard.specs.State.{State, is_on, port_at, offers_at, with_driven}
 use Rattle.bng_shard.specs.Deed.{Deed, at_of, frame_outs, ignored, handled}
 use Rattle.bng_shard.specs.Link.{Drives, told}
 
@@ -40,7 +43,7 @@ host_uniq_of tags = option_map (λ t. t.value) (first_tag HOST_UNIQ tags)
 -- not ended, and its LCP was never Opened.
 abbrev pub is_repeated_in : Option (List ℕ) → Service → Bool
 is_repeated_in host_uniq (Provisioned l) = false
-is_repeated_in host_uniq (Discovered m) = same_option m.host_uniq host_uniq && (not m.ended && not m.link.kept.was_opened)
+is_repeated_in host_uniq (Discovered m) = same_option m.host_uniq host_uniq && (not m.ended && not m.link.lcp.kept.was_opened)
 
 abbrev pub is_repeated : ℕ → Mac → Option (List ℕ) → Session → Bool
 is_repeated port mac host_uniq x = is_on port mac x && is_repeated_in host_uniq x.service
@@ -50,17 +53,22 @@ abbrev pub repeated : State → ℕ → Mac → Option (List ℕ) → Option Ses
 repeated s port mac host_uniq = find (is_repeated port mac host_uniq) (values s.sessions)
 
 -- a link that was told nothing
-pub record IsNewLink (random : List ℕ) (l : LinkState) : Type 0 where
-  pub lcp : l.lcp ≡ unused
-  pub ask : IsFirstAsk 1492 (Chap ∷ []) random l.ask
-  pub kept : l.kept ≡ kept_first 1492
+pub record IsNewLink (random : List ℕ) (l : PppState) : Type 0 where
+  pub lcp : l.lcp.lcp ≡ unused
+  pub ask : IsFirstAsk 1492 (Chap ∷ []) random l.lcp.ask
+  pub kept : l.lcp.kept ≡ kept_first 1492
+  pub auth : l.auth ≡ Idle
+  pub timer : l.auth_due ≡ None
+  pub ipcp : l.ipcp ≡ ipcp_unused (record { 0 = 0 })
+  pub challenge : l.next_challenge ≡ 1
+  pub term : l.live ≡ false
 
-abbrev pub new_session : ℕ → ℕ → Mac → Option (List ℕ) → LinkState → Session
+abbrev pub new_session : ℕ → ℕ → Mac → Option (List ℕ) → PppState → Session
 new_session number port mac host_uniq link = record {
   number = record { 0 = number };
   port = port;
   mac = mac;
-  service = Discovered (record { host_uniq = host_uniq; link = link; ended = false });
+  service = Discovered (record { host_uniq = host_uniq; link = link; question = None; ended = false });
 }
 
 -- which number a new session gets: the lowest that is not used, if there is one
@@ -72,12 +80,13 @@ IsVacancy s (Some n) = IsLowestVacant s.sessions n
 pub record Makes (r : Rules) (s : State) (e : Entry) (number : ℕ) (port : AccessPort) (offers : PortRules) (p : PppoeFrame) (tags : List PppoeTag) (d : Deed) : Type 0 where
   pub session : ℕ
   pub vacant : IsLowestVacant s.sessions session
-  pub link : LinkState
+  pub link : PppState
   pub new : IsNewLink e.item.random link
   pub outs : List OutRecord
   pub x : Session
-  pub starts : Drives r (at_of s e) (new_session session number p.src (host_uniq_of tags) link) (told r e Start) outs x
-  pub done : d ≡ handled s e (frame_outs (at_of s e) number port (pads_of offers p.src session tags) ++ outs) (with_session s session x)
+  pub asked : ℕ
+  pub starts : Drives r (at_of s e) s.asked (new_session session number p.src (host_uniq_of tags) link) (told r e Start) outs x asked
+  pub done : d ≡ handled s e (frame_outs (at_of s e) number port (pads_of offers p.src session tags) ++ outs) (with_driven s session x asked)
 
 -- the PADS of the session that was made for the same request before
 pub record Repeats (s : State) (e : Entry) (number : ℕ) (port : AccessPort) (offers : PortRules) (p : PppoeFrame) (tags : List PppoeTag) (d : Deed) : Type 0 where

@@ -22,7 +22,7 @@ use Rattle.bng_shard.specs.declared.session.Lease.{Lease}
 use Rattle.bng_shard.specs.declared.session.Service.TheVariants.{Provisioned, Discovered}
 use Rattle.bng_shard.specs.declared.session.Service.{Service}
 use Rattle.bng_shard.specs.declared.session.Session.{Session}
-use Rattle.bng_shard.specs.State.{State, circuit_of, session_of, holder_of, view_of, with_session, port_at}
+use Rattle.bng_shard.specs.State.{State, circuit_of, session_of, holder_of, view_of, with_session, with_driven, port_at}
 use Rattle.bng_shard.specs.Deed.{Deed, at_of, out, only, ignored, dropped, handled, arrival_in}
 use Rattle.bng_shard.specs.Link.{Drives, ended, hears}
 use Rattle.bng_shard.specs.Discovery.{Discovers}
@@ -70,8 +70,8 @@ HearsData r s e number p info d = (fate : Fate) × UpFate (found_up s number p) 
 abbrev pub HearsPpp : Rules → State → Entry → Session → Made → PppoeFrame → Deed → Type 0
 HearsPpp r s e x made p d =
     (IsTrue made.ended × (d ≡ ignored s e))
-    ⊎ (IsFalse made.ended × (outs : List OutRecord) × (x' : Session) × Drives r (at_of s e) x (hears r e p.payload) outs x'
-    × (d ≡ handled s e outs (with_session s p.session x')))
+    ⊎ (IsFalse made.ended × (outs : List OutRecord) × (x' : Session) × (asked' : ℕ) × Drives r (at_of s e) s.asked x (hears r e p.payload) outs x' asked'
+    × (d ≡ handled s e outs (with_driven s p.session x' asked')))
 
 -- A PADT ends a session that discovery made, which gets none back. A provisioned circuit ignores all but data.
 abbrev pub HearsControl : Service → Rules → State → Entry → Session → PppoeFrame → Deed → Type 0

@@ -2,11 +2,14 @@ pub mod Made
 pub mod State
 pub mod Codes
 pub mod Indexed
+pub mod Listing
 pub mod Serving
 pub mod Opening
 pub mod Controlling
 pub mod Deed
 pub mod Link
+pub mod Questions
+pub mod Verdicts
 pub mod Discovery
 pub mod Frames
 pub mod Timers
@@ -25,3 +28,5 @@ pub mod Driven
 pub mod Timed
 pub mod Replying
 pub mod Making
+pub mod Granting
+pub mod Claiming

@@ -1,5 +1,5 @@
 -- What a session's link makes of an input, and what goes out for it.
-use Rattle.std.specs.Prelude.{◌≡◌, ℕ, Bool, true, List, [], ◌++◌, Some, if◌then◌else◌}
+use Rattle.std.specs.Prelude.{◌≡◌, ℕ, ◌+◌, ◌-◌, ◌^◌, min, Bool, true, false, List, [], ◌++◌, Option, Some, None, if◌then◌else◌}
 use Rattle.std.specs.List.{flat_map}
 use Rattle.bng_base.specs.declared.item.Entry.{Entry}
 use Rattle.bng_base.specs.declared.item.OutRecord.{OutRecord}
@@ -7,11 +7,17 @@ use Rattle.bng_base.specs.declared.settings.AccessPort.{AccessPort}
 use Rattle.bng_discovery.specs.declared.port.PortRules.{PortRules}
 use Rattle.bng_discovery.specs.Reply.{padt_of}
 use Rattle.bng_forward.specs.Framed.{session_frame}
-use Rattle.bng_ppp.specs.declared.rules.Input.{Input}
-use Rattle.bng_ppp.specs.LinkState.{LinkState}
-use Rattle.bng_ppp.specs.LinkRelation.{LinkSteps, HearsFrame}
-use Rattle.bng_ppp.specs.Said.{Said}
-use Rattle.bng_shard.specs.Made.{Made}
+use Rattle.bng_ppp.specs.declared.rules.LinkRules.{LinkRules}
+use Rattle.bng_ppp.specs.declared.whole_input.WholeInput.{WholeInput}
+use Rattle.bng_ppp.specs.Claims.{Claim}
+use Rattle.bng_ppp.specs.Layers.{Turn}
+use Rattle.bng_ppp.specs.Phases.{is_begun}
+use Rattle.bng_ppp.specs.PppRelation.{PppSaid, PppSteps, ended_by, after_turn, said_of}
+use Rattle.bng_ppp.specs.PppState.{PppState, is_open}
+use Rattle.bng_ppp.specs.Verdict.{Settles}
+use Rattle.bng_ppp.specs.WholeFrame.{HearsOctets}
+use Rattle.bng_verdict.specs.Verdicts.{Saying}
+use Rattle.bng_shard.specs.Made.{Made, Question}
 use Rattle.bng_shard.specs.declared.rules.Rules.{Rules}
 use Rattle.bng_shard.specs.declared.sending.At.{At}
 use Rattle.bng_shard.specs.declared.session.Service.{Service}
@@ -41,12 +47,29 @@ pub record EndsWith (r : Rules) (a : At) (x : Session) (outs : List OutRecord) :
   pub outs_are : outs ≡ padt_outs a x port offers
 
 -- what a session's link says goes out; where LCP finished the session has ended, and a PADT says so
-abbrev pub said_outs : At → Session → AccessPort → PortRules → Said → List OutRecord
+abbrev pub said_outs : At → Session → AccessPort → PortRules → PppSaid → List OutRecord
 said_outs a x port offers says = ppp_outs a x port says.outs ++ (if says.finished then padt_outs a x port offers else [])
 
--- the session with another link, which may have ended
-abbrev pub with_link : Session → Made → LinkState → Bool → Session
-with_link x made link ended = record x { service = Discovered (record made { link = link; ended = ended }) }
+-- a shard's questions are numbered from 1 on; the count stands still at its type's end
+abbrev pub next_ask : ℕ → ℕ
+next_ask asked = min (2 ^ 64 - 1) (asked + 1)
+
+abbrev pub asked_after : ℕ → Option Claim → ℕ
+asked_after asked None = asked
+asked_after asked (Some claim) = next_ask asked
+
+-- What a link asked last, after a step: what the step asked, or else what it had asked before, as long as the peer's authentication
+-- goes on.
+abbrev pub question_after : ℕ → Option Claim → Bool → Option Question → Option Question
+question_after asked (Some claim) begun question = Some (record { ask = next_ask asked; claim = claim })
+question_after asked None true question = question
+question_after asked None false question = None
+
+-- the session with another link after a step that said this; where LCP finished it has ended
+abbrev pub with_link : Session → Made → ℕ → PppSaid → PppState → Session
+with_link x made asked says link = record x {
+  service = Discovered (record made { link = link; question = question_after asked says.asked (is_begun link.auth) made.question; ended = says.finished });
+}
 
 abbrev pub ended_service : Service → Service
 ended_service (Provisioned l) = Provisioned l
@@ -58,25 +81,42 @@ ended x = record x { service = ended_service x.service }
 
 -- a step of a link, by the link before, what it says and the link after
 abbrev pub LinkStep : Type 1
-LinkStep = LinkState → Said → LinkState → Type 0
+LinkStep = PppState → PppSaid → PppState → Type 0
 
 -- the link is told this at the entry's moment, with its item's random octets
-abbrev pub told : Rules → Entry → Input → LinkStep
-told r e input old says new = LinkSteps r.link input e.moment e.item.random old says new
+abbrev pub told : Rules → Entry → WholeInput → LinkStep
+told r e input old says new = PppSteps r.link input e.moment e.item.random old says new
 
 -- the link hears these octets of a PPP frame
-abbrev pub hears : Rules → Entry → List ℕ → LinkStep
-hears r e octets old says new = HearsFrame octets r.link.echo e.moment e.item.random old says new
+pub record HearsPppFrame (r : LinkRules) (octets : List ℕ) (now : ℕ) (random : List ℕ) (old : PppState) (says : PppSaid) (new : PppState) : Type 0 where
+  pub turn : Turn
+  pub heard : HearsOctets r octets now random old turn
+  pub said : says ≡ said_of turn (ended_by turn.link.live turn.left turn.ended 1)
+  pub state : new ≡ after_turn turn
 
--- the session's link made a step
-pub record Drives (r : Rules) (a : At) (x : Session) (Steps : LinkStep) (outs : List OutRecord) (x' : Session) : Type 0 where
+abbrev pub hears : Rules → Entry → List ℕ → LinkStep
+hears r e octets old says new = HearsPppFrame r.link octets e.moment e.item.random old says new
+
+-- The link is told what was found of its peer. A peer that is accepted gets no address yet.
+pub record IsToldVerdict (r : LinkRules) (v : Saying) (now : ℕ) (random : List ℕ) (old : PppState) (says : PppSaid) (new : PppState) : Type 0 where
+  pub turn : Turn
+  pub settles : Settles (is_open old.auth) v.yes r None v.text now random old turn
+  pub said : says ≡ said_of turn None
+  pub state : new ≡ after_turn turn
+
+abbrev pub settles : Rules → Entry → Saying → LinkStep
+settles r e v old says new = IsToldVerdict r.link v e.moment e.item.random old says new
+
+-- The session's link made a step, and so many questions had been asked before it and after it.
+pub record Drives (r : Rules) (a : At) (asked : ℕ) (x : Session) (Steps : LinkStep) (outs : List OutRecord) (x' : Session) (asked' : ℕ) : Type 0 where
   pub made : Made
   pub is_made : x.service ≡ Discovered made
   pub port : AccessPort
   pub offers : PortRules
   pub at : IsAt r x port offers
-  pub says : Said
-  pub link : LinkState
+  pub says : PppSaid
+  pub link : PppState
   pub steps : Steps made.link says link
   pub outs_are : outs ≡ said_outs a x port offers says
-  pub session : x' ≡ with_link x made link says.finished
+  pub session : x' ≡ with_link x made asked says link
+  pub count : asked' ≡ asked_after asked says.asked

@@ -39,4 +39,5 @@ abbrev pub opened_slots : ℕ → List Static → State
 opened_slots number circuits = record {
   sessions = record { shard = number; by_number = from_sorted (numbered_after 0 (in_order number circuits)) };
   begun = length circuits;
+  asked = 0;
 }

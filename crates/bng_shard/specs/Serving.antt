@@ -1,11 +1,15 @@
 -- What a shard keeps of its sessions, beside them.
-use Rattle.std.specs.Prelude.{◌≡◌, ℕ, ◌<◌, ◌≤◌, ◌↔◌, Bool, true, false, List, Option, Some, None, IsSome, length, sum_by, cond, vec_capacity}
+use Rattle.std.specs.Prelude.{◌≡◌, is_some, not, ℕ, ◌<◌, ◌&&◌, ◌↔◌, Bool, true, false, List, Option, Some, None, IsSome, length, sum_by, cond, vec_capacity}
 use Rattle.std.specs.List.{Contains}
 use Rattle.bng_base.specs.declared.address.SessionNo.{SessionNo}
 use Rattle.bng_slots.specs.Sessions.{Sessions, IsNumberOf, value_at}
 use Rattle.bng_slots.specs.Listed.{values}
+use Rattle.bng_shard.specs.declared.session.Service.{Service}
+use Rattle.bng_shard.specs.declared.session.Service.TheVariants.{Provisioned, Discovered}
 use Rattle.bng_shard.specs.declared.session.Session.{Session}
 use Rattle.bng_shard.specs.declared.served.Served.TheInside.{Inside}
+use Rattle.bng_shard.specs.Listing.{AreListed, passing_in}
+use Rattle.bng_shard.specs.Questions.{open_of}
 use Rattle.bng_shard.specs.State.{leaves, made_one}
 
 -- each session has the number under which it stands
@@ -28,7 +32,28 @@ ended_in sessions = sum_by (λ x. cond (leaves x) 1 0) (values sessions)
 abbrev pub AreLeaving : Sessions Session → List SessionNo → Type 0
 AreLeaving sessions numbers = (n : SessionNo) → Contains numbers n ↔ (does_leave (value_at sessions n.0) ≡ true)
 
--- How many sessions discovery made, and the numbers of those that have ended, for which there is room.
+-- the session has an open question
+abbrev pub asks : Session → Bool
+asks x = is_some (open_of x)
+
+-- the numbers of those that have one
+abbrev pub AreAsking : Sessions Session → List SessionNo → Type 0
+AreAsking sessions numbers = AreListed asks sessions numbers
+
+-- the session is young: discovery made it, it has not ended, and its LCP was never Opened
+abbrev pub is_young_in : Service → Bool
+is_young_in (Provisioned l) = false
+is_young_in (Discovered m) = not m.ended && not m.link.lcp.kept.was_opened
+
+abbrev pub is_young : Session → Bool
+is_young x = is_young_in x.service
+
+-- the numbers of the young ones
+abbrev pub AreYoung : Sessions Session → List SessionNo → Type 0
+AreYoung sessions numbers = AreListed is_young sessions numbers
+
+-- How many sessions discovery made, the numbers of those that have ended, of those that have an open question, and of the young
+-- ones, for which there is room.
 pub record Keeps (a : Inside) : Type 0 where
   pub own : AreOwn a.sessions
   pub of_shard : AreOfShard a.sessions
@@ -36,3 +61,9 @@ pub record Keeps (a : Inside) : Type 0 where
   pub leaving : AreLeaving a.sessions a.leaving.items
   pub counted : ended_in a.sessions ≡ length a.leaving.items
   pub room : 1022 < vec_capacity a.leaving
+  pub asking : AreAsking a.sessions a.asking.items
+  pub asking_counted : passing_in asks a.sessions ≡ length a.asking.items
+  pub asking_room : 1022 < vec_capacity a.asking
+  pub young : AreYoung a.sessions a.young.items
+  pub young_counted : passing_in is_young a.sessions ≡ length a.young.items
+  pub young_room : 1022 < vec_capacity a.young

@@ -12,7 +12,6 @@ use Rattle.bng_base.specs.declared.settings.AccessPort.{AccessPort}
 use Rattle.bng_discovery.specs.declared.port.PortRules.{PortRules}
 use Rattle.bng_engine.specs.Terms.{Term}
 use Rattle.bng_forward.specs.declared.view.TermView.{TermView}
-use Rattle.bng_ppp.specs.LinkState.{LinkState}
 use Rattle.bng_slots.specs.Sessions.{Sessions, value_at, with_value}
 use Rattle.bng_slots.specs.Listed.{values}
 use Rattle.bng_shard.specs.Made.{Made}
@@ -21,10 +20,11 @@ use Rattle.bng_shard.specs.declared.session.Service.{Service}
 use Rattle.bng_shard.specs.declared.session.Service.TheVariants.{Provisioned, Discovered}
 use Rattle.bng_shard.specs.declared.session.Session.{Session}
 
--- The shard's number with its sessions, and how many terms began in it.
+-- The shard's number with its sessions, how many terms began in it, and how many questions were asked.
 pub record State : Type 0 where
   pub sessions : Sessions Session
   pub begun : ℕ
+  pub asked : ℕ
 
 -- the access port with this number, from 1 on, and what it offers
 abbrev pub port_at : List AccessPort → ℕ → Option AccessPort
@@ -80,6 +80,10 @@ holder_of s a = find (leases a) (values s.sessions)
 -- a session of this number is another one, or a new one
 abbrev pub with_session : State → ℕ → Session → State
 with_session s n x = record s { sessions = with_value s.sessions n x }
+
+-- and so many questions were asked
+abbrev pub with_driven : State → ℕ → Session → ℕ → State
+with_driven s n x asked = record (with_session s n x) { asked = asked }
 
 abbrev pub made_one : Service → ℕ
 made_one (Provisioned l) = 0

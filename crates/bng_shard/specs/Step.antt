@@ -9,13 +9,14 @@ use Rattle.bng_shard.specs.State.{State}
 use Rattle.bng_shard.specs.Deed.{Deed, ignored}
 use Rattle.bng_shard.specs.Frames.{HearsAccess, HearsCore}
 use Rattle.bng_shard.specs.Timers.{HearsTick, HearsEnd}
+use Rattle.bng_shard.specs.Verdicts.{HearsVerdict}
 
 -- by the kind of the item; a kind that no protocol here hears does nothing
 abbrev pub Hears : ItemKind → Rules → State → Entry → Deed → Type 0
 Hears (Access number) r s e d = HearsAccess r s e number d
 Hears Core r s e d = HearsCore r s e d
 Hears Tunnel r s e d = d ≡ ignored s e
-Hears Verdict r s e d = d ≡ ignored s e
+Hears Verdict r s e d = HearsVerdict r s e d
 Hears Change r s e d = d ≡ ignored s e
 Hears Tick r s e d = HearsTick r s e d
 Hears End r s e d = HearsEnd r s e d

@@ -2,12 +2,13 @@
 use Rattle.std.specs.Prelude.{◌≡◌, ℕ, ◌≤◌, Bool, true, false, List, ◌++◌, Some, length}
 use Rattle.bng_base.specs.declared.item.Entry.{Entry}
 use Rattle.bng_base.specs.declared.item.OutRecord.{OutRecord}
-use Rattle.bng_ppp.specs.declared.rules.Input.TheVariants.{Timer}
+use Rattle.bng_ppp.specs.declared.whole_input.WholeInput.TheVariants.{Timer}
+use Rattle.bng_ppp.specs.PppRelation.{PppSteps}
 use Rattle.bng_slots.specs.Sessions.{value_at}
 use Rattle.bng_shard.specs.declared.rules.Rules.{Rules}
 use Rattle.bng_shard.specs.declared.sending.At.{At}
 use Rattle.bng_shard.specs.declared.session.Session.{Session}
-use Rattle.bng_shard.specs.State.{State, with_session}
+use Rattle.bng_shard.specs.State.{State, with_session, with_driven}
 use Rattle.bng_shard.specs.Deed.{at_of}
 use Rattle.bng_shard.specs.Link.{EndsWith, ended}
 use Rattle.bng_shard.specs.Driven.{Driven}
@@ -18,7 +19,7 @@ abbrev pub TickedOnce : Bool → Rules → At → ℕ → List ℕ → State →
 TickedOnce false r a now random s s' outs outs' = NoneIsDue s now × (s' ≡ s) × (outs' ≡ outs)
 TickedOnce true r a now random s s' outs outs' =
     (n : ℕ) × IsFirstDue s now n × (x x' : Session) × (value_at s.sessions n ≡ Some x)
-    × Driven r a Timer now random x x' outs outs' × (s' ≡ with_session s n x')
+    × (asked' : ℕ) × Driven r a (PppSteps r.link Timer now random) s.asked x x' asked' outs outs' × (s' ≡ with_driven s n x' asked')
 
 -- The session with the lowest number ended; or all had ended, and all is as before.
 abbrev pub EndedOnce : Bool → Rules → At → State → State → List OutRecord → List OutRecord → Type 0

@@ -2,22 +2,22 @@
 use Rattle.std.specs.Prelude.{◌≡◌, ◌⊎◌, ℕ, zero, suc, ◌+◌, ◌≤◌, ◌<◌, Bool, true, false, not, List, [], ◌++◌, Option, Some, None, IsTrue, IsFalse, option_map}
 use Rattle.bng_base.specs.declared.item.Entry.{Entry}
 use Rattle.bng_base.specs.declared.item.OutRecord.{OutRecord}
-use Rattle.bng_ppp.specs.declared.rules.Input.TheVariants.{Timer}
-use Rattle.bng_ppp.specs.LinkState.{LinkState}
+use Rattle.bng_ppp.specs.declared.whole_input.WholeInput.TheVariants.{Timer}
 use Rattle.bng_ppp.specs.LinkRelation.{earliest}
+use Rattle.bng_ppp.specs.PppState.{PppState}
 use Rattle.bng_slots.specs.Sessions.{value_at, read_at}
 use Rattle.bng_shard.specs.Made.{Made}
 use Rattle.bng_shard.specs.declared.rules.Rules.{Rules}
 use Rattle.bng_shard.specs.declared.session.Service.{Service}
 use Rattle.bng_shard.specs.declared.session.Service.TheVariants.{Provisioned, Discovered}
 use Rattle.bng_shard.specs.declared.session.Session.{Session}
-use Rattle.bng_shard.specs.State.{State, with_session}
+use Rattle.bng_shard.specs.State.{State, with_session, with_driven}
 use Rattle.bng_shard.specs.Deed.{Deed, at_of, handled}
 use Rattle.bng_shard.specs.Link.{Drives, EndsWith, ended, told}
 
 -- the first moment at which a link's Timer does something
-abbrev pub link_deadline : LinkState → Option ℕ
-link_deadline l = earliest (option_map (λ t. t + 3000) l.lcp.started) l.kept.next_echo
+abbrev pub link_deadline : PppState → Option ℕ
+link_deadline l = earliest (earliest (earliest (option_map (λ t. t + 3000) l.lcp.lcp.started) l.lcp.kept.next_echo) l.auth_due) (option_map (λ t. t + 3000) l.ipcp.machine.started)
 
 abbrev pub deadline_unless : Bool → Option ℕ → Option ℕ
 deadline_unless true deadline = None
@@ -58,8 +58,8 @@ Ticks zero r e s outs s' = (outs ≡ []) × (s' ≡ s)
 Ticks (suc k) r e s outs s' =
     (NoneIsDue s e.moment × (outs ≡ []) × (s' ≡ s))
     ⊎ ((n : ℕ) × IsFirstDue s e.moment n × (x x' : Session) × (value_at s.sessions n ≡ Some x)
-    × (first : List OutRecord) × Drives r (at_of s e) x (told r e Timer) first x'
-    × (rest : List OutRecord) × Ticks k r e (with_session s n x') rest s' × (outs ≡ first ++ rest))
+    × (first : List OutRecord) × (asked' : ℕ) × Drives r (at_of s e) s.asked x (told r e Timer) first x' asked'
+    × (rest : List OutRecord) × Ticks k r e (with_driven s n x' asked') rest s' × (outs ≡ first ++ rest))
 
 -- how many sessions a Tick and an End take
 abbrev pub at_once : ℕ

@@ -48,6 +48,11 @@ IsForHolder (Some shard) whose = whose ≡ Stands shard
 abbrev pub IsForTarget : Rules → ℕ → Whose → Type 0
 IsForTarget r target whose = ((target < r.shards) × (whose ≡ Stands target)) ⊎ ((r.shards ≤ target) × (whose ≡ Loose Consumed))
 
+-- A verdict is for the shard of its session's number.
+abbrev pub IsForSession : Rules → ℕ → Whose → Type 0
+IsForSession r session whose =
+    (NamesShard r session × (whose ≡ Stands (session / 1024))) ⊎ ((¬ (NamesShard r session)) × (whose ≡ Loose Consumed))
+
 -- By the kind of the item. What is outside its grammar is loose, and so is what leads to no shard.
 abbrev pub IsForKind : ItemKind → Rules → List Holder → Item → Whose → Type 0
 IsForKind (Access number) r holders item whose =
@@ -57,7 +62,7 @@ IsForKind Core r holders item whose =
     (((v : Ipv4) → ¬ (IsCorePacket r.core_peer (arrival_of item) v)) × (whose ≡ Loose (Dropped Malformed)))
     ⊎ ((v : Ipv4) × IsCorePacket r.core_peer (arrival_of item) v × IsForHolder (holder_of holders v.dst) whose)
 IsForKind Tunnel r holders item whose = whose ≡ Loose (Dropped NoSession)
-IsForKind Verdict r holders item whose = whose ≡ Loose Consumed
+IsForKind Verdict r holders item whose = IsForSession r item.target whose
 IsForKind Change r holders item whose = whose ≡ Loose Consumed
 IsForKind Tick r holders item whose = IsForTarget r item.target whose
 IsForKind End r holders item whose = IsForTarget r item.target whose

@@ -8,7 +8,9 @@ ghost use Rattle.bng_shard.specs.Doing.{DoesWith};
 ghost use Rattle.bng_shard.specs.Driven.{Driven};
 ghost use Rattle.bng_shard.specs.Making.{IsNewSession};
 ghost use Rattle.bng_shard.specs.declared.session.Session.{Session as Seen};
-ghost use Rattle.bng_shard.specs.State.{port_at, with_session};
+ghost use Rattle.bng_ppp.specs.PppRelation.{PppSteps};
+ghost use Rattle.std.specs.Prelude.{ℕ};
+ghost use Rattle.bng_shard.specs.State.{port_at, with_driven};
 ghost use Rattle.bng_slots.specs.Sessions.{IsLowestVacant};
 
 use crate::answering::{Reply, reply_to};
@@ -21,7 +23,7 @@ use crate::served::Served;
 use crate::session::{Made, Service, Session};
 use arrayvec::ArrayVec;
 use bng_base::{Fate, Item, Mac, OutRecord, SessionNo};
-use bng_ppp::{Input, Link, LinkKind};
+use bng_ppp::{LinkKind, WholeInput, WholeLink};
 use bng_pppoe_wire::Pppoe;
 
 // A list of these octets.
@@ -63,7 +65,8 @@ fn new_session(
         mac,
         service: Service::Discovered(Made {
             host_uniq: kept(asked),
-            link: Link::new(LinkKind::Pppoe, random, now),
+            link: WholeLink::new(LinkKind::Pppoe, random, now),
+            question: None,
             ended: false,
         }),
     }
@@ -88,14 +91,24 @@ fn make(
     requires offers { length rules.now.offers ≡ length rules.now.access }
     requires placed { (port : Port) × (port_at rules.now.access number ≡ Some port) }
     requires tags { (ts : List PppoeTag) × AreTags ts frame.now.payload.now × (length ts ≤ 64) × IfSome (host_uniq_of ts) (λ h. length h ≤ 64) }
-    ensures made { (ts : List PppoeTag) → AreTags ts frame.now.payload.now → (new : Seen) × (x : Seen) × IsNewSession session.0 number frame.now.src (host_uniq_of ts) random.now new × Driven rules.now at Input.Start now random.now new x outs.old.items outs.new.items × (served.new ≡ with_session served.old session.0 x) }
+    ensures made { (ts : List PppoeTag) → AreTags ts frame.now.payload.now → (new : Seen) × (x : Seen) × (asked : ℕ) × IsNewSession session.0 number frame.now.src (host_uniq_of ts) random.now new × Driven rules.now at (PppSteps rules.now.link WholeInput.Start now random.now) served.old.asked new x asked outs.old.items outs.new.items × (served.new ≡ with_driven served.old session.0 x asked) }
     ensures capacity { vec_capacity outs.new ≡ vec_capacity outs.old }
     ensures few { length outs.new.items ≤ length outs.old.items + 5 }
 {
-    let asked = host_uniq(frame);
-    let mut made = new_session(session, number, frame.src, asked, random, now);
-    drive(&mut made, rules, at, Input::Start, now, random, outs);
+    let wanted = host_uniq(frame);
+    let mut made = new_session(session, number, frame.src, wanted, random, now);
+    let asked = drive(
+        &mut made,
+        served.asked(),
+        rules,
+        at,
+        WholeInput::Start,
+        now,
+        random,
+        outs,
+    );
     served.put(made);
+    served.count_asked(asked);
 }
 
 /// Handles a frame of the discovery stage that is no PADT and came to the port with this number.

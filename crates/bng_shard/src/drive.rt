@@ -2,6 +2,7 @@
 ghost use Rattle.std.specs.Prelude.{◌≡◌, List, Some, true, ◌+◌, ◌<◌, ◌≤◌, ◌^◌, ◌++◌, IfSome, IfNone, None as Nothing, length, vec_capacity};
 ghost use Rattle.bng_base.specs.PppoeGrammar.{PppoeFrame, pppoe_text};
 ghost use Rattle.bng_pppoe_wire.specs.View.{frame_of};
+ghost use Rattle.bng_ppp.specs.PppRelation.{PppSteps};
 ghost use Rattle.bng_ppp.specs.Said.{payloads};
 ghost use Rattle.bng_base.specs.declared.item.OutRecord.{OutRecord as OutRecordOf};
 ghost use Rattle.bng_base.specs.declared.settings.AccessPort.{AccessPort as Port};
@@ -14,10 +15,9 @@ ghost use Rattle.bng_shard.specs.Driven.{Driven};
 use crate::rules::Rules;
 use crate::sending::{At, push_out};
 use crate::session::Session;
-use arrayvec::ArrayVec;
 use bng_base::{AccessPort, Frame, HEADROOM, LONGEST, Mac, OutRecord, Role, Written};
 use bng_discovery::{PortRules, terminate};
-use bng_ppp::{Input, Steps};
+use bng_ppp::{WholeInput, WholeSteps};
 use bng_pppoe_wire::{Pppoe, code};
 
 /// The access port with this number, from 1 on.
@@ -95,19 +95,20 @@ fn send_frames(
     rules: &Rules,
     at: At,
     session: &Session,
-    frames: &ArrayVec<Frame, 4>,
+    frames: &[Frame],
     outs: &mut Vec<OutRecord>,
 )
+    requires few { length frames.now ≤ 4 }
     requires placed { (port : Port) × (port_at rules.now.access session.now.port ≡ Some port) }
     requires room { length outs.old.items + 4 ≤ vec_capacity outs.old }
-    ensures items { (port : Port) → port_at rules.now.access session.now.port ≡ Some port → outs.new.items ≡ outs.old.items ++ ppp_outs at session.now port (payloads frames.now.items) }
+    ensures items { (port : Port) → port_at rules.now.access session.now.port ≡ Some port → outs.new.items ≡ outs.old.items ++ ppp_outs at session.now port (payloads frames.now) }
     ensures capacity { vec_capacity outs.new ≡ vec_capacity outs.old }
     ensures few { length outs.new.items ≤ length outs.old.items + 4 }
 {
     let Some(port) = port_of(rules, session.port) else {
         unreachable!();
     };
-    for frame in frames.as_slice() {
+    for frame in frames {
         let wrapped = Pppoe {
             dst: session.mac,
             src: port.mac,
@@ -157,31 +158,33 @@ pub(crate) fn send_padt(rules: &Rules, at: At, session: &Session, outs: &mut Vec
     push_padt(outs, at, session, &port, offers);
 }
 
-/// Tells a session's link an input and appends what goes out for it. Where LCP finished the session has ended, and its PADT
-/// stands last.
+/// Tells a session's link an input and appends what goes out for it; so many questions had been asked in its shard. Where LCP
+/// finished the session has ended, and its PADT stands last. Answers how many questions were asked then.
 pub(crate) fn drive(
     session: &mut Session,
+    asked: u64,
     rules: &Rules,
     at: At,
-    input: Input<'_>,
+    input: WholeInput<'_>,
     now: u64,
     random: &[u8; 16],
     outs: &mut Vec<OutRecord>,
-)
+) -> u64
     requires moment { now < 2 ^ 60 }
     requires auth { 0 < length rules.now.link.auth.items }
     requires offers { length rules.now.offers ≡ length rules.now.access }
     requires placed { (port : Port) × (port_at rules.now.access session.old.port ≡ Some port) }
     requires made { made_one session.old.service ≡ 1 }
     requires room { length outs.old.items + 5 ≤ vec_capacity outs.old }
-    ensures driven { Driven rules.now at input.entry now random.now session.old session.new outs.old.items outs.new.items }
+    ensures driven { Driven rules.now at (PppSteps rules.now.link input.entry now random.now) asked session.old session.new result outs.old.items outs.new.items }
     ensures capacity { vec_capacity outs.new ≡ vec_capacity outs.old }
     ensures few { length outs.new.items ≤ length outs.old.items + 5 }
 {
-    let mut steps = Steps::new();
-    session.step(&rules.link, input, now, random, &mut steps);
-    send_frames(rules, at, session, &steps.outs, outs);
+    let mut steps = WholeSteps::new();
+    let asked = session.step(asked, &rules.link, input, now, random, &mut steps);
+    send_frames(rules, at, session, steps.outs(), outs);
     if steps.finished {
         send_padt(rules, at, session, outs);
     }
+    asked
 }

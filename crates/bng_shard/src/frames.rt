@@ -8,7 +8,9 @@ ghost use Rattle.bng_shard.specs.Driven.{Driven};
 ghost use Rattle.bng_shard.specs.Fits.{ArePlaced};
 ghost use Rattle.bng_shard.specs.Frames.{HearsIn};
 ghost use Rattle.bng_shard.specs.Link.{ended};
-ghost use Rattle.bng_shard.specs.State.{session_of, with_session};
+ghost use Rattle.bng_ppp.specs.PppRelation.{PppSteps};
+ghost use Rattle.std.specs.Prelude.{ℕ};
+ghost use Rattle.bng_shard.specs.State.{session_of, with_driven, with_session};
 ghost use Rattle.bng_shard.specs.Timers.{lives_at};
 ghost use Rattle.bng_slots.specs.Sessions.{value_at};
 
@@ -17,7 +19,7 @@ use crate::rules::Rules;
 use crate::sending::At;
 use crate::served::Served;
 use bng_base::{DropCause, Fate, Item, OutRecord, SessionNo};
-use bng_ppp::Input;
+use bng_ppp::WholeInput;
 use bng_pppoe_wire::Pppoe;
 
 // A session that lives ends.
@@ -36,7 +38,7 @@ pub(crate) fn drive_at(
     number: SessionNo,
     rules: &Rules,
     at: At,
-    input: Input<'_>,
+    input: WholeInput<'_>,
     now: u64,
     random: &[u8; 16],
     outs: &mut Vec<OutRecord>,
@@ -47,13 +49,23 @@ pub(crate) fn drive_at(
     requires placed { ArePlaced rules.now served.old.sessions }
     requires lives { lives_at served.old number.0 ≡ true }
     requires room { length outs.old.items + 5 ≤ vec_capacity outs.old }
-    ensures driven { (x : Seen) → value_at served.old.sessions number.0 ≡ Some x → (x' : Seen) × Driven rules.now at input.entry now random.now x x' outs.old.items outs.new.items × (served.new ≡ with_session served.old number.0 x') }
+    ensures driven { (x : Seen) → value_at served.old.sessions number.0 ≡ Some x → (x' : Seen) × (asked : ℕ) × Driven rules.now at (PppSteps rules.now.link input.entry now random.now) served.old.asked x x' asked outs.old.items outs.new.items × (served.new ≡ with_driven served.old number.0 x' asked) }
     ensures capacity { vec_capacity outs.new ≡ vec_capacity outs.old }
     ensures few { length outs.new.items ≤ length outs.old.items + 5 }
 {
     let mut session = served.take(number);
-    drive(&mut session, rules, at, input, now, random, outs);
+    let asked = drive(
+        &mut session,
+        served.asked(),
+        rules,
+        at,
+        input,
+        now,
+        random,
+        outs,
+    );
     served.put(session);
+    served.count_asked(asked);
 }
 
 // What a frame that names a session is to do.
@@ -117,7 +129,7 @@ pub(crate) fn hear_control(
                 session,
                 rules,
                 at,
-                Input::Frame(frame.payload),
+                WholeInput::Frame(frame.payload),
                 now,
                 &item.random,
                 outs,

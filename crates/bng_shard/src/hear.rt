@@ -17,6 +17,7 @@ use crate::rules::Rules;
 use crate::sending::At;
 use crate::served::Served;
 use crate::timers::{end, tick};
+use crate::verdicts::hear_verdict;
 use bng_base::{DropCause, Fate, Item, ItemKind, OutRecord};
 use bng_forward::{Arrived, carried, frame_at, names_session};
 use bng_pppoe_wire::Pppoe;
@@ -107,7 +108,7 @@ pub(crate) fn hear(
         ItemKind::Access(number) => hear_access(served, rules, at, now, number, item, outs),
         ItemKind::Core => hear_core(served, rules, at, item, outs),
         ItemKind::Tunnel => Fate::Consumed,
-        ItemKind::Verdict => Fate::Consumed,
+        ItemKind::Verdict => hear_verdict(served, rules, at, now, item, outs),
         ItemKind::Change => Fate::Consumed,
         ItemKind::Tick => {
             tick(served, rules, at, now, &item.random, outs);

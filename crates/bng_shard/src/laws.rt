@@ -1,13 +1,21 @@
 //! The laws that the steps of a shard meet.
-ghost use Rattle.std.specs.Prelude.{◌≡◌, ◌⊎◌, ◌+◌, ◌≤◌, count_by, is_some, length, if◌then◌else◌};
+ghost use Rattle.std.specs.Prelude.{◌≡◌, ◌≢◌, ◌⊎◌, ◌+◌, ◌-◌, ◌^◌, ◌<◌, ◌≤◌, ℕ, List, Some, count_by, is_some, length, if◌then◌else◌};
 ghost use Rattle.bng_base.specs.declared.item.ItemKind.TheVariants.{End};
 ghost use Rattle.bng_engine.specs.Protocol.{Alike, StepLaws, StillLaws};
-ghost use Rattle.std.specs.List.{AllByRecursion};
+ghost use Rattle.std.specs.List.{All, AllByRecursion, AllPairs, Contains};
+ghost use Rattle.bng_base.specs.declared.address.Mac.{Mac};
+ghost use Rattle.bng_base.specs.declared.item.OutRecord.{OutRecord};
+ghost use Rattle.bng_base.specs.declared.settings.Static.{Static};
+ghost use Rattle.bng_slots.specs.Sessions.{IsNumberOf};
 ghost use Rattle.bng_shard.specs.declared.rules.Rules.{Rules};
 ghost use Rattle.bng_shard.specs.Deed.{Deed, is_forwarded};
 ghost use Rattle.bng_shard.specs.Protocol.{ShardState, Handled, pppoe, packet_octets, sessions_of, terms_of};
+ghost use Rattle.bng_shard.specs.Claiming.{IsAskedBy};
+ghost use Rattle.bng_shard.specs.Granting.{IsGranted, IsGrantedOn, IsSound, IsYesOn, accepted_ask_at};
+ghost use Rattle.bng_shard.specs.Opening.{opened_slots};
+ghost use Rattle.bng_shard.specs.Questions.{Asking, AsksOn, last_asking_at};
 ghost use Rattle.bng_shard.specs.Reader.{IsWhole};
-ghost use Rattle.bng_shard.specs.State.{State};
+ghost use Rattle.bng_shard.specs.State.{State, settled};
 ghost use Rattle.bng_shard.specs.Step.{Step};
 
 /// The steps of a shard meet the laws on which the accounts of a run rest: no term ends while its circuit is there, each packet
@@ -15,7 +23,8 @@ ghost use Rattle.bng_shard.specs.Step.{Step};
 /// says. No step claims an address, and no term ends. Each datagram is a whole IPv4 packet as its charge says, or no packet of a
 /// subscriber. A step changes no term. An End leaves no session, or 64 fewer. Of a datagram of at most 4,096 octets it sends at most
 /// 4,160 octets of packets. It sends one packet where the fate is Forwarded, and else none. From one state and one entry there is
-/// one effect.
+/// one effect. The count of questions does not fall; until it has come to its end, each question that is open after a step was open
+/// before it, or has a number that the step gave.
 pub fn steps_meet_laws()
     ensures laws { StepLaws pppoe }
     ensures still { StillLaws pppoe }
@@ -27,4 +36,35 @@ pub fn steps_meet_laws()
     ensures light { (r : Rules) (s : State) (d : Deed) → Step r s d → length d.entry.item.frame.payload ≤ 4096 → packet_octets d.outs ≤ 4160 }
     ensures fates { (r : Rules) (s : State) (d : Deed) → Step r s d → count_by (λ o. is_some o.charge) d.outs ≡ (if is_forwarded d.fate then 1 else 0) }
     ensures alike { Alike pppoe }
+    ensures questions { (r : Rules) (s : State) (d : Deed) → Step r s d → AsksOn s d.next }
+{}
+
+/// A peer is told that it is accepted, by Success of CHAP (RFC 1994 section 4.2) or Authenticate-Ack of PAP (RFC 1334 section 2.2.2),
+/// only on the circuit of a session whose link asked about it, and whose question was answered by a yes before, or is answered so by
+/// this entry. No other question counts as answered by a yes. The question that a link asked last is the one before the step, or has
+/// a number that the step gave, until the count of questions has come to its end; a step asks one question at most. It is so of each
+/// state that is sound, as a shard is at its opening and from then on.
+pub fn yeses_are_granted()
+    ensures opened { (number : ℕ) (circuits : List Static) → number < 64 → All (λ c. IsNumberOf number c.session.0) circuits → AllPairs (λ a b. a.session ≢ b.session) circuits
+        → IsSound (opened_slots number circuits) }
+    ensures kept { (r : Rules) (s : State) (d : Deed) → Step r s d → IsSound s → IsSound d.next }
+    ensures settled { (s : State) → IsSound s → IsSound (settled s) }
+    ensures yes { (r : Rules) (s : State) (d : Deed) → Step r s d → IsSound s → (port : ℕ) (mac : Mac) (n : ℕ) (o : OutRecord) → Contains d.outs o
+        → IsYesOn port mac n o.role o.frame → IsGrantedOn s d.entry port mac n }
+    ensures accepted { (r : Rules) (s : State) (d : Deed) → Step r s d → (n ask : ℕ) → accepted_ask_at d.next n ≡ Some ask → IsGranted s d.entry n ask }
+    ensures last { (r : Rules) (s : State) (d : Deed) → Step r s d → d.next.asked < 2 ^ 64 - 1 → (n : ℕ) (a : Asking) → last_asking_at d.next n ≡ Some a
+        → (last_asking_at s n ≡ Some a) ⊎ ((s.asked < a.number.ask) × (a.number.ask ≤ d.next.asked)) }
+    ensures few { (r : Rules) (s : State) (d : Deed) → Step r s d → d.next.asked ≤ s.asked + 1 }
+{}
+
+/// A link asks only by a frame of its session. The question that a link asked last is the one of before, or the step's entry is a frame
+/// of the session's circuit, and the question is about that circuit and claims what stands in the frame: the Peer-ID and the Password of
+/// an Authenticate-Request (RFC 1334 section 2.2.1), or the Name and the Value of a Response to the Challenge that the link had sent
+/// (RFC 1994 section 4.1). Until the count of questions has come to its end, a last question with a number of before is the same
+/// question.
+pub fn questions_are_heard()
+    ensures heard { (r : Rules) (s : State) (d : Deed) → Step r s d → IsSound s → (n : ℕ) (a : Asking) → last_asking_at d.next n ≡ Some a
+        → (last_asking_at s n ≡ Some a) ⊎ IsAskedBy r s d n a }
+    ensures same { (r : Rules) (s : State) (d : Deed) → Step r s d → d.next.asked < 2 ^ 64 - 1 → (n : ℕ) (a b : Asking) → last_asking_at s n ≡ Some a → a.number.ask ≤ s.asked
+        → last_asking_at d.next n ≡ Some b → b.number ≡ a.number → b ≡ a }
 {}

@@ -1,6 +1,6 @@
 //! One shard of the gateway: the sessions that discovery made and the provisioned circuits of its numbers, stepped one item at a
-//! time. `Shard::step` is a step of the protocol of `specs/Step.antt` (PPPoE discovery by RFC 2516, LCP by RFC 1661, forwarding by
-//! RFC 791), and appends one entry to the journal of the round. `whose_is` says which shard an item is for. `open` and `prepare`
+//! time. `Shard::step` is a step of the protocol of `specs/Step.antt` (PPPoE discovery by RFC 2516, PPP by RFC 1661, the peer's
+//! authentication by RFC 1334 and RFC 1994, forwarding by RFC 791), and appends one entry to the journal of the round. `whose_is` says which shard an item is for. `open` and `prepare`
 //! alone take memory.
 #![tactic(auto)]
 
@@ -13,6 +13,7 @@ mod hear;
 mod host_uniq;
 mod laws;
 mod pool;
+mod questions;
 mod replies;
 mod rules;
 mod running;
@@ -22,10 +23,13 @@ mod session;
 mod shard;
 mod sums;
 mod timers;
+mod verdicts;
 mod whose;
+mod young;
 
-pub use crate::laws::steps_meet_laws;
+pub use crate::laws::{questions_are_heard, steps_meet_laws, yeses_are_granted};
 pub use crate::pool::{Holder, PlainPool};
+pub use crate::questions::Handed;
 pub use crate::rules::Rules;
 pub use crate::shard::{Shard, ShardError};
 pub use crate::sums::{Charged, Traffic};

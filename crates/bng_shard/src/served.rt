@@ -6,23 +6,32 @@ ghost use Rattle.bng_slots.specs.Sessions.{value_at, without, IsNumberOf};
 ghost use Rattle.bng_shard.specs.Discovery.{IsVacancy, repeated};
 ghost use Rattle.bng_shard.specs.Due.{due_of};
 ghost use Rattle.bng_shard.specs.Opening.{circuit_at, opened_slots, provisioned as provisioned_at};
+ghost use Rattle.std.specs.Prelude.{drop, slice_get};
+ghost use Rattle.bng_shard.specs.Questions.{asking_from, handed_after, open_ask_at, place_of, waiting};
 ghost use Rattle.bng_shard.specs.State.{holder_of, made_in, made_one, session_of, settled, with_session};
 ghost use Rattle.bng_shard.specs.Timers.{IsFirstDue, IsLowest, NoneIsDue, NoneLives, lives_at};
 
+use crate::questions::{Handed, copied, list, lowest_waiting, unlist};
 use crate::session::{Lease, Service, Session};
+use crate::young::{list_young, lowest_repeated, unlist_young};
 use bng_base::{Ip4, Mac, SessionNo, Static};
 use bng_slots::Slots;
+use bng_verdict::{AuthAsk, QuestionNo};
 use std::alloc::{AllocError, Global};
 use std::marker::Model;
 
-/// The sessions of a shard by number, provisioned circuits among them; how many terms began, how many sessions discovery made, and
-/// the numbers of those that have ended and leave at the settlement.
+/// The sessions of a shard by number, provisioned circuits among them; how many terms began, how many questions were asked, how many
+/// sessions discovery made, the numbers of those that have ended and leave at the settlement, of those whose question has no verdict
+/// yet, and of those for which a request may come again.
 #[derive(Drop)]
 pub struct Served {
     pub(crate) sessions: Slots<Session>,
     pub(crate) begun: u64,
+    pub(crate) asked: u64,
     pub(crate) made: u32,
     pub(crate) leaving: Vec<SessionNo>,
+    pub(crate) asking: Vec<SessionNo>,
+    pub(crate) young: Vec<SessionNo>,
 }
 
 impl Model for Served {
@@ -34,7 +43,7 @@ impl Model for Served {
 
     ghost coded = { state_code };
 
-    ghost view = { λ a. record { sessions = a.sessions; begun = a.begun } };
+    ghost view = { λ a. record { sessions = a.sessions; begun = a.begun; asked = a.asked } };
 
     ghost invariant = { Keeps };
 }
@@ -85,6 +94,8 @@ impl Served {
             return Err(AllocError);
         };
         let leaving = Vec::with_capacity(alloc, usize::from(NUMBERS) + 1)?;
+        let asking = Vec::with_capacity(alloc, usize::from(NUMBERS) + 1)?;
+        let young = Vec::with_capacity(alloc, usize::from(NUMBERS) + 1)?;
         let mut begun = 0;
         let first = number * 1024 + 1;
         for n in first..first + NUMBERS {
@@ -96,8 +107,11 @@ impl Served {
         Ok(Served {
             sessions,
             begun,
+            asked: 0,
             made: 0,
             leaving,
+            asking,
+            young,
         })
     }
 
@@ -115,6 +129,49 @@ impl Served {
         ensures few { result ≤ 1022 }
     {
         self.made
+    }
+
+    /// How many questions were asked.
+    pub(crate) fn asked(&self) -> u64
+        ensures { result ≡ self.now.asked }
+    {
+        self.asked
+    }
+
+    /// So many questions were asked.
+    pub(crate) fn count_asked(&mut self, asked: u64)
+        ensures { self.new ≡ record self.old { asked = asked } }
+    {
+        self.asked = asked;
+    }
+
+    /// The number of the open question of the session with this number.
+    pub(crate) fn open_ask(&self, number: SessionNo) -> Option<u64>
+        ensures { result ≡ open_ask_at self.now number.0 }
+    {
+        let question = self.sessions.get(number)?.question()?;
+        Some(question.ask)
+    }
+
+    /// The first open question, by session number, that was not handed out yet.
+    pub(crate) fn first_waiting(&self, handed: &Handed) -> Option<AuthAsk>
+        ensures first { option_map asking_from result ≡ slice_get (waiting self.now handed.now) 0 }
+        ensures own { IfSome result (λ a. IsNumberOf self.now.sessions.shard a.number.session.0) }
+        ensures place { IfSome result (λ a. place_of a.number.session < 1022) }
+        ensures rest { IfSome result (λ a. waiting self.now (handed_after handed.now a.number) ≡ drop 1 (waiting self.now handed.now)) }
+    {
+        prove!(handed.numbers() == 1022);
+        let number = lowest_waiting(self.asking.as_slice(), &self.sessions, handed)?;
+        let session = self.sessions.get(number)?;
+        let question = session.question()?;
+        Some(AuthAsk {
+            number: QuestionNo {
+                session: session.number,
+                ask: question.ask,
+            },
+            circuit: session.pppoe_circuit(),
+            credentials: copied(&question.credentials),
+        })
     }
 
     /// The session with this number.
@@ -172,19 +229,7 @@ impl Served {
     pub(crate) fn repeated(&self, port: u8, mac: Mac, asked: Option<&[u8]>) -> Option<SessionNo>
         ensures { result ≡ option_map (λ x. x.number) (repeated self.now port mac (option_map (λ o. o.now) asked.entry)) }
     {
-        if self.made == 0 {
-            return None;
-        }
-        let first = self.sessions.shard() * 1024 + 1;
-        for n in first..first + NUMBERS {
-            let number = SessionNo(n);
-            if let Some(session) = self.sessions.get(number) {
-                if session.is_repeated(port, mac, asked) {
-                    return Some(session.number);
-                }
-            }
-        }
-        None
+        lowest_repeated(self.young.as_slice(), &self.sessions, port, mac, asked)
     }
 
     /// The lowest number of the sessions that discovery made and that have not ended; none exactly where there is no such session.
@@ -216,6 +261,8 @@ impl Served {
             unreachable!()
         };
         self.made -= 1;
+        unlist(&mut self.asking, &session);
+        unlist_young(&mut self.young, &session);
         session
     }
 
@@ -230,6 +277,8 @@ impl Served {
         if session.has_ended() {
             self.leaving.push_reserved(number);
         }
+        list(&mut self.asking, &session);
+        list_young(&mut self.young, &session);
         self.sessions.put(number, session);
         self.made += 1;
     }

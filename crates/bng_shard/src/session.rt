@@ -1,21 +1,26 @@
 //! A session: its circuit, and what serves it.
 ghost use Rattle.std.specs.Prelude.{◌≡◌, ◌<◌, ◌^◌, Some, length, option_map};
 ghost use Rattle.bng_shard.specs.Discovery.{is_repeated, same_option};
-ghost use Rattle.bng_ppp.specs.LinkRelation.{LinkSteps};
-ghost use Rattle.bng_ppp.specs.LinkState.{LinkState};
-ghost use Rattle.bng_ppp.specs.Said.{said};
-ghost use Rattle.bng_shard.specs.Link.{ended, with_link};
+ghost use Rattle.bng_ppp.specs.PppRelation.{PppSaid, PppSteps};
+ghost use Rattle.bng_ppp.specs.PppState.{PppState};
+ghost use Rattle.bng_ppp.specs.Said.{payloads};
+ghost use Rattle.bng_shard.specs.Link.{asked_after, ended, with_link};
+ghost use Rattle.std.specs.Option.{option_copied};
+ghost use Rattle.bng_shard.specs.Questions.{open_of};
 ghost use Rattle.bng_shard.specs.Made.{Made as DiscoveredMade};
+ghost use Rattle.bng_shard.specs.Serving.{is_young};
 ghost use Rattle.bng_shard.specs.State.{circuit_of, is_on, leaves, lease_of, made_one, view_of};
 ghost use Rattle.bng_shard.specs.Timers.{deadline_of, lives_in};
 ghost use Rattle.bng_shard.specs.Indexed.{address_of, term_of};
 
 use arrayvec::ArrayVec;
+use bng_auth::Credentials;
 use bng_base::{Circuit, Ip4, Mac, SessionNo, TermId};
 use bng_forward::TermView;
-use bng_ppp::{Input, Link, LinkRules, Steps};
+use bng_ppp::{LinkRules, WholeInput, WholeLink, WholeSteps};
 use bng_slots::Slotted;
 use std::marker::Model;
+use std::mem;
 
 /// A term's number in its shard, from 1 on, its address, and the place of its profile.
 #[derive(Clone, Copy, PartialEq, Eq, Debug)]
@@ -25,11 +30,29 @@ pub struct Lease {
     pub(crate) profile: u8,
 }
 
-/// A session that discovery made (RFC 2516): the Host-Uniq with which it was asked for, its link, and whether it has ended.
+/// A question of a shard, by its number, from 1 on: is the peer what it claims to be?
+#[derive(Drop)]
+pub struct Question {
+    pub(crate) ask: u64,
+    pub(crate) credentials: Credentials,
+}
+
+impl Model for Question {
+    ghost use Rattle.bng_ppp.specs.Claims.{claim_of};
+    ghost use Rattle.bng_shard.specs.Made.{Question as Seen};
+
+    ghost Value = { Seen };
+
+    ghost view = { λ q. record { ask = q.ask; claim = claim_of q.credentials } };
+}
+
+/// A session that discovery made (RFC 2516): the Host-Uniq with which it was asked for, its link, what the link asked last, as long
+/// as the peer's authentication goes on, and whether it has ended.
 #[derive(Drop)]
 pub struct Made {
     pub(crate) host_uniq: Option<ArrayVec<u8, 64>>,
-    pub(crate) link: Link,
+    pub(crate) link: WholeLink,
+    pub(crate) question: Option<Question>,
     pub(crate) ended: bool,
 }
 
@@ -39,7 +62,7 @@ impl Model for Made {
 
     ghost Value = { Seen };
 
-    ghost view = { λ m. record { host_uniq = option_map (λ h. h.items) m.host_uniq; link = m.link; ended = m.ended } };
+    ghost view = { λ m. record { host_uniq = option_map (λ h. h.items) m.host_uniq; link = m.link; question = m.question; ended = m.ended } };
 }
 
 /// What serves a session: a provisioned circuit has a term from the opening on and no link; a session that discovery made has a
@@ -69,11 +92,7 @@ impl Slotted for Session {
     ghost deadline = { deadline_of };
 
     fn circuit(&self) -> Option<Circuit> {
-        Some(Circuit::Pppoe {
-            port: self.port,
-            mac: self.mac,
-            session: self.number,
-        })
+        Some(self.pppoe_circuit())
     }
 
     fn address(&self) -> Option<Ip4> {
@@ -102,7 +121,30 @@ impl Slotted for Session {
 }
 
 impl Made {
+    ghost use Rattle.std.specs.Option.{option_copied};
+    ghost use Rattle.bng_ppp.specs.Phases.{is_begun};
+    ghost use Rattle.bng_shard.specs.Link.{question_after};
+    ghost use Rattle.bng_shard.specs.Questions.{open_in};
     ghost use Rattle.bng_shard.specs.Timers.{made_deadline};
+
+    // Its question whose verdict is not there yet.
+    fn open_question(&self) -> Option<&Question>
+        ensures { option_copied result ≡ open_in (Service.Discovered self.now) }
+    {
+        if self.ended || !self.link.asks() {
+            return None;
+        }
+        self.question.as_ref()
+    }
+
+    // What its link asked last is of no use once the peer's authentication is over.
+    fn forget(&mut self)
+        ensures { self.new ≡ record self.old { question = question_after 0 None (is_begun self.old.link.auth) self.old.question } }
+    {
+        if !self.link.authenticates() {
+            self.question = None;
+        }
+    }
 
     /// The first moment in milliseconds at which its link's Timer does something; none once it has ended.
     pub(crate) fn deadline(&self) -> Option<u64>
@@ -126,6 +168,17 @@ fn is_same(kept: &Option<ArrayVec<u8, 64>>, asked: Option<&[u8]>) -> bool
 }
 
 impl Session {
+    /// The circuit that it serves.
+    pub(crate) fn pppoe_circuit(&self) -> Circuit
+        ensures { result ≡ circuit_of self.now }
+    {
+        Circuit::Pppoe {
+            port: self.port,
+            mac: self.mac,
+            session: self.number,
+        }
+    }
+
     /// Whether it is on this port, of this MAC.
     pub(crate) fn is_on(&self, port: u8, mac: Mac) -> bool
         ensures { result ≡ is_on port mac self.now }
@@ -144,6 +197,16 @@ impl Session {
                     is_same(&made.host_uniq, asked) && !made.ended && !made.link.was_opened()
                 }
             }
+    }
+
+    /// Whether discovery made it, it has not ended, and its LCP was never Opened.
+    pub(crate) fn is_young(&self) -> bool
+        ensures { result ≡ is_young self.now }
+    {
+        match &self.service {
+            Service::Provisioned(_) => false,
+            Service::Discovered(made) => !made.ended && !made.link.was_opened(),
+        }
     }
 
     /// Whether discovery made it, and it has not ended.
@@ -175,23 +238,49 @@ impl Session {
         }
     }
 
-    /// Tells its link an input, where discovery made it. Where LCP finished it has ended.
+    /// Its question whose verdict is not there yet. One that has ended has none.
+    pub(crate) fn question(&self) -> Option<&Question>
+        ensures { option_copied result ≡ open_of self.now }
+    {
+        match &self.service {
+            Service::Provisioned(_) => None,
+            Service::Discovered(made) => made.open_question(),
+        }
+    }
+
+    /// Tells its link an input, where discovery made it; so many questions had been asked in its shard. Where LCP finished it has
+    /// ended. Answers how many questions were asked then.
     pub(crate) fn step(
         &mut self,
+        asked: u64,
         rules: &LinkRules,
-        input: Input<'_>,
+        input: WholeInput<'_>,
         now: u64,
         random: &[u8; 16],
-        steps: &mut Steps,
-    )
+        steps: &mut WholeSteps,
+    ) -> u64
         requires moment { now < 2 ^ 60 }
         requires auth { 0 < length rules.now.auth.items }
         requires made { made_one self.old.service ≡ 1 }
-        ensures { (made : DiscoveredMade) × (link : LinkState) × (self.old.service ≡ Service.Discovered made) × LinkSteps rules.now input.entry now random.now made.link (said steps.new) link × (self.new ≡ with_link self.old made link steps.new.finished) }
+        ensures { (made : DiscoveredMade) × (says : PppSaid) × (link : PppState) × (self.old.service ≡ Service.Discovered made)
+            × PppSteps rules.now input.entry now random.now made.link says link × (self.new ≡ with_link self.old made asked says link) × (result ≡ asked_after asked says.asked)
+            × (says.outs ≡ payloads steps.new.layer.outs.items) × (says.finished ≡ steps.new.finished) }
     {
-        if let Service::Discovered(made) = &mut self.service {
-            made.link.step(rules, input, now, random, steps);
-            made.ended = steps.finished;
+        let Service::Discovered(made) = &mut self.service else {
+            return asked;
+        };
+        made.link.step(rules, input, now, random, steps);
+        made.ended = steps.finished;
+        match mem::replace(&mut steps.asked, None) {
+            Some(credentials) => {
+                let ask = asked.saturating_add(1);
+                made.question = Some(Question { ask, credentials });
+                ask
+            }
+            None => {
+                made.forget();
+                asked
+            }
         }
     }
 

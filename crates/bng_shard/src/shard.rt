@@ -1,5 +1,5 @@
 //! One shard.
-ghost use Rattle.std.specs.Prelude.{◌≡◌, ◌≢◌, ◌≤◌, ◌<◌, ◌+◌, ◌*◌, ◌^◌, [], true, IfOk, OnOk, length, option_map, vec_capacity};
+ghost use Rattle.std.specs.Prelude.{drop, slice_get, IfSome, IfNone, ◌≡◌, ◌≢◌, ◌≤◌, ◌<◌, ◌+◌, ◌*◌, ◌^◌, [], true, IfOk, OnOk, length, option_map, vec_capacity};
 ghost use Rattle.bng_engine.specs.Books.{book_at};
 ghost use Rattle.bng_engine.specs.Calls.{Kept, IsReady};
 ghost use Rattle.bng_engine.specs.Protocol.{IsOwned};
@@ -7,6 +7,7 @@ ghost use Rattle.bng_engine.specs.Showing.{ChargesShown};
 ghost use Rattle.bng_engine.specs.Terms.{keys};
 ghost use Rattle.bng_engine.specs.Views.{row_keys};
 ghost use Rattle.bng_shard.specs.Protocol.{Handles, deadline_of, entry_of, opened, pppoe, profiles_there, row_at, sessions_of, terms_of};
+ghost use Rattle.bng_shard.specs.Questions.{asking_from, handed_after, waiting};
 ghost use Rattle.bng_shard.specs.Room.{Admits};
 ghost use Rattle.bng_slots.specs.Sessions.{IsNumberOf};
 ghost use Rattle.std.specs.List.{All, AllPairs};
@@ -14,12 +15,14 @@ ghost use Rattle.bng_shard.specs.State.{settled};
 ghost use Rattle.bng_shard.specs.Sums.{charged_as, traffic_in, AreCovered, AreLow, IsLow, RowsAreLow};
 
 use crate::hear::hear;
+use crate::questions::Handed;
 use crate::rules::Rules;
 use crate::running::{Running, book, carried_by, charged_as, rows_of, settle, tally};
 use crate::sending::At;
 use crate::served::Served;
 use crate::sums::{Charged, Traffic};
 use bng_base::{Book, Claim, Entry, Fate, Item, LONGEST, OutRecord, SessionNo, Static};
+use bng_verdict::AuthAsk;
 use std::alloc::{AllocError, Global};
 use std::marker::Model;
 use std::mem;
@@ -267,6 +270,20 @@ impl Shard {
         ensures { result ≡ deadline_of self.now.state }
     {
         self.served.due()
+    }
+
+    /// Hands out the open question of the lowest session number that was not handed out yet; none exactly where there is none. Which
+    /// were handed out is kept in `handed`, which is this shard's alone.
+    pub fn asked(&self, handed: &mut Handed) -> Option<AuthAsk>
+        ensures first { option_map asking_from result ≡ slice_get (waiting self.now.state.slots handed.old) 0 }
+        ensures own { IfSome result (λ a. IsNumberOf self.now.number a.number.session.0) }
+        ensures rest { waiting self.now.state.slots handed.new ≡ drop 1 (waiting self.now.state.slots handed.old) }
+        ensures handed { IfSome result (λ a. handed.new ≡ handed_after handed.old a.number) }
+        ensures kept { IfNone result (handed.new ≡ handed.old) }
+    {
+        let ask = self.served.first_waiting(handed)?;
+        handed.note(ask.number);
+        Some(ask)
     }
 
     /// How many sessions discovery made that are still there.

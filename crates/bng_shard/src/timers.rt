@@ -10,7 +10,7 @@ use crate::rules::Rules;
 use crate::sending::At;
 use crate::served::Served;
 use bng_base::OutRecord;
-use bng_ppp::Input;
+use bng_ppp::WholeInput;
 
 /// How many due deadlines a Tick handles, and how many sessions an End ends.
 const AT_ONCE: u8 = 64;
@@ -37,7 +37,16 @@ fn tick_once(
     let Some(session) = served.first_due(now) else {
         return false;
     };
-    drive_at(served, session, rules, at, Input::Timer, now, random, outs);
+    drive_at(
+        served,
+        session,
+        rules,
+        at,
+        WholeInput::Timer,
+        now,
+        random,
+        outs,
+    );
     true
 }
 

@@ -2,7 +2,7 @@
 ghost use Rattle.std.specs.Prelude.{◌≡◌, ◌<◌, ◌≤◌, ◌+◌, ◌*◌, ℕ, [], length};
 ghost use Rattle.std.specs.List.{All};
 ghost use Rattle.bng_pppoe_wire.specs.View.{frame_of};
-ghost use Rattle.bng_shard.specs.Whose.{IsWhose, IsForKind, IsForTarget, IsForFrame, fold_of, NamesShard};
+ghost use Rattle.bng_shard.specs.Whose.{IsWhose, IsForKind, IsForSession, IsForTarget, IsForFrame, fold_of, NamesShard};
 
 use crate::pool::PlainPool;
 use crate::rules::Rules;
@@ -32,8 +32,23 @@ pub fn whose_is(rules: &Rules, pool: &PlainPool, item: &Item) -> Whose
         ItemKind::Access(number) => whose_frame(rules, number, item),
         ItemKind::Core => whose_packet(rules, pool, item),
         ItemKind::Tunnel => Whose::Loose(Fate::Dropped(DropCause::NoSession)),
-        ItemKind::Verdict | ItemKind::Change => Whose::Loose(Fate::Consumed),
+        ItemKind::Verdict => whose_session(rules, item.target),
+        ItemKind::Change => Whose::Loose(Fate::Consumed),
         ItemKind::Tick | ItemKind::End => whose_target(rules, item.target),
+    }
+}
+
+// A verdict, by its session's number.
+fn whose_session(rules: &Rules, session: u16) -> Whose
+    ensures is { IsForSession rules.now session result }
+    ensures inside { (n : ℕ) → result ≡ Whose.Stands n → n < rules.now.shards }
+{
+    let shard = session / 1024;
+    let index = session % 1024;
+    if shard < rules.shards && 1 <= index && index <= 1022 {
+        Whose::Stands(shard)
+    } else {
+        Whose::Loose(Fate::Consumed)
     }
 }
 

@@ -35,9 +35,9 @@ returns-in-Offer-clause-does c =
 pub returns-in-Make-clause-does : goal.returns-in-Make-clause-does
 returns-in-Make-clause-does c =
     let row = c.in-Make.ensures c.requires.few.0 c.requires.few.1 in
-    let (new, x, is, driven, next) = c.make.ensures.made c.requires.few.0 c.requires.few.1 in
+    let (new, x, asked, is, driven, next) = c.make.ensures.made c.requires.few.0 c.requires.few.1 in
     session_made c.args.rules.now c.args.served.now c.args.at c.args.now c.args.item.now c.args.number (frame_of c.args.frame.now) c.in-Some.port c.in-Some-offers_of.offers.now c.requires.few.0 c.args.outs.now.items c.requires.here
-    (sym c.port_of.ensures ∙ c.in-Some.is) c.in-Some-offers_of.ensures.found c.requires.few.1 c.requires.few.2 c.in-Make.session.0 new x c.send_session.new.outs.items c.make.new.outs.items c.make.new.served row is
+    (sym c.port_of.ensures ∙ c.in-Some.is) c.in-Some-offers_of.ensures.found c.requires.few.1 c.requires.few.2 c.in-Make.session.0 new x asked c.send_session.new.outs.items c.make.new.outs.items c.make.new.served row is
     (c.send_session.ensures.items c.requires.few.0 c.requires.few.1) c.send_session.ensures.few driven c.make.ensures.few next
 
 pub returns-in-Again-clause-does : goal.returns-in-Again-clause-does

@@ -7,7 +7,7 @@ use Rattle.bng_shard.proofs.drive.send_frames.Given as goal
 
 abbrev pub invariant-loop-frame : goal.invariant-loop-frame
 invariant-loop-frame l = record {
-  sent : l.outs.items ≡ l.fn.outs.items ++ flat_map (λ f. frame_outs l.at l.session.port l.port (session_frame l.session.mac l.port.mac l.session.number.0 f)) (payloads (take l.frame-index l.frame-items));
+  sent : l.outs.items ≡ l.fn.outs.items ++ flat_map (λ f. frame_outs l.at l.session.port l.port (session_frame l.session.mac l.port.mac l.session.number.0 f)) (payloads (take l.frame-index l.frames));
   capacity : vec_capacity l.outs ≡ vec_capacity l.fn.outs;
   few : length l.outs.items ≤ length l.fn.outs.items + l.frame-index;
 }

@@ -1,42 +1,46 @@
-use Rattle.std.proofs.Common.{◌≡◌, ◌∙◌, ap, subst, sym}
-use Rattle.bng_base.specs.declared.address.SessionNo.{SessionNo}
+use Rattle.std.proofs.Common.{◌≡◌, ◌∙◌, ℕ, ap, subst, sym}
 use Rattle.bng_shard.specs.declared.session.Session.{Session}
+use Rattle.bng_ppp.specs.PppRelation.{PppSteps}
 use Rattle.bng_shard.specs.Driven.{Driven}
-use Rattle.bng_shard.specs.State.{made_one}
+use Rattle.bng_shard.specs.State.{State, made_one}
+use Rattle.bng_shard.proofs.Driving.{number_of}
 use Rattle.bng_shard.proofs.Replacing.{live_there, made_of_live, number_back, put_back, vacant_back}
 use Rattle.bng_shard.proofs.Values.{same_some}
 use Rattle.bng_shard.proofs.frames.drive_at.Goals as goal
-use Rattle.bng_shard.proofs.frames.drive_at.Goals.{After-drive}
 
--- it keeps its number
-same_number : (c : After-drive) → c.drive.new.session.number.0 ≡ c.args.number.0
-same_number c = ap (λ (y : Session). y.number.0) c.drive.ensures.driven.drives.session ∙ ap (λ (n : SessionNo). n.0) c.take-session.ensures.number
+pub drive-asked-requires-clause-placed : goal.drive-asked-requires-clause-placed
+drive-asked-requires-clause-placed c = c.requires.placed c.args.number.0 c.take-session.result (sym c.take-session.ensures.value)
 
-pub drive-requires-clause-placed : goal.drive-requires-clause-placed
-drive-requires-clause-placed c = c.requires.placed c.args.number.0 c.take-session.result (sym c.take-session.ensures.value)
-
-pub drive-requires-clause-made : goal.drive-requires-clause-made
-drive-requires-clause-made c =
+pub drive-asked-requires-clause-made : goal.drive-asked-requires-clause-made
+drive-asked-requires-clause-made c =
     made_of_live c.take-session.result.service (live_there c.args.served.now c.args.number.0 c.take-session.result c.requires.lives c.take-session.ensures.value)
 
 pub put-requires-clause-number : goal.put-requires-clause-number
 put-requires-clause-number c =
-    let d = (goal.at.put-requires-clause-number c).After-drive in
-    number_back c.args.served.now c.take-session.new.self c.args.number.0 c.drive.new.session.number.0 c.take-session.ensures.after (same_number d) c.take-session.ensures.of_shard
+    let same = number_of c.drive-asked.ensures.driven c.take-session.ensures.number in
+    number_back c.args.served.now c.take-session.new.self c.args.number.0 c.drive-asked.new.session.number.0 c.take-session.ensures.after same c.take-session.ensures.of_shard
 
 pub put-requires-clause-vacant : goal.put-requires-clause-vacant
 put-requires-clause-vacant c =
-    let d = (goal.at.put-requires-clause-vacant c).After-drive in
-    vacant_back c.args.served.now c.take-session.new.self c.args.number.0 c.drive.new.session.number.0 c.take-session.ensures.after (same_number d)
+    let same = number_of c.drive-asked.ensures.driven c.take-session.ensures.number in
+    vacant_back c.args.served.now c.take-session.new.self c.args.number.0 c.drive-asked.new.session.number.0 c.take-session.ensures.after same
 
 pub put-requires-clause-made : goal.put-requires-clause-made
-put-requires-clause-made c = ap (λ (y : Session). made_one y.service) c.drive.ensures.driven.drives.session
+put-requires-clause-made c = ap (λ (y : Session). made_one y.service) c.drive-asked.ensures.driven.drives.session
 
 pub returns-clause-driven : goal.returns-clause-driven
 returns-clause-driven c x is =
-    let d = (goal.at.returns-clause-driven c).After-drive in (
-      c.drive.new.session,
-      subst (λ (y : Session). Driven c.args.rules.now c.args.at c.args.input c.args.now c.args.random.now y c.drive.new.session c.args.outs.now.items c.drive.new.outs.items) (same_some c.take-session.result x (c.take-session.ensures.value ∙ is))
-          c.drive.ensures.driven,
-      put_back c.args.served.now c.take-session.new.self c.args.number.0 c.drive.new.session.number.0 c.take-session.ensures.after (same_number d) c.put.new.self c.drive.new.session c.put.ensures,
+    let r = c.args.rules.now in
+    let x' = c.drive-asked.new.session in
+    let count = c.drive-asked.result in
+    let same = number_of c.drive-asked.ensures.driven c.take-session.ensures.number in
+    let before = c.asked.ensures ∙ ap (λ (t : State). t.asked) c.take-session.ensures.after in
+    let counted : ℕ → State → State = λ n t. record t { asked = n } in (
+      x',
+      count,
+      subst (λ (n : ℕ). Driven r c.args.at (PppSteps r.link c.args.input c.args.now c.args.random.now) n x x' count c.args.outs.now.items c.drive-asked.new.outs.items) before
+          (subst (λ (y : Session). Driven r c.args.at (PppSteps r.link c.args.input c.args.now c.args.random.now) c.asked.result y x' count c.args.outs.now.items c.drive-asked.new.outs.items) (same_some c.take-session.result x (c.take-session.ensures.value ∙ is))
+          c.drive-asked.ensures.driven),
+      c.count_asked.ensures
+          ∙ ap (counted count) (put_back c.args.served.now c.take-session.new.self c.args.number.0 x'.number.0 c.take-session.ensures.after same c.put.new.self x' c.put.ensures),
     )

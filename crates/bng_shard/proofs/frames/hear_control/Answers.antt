@@ -1,6 +1,8 @@
 use Rattle.bng_pppoe_wire.specs.View.{frame_of}
-use Rattle.bng_ppp.specs.declared.rules.Input.TheVariants.{Frame}
+use Rattle.bng_ppp.specs.declared.whole_input.WholeInput.TheVariants.{Frame}
+use Rattle.bng_ppp.specs.PppRelation.{PppSteps}
 use Rattle.bng_shard.proofs.Controls.{no_session, stays_idle, ends_it, hears_it}
+use Rattle.bng_shard.proofs.Speaking.{heard}
 use Rattle.bng_shard.proofs.frames.hear_control.Goals as goal
 
 pub returns-in-Unknown-clause-does : goal.returns-in-Unknown-clause-does
@@ -17,5 +19,5 @@ returns-then-frame-clause-does c =
 
 pub returns-else-frame-clause-does : goal.returns-else-frame-clause-does
 returns-else-frame-clause-does c =
-    hears_it c.args.rules.now c.args.served.now c.args.at c.args.item.now c.args.outs.now.items c.requires.here c.args.number (frame_of c.args.frame.now) (Frame c.args.frame.now.payload) (λ e x x' sent d. d) c.in-Heard.ensures c.if-frame.false
-    c.args.now c.drive_at.new.served c.drive_at.new.outs.items c.drive_at.ensures.driven c.drive_at.ensures.few
+    hears_it c.args.rules.now c.args.served.now c.args.at c.args.item.now c.args.outs.now.items c.requires.here c.args.number (frame_of c.args.frame.now) (PppSteps c.args.rules.now.link (Frame c.args.frame.now.payload) c.args.now c.args.item.now.random) c.args.now
+    (λ old says new h. heard c.args.rules.now.link c.args.frame.now.payload.now c.args.now c.args.item.now.random old says new h.turn h.cause h.goes h.said h.state) c.in-Heard.ensures c.if-frame.false c.drive_at.new.served c.drive_at.new.outs.items c.drive_at.ensures.driven c.drive_at.ensures.few

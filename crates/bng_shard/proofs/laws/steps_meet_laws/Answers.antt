@@ -1,5 +1,6 @@
 use Rattle.bng_shard.proofs.Fewer.{end_leaves_fewer}
 use Rattle.bng_shard.proofs.OneEffect.{pppoe_alike}
+use Rattle.bng_shard.proofs.QuestionLaws.{step_asks}
 use Rattle.bng_shard.proofs.StepLaws.{pppoe_laws, pppoe_still, step_whole, step_begins_none, light, data_fates}
 use Rattle.bng_shard.proofs.laws.steps_meet_laws.Goals as goal
 
@@ -26,3 +27,6 @@ returns-clause-fewer c = end_leaves_fewer
 
 pub returns-clause-alike : goal.returns-clause-alike
 returns-clause-alike c = pppoe_alike
+
+pub returns-clause-questions : goal.returns-clause-questions
+returns-clause-questions c = step_asks

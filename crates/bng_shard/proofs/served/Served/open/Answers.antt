@@ -1,11 +1,11 @@
-use Rattle.std.proofs.Common.{rules, ◌≡◌, ◌∙◌, ℕ, ◌+◌, ◌-◌, ◌*◌, ◌≤◌, List, [], Some, sym, ap, subst, refl, arith, length}
+use Rattle.std.proofs.Common.{rules, ◌≡◌, ◌∙◌, ℕ, ◌+◌, ◌-◌, ◌*◌, ◌≤◌, List, Some, sym, ap, subst, refl, arith, length}
 use Rattle.bng_base.specs.declared.address.SessionNo.{SessionNo}
-use Rattle.bng_slots.specs.Sessions.{Sessions, NoneShares, with_value}
+use Rattle.bng_slots.specs.Sessions.{NoneShares, with_value}
 use Rattle.bng_shard.specs.declared.session.Session.{Session}
 use Rattle.bng_shard.specs.Indexed.{address_of, term_of}
-use Rattle.bng_shard.specs.Serving.{AreLeaving}
+use Rattle.bng_shard.specs.Serving.{AreAsking, AreLeaving, AreYoung, asks, is_young}
 use Rattle.bng_shard.specs.State.{circuit_of}
-use Rattle.bng_shard.proofs.Circuits.{Opens, at, few_begun, opened_ended, opened_is, opened_leaving, opened_made, opened_of_shard, opened_own, opens_none, opens_pass, opens_put, shares_address, shares_circuit, shares_term, vacant_there}
+use Rattle.bng_shard.proofs.Circuits.{Opens, at, few_begun, opened_ended, opened_is, opened_leaving, opened_listed, opened_made, opened_none, opened_of_shard, opened_own, opens_none, opens_pass, opens_put, shares_address, shares_circuit, shares_term, vacant_there}
 use Rattle.bng_shard.proofs.served.Served.open.Goals as goal
 use Rattle.bng_shard.proofs.served.Served.open.Goals.{in-Some, in_default-circuit_with}
 
@@ -68,6 +68,10 @@ invariant_of-result c =
     let opens = subst (λ (k : ℕ). Opens c.args.number c.args.circuits.now k c.loop-n.sessions c.loop-n.begun) all c.loop-n.invariant in
     let none = c.in_ok-leaving.ensures.items in
     let room = c.in_ok-leaving.ensures.capacity in
+    let none_ask = c.in_ok-asking.ensures.items in
+    let asking_room = c.in_ok-asking.ensures.capacity in
+    let none_young = c.in_ok-young.ensures.items in
+    let young_room = c.in_ok-young.ensures.capacity in
     record {
       own = opened_own c.args.number c.args.circuits.now c.loop-n.sessions c.loop-n.begun opens;
       of_shard = opened_of_shard c.args.number c.args.circuits.now c.loop-n.sessions c.loop-n.begun opens;
@@ -75,6 +79,12 @@ invariant_of-result c =
       leaving = subst (λ (ns : List SessionNo). AreLeaving c.loop-n.sessions ns) (sym none) (opened_leaving c.args.number c.args.circuits.now c.loop-n.sessions c.loop-n.begun opens);
       counted = opened_ended c.args.number c.args.circuits.now c.loop-n.sessions c.loop-n.begun opens ∙ sym (ap (λ (ns : List SessionNo). length ns) none);
       room = omega (arith, room);
+      asking = subst (λ (ns : List SessionNo). AreAsking c.loop-n.sessions ns) (sym none_ask) (opened_listed c.args.number c.args.circuits.now c.loop-n.sessions c.loop-n.begun opens asks (λ k serial. refl));
+      asking_counted = opened_none c.args.number c.args.circuits.now c.loop-n.sessions c.loop-n.begun opens asks (λ k serial. refl) ∙ sym (ap (λ (ns : List SessionNo). length ns) none_ask);
+      asking_room = omega (arith, asking_room);
+      young = subst (λ (ns : List SessionNo). AreYoung c.loop-n.sessions ns) (sym none_young) (opened_listed c.args.number c.args.circuits.now c.loop-n.sessions c.loop-n.begun opens is_young (λ k serial. refl));
+      young_counted = opened_none c.args.number c.args.circuits.now c.loop-n.sessions c.loop-n.begun opens is_young (λ k serial. refl) ∙ sym (ap (λ (ns : List SessionNo). length ns) none_young);
+      young_room = omega (arith, young_room);
     }
 
 pub returns-clause-opened : goal.returns-clause-opened

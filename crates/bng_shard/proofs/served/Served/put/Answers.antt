@@ -3,11 +3,39 @@ use Rattle.bng_base.specs.declared.address.SessionNo.{SessionNo}
 use Rattle.bng_slots.specs.Sessions.{Sessions, with_value}
 use Rattle.bng_shard.specs.declared.served.Served.TheInside.{Inside}
 use Rattle.bng_shard.specs.declared.session.Session.{Session}
-use Rattle.bng_shard.specs.Serving.{AreOwn, AreOfShard, AreLeaving, ended_in}
+use Rattle.bng_shard.specs.Listing.{passing_in, with_listed}
+use Rattle.bng_shard.specs.Serving.{AreOwn, AreOfShard, AreLeaving, AreAsking, AreYoung, asks, ended_in, is_young}
 use Rattle.bng_shard.specs.State.{leaves}
+use Rattle.bng_shard.proofs.Listing.{counted_put, listed_put, passing_most}
 use Rattle.bng_shard.proofs.Serves.{ended_most, ended_put, leaving_more, leaving_put, made_more, made_most, of_shard_put, own_put}
 use Rattle.bng_shard.proofs.served.Served.put.Goals as goal
 use Rattle.bng_shard.proofs.served.Served.put.Goals.{then-has_ended, else-has_ended}
+
+pub list-requires : goal.list-requires
+list-requires c =
+    let same : c.if-has_ended.self-inside.asking ≡ c.self.inside.asking = elim c.if-has_ended.branch [
+      | then-has_ended w ↦ ap (λ (a : Inside). a.asking) w.self-inside-is
+      | else-has_ended w ↦ ap (λ (a : Inside). a.asking) w.self-inside-is
+    ] in
+    let most = passing_most asks c.self.inside.sessions c.self.invariant.of_shard in
+    let count = c.self.invariant.asking_counted in
+    let room = c.self.invariant.asking_room in
+    let long = ap (λ v. length v.items) same in
+    let wide = ap (λ v. vec_capacity v) same in
+    omega (arith, most, count, room, long, wide)
+
+pub list_young-requires : goal.list_young-requires
+list_young-requires c =
+    let same : c.if-has_ended.self-inside.young ≡ c.self.inside.young = elim c.if-has_ended.branch [
+      | then-has_ended w ↦ ap (λ (a : Inside). a.young) w.self-inside-is
+      | else-has_ended w ↦ ap (λ (a : Inside). a.young) w.self-inside-is
+    ] in
+    let most = passing_most is_young c.self.inside.sessions c.self.invariant.of_shard in
+    let count = c.self.invariant.young_counted in
+    let room = c.self.invariant.young_room in
+    let long = ap (λ v. length v.items) same in
+    let wide = ap (λ v. vec_capacity v) same in
+    omega (arith, most, count, room, long, wide)
 
 pub push_reserved-requires : goal.push_reserved-requires
 push_reserved-requires c =
@@ -47,6 +75,22 @@ invariant_of-self c =
     let sums : ended_in c.put.new.self ≡ ended_in s + cond (leaves x) 1 0 = ap ended_in put ∙ ended_put s n x vacant in
     let count = is.counted in
     let wide = is.room in
+    let asking : c.if-has_ended.self-inside.asking ≡ c.self.inside.asking = elim c.if-has_ended.branch [
+      | then-has_ended w ↦ ap (λ (a : Inside). a.asking) w.self-inside-is
+      | else-has_ended w ↦ ap (λ (a : Inside). a.asking) w.self-inside-is
+    ] in
+    let numbers = c.self.inside.asking.items in
+    let listed : c.list.new.asking.items ≡ with_listed asks x numbers = c.list.ensures.items ∙ ap (λ v. with_listed asks x v.items) asking in
+    let asking_wide = is.asking_room in
+    let asking_same = c.list.ensures.capacity ∙ ap (λ v. vec_capacity v) asking in
+    let young : c.if-has_ended.self-inside.young ≡ c.self.inside.young = elim c.if-has_ended.branch [
+      | then-has_ended w ↦ ap (λ (a : Inside). a.young) w.self-inside-is
+      | else-has_ended w ↦ ap (λ (a : Inside). a.young) w.self-inside-is
+    ] in
+    let youths = c.self.inside.young.items in
+    let young_listed : c.list_young.new.young.items ≡ with_listed is_young x youths = c.list_young.ensures.items ∙ ap (λ v. with_listed is_young x v.items) young in
+    let young_wide = is.young_room in
+    let young_same = c.list_young.ensures.capacity ∙ ap (λ v. vec_capacity v) young in
     record {
       own = subst AreOwn (sym put) (own_put s n x is.own refl);
       of_shard = subst AreOfShard (sym put) (of_shard_put s n x is.of_shard number);
@@ -85,4 +129,12 @@ invariant_of-self c =
             let same_room = ap (λ (a : Inside). vec_capacity a.leaving) w.self-inside-is in
             omega (arith, same_room, wide)
       ];
+      asking = subst (λ (ns : List SessionNo). AreAsking c.put.new.self ns) (sym listed)
+          (subst (λ (t : Sessions Session). AreAsking t (with_listed asks x numbers)) (sym put) (listed_put asks s x numbers is.asking vacant));
+      asking_counted = ap (passing_in asks) put ∙ counted_put asks s x numbers is.asking vacant is.asking_counted ∙ ap (λ (ns : List SessionNo). length ns) (sym listed);
+      asking_room = omega (arith, asking_wide, asking_same);
+      young = subst (λ (ns : List SessionNo). AreYoung c.put.new.self ns) (sym young_listed)
+          (subst (λ (t : Sessions Session). AreYoung t (with_listed is_young x youths)) (sym put) (listed_put is_young s x youths is.young vacant));
+      young_counted = ap (passing_in is_young) put ∙ counted_put is_young s x youths is.young vacant is.young_counted ∙ ap (λ (ns : List SessionNo). length ns) (sym young_listed);
+      young_room = omega (arith, young_wide, young_same);
     }

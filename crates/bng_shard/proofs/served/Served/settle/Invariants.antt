@@ -1,9 +1,22 @@
 use Rattle.std.proofs.Common.{◌≡◌, ◌<◌, length, vec_capacity}
+use Rattle.bng_shard.specs.Listing.{passing_in}
+use Rattle.bng_shard.specs.Serving.{AreAsking, AreYoung, asks, is_young}
 use Rattle.bng_shard.proofs.Settling.{Settles}
 use Rattle.bng_shard.proofs.served.Served.settle.Given as goal
 
 abbrev pub invariant-loop-number : goal.invariant-loop-number
-invariant-loop-number l = Settles l.fn.self.sessions l.self-inside.sessions l.self-inside.leaving.items l.self-inside.made × (l.self-inside.begun ≡ l.fn.self.begun) × (1022 < vec_capacity l.self-inside.leaving)
+invariant-loop-number l = record {
+  settles : Settles l.fn.self.sessions l.self-inside.sessions l.self-inside.leaving.items l.self-inside.made;
+  begun : l.self-inside.begun ≡ l.fn.self.begun;
+  asked : l.self-inside.asked ≡ l.fn.self.asked;
+  room : 1022 < vec_capacity l.self-inside.leaving;
+  asking : AreAsking l.fn.self.sessions l.self-inside.asking.items;
+  asking_counted : passing_in asks l.fn.self.sessions ≡ length l.self-inside.asking.items;
+  asking_room : 1022 < vec_capacity l.self-inside.asking;
+  young : AreYoung l.fn.self.sessions l.self-inside.young.items;
+  young_counted : passing_in is_young l.fn.self.sessions ≡ length l.self-inside.young.items;
+  young_room : 1022 < vec_capacity l.self-inside.young;
+}
 
 abbrev pub decreases-loop-number : goal.decreases-loop-number
 decreases-loop-number l = length l.self-inside.leaving.items

@@ -1,10 +1,57 @@
-use Rattle.std.proofs.Common.{refl, sym, ap, ◌∙◌}
+use Rattle.std.proofs.Common.{◌≡◌, ◌∙◌, ℕ, Bool, true, false, Option, Some, None, refl, sym, ap, option_map, arith}
+use Rattle.bng_ppp.specs.Claims.{Claim, claim_of}
+use Rattle.bng_ppp.specs.Phases.{is_begun}
+use Rattle.bng_ppp.specs.PppRelation.{PppSaid}
+use Rattle.bng_ppp.specs.PppState.{PppState}
+use Rattle.bng_ppp.specs.WholeStep.{ppp_said}
 use Rattle.bng_shard.specs.contracts.session.Made.{the_view}
 use Rattle.bng_shard.specs.declared.session.Service.TheVariants.{Discovered}
-use Rattle.bng_shard.specs.Made.{Made}
+use Rattle.bng_shard.specs.declared.session.Session.{Session}
+use Rattle.bng_shard.specs.Link.{asked_after, next_ask, question_after}
+use Rattle.bng_shard.specs.Made.{Made, Question}
 use Rattle.bng_shard.proofs.session.Session.step.Goals as goal
 
-pub returns-in-Discovered : goal.returns-in-Discovered
-returns-in-Discovered c =
+stays : (asked : ℕ) (begun : Bool) (question : Option Question) → question_after 0 None begun question ≡ question_after asked None begun question
+stays asked true question = refl
+stays asked false question = refl
+
+pub returns-in-Some : goal.returns-in-Some
+returns-in-Some c =
     let made : Made = the_view c.made.inside in
-    (made, c.step.new.self, c.in-Discovered.is ∙ ap Discovered (sym c.made.view_is), c.step.ensures, refl)
+    let says : PppSaid = ppp_said c.step.new.steps in
+    let link : PppState = c.step.new.self in
+    let claim : says.asked ≡ Some (claim_of c.in-Some.credentials) = ap (option_map claim_of) (sym c.replace.ensures.value ∙ c.in-Some.is) in
+    let rises = c.saturating_add-ask.ensures in
+    let number : c.saturating_add-ask.result ≡ next_ask c.args.asked = omega (arith, rises) in
+    let asks : Some (record { ask = c.saturating_add-ask.result; claim = claim_of c.in-Some.credentials }) ≡ question_after c.args.asked says.asked (is_begun link.auth) made.question =
+    (λ i. Some (record { ask = number i; claim = claim_of c.in-Some.credentials })) ∙ sym (ap (λ (o : Option Claim). question_after c.args.asked o (is_begun link.auth) made.question) claim) in (
+      made,
+      says,
+      link,
+      c.in-Discovered.is ∙ ap Discovered (sym c.made.view_is),
+      c.step.ensures,
+      ap (λ (q : Option Question). let x : Session = record c.args.self.now { service = Discovered (record made { link = link; question = q; ended = says.finished }) } in x) asks,
+      number ∙ sym (ap (asked_after c.args.asked) claim),
+      refl,
+      refl,
+    )
+
+pub returns-in-None : goal.returns-in-None
+returns-in-None c =
+    let made : Made = the_view c.made.inside in
+    let says : PppSaid = ppp_said c.step.new.steps in
+    let link : PppState = c.step.new.self in
+    let claim : says.asked ≡ None = ap (option_map claim_of) (sym c.replace.ensures.value ∙ c.in-None.is) in
+    let asks : question_after 0 None (is_begun link.auth) made.question ≡ question_after c.args.asked says.asked (is_begun link.auth) made.question =
+    stays c.args.asked (is_begun link.auth) made.question ∙ sym (ap (λ (o : Option Claim). question_after c.args.asked o (is_begun link.auth) made.question) claim) in (
+      made,
+      says,
+      link,
+      c.in-Discovered.is ∙ ap Discovered (sym c.made.view_is),
+      c.step.ensures,
+      ap (λ (m : Made). let x : Session = record c.args.self.now { service = Discovered m } in x) c.forget.ensures
+          ∙ ap (λ (q : Option Question). let x : Session = record c.args.self.now { service = Discovered (record made { link = link; question = q; ended = says.finished }) } in x) asks,
+      sym (ap (asked_after c.args.asked) claim),
+      refl,
+      refl,
+    )

@@ -1,0 +1,686 @@
+-- A step tells a peer yes only where that was granted.
+use Rattle.std.proofs.Common.{◌≡◌, ◌≢◌, ◌⊎◌, inl, inr, ℕ, zero, suc, ◌+◌, ◌-◌, ◌*◌, ◌^◌, ◌<◌, ◌≤◌, Bool, true, false, not, ◌&&◌, List, [], ◌++◌, Option, Some, None, is_some, if◌then◌else◌, Contains, All, AllPairs, find, refl, sym, ap, subst, ◌∙◌, arith}
+use Rattle.std.specs.Prelude.{IsSome, ◌==◌}
+use Rattle.std.specs.Option.{option_map, option_and_then}
+use Rattle.std.specs.FinMap.{empty}
+use Rattle.std.proofs.lemmas.Bool.{cases_eq, false≢true}
+use Rattle.std.proofs.lemmas.List.Elements.{All-contains, Contains-append_cases}
+use Rattle.bng_base.specs.declared.address.Mac.{Mac}
+use Rattle.bng_base.specs.declared.address.SessionNo.{SessionNo}
+use Rattle.bng_base.specs.declared.circuit.Circuit.TheVariants.{Pppoe}
+use Rattle.bng_base.specs.declared.item.Entry.{Entry}
+use Rattle.bng_base.specs.declared.item.ItemKind.{ItemKind}
+use Rattle.bng_base.specs.declared.item.ItemKind.TheVariants.{Access, Core, Tunnel, Verdict, Change, Tick, End}
+use Rattle.bng_base.specs.declared.item.OutRecord.{OutRecord}
+use Rattle.bng_base.specs.declared.settings.AccessPort.{AccessPort}
+use Rattle.bng_base.specs.declared.settings.Static.{Static}
+use Rattle.bng_base.specs.PppoeGrammar.{PppoeFrame, PppoeTag}
+use Rattle.bng_discovery.specs.declared.answers.Answer.{Answer}
+use Rattle.bng_discovery.specs.declared.answers.Answer.TheVariants.{Offer, Make, Again, Refuse, Ended, NoSession, Ignore}
+use Rattle.bng_discovery.specs.declared.port.PortRules.{PortRules}
+use Rattle.bng_discovery.specs.Reply.{pado_of, pads_of, refusal_of}
+use Rattle.bng_ppp.specs.declared.authentication.Authentication.{Authentication}
+use Rattle.bng_ppp.specs.declared.authentication.Authentication.TheVariants as auth
+use Rattle.bng_ppp.specs.declared.whole_input.WholeInput.{WholeInput}
+use Rattle.bng_ppp.specs.declared.whole_input.WholeInput.TheVariants.{Start, Timer}
+use Rattle.bng_ppp.specs.Claims.{Claim}
+use Rattle.bng_ppp.specs.Granting.{IsYes, MayAccept, is_frame, is_yes_verdict}
+use Rattle.bng_ppp.specs.Phases.{is_begun}
+use Rattle.bng_ppp.specs.PppRelation.{PppSaid, PppSteps}
+use Rattle.bng_ppp.specs.PppState.{PppState, is_accepted, is_open}
+use Rattle.bng_ppp.proofs.WholeOuts.{ppp_steps_grant}
+use Rattle.bng_ppp.proofs.WholePhases.{accepted_begun, open_unsettled}
+use Rattle.bng_ppp.proofs.WholeQuestions.{accepted_by_verdict, asked_is_open, only_frames_ask, open_was_asked}
+use Rattle.bng_slots.specs.Sessions.{Sessions, IsNumberOf, value_at, with_value}
+use Rattle.bng_slots.proofs.SessionLaws.{value_at-with_value, value_at-with_other}
+use Rattle.bng_verdict.specs.Verdicts.{Saying}
+use Rattle.bng_shard.specs.Made.{Made, Question}
+use Rattle.bng_shard.specs.declared.rules.Rules.{Rules}
+use Rattle.bng_shard.specs.declared.sending.At.{At}
+use Rattle.bng_shard.specs.declared.session.Service.{Service}
+use Rattle.bng_shard.specs.declared.session.Service.TheVariants.{Provisioned, Discovered}
+use Rattle.bng_shard.specs.declared.session.Session.{Session}
+use Rattle.bng_shard.specs.State.{State, circuit_of, leaves, session_of, settled, with_session, with_driven}
+use Rattle.bng_shard.specs.Deed.{Deed, at_of, frame_outs}
+use Rattle.bng_shard.specs.Discovery.{Answers, Makes, host_uniq_of, new_session}
+use Rattle.bng_shard.specs.Frames.{HearsData, HearsPpp, HearsControl, HearsIn, HearsFrame, HearsAccess, HearsCore}
+use Rattle.bng_shard.specs.Granting.{HasQuestion, IsGranted, IsGrantedOn, IsSound, IsYesOn, accepted_ask_at, accepted_in}
+use Rattle.bng_shard.specs.Link.{LinkStep, Drives, EndsWith, asked_after, ended, ended_service, hears, next_ask, question_after, settles, told}
+use Rattle.bng_shard.specs.Opening.{opened_slots, provisioned}
+use Rattle.bng_shard.specs.Questions.{Asking, asking_of, last_asking, last_asking_at, last_in, open_in, open_of}
+use Rattle.bng_shard.specs.Step.{Hears, Step}
+use Rattle.bng_shard.specs.Timers.{Ticks, Ends, HearsTick, HearsEnd, at_once}
+use Rattle.bng_shard.specs.Verdicts.{HearsVerdict}
+use Rattle.bng_shard.proofs.Circuits.{Opens, circuit_found, circuit_none, opened_is, opened_of_shard, opened_own, opens_more, opens_none, opens_other, stands_for}
+use Rattle.bng_shard.proofs.Granted.{NoYes, both_no_yes, core_no_yes, discovery_no_yes, none_yes, packet_no_yes, padt_no_yes, said_yes}
+use Rattle.bng_shard.proofs.LinkSteps.{frame_of, verdict_of, frame_steps, verdict_steps}
+use Rattle.bng_shard.proofs.QuestionLaws.{asked_is_next, new_number}
+use Rattle.bng_shard.proofs.Terms.{at_number}
+use Rattle.bng_shard.proofs.Values.{kept_from, none_some, same_some}
+
+-- Options -----------------------------------------------------------------------------------------------------------------
+
+not_both : {X : Type 0} (b : Bool) → b ≡ true → b ≡ false → X
+not_both b e f = absurd (false≢true (sym f ∙ e))
+
+some_of : {X : Type 0} (o : Option X) → is_some o ≡ true → (x : X) × (o ≡ Some x)
+some_of None e = absurd (false≢true e)
+some_of (Some x) e = (x, refl)
+
+pub if_some : {X : Type 0} (b : Bool) (o : Option X) (x : X) → (if b then o else None) ≡ Some x → (b ≡ true) × (o ≡ Some x)
+if_some true o x e = (refl, e)
+if_some false o x e = absurd (none_some x e)
+
+mapped : {X Y : Type 0} (f : X → Y) (o : Option X) (y : Y) → option_map f o ≡ Some y → (x : X) × (o ≡ Some x) × (f x ≡ y)
+mapped f None y e = absurd (none_some y e)
+mapped f (Some x) y e = (x, refl, same_some (f x) y e)
+
+-- what is read of the session at a number, once another one stands at a number
+read_with : {Y : Type 0} (read : Session → Option Y) (s : State) (n : ℕ) (y : Session) (m : ℕ) (k : Y) → option_and_then read (value_at (with_session s n y).sessions m) ≡ Some k
+    → ((m ≡ n) × (read y ≡ Some k)) ⊎ (option_and_then read (value_at s.sessions m) ≡ Some k)
+read_with read s n y m k e =
+    elim (cases_eq m n) [
+      | inl same ↦
+          let here : value_at (with_value s.sessions n y) m ≡ Some y = ap (λ (i : ℕ). value_at (with_value s.sessions n y) i) same ∙ value_at-with_value s.sessions n y in
+          inl (same, ap (option_and_then read) (sym here) ∙ e)
+      | inr differ ↦ inr (ap (option_and_then read) (sym (value_at-with_other s.sessions n y m differ)) ∙ e)
+    ]
+
+-- Questions of sessions ---------------------------------------------------------------------------------------------------
+
+abbrev ask_in : Session → Option Question
+ask_in x = accepted_in x.service
+
+accepted_with : (s : State) (n : ℕ) (y : Session) (m ask : ℕ) → accepted_ask_at (with_session s n y) m ≡ Some ask
+    → ((m ≡ n) × (q : Question) × (accepted_in y.service ≡ Some q) × (q.ask ≡ ask)) ⊎ (accepted_ask_at s m ≡ Some ask)
+accepted_with s n y m ask e =
+    let found = mapped (λ (q : Question). q.ask) (option_and_then ask_in (value_at (with_session s n y).sessions m)) ask e in
+    elim (read_with ask_in s n y m found.0 found.1) [
+      | inl here ↦ inl (here.0, found.0, here.1, found.2)
+      | inr before ↦ inr (ap (option_map (λ (q : Question). q.ask)) before ∙ ap (λ (i : ℕ). Some i) found.2)
+    ]
+
+pub last_with : (s : State) (n : ℕ) (y : Session) (m : ℕ) (a : Asking) → last_asking_at (with_session s n y) m ≡ Some a
+    → ((m ≡ n) × (q : Question) × (last_in y.service ≡ Some q) × (asking_of y q ≡ a)) ⊎ (last_asking_at s m ≡ Some a)
+last_with s n y m a e =
+    elim (read_with last_asking s n y m a e) [
+      | inl here ↦ let found = mapped (asking_of y) (last_in y.service) a here.1 in inl (here.0, found.0, found.1, found.2)
+      | inr before ↦ inr before
+    ]
+
+module _ (s : State) (n : ℕ) (x : Session) (at : value_at s.sessions n ≡ Some x) (made : Made) (is_made : x.service ≡ Discovered made) (q : Question) (is : made.question ≡ Some q) where
+  accepted_there : is_accepted made.link.auth ≡ true → accepted_ask_at s n ≡ Some q.ask
+  accepted_there tells =
+      let inside : accepted_in (Discovered made) ≡ Some q = ap (λ (b : Bool). if b then made.question else None) tells ∙ is in
+      ap (λ (o : Option Session). option_map (λ (p : Question). p.ask) (option_and_then ask_in o)) at
+      ∙ ap (λ (v : Service). option_map (λ (p : Question). p.ask) (accepted_in v)) is_made
+      ∙ ap (option_map (λ (p : Question). p.ask)) inside
+
+  pub last_there : last_asking_at s n ≡ Some (asking_of x q)
+  last_there =
+      ap (option_and_then last_asking) at
+      ∙ ap (λ (v : Service). option_map (asking_of x) (last_in v)) is_made
+      ∙ ap (option_map (asking_of x)) is
+
+-- the question after a step is a new one, or the last one
+after_question : (n : ℕ) (claim : Option Claim) (begun : Bool) (last : Option Question) (q : Question) → question_after n claim begun last ≡ Some q
+    → ((is_some claim ≡ true) × (q.ask ≡ next_ask n)) ⊎ ((claim ≡ None) × (last ≡ Some q))
+after_question n (Some claim) begun last q e = inl (refl, ap (λ (p : Question). p.ask) (sym (same_some _ q e)))
+after_question n None true last q e = inr (refl, e)
+after_question n None false last q e = absurd (none_some q e)
+
+has_after : (n : ℕ) (claim : Option Claim) (begun : Bool) (last : Option Question) → begun ≡ true → IsSome last → IsSome (question_after n claim begun last)
+has_after n (Some claim) begun last e some = refl
+has_after n None true last e some = some
+has_after n None false last e some = absurd (false≢true e)
+
+has_asked : (n : ℕ) (claim : Option Claim) (begun : Bool) (last : Option Question) → IsSome claim → IsSome (question_after n claim begun last)
+has_asked n (Some claim) begun last some = refl
+has_asked n None begun last some = absurd (false≢true some)
+
+few_after : (n : ℕ) (claim : Option Claim) → asked_after n claim ≤ n + 1
+few_after n None = omega arith
+few_after n (Some claim) = omega arith
+
+open_begun : (a : Authentication) → is_open a ≡ true → is_begun a ≡ true
+open_begun auth.Idle e = e
+open_begun (auth.Pap q) e = refl
+open_begun (auth.Chap q sent) e = refl
+
+by_test : (b : Bool) → (b ≡ false → ⊥) → b ≡ true
+by_test true h = refl
+by_test false h = absurd (h refl)
+
+-- A link that was told this ------------------------------------------------------------------------------------------------
+
+-- what a step of a session's link does to its question, and what it sends
+record Drove (what : WholeInput) (asked : ℕ) (x : Session) (outs : List OutRecord) (x' : Session) (asked' : ℕ) : Type 0 where
+  made : Made
+  is_made : x.service ≡ Discovered made
+  number : x'.number ≡ x.number
+  asking : (q : Question) → asking_of x' q ≡ asking_of x q
+  accepted : (q : Question) → accepted_in x'.service ≡ Some q → (made.question ≡ Some q) × MayAccept what made.link.auth
+  last : (q : Question) → last_in x'.service ≡ Some q → (made.question ≡ Some q) ⊎ ((is_frame what ≡ true) × (q.ask ≡ next_ask asked) × (asked' ≡ next_ask asked))
+  few : asked' ≤ asked + 1
+  still : is_frame what ≡ false → asked' ≡ asked
+  has : HasQuestion x.service → HasQuestion x'.service
+  yes : (o : OutRecord) → Contains outs o → x.number.0 < 65536 → (port : ℕ) (mac : Mac) (n : ℕ) → IsYesOn port mac n o.role o.frame
+      → (port ≡ x.port) × (mac ≡ x.mac) × (n ≡ x.number.0) × MayAccept what made.link.auth
+
+module _ (r : Rules) (e : Entry) (a : At) (Steps : LinkStep) (what : WholeInput) (to : (old : PppState) (says : PppSaid) (new : PppState) → Steps old says new → PppSteps r.link what e.moment e.item.random old says new)
+    (asked : ℕ) (x : Session) (outs : List OutRecord) (x' : Session) (asked' : ℕ) (h : Drives r a asked x Steps outs x' asked') where
+  steps : PppSteps r.link what e.moment e.item.random h.made.link h.says h.link
+  steps = to h.made.link h.says h.link h.steps
+
+  drove_accepted : (q : Question) → accepted_in x'.service ≡ Some q → (h.made.question ≡ Some q) × MayAccept what h.made.link.auth
+  drove_accepted q is =
+      let inside = if_some (is_accepted h.link.auth) (question_after asked h.says.asked (is_begun h.link.auth) h.made.question) q (ap (λ (y : Session). accepted_in y.service) (sym h.session) ∙ is) in
+      elim (after_question asked h.says.asked (is_begun h.link.auth) h.made.question q inside.1) [
+        | inl new ↦
+            let claim = some_of h.says.asked new.0 in
+            let opened = (asked_is_open r.link e.moment e.item.random what h.made.link h.says h.link steps claim.0 claim.1).0 in
+            not_both (is_accepted h.link.auth) inside.0 (open_unsettled h.link.auth opened)
+        | inr before ↦ (before.1, accepted_by_verdict r.link e.moment e.item.random what h.made.link h.says h.link steps inside.0)
+      ]
+
+  drove_last : (q : Question) → last_in x'.service ≡ Some q → (h.made.question ≡ Some q) ⊎ ((is_frame what ≡ true) × (q.ask ≡ next_ask asked) × (asked' ≡ next_ask asked))
+  drove_last q is =
+      elim (after_question asked h.says.asked (is_begun h.link.auth) h.made.question q (ap (λ (y : Session). last_in y.service) (sym h.session) ∙ is)) [
+        | inl new ↦
+            let frame : is_frame what ≡ true =
+            by_test (is_frame what) (λ other. false≢true (sym (ap is_some (only_frames_ask r.link e.moment e.item.random what h.made.link h.says h.link steps other)) ∙ new.0)) in
+            inr (frame, new.1, h.count ∙ asked_is_next asked h.says.asked new.0)
+        | inr before ↦ inl before.1
+      ]
+
+  drove_has : HasQuestion x.service → HasQuestion x'.service
+  drove_has before =
+      let old_has : (is_open h.made.link.auth ≡ true) ⊎ (is_accepted h.made.link.auth ≡ true) → IsSome h.made.question = subst (λ (v : Service). HasQuestion v) h.is_made before in
+      let new_has : (is_open h.link.auth ≡ true) ⊎ (is_accepted h.link.auth ≡ true) → IsSome (question_after asked h.says.asked (is_begun h.link.auth) h.made.question) =
+      λ is. elim is [
+        | inl opened ↦ elim (open_was_asked r.link e.moment e.item.random what h.made.link h.says h.link steps opened) [
+          | inl asks ↦ has_asked asked h.says.asked (is_begun h.link.auth) h.made.question asks
+          | inr was ↦ has_after asked h.says.asked (is_begun h.link.auth) h.made.question (open_begun h.link.auth opened) (old_has (inl was))
+        ]
+        | inr accepted ↦ elim (accepted_by_verdict r.link e.moment e.item.random what h.made.link h.says h.link steps accepted) [
+          | inl was ↦ has_after asked h.says.asked (is_begun h.link.auth) h.made.question (accepted_begun h.link.auth accepted) (old_has (inr was))
+          | inr found ↦ has_after asked h.says.asked (is_begun h.link.auth) h.made.question (accepted_begun h.link.auth accepted) (old_has (inl found.1))
+        ]
+      ] in
+      subst (λ (y : Session). HasQuestion y.service) (sym h.session) new_has
+
+  drove : Drove what asked x outs x' asked'
+  drove = record {
+    made = h.made;
+    is_made = h.is_made;
+    number = ap (λ (y : Session). y.number) h.session;
+    asking = λ q. ap (λ (y : Session). asking_of y q) h.session;
+    accepted = drove_accepted;
+    last = drove_last;
+    few = subst (λ (m : ℕ). m ≤ asked + 1) (sym h.count) (few_after asked h.says.asked);
+    still = λ other. h.count ∙ ap (asked_after asked) (only_frames_ask r.link e.moment e.item.random what h.made.link h.says h.link steps other);
+    has = drove_has;
+    yes = λ o c small port mac n tells.
+        let says = said_yes a x h.port h.offers h.says o (subst (λ (os : List OutRecord). Contains os o) h.outs_are c) small port mac n tells in
+        let grants = All-contains (λ (f : List ℕ). IsYes f → MayAccept what h.made.link.auth) h.says.outs says.frame (ppp_steps_grant r.link e.moment e.item.random what h.made.link h.says h.link steps) says.among in
+        (says.port_is, says.mac_is, says.session_is, grants says.yes);
+  }
+
+-- Sound states ------------------------------------------------------------------------------------------------------------
+
+number_small : (shard n : ℕ) → shard < 64 → IsNumberOf shard n → n < 65536
+number_small shard n low is = omega (arith, low, is.1)
+
+sound_number : (s : State) (n : ℕ) (x : Session) → IsSound s → value_at s.sessions n ≡ Some x → n < 65536
+sound_number s n x h at = number_small s.sessions.shard n h.shard (h.of_shard n (ap is_some at))
+
+sound_with : (s : State) (n : ℕ) (y : Session) → IsSound s → y.number.0 ≡ n → IsNumberOf s.sessions.shard n → HasQuestion y.service → IsSound (with_session s n y)
+sound_with s n y h own of_shard has =
+    record {
+      shard = h.shard;
+      own = λ m x at. elim (cases_eq m n) [
+        | inl e ↦ ap (λ (z : Session). z.number.0) (same_some x y (sym at ∙ there m e)) ∙ own ∙ sym e
+        | inr ne ↦ h.own m x (sym (value_at-with_other s.sessions n y m ne) ∙ at)
+      ];
+      of_shard = λ m some. elim (cases_eq m n) [
+        | inl e ↦ subst (λ (i : ℕ). IsNumberOf s.sessions.shard i) (sym e) of_shard
+        | inr ne ↦ h.of_shard m (ap is_some (sym (value_at-with_other s.sessions n y m ne)) ∙ some)
+      ];
+      questions = λ m x at. elim (cases_eq m n) [
+        | inl e ↦ subst (λ (z : Session). HasQuestion z.service) (sym (same_some x y (sym at ∙ there m e))) has
+        | inr ne ↦ h.questions m x (sym (value_at-with_other s.sessions n y m ne) ∙ at)
+      ];
+    }
+  where
+    there : (m : ℕ) → m ≡ n → value_at (with_value s.sessions n y) m ≡ Some y
+    there m e = ap (λ (i : ℕ). value_at (with_value s.sessions n y) i) e ∙ value_at-with_value s.sessions n y
+
+sound_driven : (s : State) (n : ℕ) (y : Session) (asked : ℕ) → IsSound (with_session s n y) → IsSound (with_driven s n y asked)
+sound_driven s n y asked h = record { shard = h.shard; own = h.own; of_shard = h.of_shard; questions = h.questions }
+
+-- What was granted --------------------------------------------------------------------------------------------------------
+
+-- the session on this circuit asked last by a question that was granted so
+record GrantedOn (s : State) (Is : ℕ → ℕ → Type 0) (port : ℕ) (mac : Mac) (n : ℕ) : Type 0 where
+  asking : Asking
+  last : last_asking_at s n ≡ Some asking
+  circuit : asking.circuit ≡ Pppoe port mac (record { 0 = n })
+  granted : Is n asking.number.ask
+
+abbrev Was : State → ℕ → ℕ → Type 0
+Was s n ask = accepted_ask_at s n ≡ Some ask
+
+abbrev IsNew : ℕ → ℕ → Asking → Type 0
+IsNew n m a = (n < a.number.ask) × (a.number.ask ≤ m)
+
+-- what comes of a state where this is granted
+record Grants (s : State) (Is : ℕ → ℕ → Type 0) (outs : List OutRecord) (s' : State) : Type 0 where
+  sound : IsSound s → IsSound s'
+  yes : IsSound s → (port : ℕ) (mac : Mac) (n : ℕ) (o : OutRecord) → Contains outs o → IsYesOn port mac n o.role o.frame → GrantedOn s Is port mac n
+  accepted : (n ask : ℕ) → accepted_ask_at s' n ≡ Some ask → Is n ask
+  last : s'.asked < 2 ^ 64 - 1 → (n : ℕ) (a : Asking) → last_asking_at s' n ≡ Some a → (last_asking_at s n ≡ Some a) ⊎ IsNew s.asked s'.asked a
+  few : s'.asked ≤ s.asked + 1
+
+-- nothing is asked, and what is granted was so before
+record Still (s : State) (outs : List OutRecord) (s' : State) : Type 0 where
+  sound : IsSound s → IsSound s'
+  yes : IsSound s → (port : ℕ) (mac : Mac) (n : ℕ) (o : OutRecord) → Contains outs o → IsYesOn port mac n o.role o.frame → GrantedOn s (Was s) port mac n
+  accepted : (n ask : ℕ) → accepted_ask_at s' n ≡ Some ask → Was s n ask
+  last : (n : ℕ) (a : Asking) → last_asking_at s' n ≡ Some a → last_asking_at s n ≡ Some a
+  asked : s'.asked ≡ s.asked
+
+still_grants : (s : State) (e : Entry) (outs : List OutRecord) (s' : State) → Still s outs s' → Grants s (IsGranted s e) outs s'
+still_grants s e outs s' h = record {
+  sound = h.sound;
+  yes = λ sound port mac n o c tells. let on = h.yes sound port mac n o c tells in record { asking = on.asking; last = on.last; circuit = on.circuit; granted = inl on.granted };
+  accepted = λ n ask is. inl (h.accepted n ask is);
+  last = λ low n a is. inl (h.last n a is);
+  few = omega (arith, h.asked);
+}
+
+same_still : (s s' : State) (outs : List OutRecord) → s' ≡ s → NoYes outs → Still s outs s'
+same_still s s' outs e none = record {
+  sound = λ h. subst (λ (t : State). IsSound t) (sym e) h;
+  yes = λ sound port mac n o c tells. absurd (none port mac n o c tells);
+  accepted = λ n ask is. ap (λ (t : State). accepted_ask_at t n) (sym e) ∙ is;
+  last = λ n a is. ap (λ (t : State). last_asking_at t n) (sym e) ∙ is;
+  asked = ap (λ (t : State). t.asked) e;
+}
+
+chain_still : (s s' s'' : State) (outs rest : List OutRecord) → Still s outs s' → Still s' rest s'' → Still s (outs ++ rest) s''
+chain_still s s' s'' outs rest g h = record {
+  sound = λ sound. h.sound (g.sound sound);
+  yes = λ sound port mac n o c tells. elim (Contains-append_cases outs rest o c) [
+    | inl first ↦ g.yes sound port mac n o first tells
+    | inr later ↦
+        let on = h.yes (g.sound sound) port mac n o later tells in
+        record { asking = on.asking; last = g.last n on.asking on.last; circuit = on.circuit; granted = g.accepted n on.asking.number.ask on.granted }
+  ];
+  accepted = λ n ask is. g.accepted n ask (h.accepted n ask is);
+  last = λ n a is. g.last n a (h.last n a is);
+  asked = h.asked ∙ g.asked;
+}
+
+-- a session that ends keeps its question
+over_still : (s : State) (n : ℕ) (x : Session) (outs : List OutRecord) → value_at s.sessions n ≡ Some x → NoYes outs → Still s outs (with_session s n (ended x))
+over_still s n x outs at none = record {
+  sound = λ h. sound_with s n (ended x) h (h.own n x at) (h.of_shard n (ap is_some at)) (has_ended x.service (h.questions n x at));
+  yes = λ sound port mac m o c tells. absurd (none port mac m o c tells);
+  accepted = λ m ask is. elim (accepted_with s n (ended x) m ask is) [
+    | inl here ↦
+        ap (λ (i : ℕ). accepted_ask_at s i) here.0 ∙ ap (λ (o : Option Session). option_map (λ (q : Question). q.ask) (option_and_then ask_in o)) at
+        ∙ ap (option_map (λ (q : Question). q.ask)) (same_accepted x.service ∙ here.2)
+        ∙ ap (λ (i : ℕ). Some i) here.3
+    | inr before ↦ before
+  ];
+  last = λ m a is. elim (last_with s n (ended x) m a is) [
+    | inl here ↦
+        ap (λ (i : ℕ). last_asking_at s i) here.0 ∙ ap (option_and_then last_asking) at ∙ ap (option_map (asking_of x)) (same_last x.service ∙ here.2) ∙ ap (λ (b : Asking). Some b) here.3
+    | inr before ↦ before
+  ];
+  asked = refl;
+}
+  where
+    has_ended : (v : Service) → HasQuestion v → HasQuestion (ended_service v)
+    has_ended (Provisioned l) h = h
+    has_ended (Discovered m) h = h
+
+    same_accepted : (v : Service) → accepted_in v ≡ accepted_in (ended_service v)
+    same_accepted (Provisioned l) = refl
+    same_accepted (Discovered m) = refl
+
+    same_last : (v : Service) → last_in v ≡ last_in (ended_service v)
+    same_last (Provisioned l) = refl
+    same_last (Discovered m) = refl
+
+module _ (s : State) (n : ℕ) (x : Session) (outs : List OutRecord) (x' : Session) (asked' : ℕ) (what : WholeInput) (at : value_at s.sessions n ≡ Some x) (d : Drove what s.asked x outs x' asked') where
+  drove_sound : IsSound s → IsSound (with_driven s n x' asked')
+  drove_sound h =
+      sound_driven s n x' asked' (sound_with s n x' h (ap (λ (i : SessionNo). i.0) d.number ∙ h.own n x at) (h.of_shard n (ap is_some at)) (d.has (h.questions n x at)))
+
+  circuit_same : (port : ℕ) (mac : Mac) (m : ℕ) → port ≡ x.port → mac ≡ x.mac → m ≡ x.number.0 → circuit_of x ≡ Pppoe port mac (record { 0 = m })
+  circuit_same port mac m p q t = λ i. Pppoe (sym p i) (sym q i) (record { 0 = sym t i })
+
+  -- where this is granted
+  drove_yes : (Is : ℕ → ℕ → Type 0) → ((q : Question) → d.made.question ≡ Some q → MayAccept what d.made.link.auth → Is n q.ask)
+      → IsSound s → (port : ℕ) (mac : Mac) (m : ℕ) (o : OutRecord) → Contains outs o → IsYesOn port mac m o.role o.frame → GrantedOn s Is port mac m
+  drove_yes Is grant h port mac m o c tells =
+      let own : x.number.0 ≡ n = h.own n x at in
+      let small : x.number.0 < 65536 = omega (arith, own, sound_number s n x h at) in
+      let told = d.yes o c small port mac m tells in
+      let has : (is_open d.made.link.auth ≡ true) ⊎ (is_accepted d.made.link.auth ≡ true) → IsSome d.made.question = subst (λ (v : Service). HasQuestion v) d.is_made (h.questions n x at) in
+      let some : IsSome d.made.question = elim told.3 [ inl was ↦ has (inr was) | inr found ↦ has (inl found.1) ] in
+      let q = some_of d.made.question some in
+      let same : m ≡ n = told.2 ∙ own in
+      record {
+        asking = asking_of x q.0;
+        last = ap (λ (i : ℕ). last_asking_at s i) same ∙ last_there s n x at d.made d.is_made q.0 q.1;
+        circuit = circuit_same port mac m told.0 told.1 told.2;
+        granted = subst (λ (i : ℕ). Is i q.0.ask) (sym same) (grant q.0 q.1 told.3);
+      }
+
+  drove_accepts : (Is : ℕ → ℕ → Type 0) → ((q : Question) → d.made.question ≡ Some q → MayAccept what d.made.link.auth → Is n q.ask) → ((m ask : ℕ) → accepted_ask_at s m ≡ Some ask → Is m ask)
+      → (m ask : ℕ) → accepted_ask_at (with_driven s n x' asked') m ≡ Some ask → Is m ask
+  drove_accepts Is grant was m ask is =
+      elim (accepted_with s n x' m ask is) [
+        | inl here ↦
+            let now = d.accepted here.1 here.2 in
+            subst (λ (i : ℕ). Is i ask) (sym here.0) (subst (λ (k : ℕ). Is n k) here.3 (grant here.1 now.0 now.1))
+        | inr before ↦ was m ask before
+      ]
+
+  drove_grants : (Is : ℕ → ℕ → Type 0) → ((q : Question) → d.made.question ≡ Some q → MayAccept what d.made.link.auth → Is n q.ask) → ((m ask : ℕ) → accepted_ask_at s m ≡ Some ask → Is m ask)
+      → Grants s Is outs (with_driven s n x' asked')
+  drove_grants Is grant was = record {
+    sound = drove_sound;
+    yes = drove_yes Is grant;
+    accepted = drove_accepts Is grant was;
+    last = λ low m a is. elim (last_with s n x' m a is) [
+      | inl here ↦ elim (d.last here.1 here.2) [
+        | inl before ↦ inl (ap (λ (i : ℕ). last_asking_at s i) here.0 ∙ last_there s n x at d.made d.is_made here.1 before ∙ ap (λ (b : Asking). Some b) (sym (d.asking here.1) ∙ here.3))
+        | inr new ↦ inr (new_number s.asked asked' a.number.ask new.2 (sym (ap (λ (b : Asking). b.number.ask) here.3) ∙ new.1) low)
+      ]
+      | inr before ↦ inl before
+    ];
+    few = d.few;
+  }
+
+  -- neither a frame nor a verdict
+  drove_still : is_frame what ≡ false → is_yes_verdict what ≡ false → Still s outs (with_driven s n x' asked')
+  drove_still no_frame no_verdict = record {
+    sound = drove_sound;
+    yes = drove_yes (Was s) only_was;
+    accepted = drove_accepts (Was s) only_was (λ m ask is. is);
+    last = λ m a is. elim (last_with s n x' m a is) [
+      | inl here ↦ elim (d.last here.1 here.2) [
+        | inl before ↦ ap (λ (i : ℕ). last_asking_at s i) here.0 ∙ last_there s n x at d.made d.is_made here.1 before ∙ ap (λ (b : Asking). Some b) (sym (d.asking here.1) ∙ here.3)
+        | inr new ↦ not_both (is_frame what) new.0 no_frame
+      ]
+      | inr before ↦ before
+    ];
+    asked = d.still no_frame;
+  }
+    where
+      only_was : (q : Question) → d.made.question ≡ Some q → MayAccept what d.made.link.auth → Was s n q.ask
+      only_was q is (inl was) = accepted_there s n x at d.made d.is_made q is was
+      only_was q is (inr found) = not_both (is_yes_verdict what) found.0 no_verdict
+
+-- Ticks and Ends ----------------------------------------------------------------------------------------------------------
+
+module _ (r : Rules) (e : Entry) where
+  told_is : (what : WholeInput) (old : PppState) (says : PppSaid) (new : PppState) → told r e what old says new → PppSteps r.link what e.moment e.item.random old says new
+  told_is what old says new h = h
+
+  hears_is : (octets : List ℕ) (old : PppState) (says : PppSaid) (new : PppState) → hears r e octets old says new → PppSteps r.link (frame_of octets) e.moment e.item.random old says new
+  hears_is octets old says new h = frame_steps r.link e.moment e.item.random old says new octets h
+
+  settles_is : (v : Saying) (old : PppState) (says : PppSaid) (new : PppState) → settles r e v old says new → PppSteps r.link (verdict_of v) e.moment e.item.random old says new
+  settles_is v old says new h = verdict_steps r.link e.moment e.item.random old says new v h
+
+  equal_still : (s : State) (outs outs' : List OutRecord) (s' : State) → outs' ≡ outs → Still s outs s' → Still s outs' s'
+  equal_still s outs outs' s' e h = subst (λ (os : List OutRecord). Still s os s') (sym e) h
+
+  empty_no_yes : (outs : List OutRecord) → outs ≡ [] → NoYes outs
+  empty_no_yes outs e = subst (λ (os : List OutRecord). NoYes os) (sym e) none_yes
+
+  ticks_still : (k : ℕ) (s : State) (outs : List OutRecord) (s' : State) → Ticks k r e s outs s' → Still s outs s'
+  ticks_still zero s outs s' h = same_still s s' outs h.1 (empty_no_yes outs h.0)
+  ticks_still (suc k) s outs s' (inl h) = same_still s s' outs h.2 (empty_no_yes outs h.1)
+  ticks_still (suc k) s outs s' (inr (n, due, x, x', at, first, asked', drives, rest, more, are)) =
+      let d = drove r e (at_of s e) (told r e Timer) Timer (told_is Timer) s.asked x first x' asked' drives in
+      equal_still s (first ++ rest) outs s' are (chain_still s (with_driven s n x' asked') s' first rest (drove_still s n x first x' asked' Timer at d refl refl) (ticks_still k (with_driven s n x' asked') rest s' more))
+
+  ends_no_yes : (a : At) (x : Session) (outs : List OutRecord) → EndsWith r a x outs → NoYes outs
+  ends_no_yes a x outs h = subst (λ (os : List OutRecord). NoYes os) (sym h.outs_are) (padt_no_yes a x h.port h.offers)
+
+  ends_still : (k : ℕ) (s : State) (outs : List OutRecord) (s' : State) → Ends k r e s outs s' → Still s outs s'
+  ends_still zero s outs s' h = same_still s s' outs h.1 (empty_no_yes outs h.0)
+  ends_still (suc k) s outs s' (inl h) = same_still s s' outs h.2 (empty_no_yes outs h.1)
+  ends_still (suc k) s outs s' (inr (n, lowest, x, at, padt, rest, with_padt, more, are)) =
+      equal_still s (padt ++ rest) outs s' are (chain_still s (with_session s n (ended x)) s' padt rest (over_still s n x padt at (ends_no_yes (at_of s e) x padt with_padt)) (ends_still k (with_session s n (ended x)) rest s' more))
+
+-- Entries -----------------------------------------------------------------------------------------------------------------
+
+module _ (r : Rules) (s : State) (e : Entry) (d : Deed) where
+  abbrev Deeds : Type 0
+  Deeds = Grants s (IsGranted s e) d.outs d.next
+
+  deed : (f : Deed) → d ≡ f → Grants s (IsGranted s e) f.outs f.next → Deeds
+  deed f is h = subst (λ (x : Deed). Grants s (IsGranted s e) x.outs x.next) (sym is) h
+
+  still : (f : Deed) → d ≡ f → Still s f.outs f.next → Deeds
+  still f is h = deed f is (still_grants s e f.outs f.next h)
+
+  -- all is as it was, and nobody is told yes
+  quiet : (f : Deed) → d ≡ f → f.next ≡ s → NoYes f.outs → Deeds
+  quiet f is next none = still f is (same_still s f.next f.outs next none)
+
+  -- a session that was just made
+  module _ (number : ℕ) (port : AccessPort) (offers : PortRules) (p : PppoeFrame) (tags : List PppoeTag) (h : Makes r s e number port offers p tags d) where
+    fresh : Session
+    fresh = new_session h.session number p.src (host_uniq_of tags) h.link
+
+    started : Drove Start s.asked (new_session h.session number p.src (host_uniq_of tags) h.link) h.outs h.x h.asked
+    started = drove r e (at_of s e) (told r e Start) Start (told_is r e Start) s.asked (new_session h.session number p.src (host_uniq_of tags) h.link) h.outs h.x h.asked h.starts
+
+    auth_in : Authentication → Service → Authentication
+    auth_in a (Provisioned l) = a
+    auth_in a (Discovered m) = m.link.auth
+
+    question_in : Service → Option Question
+    question_in (Provisioned l) = None
+    question_in (Discovered m) = m.question
+
+    idle : started.made.link.auth ≡ auth.Idle
+    unfolding auth_in
+    idle = sym (ap (auth_in auth.Idle) started.is_made) ∙ h.new.auth
+
+    no_question : (q : Question) → started.made.question ≡ Some q → ⊥
+    unfolding question_in
+    no_question q is = none_some q (ap question_in started.is_made ∙ is)
+
+    not_yet : MayAccept Start started.made.link.auth → ⊥
+    not_yet (inl was) = false≢true (sym (ap is_accepted idle) ∙ was)
+    not_yet (inr found) = false≢true found.0
+
+    has_none : HasQuestion (new_session h.session number p.src (host_uniq_of tags) h.link).service
+    has_none (inl opened) = absurd (false≢true (sym (ap is_open h.new.auth) ∙ opened))
+    has_none (inr accepted) = absurd (false≢true (sym (ap is_accepted h.new.auth) ∙ accepted))
+
+    start_no_yes : IsSound s → NoYes h.outs
+    start_no_yes sound port' mac n o c tells =
+        not_yet (started.yes o c (number_small s.sessions.shard h.session sound.shard h.vacant.of_shard) port' mac n tells).3
+
+    pads_no_yes : NoYes (frame_outs (at_of s e) number port (pads_of offers p.src h.session tags))
+    pads_no_yes = discovery_no_yes (at_of s e) number port (pads_of offers p.src h.session tags) refl
+
+    makes_grants : Deeds
+    makes_grants = deed _ h.done (record {
+      sound = λ sound. sound_driven s h.session h.x h.asked (sound_with s h.session h.x sound (ap (λ (i : SessionNo). i.0) started.number) h.vacant.of_shard (started.has has_none));
+      yes = λ sound port' mac n o c tells. absurd (both_no_yes (frame_outs (at_of s e) number port (pads_of offers p.src h.session tags)) h.outs pads_no_yes (start_no_yes sound) port' mac n o c tells);
+      accepted = λ n ask is. elim (accepted_with s h.session h.x n ask is) [
+        | inl here ↦ absurd (no_question here.1 (started.accepted here.1 here.2).0)
+        | inr before ↦ inl before
+      ];
+      last = λ low n a is. elim (last_with s h.session h.x n a is) [
+        | inl here ↦ elim (started.last here.1 here.2) [ inl before ↦ absurd (no_question here.1 before) | inr new ↦ absurd (false≢true new.0) ]
+        | inr before ↦ inl before
+      ];
+      few = started.few;
+    })
+
+  answers : (answer : Answer) (number : ℕ) (port : AccessPort) (offers : PortRules) (p : PppoeFrame) (tags : List PppoeTag) → Answers answer r s e number port offers p tags d → Deeds
+  answers Offer number port offers p tags h = quiet _ h refl (discovery_no_yes (at_of s e) number port (pado_of offers p.src tags) refl)
+  answers Make number port offers p tags h = makes_grants number port offers p tags h
+  answers Again number port offers p tags h = quiet _ h.done refl (discovery_no_yes (at_of s e) number port (pads_of offers p.src h.x.number.0 tags) refl)
+  answers (Refuse error) number port offers p tags h = quiet _ h refl (discovery_no_yes (at_of s e) number port (refusal_of offers p.src error tags) refl)
+  answers Ended number port offers p tags h = quiet _ h refl none_yes
+  answers NoSession number port offers p tags h = quiet _ h refl none_yes
+  answers Ignore number port offers p tags h = quiet _ h refl none_yes
+
+  packets : (number : ℕ) (p : PppoeFrame) (info : List ℕ) → HearsData r s e number p info d → Deeds
+  packets number p info (fate, is, inl (forwards, up)) = quiet _ up.done refl (core_no_yes _ refl)
+  packets number p info (fate, is, inr (stays, h)) = quiet _ h refl none_yes
+
+  -- the link of a session hears a frame
+  ppp : (x : Session) (made : Made) (p : PppoeFrame) → value_at s.sessions p.session ≡ Some x → HearsPpp r s e x made p d → Deeds
+  ppp x made p at (inl (gone, h)) = quiet _ h refl none_yes
+  ppp x made p at (inr (live, outs, x', asked', drives, h)) =
+      let heard = drove r e (at_of s e) (hears r e p.payload) (frame_of p.payload) (hears_is r e p.payload) s.asked x outs x' asked' drives in
+      deed _ h (drove_grants s p.session x outs x' asked' (frame_of p.payload) at heard (IsGranted s e) (λ q is may. elim may [
+        | inl was ↦ inl (accepted_there s p.session x at heard.made heard.is_made q is was)
+        | inr found ↦ absurd (false≢true found.0)
+      ]) (λ m ask is. inl is))
+
+  control : (v : Service) (x : Session) (p : PppoeFrame) → value_at s.sessions p.session ≡ Some x → HearsControl v r s e x p d → Deeds
+  control (Provisioned l) x p at h = quiet _ h refl none_yes
+  control (Discovered made) x p at (inl (padt, h)) = still _ h (over_still s p.session x [] at none_yes)
+  control (Discovered made) x p at (inr (data_frame, h)) = ppp x made p at h
+
+  named : (number : ℕ) (p : PppoeFrame) (found : Option Session) → session_of s number p.src p.session ≡ found → HearsIn found r s e p d → Deeds
+  named number p None is h = quiet _ h refl none_yes
+  named number p (Some x) is h = control x.service x p (at_number number p.src (value_at s.sessions p.session) x is) h
+
+  frame : (number : ℕ) (p : PppoeFrame) → HearsFrame r s e number p d → Deeds
+  frame number p (inl (info, carries, h)) = packets number p info h
+  frame number p (inr (inl (names, no_packet, h))) = named number p (session_of s number p.src p.session) refl h
+  frame number p (inr (inr (before, h))) = answers h.answer number h.port h.offers p h.tags h.does
+
+  access : (number : ℕ) → HearsAccess r s e number d → Deeds
+  access number (inl (none, h)) = quiet _ h refl none_yes
+  access number (inr (p, is, h)) = frame number p h
+
+  core : HearsCore r s e d → Deeds
+  core (inl (none, h)) = quiet _ h refl none_yes
+  core (inr (v, is, (fate, decides, inl (forwards, down)))) = quiet _ down.done refl (packet_no_yes _ down.port down.x.mac down.x.number.0 down.packet down.again)
+  core (inr (v, is, (fate, decides, inr (stays, h)))) = quiet _ h refl none_yes
+
+  -- the session's open question is the last one
+  open_last : (x : Session) (made : Made) (q : Question) → x.service ≡ Discovered made → made.question ≡ Some q → option_map (λ (p : Question). p.ask) (open_of x) ≡ Some e.item.ask → q.ask ≡ e.item.ask
+  open_last x made q is_made is e' =
+      let found = mapped (λ (p : Question). p.ask) (open_in (Discovered made)) e.item.ask (ap (λ (v : Service). option_map (λ (p : Question). p.ask) (open_in v)) (sym is_made) ∙ e') in
+      let inside = if_some (not made.ended && is_open made.link.auth) made.question found.0 found.1 in
+      ap (λ (p : Question). p.ask) (same_some q found.0 (sym is ∙ inside.1)) ∙ found.2
+
+  judged : e.item.kind ≡ Verdict → HearsVerdict r s e d → Deeds
+  judged kind (inl (asks, v, is, h)) =
+      let told = drove r e (at_of s e) (settles r e v) (verdict_of v) (settles_is r e v) s.asked h.x h.outs h.after h.asked h.drives in
+      let ask : option_map (λ (p : Question). p.ask) (open_of h.x) ≡ Some e.item.ask = ap (λ (o : Option Session). option_map (λ (p : Question). p.ask) (option_and_then open_of o)) (sym h.found) ∙ asks in
+      deed _ h.done (drove_grants s e.item.target h.x h.outs h.after h.asked (verdict_of v) h.found told (IsGranted s e) (λ q was may. elim may [
+        | inl accepted ↦ inl (accepted_there s e.item.target h.x h.found told.made told.is_made q was accepted)
+        | inr found ↦
+            let same : q.ask ≡ e.item.ask = open_last h.x told.made q told.is_made was ask in
+            inr (record { kind = kind; target = refl; number = sym same; verdict = v; says = is; yes = found.0 }, asks ∙ ap (λ (i : ℕ). Some i) (sym same))
+      ]) (λ m k before. inl before))
+  judged kind (inr (inl (asks, is, h))) = quiet _ h refl none_yes
+  judged kind (inr (inr (other, h))) = quiet _ h refl none_yes
+
+  tick : HearsTick r s e d → Deeds
+  tick (outs, s', ticks, h) = still _ h (ticks_still r e at_once s outs s' ticks)
+
+  ends : HearsEnd r s e d → Deeds
+  ends (outs, s', all, h) = still _ h (ends_still r e at_once s outs s' all)
+
+  hears_grants : (kind : ItemKind) → e.item.kind ≡ kind → Hears kind r s e d → Deeds
+  hears_grants (Access number) is h = access number h
+  hears_grants Core is h = core h
+  hears_grants Tunnel is h = quiet _ h refl none_yes
+  hears_grants Verdict is h = judged is h
+  hears_grants Change is h = quiet _ h refl none_yes
+  hears_grants Tick is h = tick h
+  hears_grants End is h = ends h
+
+module _ (r : Rules) (s : State) (d : Deed) (h : Step r s d) where
+  grants : Grants s (IsGranted s d.entry) d.outs d.next
+  grants = hears_grants r s d.entry d d.entry.item.kind refl h.hears
+
+  -- a step keeps a state sound
+  pub step_sound : IsSound s → IsSound d.next
+  step_sound sound = grants.sound sound
+
+  -- each yes that it sends was granted on its circuit
+  pub step_yes : IsSound s → (port : ℕ) (mac : Mac) (n : ℕ) (o : OutRecord) → Contains d.outs o → IsYesOn port mac n o.role o.frame → IsGrantedOn s d.entry port mac n
+  step_yes sound port mac n o c tells =
+      let on = grants.yes sound port mac n o c tells in
+      record { asking = on.asking; last = on.last; circuit = on.circuit; granted = on.granted }
+
+  -- and each question that is answered by a yes after it was granted
+  pub step_accepted : (n ask : ℕ) → accepted_ask_at d.next n ≡ Some ask → IsGranted s d.entry n ask
+  step_accepted n ask is = grants.accepted n ask is
+
+  -- the question that a link asked last was so before, or has a number that the step gave
+  pub step_last : d.next.asked < 2 ^ 64 - 1 → (n : ℕ) (a : Asking) → last_asking_at d.next n ≡ Some a → (last_asking_at s n ≡ Some a) ⊎ ((s.asked < a.number.ask) × (a.number.ask ≤ d.next.asked))
+  step_last low n a is = grants.last low n a is
+
+  -- a step asks one question at most
+  pub step_few : d.next.asked ≤ s.asked + 1
+  step_few = grants.few
+
+-- The opening and the settlement ------------------------------------------------------------------------------------------
+
+pub settled_sound : (s : State) → IsSound s → IsSound (settled s)
+settled_sound s h = record {
+  shard = h.shard;
+  own = λ n x at. h.own n x (kept_from (λ (y : Session). not (leaves y)) s.sessions n x at).0;
+  of_shard = λ n some.
+      let x = some_of (value_at (settled s).sessions n) some in
+      h.of_shard n (ap is_some (kept_from (λ (y : Session). not (leaves y)) s.sessions n x.0 x.1).0);
+  questions = λ n x at. h.questions n x (kept_from (λ (y : Session). not (leaves y)) s.sessions n x at).0;
+}
+
+module _ (number : ℕ) (circuits : List Static) (apart : AllPairs (λ a b. a.session ≢ b.session) circuits) where
+  -- circuits one after another
+  record Opened (k : ℕ) : Type 0 where
+    sessions : Sessions Session
+    begun : ℕ
+    opens : Opens number circuits k sessions begun
+
+  opened_next : (k : ℕ) → Opened k → (o : Option Static) → find (λ c. c.session.0 == number * 1024 + 1 + k) circuits ≡ o → Opened (suc k)
+  opened_next k h None e = record {
+    sessions = h.sessions;
+    begun = h.begun;
+    opens = opens_other number circuits k h.sessions h.begun h.opens (circuit_none circuits (number * 1024 + 1 + k) apart e);
+  }
+  opened_next k h (Some c) e = record {
+    sessions = with_value h.sessions (number * 1024 + 1 + k) (provisioned c (h.begun + 1));
+    begun = h.begun + 1;
+    opens = opens_more number circuits k h.sessions h.begun h.opens (number * 1024 + 1 + k) c refl (circuit_found circuits (number * 1024 + 1 + k) c apart e) (h.begun + 1) refl;
+  }
+
+  opened_all : (k : ℕ) → Opened k
+  opened_all zero =
+      let none : Sessions Session = record { shard = number; by_number = empty } in
+      record { sessions = none; begun = 0; opens = opens_none number circuits none refl refl }
+  opened_all (suc k) = opened_next k (opened_all k) (find (λ c. c.session.0 == number * 1024 + 1 + k) circuits) refl
+
+  pub opened_sound : number < 64 → All (λ c. IsNumberOf number c.session.0) circuits → IsSound (opened_slots number circuits)
+  opened_sound low own =
+      let h = opened_all 1022 in
+      let shard : h.sessions.shard ≡ number = h.opens.shard in
+      let sound : IsSound (record { sessions = h.sessions; begun = h.begun; asked = 0 }) = record {
+        shard = omega (arith, shard, low);
+        own = opened_own number circuits h.sessions h.begun h.opens;
+        of_shard = opened_of_shard number circuits h.sessions h.begun h.opens;
+        questions = λ n x at. subst (λ (y : Session). HasQuestion y.service) (sym (stands_for number circuits 1022 h.sessions h.begun h.opens n x at).is) tt;
+      } in
+      subst (λ (s : State). IsSound s) (opened_is number circuits h.sessions h.begun h.opens own) sound

@@ -1,0 +1,24 @@
+-- A link that hears a frame, or is told a verdict, makes a step of a whole link.
+use Rattle.std.proofs.Common.{ℕ, List, None, refl}
+use Rattle.bng_ppp.specs.declared.rules.LinkRules.{LinkRules}
+use Rattle.bng_ppp.specs.declared.whole_input.WholeInput.{WholeInput}
+use Rattle.bng_ppp.specs.declared.whole_input.WholeInput.TheVariants as told
+use Rattle.bng_ppp.specs.PppRelation.{PppSaid, PppSteps}
+use Rattle.bng_ppp.specs.PppState.{PppState}
+use Rattle.bng_verdict.specs.Verdicts.{Saying}
+use Rattle.bng_shard.specs.Link.{HearsPppFrame, IsToldVerdict}
+
+-- the frame of these octets, wherever they lie in memory
+abbrev pub frame_of : List ℕ → WholeInput
+frame_of octets = told.Frame (record { ref_ptr = (0, 0); now = octets })
+
+-- a verdict that gives no address
+abbrev pub verdict_of : Saying → WholeInput
+verdict_of v = told.Verdict v.yes None (record { items = v.text })
+
+module _ (r : LinkRules) (now : ℕ) (random : List ℕ) (old : PppState) (says : PppSaid) (new : PppState) where
+  pub frame_steps : (octets : List ℕ) → HearsPppFrame r octets now random old says new → PppSteps r (frame_of octets) now random old says new
+  frame_steps octets h = record { turn = h.turn; cause = _; goes = (h.heard, refl); said = h.said; state = h.state }
+
+  pub verdict_steps : (v : Saying) → IsToldVerdict r v now random old says new → PppSteps r (verdict_of v) now random old says new
+  verdict_steps v h = record { turn = h.turn; cause = None; goes = (h.settles, refl); said = h.said; state = h.state }

@@ -1,0 +1,350 @@
+-- After a step each open question was open before, or has a number that the step gave.
+use Rattle.std.proofs.Common.{◌≡◌, ◌⊎◌, inl, inr, ℕ, zero, suc, ◌-◌, ◌^◌, ◌<◌, ◌≤◌, Bool, true, false, not, ◌&&◌, List, [], ◌∷◌, Option, Some, None, is_some, if◌then◌else◌, Contains, refl, sym, ap, subst, ◌∙◌, arith}
+use Rattle.std.specs.List.{flat_map}
+use Rattle.std.specs.Option.{option_map, option_and_then}
+use Rattle.std.proofs.lemmas.Bool.{cases_eq, false≢true}
+use Rattle.std.proofs.lemmas.List.Elements.{Contains-append_cases, Contains-append_left, Contains-append_right}
+use Rattle.bng_base.specs.declared.item.Entry.{Entry}
+use Rattle.bng_base.specs.declared.item.ItemKind.{ItemKind}
+use Rattle.bng_base.specs.declared.item.ItemKind.TheVariants.{Access, Core, Tunnel, Verdict, Change, Tick, End}
+use Rattle.bng_base.specs.declared.item.OutRecord.{OutRecord}
+use Rattle.bng_base.specs.declared.settings.AccessPort.{AccessPort}
+use Rattle.bng_base.specs.PppoeGrammar.{PppoeFrame, PppoeTag}
+use Rattle.bng_discovery.specs.declared.answers.Answer.{Answer}
+use Rattle.bng_discovery.specs.declared.answers.Answer.TheVariants.{Offer, Make, Again, Refuse, Ended, NoSession, Ignore}
+use Rattle.bng_discovery.specs.declared.port.PortRules.{PortRules}
+use Rattle.bng_ppp.specs.declared.whole_input.WholeInput.{WholeInput}
+use Rattle.bng_ppp.specs.declared.whole_input.WholeInput.TheVariants.{Start, Timer}
+use Rattle.bng_ppp.specs.Claims.{Claim}
+use Rattle.bng_ppp.specs.Phases.{is_begun}
+use Rattle.bng_ppp.specs.PppRelation.{PppSaid}
+use Rattle.bng_ppp.specs.PppState.{PppState, is_open}
+use Rattle.bng_slots.specs.Sessions.{value_at, with_value}
+use Rattle.bng_slots.specs.Listed.{values}
+use Rattle.bng_slots.proofs.SessionLaws.{value_at-with_value, value_at-with_other}
+use Rattle.bng_verdict.specs.Verdicts.{Saying}
+use Rattle.bng_shard.specs.Made.{Made, Question}
+use Rattle.bng_shard.specs.declared.rules.Rules.{Rules}
+use Rattle.bng_shard.specs.declared.sending.At.{At}
+use Rattle.bng_shard.specs.declared.session.Service.{Service}
+use Rattle.bng_shard.specs.declared.session.Service.TheVariants.{Provisioned, Discovered}
+use Rattle.bng_shard.specs.declared.session.Session.{Session}
+use Rattle.bng_shard.specs.State.{State, session_of, with_session, with_driven}
+use Rattle.bng_shard.specs.Deed.{Deed, at_of}
+use Rattle.bng_shard.specs.Discovery.{Answers, Makes}
+use Rattle.bng_shard.specs.Frames.{HearsData, HearsPpp, HearsControl, HearsIn, HearsFrame, HearsAccess, HearsCore}
+use Rattle.bng_shard.specs.Link.{LinkStep, Drives, asked_after, ended, ended_service, hears, next_ask, question_after, settles, told, with_link}
+use Rattle.bng_shard.specs.Questions.{Asking, AsksOn, asked_in, asking_of, open_in, open_of, questions_of}
+use Rattle.bng_shard.specs.Step.{Hears, Step}
+use Rattle.bng_shard.specs.Timers.{Ticks, Ends, HearsTick, HearsEnd, at_once, deadline_in, deadline_of, deadline_unless, link_deadline}
+use Rattle.bng_shard.specs.Verdicts.{HearsVerdict}
+use Rattle.bng_ppp.proofs.WholeQuestions.{open_was_asked}
+use Rattle.bng_shard.proofs.LinkSteps.{frame_of, verdict_of, frame_steps, verdict_steps}
+use Rattle.bng_shard.proofs.OneEffect.{same_made}
+use Rattle.bng_shard.proofs.Terms.{at_number, next_of}
+use Rattle.bng_shard.proofs.Values.{none_some, numbered, same_some, stands}
+
+-- Lists of questions ------------------------------------------------------------------------------------------------------
+
+-- what stands in lists, one after another, stands in one of them
+pub held : {V X : Type 0} (f : V → List X) (xs : List V) (a : X) → Contains (flat_map f xs) a → (x : V) × (Contains xs x) × (Contains (f x) a)
+held f [] a (k, l, is) = absurd (omega arith)
+held f (x ∷ xs) a h =
+    elim (Contains-append_cases (f x) (flat_map f xs) a h) [
+      | inl here ↦ (x, (0, omega arith, refl), here)
+      | inr later ↦ let rest = held f xs a later in (rest.0, (suc rest.1.0, omega (arith, rest.1.1), rest.1.2), rest.2)
+    ]
+
+holds : {V X : Type 0} (f : V → List X) (xs : List V) (x : V) (a : X) → Contains xs x → Contains (f x) a → Contains (flat_map f xs) a
+holds f [] x a (k, l, is) h = absurd (omega arith)
+holds f (y ∷ xs) x a (zero, l, is) h = Contains-append_left (f y) (flat_map f xs) a (subst (λ z. Contains (f z) a) (sym is) h)
+holds f (y ∷ xs) x a (suc k, l, is) h = Contains-append_right (f y) (flat_map f xs) a (holds f xs x a (k, omega arith, is) h)
+
+-- the open question of a session
+abbrev asks : Session → List Asking
+asks x = asked_in x (open_of x)
+
+no_question : (x : Session) (o : Option Question) (a : Asking) → o ≡ None → Contains (asked_in x o) a → ⊥
+no_question x None a e (k, l, is) = omega arith
+no_question x (Some q) a e h = none_some q (sym e)
+
+the_question : (x : Session) (o : Option Question) (a : Asking) → Contains (asked_in x o) a → (q : Question) × (o ≡ Some q) × (asking_of x q ≡ a)
+the_question x None a (k, l, is) = absurd (omega arith)
+the_question x (Some q) a (zero, l, is) = (q, refl, is)
+the_question x (Some q) a (suc k, l, is) = absurd (omega arith)
+
+-- once another session stands at a number, a question is its own, or was open before
+among : (s : State) (n : ℕ) (y : Session) (a : Asking) → Contains (questions_of (with_session s n y)) a → Contains (asks y) a ⊎ Contains (questions_of s) a
+among s n y a h =
+    let found = held asks (values (with_value s.sessions n y)) a h in
+    let at = numbered (with_value s.sessions n y) found.0 found.1 in
+    elim (cases_eq at.0 n) [
+      | inl e ↦
+          let there : value_at (with_value s.sessions n y) n ≡ Some found.0 = subst (λ (m : ℕ). value_at (with_value s.sessions n y) m ≡ Some found.0) e at.1 in
+          let same : found.0 ≡ y = same_some found.0 y (sym there ∙ value_at-with_value s.sessions n y) in
+          inl (subst (λ (z : Session). Contains (asks z) a) same found.2)
+      | inr ne ↦
+          let there : value_at s.sessions at.0 ≡ Some found.0 = sym (value_at-with_other s.sessions n y at.0 ne) ∙ at.1 in
+          inr (holds asks (values s.sessions) found.0 a (stands s.sessions at.0 found.0 there) found.2)
+    ]
+
+-- the question of a session that stands there is open
+open_there : (s : State) (n : ℕ) (x : Session) (q : Question) → value_at s.sessions n ≡ Some x → open_of x ≡ Some q → Contains (questions_of s) (asking_of x q)
+open_there s n x q at is =
+    let here : Contains (asks x) (asking_of x q) = subst (λ (o : Option Question). Contains (asked_in x o) (asking_of x q)) (sym is) (0, omega arith, refl) in
+    holds asks (values s.sessions) x (asking_of x q) (stands s.sessions n x at) here
+
+-- Counts ------------------------------------------------------------------------------------------------------------------
+
+-- a count goes on
+record Counts (n m : ℕ) : Type 0 where
+  count : n < 2 ^ 64 → (n ≤ m) × (m < 2 ^ 64)
+  below : m < 2 ^ 64 - 1 → n ≤ m
+
+counts_same : (n m : ℕ) → m ≡ n → Counts n m
+counts_same n m e = record { count = λ small. (omega (arith, e), omega (arith, e, small)); below = λ low. omega (arith, e) }
+
+counts_then : (n m k : ℕ) → Counts n m → Counts m k → Counts n k
+counts_then n m k g h = record {
+  count = λ small. let first = g.count small in let rest = h.count first.1 in (omega (arith, first.0, rest.0), rest.1);
+  below = λ low. let last = h.below low in let first = g.below (omega (arith, last, low)) in omega (arith, first, last);
+}
+
+next_counts : (n : ℕ) → Counts n (next_ask n)
+next_counts n = record { count = λ small. (omega (arith, small), omega (arith, small)); below = λ low. omega (arith, low) }
+
+after_counts : (n : ℕ) (claim : Option Claim) → Counts n (asked_after n claim)
+after_counts n None = counts_same n n refl
+after_counts n (Some claim) = next_counts n
+
+abbrev IsNew : ℕ → ℕ → Asking → Type 0
+IsNew n m a = (n < a.number.ask) × (a.number.ask ≤ m)
+
+-- the count goes on, and each open question was open before, or is new
+record On (s s' : State) : Type 0 where
+  counted : Counts s.asked s'.asked
+  asked : s'.asked < 2 ^ 64 - 1 → (a : Asking) → Contains (questions_of s') a → Contains (questions_of s) a ⊎ IsNew s.asked s'.asked a
+
+same : (s s' : State) → s' ≡ s → On s s'
+same s s' e = record {
+  counted = counts_same s.asked s'.asked (ap (λ (t : State). t.asked) e);
+  asked = λ low a h. inl (subst (λ (t : State). Contains (questions_of t) a) e h);
+}
+
+chained : (s s' s'' : State) → On s s' → On s' s'' → On s s''
+chained s s' s'' g h = record {
+  counted = counts_then s.asked s'.asked s''.asked g.counted h.counted;
+  asked = λ low a there.
+      let last = h.counted.below low in
+      let middle : s'.asked < 2 ^ 64 - 1 = omega (arith, last, low) in
+      let first = g.counted.below middle in
+      elim (h.asked low a there) [
+        | inl before ↦ elim (g.asked middle a before) [ inl long ↦ inl long | inr new ↦ inr (new.0, omega (arith, new.1, last)) ]
+        | inr new ↦ inr (omega (arith, first, new.0), new.1)
+      ];
+}
+
+-- Links -------------------------------------------------------------------------------------------------------------------
+
+-- a link has an open question only where it asks, or had one
+abbrev OpensByAsking : LinkStep → Type 0
+OpensByAsking Steps = (old : PppState) (says : PppSaid) (new : PppState) → Steps old says new → is_open new.auth ≡ true → (is_some says.asked ≡ true) ⊎ (is_open old.auth ≡ true)
+
+told_opens : (r : Rules) (e : Entry) (what : WholeInput) → OpensByAsking (told r e what)
+told_opens r e what old says new h opened = open_was_asked r.link e.moment e.item.random what old says new h opened
+
+hears_opens : (r : Rules) (e : Entry) (octets : List ℕ) → OpensByAsking (hears r e octets)
+hears_opens r e octets old says new h opened = open_was_asked r.link e.moment e.item.random (frame_of octets) old says new (frame_steps r.link e.moment e.item.random old says new octets h) opened
+
+settles_opens : (r : Rules) (e : Entry) (v : Saying) → OpensByAsking (settles r e v)
+settles_opens r e v old says new h opened = open_was_asked r.link e.moment e.item.random (verdict_of v) old says new (verdict_steps r.link e.moment e.item.random old says new v h) opened
+
+-- the open question of a link after a step: the step asked it, or it was the last one before
+after_step : (finished opened : Bool) (n : ℕ) (claim : Option Claim) (begun : Bool) (last : Option Question) (q : Question)
+    → (if not finished && opened then question_after n claim begun last else None) ≡ Some q
+    → (opened ≡ true) × (((is_some claim ≡ true) × (q.ask ≡ next_ask n)) ⊎ ((claim ≡ None) × (last ≡ Some q)))
+after_step true opened n claim begun last q e = absurd (none_some q e)
+after_step false false n claim begun last q e = absurd (none_some q e)
+after_step false true n (Some claim) begun last q e = (refl, inl (refl, ap (λ (p : Question). p.ask) (sym (same_some _ q e))))
+after_step false true n None true last q e = (refl, inr (refl, e))
+after_step false true n None false last q e = absurd (none_some q e)
+
+pub asked_is_next : (n : ℕ) (claim : Option Claim) → is_some claim ≡ true → asked_after n claim ≡ next_ask n
+asked_is_next n None e = absurd (false≢true e)
+asked_is_next n (Some claim) e = refl
+
+pub new_number : (n m k : ℕ) → m ≡ next_ask n → k ≡ next_ask n → m < 2 ^ 64 - 1 → (n < k) × (k ≤ m)
+new_number n m k e f low = (omega (arith, e, f, low), omega (arith, e, f))
+
+-- what a session asked last, and not yet had a verdict on, is open
+abbrev IsOpenIn : State → Session → Type 0
+IsOpenIn s x = (m : Made) (q : Question) → x.service ≡ Discovered m → m.question ≡ Some q → is_open m.link.auth ≡ true → Contains (questions_of s) (asking_of x q)
+
+module _ (r : Rules) (a : At) (s : State) (n : ℕ) (x : Session) (outs : List OutRecord) (x' : Session) (asked' : ℕ) (Steps : LinkStep) (opens : OpensByAsking Steps) where
+  driven : IsOpenIn s x → Drives r a s.asked x Steps outs x' asked' → On s (with_driven s n x' asked')
+  driven was h = record {
+    counted = subst (λ (m : ℕ). Counts s.asked m) (sym h.count) (after_counts s.asked h.says.asked);
+    asked = λ low b there. elim (among s n x' b there) [
+      | inr before ↦ inl before
+      | inl own ↦
+          let z : Session = with_link x h.made s.asked h.says h.link in
+          let found = the_question z (open_of z) b (subst (λ (y : Session). Contains (asks y) b) h.session own) in
+          let q = found.0 in
+          let number : q.ask ≡ b.number.ask = ap (λ (c : Asking). c.number.ask) found.2 in
+          let after = after_step h.says.finished (is_open h.link.auth) s.asked h.says.asked (is_begun h.link.auth) h.made.question q found.1 in
+          elim after.1 [
+            | inl new ↦ inr (new_number s.asked asked' b.number.ask (h.count ∙ asked_is_next s.asked h.says.asked new.0) (sym number ∙ new.1) low)
+            | inr old ↦ elim (opens h.made.link h.says h.link h.steps after.0) [
+              | inl asks_now ↦ absurd (false≢true (sym (ap is_some old.0) ∙ asks_now))
+              | inr still ↦ inl (subst (λ (c : Asking). Contains (questions_of s) c) found.2 (was h.made q h.is_made old.1 still))
+            ]
+          ]
+    ];
+  }
+
+-- a session that has not ended stands there
+open_in_live : (m : Made) (q : Question) → m.ended ≡ false → m.question ≡ Some q → is_open m.link.auth ≡ true → open_in (Discovered m) ≡ Some q
+open_in_live m q live last still = ap (λ (b : Bool). if not b && is_open m.link.auth then m.question else None) live ∙ ap (λ (b : Bool). if b then m.question else None) still ∙ last
+
+was_open : (s : State) (n : ℕ) (x : Session) → value_at s.sessions n ≡ Some x → ((m : Made) → x.service ≡ Discovered m → m.ended ≡ false) → IsOpenIn s x
+was_open s n x at live m q is last still = open_there s n x q at (ap open_in is ∙ open_in_live m q (live m is) last still)
+
+-- a session without a question has none that is open
+was_silent : (s : State) (x : Session) (made : Made) → x.service ≡ Discovered made → made.question ≡ None → IsOpenIn s x
+was_silent s x made is none m q is' last still = absurd (none_some q (sym none ∙ ap (λ (k : Made). k.question) (same_made x.service made m is is') ∙ last))
+
+-- a session with a deadline, or with an open question, has not ended
+live_of_deadline : (over : Bool) (deadline : Option ℕ) (t : ℕ) → deadline_unless over deadline ≡ Some t → over ≡ false
+live_of_deadline true deadline t e = absurd (none_some t e)
+live_of_deadline false deadline t e = refl
+
+due_lives : (x : Session) (t : ℕ) → deadline_of x ≡ Some t → (m : Made) → x.service ≡ Discovered m → m.ended ≡ false
+due_lives x t e m is = live_of_deadline m.ended (link_deadline m.link) t (ap deadline_in (sym is) ∙ e)
+
+live_of_open : (over still : Bool) (last : Option Question) (n : ℕ) → option_map (λ q. q.ask) (if not over && still then last else None) ≡ Some n → over ≡ false
+live_of_open true still last n e = absurd (none_some n e)
+live_of_open false still last n e = refl
+
+open_lives : (x : Session) (n : ℕ) → option_map (λ q. q.ask) (open_of x) ≡ Some n → (m : Made) → x.service ≡ Discovered m → m.ended ≡ false
+open_lives x n e m is = live_of_open m.ended (is_open m.link.auth) m.question n (ap (λ (v : Service). option_map (λ q. q.ask) (open_in v)) (sym is) ∙ e)
+
+-- a session that ended asks nothing
+ended_silent : (v : Service) → open_in (ended_service v) ≡ None
+ended_silent (Provisioned l) = refl
+ended_silent (Discovered m) = refl
+
+over : (s : State) (n : ℕ) (x : Session) → On s (with_session s n (ended x))
+over s n x = record {
+  counted = counts_same s.asked s.asked refl;
+  asked = λ low a there. elim (among s n (ended x) a there) [
+    | inl own ↦ absurd (no_question (ended x) (open_of (ended x)) a (ended_silent x.service) own)
+    | inr before ↦ inl before
+  ];
+}
+
+-- Ticks and Ends ----------------------------------------------------------------------------------------------------------
+
+module _ (r : Rules) (e : Entry) where
+  ticks_on : (k : ℕ) (s : State) (outs : List OutRecord) (s' : State) → Ticks k r e s outs s' → On s s'
+  ticks_on zero s outs s' h = same s s' h.1
+  ticks_on (suc k) s outs s' (inl h) = same s s' h.2
+  ticks_on (suc k) s outs s' (inr (n, due, x, x', at, first, asked', drives, rest, more, are)) =
+      let deadline : deadline_of x ≡ Some due.deadline = ap (option_and_then deadline_of) (sym at) ∙ due.is in
+      let here = driven r (at_of s e) s n x first x' asked' (told r e Timer) (told_opens r e Timer) (was_open s n x at (due_lives x due.deadline deadline)) drives in
+      chained s (with_driven s n x' asked') s' here (ticks_on k (with_driven s n x' asked') rest s' more)
+
+  ends_on : (k : ℕ) (s : State) (outs : List OutRecord) (s' : State) → Ends k r e s outs s' → On s s'
+  ends_on zero s outs s' h = same s s' h.1
+  ends_on (suc k) s outs s' (inl h) = same s s' h.2
+  ends_on (suc k) s outs s' (inr (n, lowest, x, at, padt, rest, with_padt, more, are)) =
+      chained s (with_session s n (ended x)) s' (over s n x) (ends_on k (with_session s n (ended x)) rest s' more)
+
+-- Entries -----------------------------------------------------------------------------------------------------------------
+
+module _ (r : Rules) (s : State) (e : Entry) (d : Deed) where
+  -- a deed that is this one, which leaves all as it was
+  kept : (f : Deed) → d ≡ f → f.next ≡ s → On s d.next
+  kept f is next = same s d.next (next_of d f is ∙ next)
+
+  after : (s' : State) (f : Deed) → d ≡ f → f.next ≡ s' → On s s' → On s d.next
+  after s' f is next h = subst (λ (t : State). On s t) (sym (next_of d f is ∙ next)) h
+
+  makes : (number : ℕ) (port : AccessPort) (offers : PortRules) (p : PppoeFrame) (tags : List PppoeTag) → Makes r s e number port offers p tags d → On s d.next
+  makes number port offers p tags h =
+      after (with_driven s h.session h.x h.asked) _ h.done refl
+      (driven r (at_of s e) s h.session _ h.outs h.x h.asked (told r e Start) (told_opens r e Start) (was_silent s _ h.starts.made h.starts.is_made (sym (ap question_in h.starts.is_made))) h.starts)
+    where
+      question_in : Service → Option Question
+      question_in (Provisioned l) = None
+      question_in (Discovered m) = m.question
+
+  answers : (answer : Answer) (number : ℕ) (port : AccessPort) (offers : PortRules) (p : PppoeFrame) (tags : List PppoeTag) → Answers answer r s e number port offers p tags d → On s d.next
+  answers Offer number port offers p tags h = kept _ h refl
+  answers Make number port offers p tags h = makes number port offers p tags h
+  answers Again number port offers p tags h = kept _ h.done refl
+  answers (Refuse error) number port offers p tags h = kept _ h refl
+  answers Ended number port offers p tags h = kept _ h refl
+  answers NoSession number port offers p tags h = kept _ h refl
+  answers Ignore number port offers p tags h = kept _ h refl
+
+  data_kept : (number : ℕ) (p : PppoeFrame) (info : List ℕ) → HearsData r s e number p info d → On s d.next
+  data_kept number p info (fate, is, inl (forwards, up)) = kept _ up.done refl
+  data_kept number p info (fate, is, inr (stays, h)) = kept _ h refl
+
+  ppp : (x : Session) (made : Made) (p : PppoeFrame) → value_at s.sessions p.session ≡ Some x → x.service ≡ Discovered made → HearsPpp r s e x made p d → On s d.next
+  ppp x made p at is (inl (gone, h)) = kept _ h refl
+  ppp x made p at is (inr (live, outs, x', asked', drives, h)) =
+      let lives : (m : Made) → x.service ≡ Discovered m → m.ended ≡ false = λ m is'. ap (λ (k : Made). k.ended) (same_made x.service m made is' is) ∙ live in
+      after (with_driven s p.session x' asked') _ h refl (driven r (at_of s e) s p.session x outs x' asked' (hears r e p.payload) (hears_opens r e p.payload) (was_open s p.session x at lives) drives)
+
+  control : (v : Service) (x : Session) (p : PppoeFrame) → value_at s.sessions p.session ≡ Some x → x.service ≡ v → HearsControl v r s e x p d → On s d.next
+  control (Provisioned l) x p at is h = kept _ h refl
+  control (Discovered made) x p at is (inl (padt, h)) = after (with_session s p.session (ended x)) _ h refl (over s p.session x)
+  control (Discovered made) x p at is (inr (data_frame, h)) = ppp x made p at is h
+
+  named : (number : ℕ) (p : PppoeFrame) (found : Option Session) → session_of s number p.src p.session ≡ found → HearsIn found r s e p d → On s d.next
+  named number p None is h = kept _ h refl
+  named number p (Some x) is h = control x.service x p (at_number number p.src (value_at s.sessions p.session) x is) refl h
+
+  frame : (number : ℕ) (p : PppoeFrame) → HearsFrame r s e number p d → On s d.next
+  frame number p (inl (info, carries, h)) = data_kept number p info h
+  frame number p (inr (inl (names, no_packet, h))) = named number p (session_of s number p.src p.session) refl h
+  frame number p (inr (inr (before, h))) = answers h.answer number h.port h.offers p h.tags h.does
+
+  access : (number : ℕ) → HearsAccess r s e number d → On s d.next
+  access number (inl (none, h)) = kept _ h refl
+  access number (inr (p, is, h)) = frame number p h
+
+  core : HearsCore r s e d → On s d.next
+  core (inl (none, h)) = kept _ h refl
+  core (inr (v, is, (fate, decides, inl (forwards, down)))) = kept _ down.done refl
+  core (inr (v, is, (fate, decides, inr (stays, h)))) = kept _ h refl
+
+  judged : HearsVerdict r s e d → On s d.next
+  judged (inl (asked_it, v, is, h)) =
+      let number : option_map (λ q. q.ask) (open_of h.x) ≡ Some e.item.ask = ap (λ (o : Option Session). option_map (λ q. q.ask) (option_and_then open_of o)) (sym h.found) ∙ asked_it in
+      after (with_driven s e.item.target h.after h.asked) _ h.done refl
+      (driven r (at_of s e) s e.item.target h.x h.outs h.after h.asked (settles r e v) (settles_opens r e v) (was_open s e.item.target h.x h.found (open_lives h.x e.item.ask number)) h.drives)
+  judged (inr (inl (asked_it, is, h))) = kept _ h refl
+  judged (inr (inr (other, h))) = kept _ h refl
+
+  tick : HearsTick r s e d → On s d.next
+  tick (outs, s', ticks, h) = after s' _ h refl (ticks_on r e at_once s outs s' ticks)
+
+  ends : HearsEnd r s e d → On s d.next
+  ends (outs, s', all, h) = after s' _ h refl (ends_on r e at_once s outs s' all)
+
+  hears_on : (kind : ItemKind) → Hears kind r s e d → On s d.next
+  hears_on (Access number) h = access number h
+  hears_on Core h = core h
+  hears_on Tunnel h = kept _ h refl
+  hears_on Verdict h = judged h
+  hears_on Change h = kept _ h refl
+  hears_on Tick h = tick h
+  hears_on End h = ends h
+
+-- the questions of a step
+pub step_asks : (r : Rules) (s : State) (d : Deed) → Step r s d → AsksOn s d.next
+step_asks r s d h =
+    let on = hears_on r s d.entry d d.entry.item.kind h.hears in
+    record { count = on.counted.count; asks = on.asked }

@@ -1,0 +1,23 @@
+use Rattle.bng_shard.proofs.GrantLaws.{opened_sound, settled_sound, step_accepted, step_few, step_last, step_sound, step_yes}
+use Rattle.bng_shard.proofs.laws.yeses_are_granted.Goals as goal
+
+pub returns-clause-opened : goal.returns-clause-opened
+returns-clause-opened c number circuits low own apart = opened_sound number circuits apart low own
+
+pub returns-clause-kept : goal.returns-clause-kept
+returns-clause-kept c = step_sound
+
+pub returns-clause-settled : goal.returns-clause-settled
+returns-clause-settled c = settled_sound
+
+pub returns-clause-yes : goal.returns-clause-yes
+returns-clause-yes c = step_yes
+
+pub returns-clause-accepted : goal.returns-clause-accepted
+returns-clause-accepted c = step_accepted
+
+pub returns-clause-last : goal.returns-clause-last
+returns-clause-last c = step_last
+
+pub returns-clause-few : goal.returns-clause-few
+returns-clause-few c = step_few

@@ -1,0 +1,74 @@
+-- Who is told yes, and by what.
+use Rattle.std.specs.Prelude.{◌≡◌, ◌⊎◌, ℕ, ◌<◌, true, false, List, Option, Some, None, IsSome, if◌then◌else◌}
+use Rattle.std.specs.Option.{option_map, option_and_then}
+use Rattle.bng_base.specs.declared.address.Mac.{Mac}
+use Rattle.bng_base.specs.declared.circuit.Circuit.TheVariants.{Pppoe}
+use Rattle.bng_base.specs.declared.item.Entry.{Entry}
+use Rattle.bng_base.specs.declared.item.ItemKind.TheVariants.{Verdict}
+use Rattle.bng_base.specs.declared.outside.Role.{Role}
+use Rattle.bng_base.specs.declared.outside.Role.TheVariants.{Access}
+use Rattle.bng_base.specs.PppoeGrammar.{PppoeFrame, IsPppoe}
+use Rattle.bng_ppp.specs.Granting.{IsYes}
+use Rattle.bng_ppp.specs.PppState.{is_open, is_accepted}
+use Rattle.bng_slots.specs.Sessions.{value_at}
+use Rattle.bng_verdict.specs.Verdicts.{Saying, IsVerdict}
+use Rattle.bng_shard.specs.Made.{Question}
+use Rattle.bng_shard.specs.declared.session.Service.{Service}
+use Rattle.bng_shard.specs.declared.session.Service.TheVariants.{Provisioned, Discovered}
+use Rattle.bng_shard.specs.declared.session.Session.{Session}
+use Rattle.bng_shard.specs.Questions.{Asking, last_asking_at, open_ask_at}
+use Rattle.bng_shard.specs.Serving.{AreOwn, AreOfShard}
+use Rattle.bng_shard.specs.State.{State}
+
+-- a datagram of the access port with this number is a frame of this session to this MAC that says yes to its peer: a Success of CHAP or
+-- an Authenticate-Ack of PAP
+pub record IsYesOn (port : ℕ) (mac : Mac) (session : ℕ) (role : Role) (octets : List ℕ) : Type 0 where
+  pub role_is : role ≡ Access port
+  pub frame : PppoeFrame
+  pub reads : IsPppoe frame octets
+  pub no_discovery : frame.discovery ≡ false
+  pub to : frame.dst ≡ mac
+  pub session_is : frame.session ≡ session
+  pub yes : IsYes frame.payload
+
+-- the question that the link of a session asked last, and whose verdict was yes
+abbrev pub accepted_in : Service → Option Question
+accepted_in (Provisioned l) = None
+accepted_in (Discovered m) = if is_accepted m.link.auth then m.question else None
+
+abbrev pub accepted_ask_at : State → ℕ → Option ℕ
+accepted_ask_at s n = option_map (λ q. q.ask) (option_and_then (λ (x : Session). accepted_in x.service) (value_at s.sessions n))
+
+-- the entry is the yes to this question of this session
+pub record GivesYes (e : Entry) (session ask : ℕ) : Type 0 where
+  pub kind : e.item.kind ≡ Verdict
+  pub target : e.item.target ≡ session
+  pub number : e.item.ask ≡ ask
+  pub verdict : Saying
+  pub says : IsVerdict e.item.frame.payload (Some verdict)
+  pub yes : verdict.yes ≡ true
+
+-- the question was answered by a yes before, or is open and the entry answers it so
+abbrev pub IsGranted : State → Entry → ℕ → ℕ → Type 0
+IsGranted s e session ask =
+    (accepted_ask_at s session ≡ Some ask) ⊎ (GivesYes e session ask × (open_ask_at s session ≡ Some ask))
+
+-- The circuit of this session was asked about by the question that its link asked last, and the question was answered by a yes.
+pub record IsGrantedOn (s : State) (e : Entry) (port : ℕ) (mac : Mac) (session : ℕ) : Type 0 where
+  pub asking : Asking
+  pub last : last_asking_at s session ≡ Some asking
+  pub circuit : asking.circuit ≡ Pppoe port mac (record { 0 = session })
+  pub granted : IsGranted s e session asking.number.ask
+
+-- a link that has asked, or whose peer was accepted, has a question
+abbrev pub HasQuestion : Service → Type 0
+HasQuestion (Provisioned l) = Unit {0}
+HasQuestion (Discovered m) = (is_open m.link.auth ≡ true) ⊎ (is_accepted m.link.auth ≡ true) → IsSome m.question
+
+-- What each state that a run reaches keeps: it is of one of 64 shards, sessions stand under their own numbers, which are the shard's,
+-- and such links have their questions.
+pub record IsSound (s : State) : Type 0 where
+  pub shard : s.sessions.shard < 64
+  pub own : AreOwn s.sessions
+  pub of_shard : AreOfShard s.sessions
+  pub questions : (n : ℕ) (x : Session) → value_at s.sessions n ≡ Some x → HasQuestion x.service
