@@ -1,30 +1,35 @@
 -- A round that was held or refused, as a turn of the desk has it.
-use Rattle.std.proofs.Common.{◌≡◌, inl, inr, ℕ, ◌+◌, ◌&&◌, ◌||◌, List, [], ◌∷◌, Option, None, Some, map, length, refl, sym, ap, subst, ◌∙◌}
+use Rattle.std.proofs.Common.{◌≡◌, inl, inr, ℕ, ◌+◌, ◌&&◌, Bool, List, [], ◌∷◌, Option, None, Some, map, length, refl, sym, ap, subst, ◌∙◌}
 use Rattle.std.proofs.lemmas.List.{length-map}
 use Rattle.bng_base.specs.declared.book.Book.{Book}
 use Rattle.bng_base.specs.declared.item.Entry.{Entry}
 use Rattle.bng_base.specs.declared.item.Item.{Item}
 use Rattle.bng_base.specs.declared.round.RoundRecord.{RoundRecord}
-use Rattle.bng_base.specs.Stretch.{ExtendsPlant, plant_none, plant_joined}
+use Rattle.bng_base.specs.Stretch.{ExtendsPlant, PlantStretch, plant_none, plant_joined}
 use Rattle.bng_base.specs.Told.{PlantTold}
-use Rattle.bng_base.proofs.StretchLaws.{plant_more, plant_stays}
+use Rattle.bng_base.proofs.StretchLaws.{plant_assoc, plant_more, plant_stays}
 use Rattle.bng_engine.specs.Views.{ShardView}
+use Rattle.bng_ppp.specs.LinkRelation.{earliest}
+use Rattle.bng_shard.specs.declared.pool.Holder.{Holder}
+use Rattle.bng_shard.specs.declared.rules.Rules.{Rules}
 use Rattle.bng_shard.specs.Protocol.{ShardState}
 use Rattle.bng_desk.specs.declared.drops.Drops.{Drops}
 use Rattle.bng_desk.specs.declared.holding.Named.{Named}
-use Rattle.bng_desk.specs.Control.{has_stop, control_stretch}
+use Rattle.bng_desk.specs.Control.{control_stretch}
+use Rattle.bng_desk.specs.Items.{kept_of}
 use Rattle.bng_desk.specs.Kept.{rested}
+use Rattle.bng_desk.specs.Logins.{requests_stretch}
 use Rattle.bng_desk.specs.Model.{Desk}
 use Rattle.bng_desk.specs.Round.{Round, IsRound, record_of, refused_record}
-use Rattle.bng_desk.specs.Taking.{HoldsOne}
-use Rattle.bng_desk.specs.Turn.{Turn, RoundOf, after_round, told_after, round_stretch, round_told, items_of, after, plant_stretch, data_stretch, waiting_stretch, is_idle, wait_for, deadline_in}
+use Rattle.bng_desk.specs.Taking.{Holds}
+use Rattle.bng_desk.specs.Turn.{Turn, RoundOf, after_round, is_opened, round_stretch, round_told, after, auth_stretch, plant_stretch, data_stretch, waiting_stretch, is_idle, wait_for, deadline_in}
 use Rattle.bng_desk.proofs.Resting.{kept_rested, left_rested, round_rested}
 
 abbrev Shards : Type 0
 Shards = List (ShardView ShardState Entry)
 
 -- what a turn has of its round
-pub record RoundDone (d : Desk) (moment wall : ℕ) (items : List Item) (old new : PlantTold) (shards : Shards) (drops : Drops) (tally : Book) (told_is : RoundRecord) : Type 0 where
+pub record RoundDone (d : Desk) (moment wall : ℕ) (items : List Item) (old new : PlantTold) (shards : Shards) (drops : Drops) (tally : Book) (told_is : RoundRecord) (opened : Bool) (kept : List Item) : Type 0 where
   pub round : Option Round
   pub is : RoundOf d moment items round
   pub shards_are : shards ≡ (after_round d items round).shards
@@ -32,10 +37,12 @@ pub record RoundDone (d : Desk) (moment wall : ℕ) (items : List Item) (old new
   pub tallies_are : tally ∷ [] ≡ (after_round d items round).tallies
   pub told : ExtendsPlant old new (round_stretch round)
   pub record_told : told_is ≡ round_told d moment wall items round
+  pub opened_is : opened ≡ is_opened round
+  pub kept_is : kept ≡ (after_round d items round).kept
 
-unfoldable pub round_done : (d : Desk) (named : Named) (items : List Item) (p p' : PlantTold) (vs ws : Shards) (drops' : Drops) (tally tally' : Book) (told_is : RoundRecord) → HoldsOne d.rules d.holders named items p p' vs ws d.drops drops' tally tally' told_is
-    → d.shards ≡ map rested vs → d.tallies ≡ tally ∷ [] → named.number ≡ d.told + 1 → RoundDone d named.moment named.wall items p p' (map rested ws) drops' tally' told_is
-round_done d named items p p' vs ws drops' tally tally' told_is (inl h) shards tallies number =
+pub round_done : (d : Desk) (named : Named) (items : List Item) (p p' : PlantTold) (vs ws : Shards) (drops' : Drops) (tally tally' : Book) (told_is : RoundRecord) (opened : Bool) (kept : List Item) → Holds d.rules d.holders named items p p' vs ws d.drops drops' tally tally' told_is opened kept
+    → d.shards ≡ map rested vs → d.tallies ≡ tally ∷ [] → named.number ≡ d.told + 1 → RoundDone d named.moment named.wall items p p' (map rested ws) drops' tally' told_is opened kept
+round_done d named items p p' vs ws drops' tally tally' told_is opened kept (inl (opened_is, kept_is, h)) shards tallies number =
     let same : map rested h.ready ≡ d.shards = kept_rested vs h.ready h.kept ∙ sym shards in
     let lists : List (List Item) = items ∷ [] in
     record {
@@ -47,8 +54,10 @@ round_done d named items p p' vs ws drops' tally tally' told_is (inl h) shards t
       tallies_are = sym h.held.tallies_are;
       told = h.held.told;
       record_told = h.held.record_told ∙ ap (λ (n : ℕ). record_of n named.moment named.wall lists h.held.round) number;
+      opened_is = opened_is;
+      kept_is = kept_is;
     }
-round_done d named items p p' vs ws drops' tally tally' told_is (inr h) shards tallies number =
+round_done d named items p p' vs ws drops' tally tally' told_is opened kept (inr (opened_is, kept_is, h)) shards tallies number =
     let count : length vs ≡ length d.shards = sym (length-map vs rested) ∙ ap (λ (xs : Shards). length xs) (sym shards) in
     record {
       round = None;
@@ -58,29 +67,44 @@ round_done d named items p p' vs ws drops' tally tally' told_is (inr h) shards t
       tallies_are = ap (λ (b : Book). let bs : List Book = b ∷ [] in bs) h.tally_is ∙ sym tallies;
       told = subst (λ (q : PlantTold). ExtendsPlant p q plant_none) (sym h.told) (plant_stays p);
       record_told = h.record_told ∙ ap (λ (n : ℕ). refused_record n named.moment named.wall (length vs) items) number ∙ ap (λ (n : ℕ). refused_record (d.told + 1) named.moment named.wall n items) count;
+      opened_is = opened_is;
+      kept_is = kept_is;
     }
 
--- a round changes no more than the shards, the drops and the tallies
-after_parts : (d : Desk) (items : List Item) (round : Option Round) → record d { shards = (after_round d items round).shards; drops = (after_round d items round).drops; tallies = (after_round d items round).tallies } ≡ after_round d items round
+-- a round changes no more than the shards, the drops, the tallies and what stays
+pub after_parts : (d : Desk) (items : List Item) (round : Option Round) → record d { shards = (after_round d items round).shards; drops = (after_round d items round).drops; tallies = (after_round d items round).tallies; kept = (after_round d items round).kept } ≡ after_round d items round
 after_parts d items None = refl
 after_parts d items (Some round) = refl
 
-pub is_after : (d d' : Desk) (t : Turn) (shards : Shards) (drops : Drops) (tallies : List Book) → shards ≡ (after_round d (items_of d t) t.round).shards → drops ≡ (after_round d (items_of d t) t.round).drops → tallies ≡ (after_round d (items_of d t) t.round).tallies
-    → d' ≡ record d { shards = shards; drops = drops; tallies = tallies; told = told_after t.noted d.told; turns = d.turns + 1; stopped = d.stopped || has_stop t.control; drawn = d.drawn + length (items_of d t); moment = t.moment } → d' ≡ after d t
-is_after d d' t shards drops tallies shards_are drops_are tallies_are is =
-    let rest = λ (x : Desk). let y : Desk = record x { told = told_after t.noted d.told; turns = d.turns + 1; stopped = d.stopped || has_stop t.control; drawn = d.drawn + length (items_of d t); moment = t.moment } in y in
-    let r = after_round d (items_of d t) t.round in
-    is ∙ ap (λ (xs : Shards). rest (record d { shards = xs; drops = drops; tallies = tallies })) shards_are
-    ∙ ap (λ (x : Drops). rest (record d { shards = r.shards; drops = x; tallies = tallies })) drops_are
-    ∙ ap (λ (bs : List Book). rest (record d { shards = r.shards; drops = r.drops; tallies = bs })) tallies_are
-    ∙ ap rest (after_parts d (items_of d t) t.round)
+-- the desk after its round, from its parts
+module _ (d : Desk) (items : List Item) (round : Option Round) (shards : Shards) (drops : Drops) (tallies : List Book) (kept : List Item) where
+  pub is_after_round : shards ≡ (after_round d items round).shards → drops ≡ (after_round d items round).drops → tallies ≡ (after_round d items round).tallies → kept ≡ (after_round d items round).kept
+      → record d { shards = shards; drops = drops; tallies = tallies; kept = kept } ≡ after_round d items round
+  is_after_round shards_are drops_are tallies_are kept_is =
+      let r = after_round d items round in
+      ap (λ (xs : Shards). let x : Desk = record d { shards = xs; drops = drops; tallies = tallies; kept = kept } in x) shards_are
+      ∙ ap (λ (y : Drops). let x : Desk = record d { shards = r.shards; drops = y; tallies = tallies; kept = kept } in x) drops_are
+      ∙ ap (λ (bs : List Book). let x : Desk = record d { shards = r.shards; drops = r.drops; tallies = bs; kept = kept } in x) tallies_are
+      ∙ ap (λ (is : List Item). let x : Desk = record d { shards = r.shards; drops = r.drops; tallies = r.tallies; kept = is } in x) kept_is
+      ∙ after_parts d items round
+
+-- what stays is nothing, or what the items keep
+pub kept_as : (P : List Item → Type 0) (r : Rules) (holders : List Holder) (named : Named) (items : List Item) (p p' : PlantTold) (vs ws : Shards) (drops drops' : Drops) (tally tally' : Book) (told_is : RoundRecord) (opened : Bool) (kept : List Item)
+    → Holds r holders named items p p' vs ws drops drops' tally tally' told_is opened kept → P [] → P (kept_of items) → P kept
+kept_as P r holders named items p p' vs ws drops drops' tally tally' told_is opened kept (inl h) none some = subst P (sym h.1) none
+kept_as P r holders named items p p' vs ws drops drops' tally tally' told_is opened kept (inr h) none some = subst P (sym h.1) some
 
 -- the phases of a turn, one after the other
-pub phases : (d : Desk) (t : Turn) (p₀ p₁ p₂ p₃ p₄ : PlantTold) → ExtendsPlant p₀ p₁ (control_stretch t.control t.control_end) → ExtendsPlant p₁ p₂ (data_stretch t.readings) → ExtendsPlant p₂ p₃ (round_stretch t.round)
-    → ExtendsPlant p₃ p₄ (waiting_stretch (is_idle t && t.noted) (wait_for (deadline_in (after d t).shards) t.moment)) → ExtendsPlant p₀ p₄ (plant_stretch d t)
-phases d t p₀ p₁ p₂ p₃ p₄ control readings round waiting =
-    let w = waiting_stretch (is_idle t && t.noted) (wait_for (deadline_in (after d t).shards) t.moment) in
+pub phases : (d : Desk) (t : Turn) (p₀ p₁ p₂ p₃ p₄ p₅ : PlantTold) → ExtendsPlant p₀ p₁ (control_stretch t.control t.control_end) → ExtendsPlant p₁ p₂ (plant_joined (auth_stretch t.answers t.auth_end) (data_stretch t.readings)) → ExtendsPlant p₂ p₃ (round_stretch t.round)
+    → ExtendsPlant p₃ p₄ (requests_stretch d.lane.client.auth_server t.requests) → ExtendsPlant p₄ p₅ (waiting_stretch (is_idle t && t.noted) (wait_for (earliest (deadline_in (after d t).shards) t.deadline) t.moment)) → ExtendsPlant p₀ p₅ (plant_stretch d t)
+phases d t p₀ p₁ p₂ p₃ p₄ p₅ control readings round requests waiting =
+    let w = waiting_stretch (is_idle t && t.noted) (wait_for (earliest (deadline_in (after d t).shards) t.deadline) t.moment) in
+    let q = requests_stretch d.lane.client.auth_server t.requests in
     let r = round_stretch t.round in
+    let told = auth_stretch t.answers t.auth_end in
     let rs = data_stretch t.readings in
-    plant_more p₀ p₁ p₄ (control_stretch t.control t.control_end) (plant_joined rs (plant_joined r w)) control
-    (plant_more p₁ p₂ p₄ rs (plant_joined r w) readings (plant_more p₂ p₃ p₄ r w round waiting))
+    let rest = plant_joined r (plant_joined q w) in
+    let after_control : ExtendsPlant p₁ p₅ (plant_joined told (plant_joined rs rest)) =
+    subst (λ (s : PlantStretch). ExtendsPlant p₁ p₅ s) (plant_assoc told rs rest)
+    (plant_more p₁ p₂ p₅ (plant_joined told rs) rest readings (plant_more p₂ p₃ p₅ r (plant_joined q w) round (plant_more p₃ p₄ p₅ q w requests waiting))) in
+    plant_more p₀ p₁ p₅ (control_stretch t.control t.control_end) (plant_joined told (plant_joined rs rest)) control after_control

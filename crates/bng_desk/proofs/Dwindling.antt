@@ -1,15 +1,14 @@
 -- A round leaves the shards' rules as they are, and a round of Ends leaves fewer sessions, or none.
 use Rattle.std.proofs.Common.{◌≡◌, ◌≢◌, ◌⊎◌, inl, inr, ⊎_elim, ℕ, zero, suc, ◌+◌, ◌-◌, ◌*◌, ◌<◌, ◌≤◌, Bool, true, false, ◌||◌, cond, List, [], ◌∷◌, ◌++◌, map, length, if◌then◌else◌, eqb, refl, sym, ap, subst, ◌∙◌, arith}
 use Rattle.std.specs.List.{All, AllByRecursion, AllZip, range_with_len}
-use Rattle.std.proofs.lemmas.Bool.{false≢true}
 use Rattle.std.proofs.lemmas.Bool.Decides.{nat_tests}
-use Rattle.std.proofs.lemmas.List.Elements.{All-map, All-from_recursion, recursion_from_All}
+use Rattle.std.proofs.lemmas.List.Elements.{All-nil, All-cons, All-head, All-tail, All-map, All-from_recursion, recursion_from_All}
 use Rattle.std.proofs.lemmas.List.Sums.{sum_by-cons}
 use Rattle.bng_base.specs.declared.book.Book.{Book}
 use Rattle.bng_base.specs.declared.item.Entry.{Entry}
 use Rattle.bng_base.specs.declared.item.Item.{Item}
 use Rattle.bng_base.specs.declared.item.ItemKind.{ItemKind}
-use Rattle.bng_base.specs.declared.item.ItemKind.TheVariants.{End}
+use Rattle.bng_base.specs.declared.item.ItemKind.TheVariants.{End, Verdict}
 use Rattle.bng_base.specs.declared.round.RoundRecord.{RoundRecord}
 use Rattle.bng_base.specs.Told.{PlantTold}
 use Rattle.bng_engine.specs.Calls.{Kept, Moves}
@@ -20,20 +19,28 @@ use Rattle.bng_shard.specs.declared.pool.Holder.{Holder}
 use Rattle.bng_shard.specs.declared.rules.Rules.{Rules}
 use Rattle.bng_shard.specs.declared.whose.Whose.{Whose}
 use Rattle.bng_shard.specs.declared.whose.Whose.TheVariants.{Stands}
+use Rattle.bng_shard.specs.declared.session.Session.{Session}
+use Rattle.bng_shard.specs.Deed.{Deed}
 use Rattle.bng_shard.specs.Protocol.{ShardState, Handled, pppoe, entry_of, sessions_of}
+use Rattle.bng_shard.specs.State.{State, made_in, made_one}
+use Rattle.bng_shard.specs.Step.{Hears}
+use Rattle.bng_shard.specs.Verdicts.{HearsVerdict, Judges}
 use Rattle.bng_shard.specs.Whose.{IsWhose, IsForKind, IsForTarget}
 use Rattle.bng_shard.proofs.Fewer.{end_leaves_fewer}
+use Rattle.bng_shard.proofs.Values.{sum_by-replaced}
+use Rattle.bng_verdict.specs.Verdicts.{Saying}
 use Rattle.bng_desk.specs.declared.drops.Drops.{Drops}
 use Rattle.bng_desk.specs.declared.holding.Named.{Named}
-use Rattle.bng_desk.specs.Items.{drawn_from, ends_of, entries_in, for_shard, stands_in}
-use Rattle.bng_desk.specs.Kept.{rested, undrawn, AreEndsOf}
+use Rattle.bng_desk.specs.Items.{entries_in, for_shard, stands_in}
+use Rattle.bng_desk.specs.Kept.{rested, undrawn, AreEndsOf, is_verdict}
 use Rattle.bng_desk.specs.Model.{sessions_in, unopened_most}
-use Rattle.bng_desk.specs.Round.{IsRound, AreParts, entries_of, of_seat, views_of}
-use Rattle.bng_desk.specs.Taking.{IsLeftBy, IsHeld, IsRefused, HoldsOne, HoldsEnds}
+use Rattle.bng_desk.specs.Round.{AreParts, entries_of, views_of}
+use Rattle.bng_desk.specs.Taking.{IsLeftBy, IsHeld, Holds}
 use Rattle.bng_desk.proofs.Dealing.{Seens}
 use Rattle.bng_desk.proofs.Joining.{OfSeat, all_kept}
 use Rattle.bng_desk.proofs.Readying.{Shards, all_onward}
 use Rattle.bng_desk.proofs.Resting.{kept_rested, sessions_rested}
+use Rattle.bng_desk.proofs.Staying.{AreEnds}
 use Rattle.bng_desk.proofs.Zips.{zip_length}
 
 -- Rules -----------------------------------------------------------------------------------------------------------------
@@ -59,17 +66,6 @@ moved_rules r (v ∷ vs) (w ∷ ws) (x ∷ xs) moves left rules =
 
 -- Ends ------------------------------------------------------------------------------------------------------------------
 
-undrawn_drawn : (seed : List ℕ) (n : ℕ) (is : List Item) → map undrawn (drawn_from seed n is) ≡ map undrawn is
-undrawn_drawn seed n [] = refl
-undrawn_drawn seed n (i ∷ is) = ap (λ (js : List Item). undrawn i ∷ js) (undrawn_drawn seed (n + 1) is)
-
-undrawn_ends : (ns : List ℕ) → map undrawn (map (for_shard End) ns) ≡ map (for_shard End) ns
-undrawn_ends [] = refl
-undrawn_ends (n ∷ ns) = ap (λ (js : List Item). for_shard End n ∷ js) (undrawn_ends ns)
-
-pub are_drawn_ends : (seed : List ℕ) (n shards : ℕ) → AreEndsOf shards (drawn_from seed n (ends_of shards))
-are_drawn_ends seed n shards = undrawn_drawn seed n (ends_of shards) ∙ undrawn_ends (range_with_len 0 shards)
-
 same_number : (a n : ℕ) → eqb a n ≡ true → a ≡ n
 same_number a n e = grind (arith, nat_tests)
 
@@ -90,6 +86,21 @@ record OneEnd (es : List Entry) : Type 0 where
   entry : Entry
   is : es ≡ entry ∷ []
   kind : entry.item.kind ≡ End
+
+-- entries of verdicts, and one of an End after them
+abbrev IsVerdict : Entry → Type 0
+IsVerdict e = e.item.kind ≡ Verdict
+
+record EndLast (es : List Entry) : Type 0 where
+  front : List Entry
+  all : All IsVerdict front
+  last : Entry
+  is : es ≡ front ++ last ∷ []
+  kind : last.item.kind ≡ End
+
+one_more : (b : Bool) (e : Entry) (es : List Entry) → IsVerdict e → EndLast es → EndLast ((if b then e ∷ [] else []) ++ es)
+one_more true e es v l = record { front = e ∷ l.front; all = All-cons IsVerdict e l.front v l.all; last = l.last; is = ap (λ (xs : List Entry). e ∷ xs) l.is; kind = l.kind }
+one_more false e es v l = l
 
 module _ (r : Rules) (holders : List Holder) (moment : ℕ) where
   abbrev entry_if : ℕ → ℕ → Item → Whose → List Entry
@@ -146,6 +157,16 @@ module _ (r : Rules) (holders : List Holder) (moment : ℕ) where
       one_by (eqb m k) k m n place i w is ws refl stands kind low few tail are.1
       (λ later. one_at k (m + 1) n (place + 1) is ws later (omega (arith, high)) (omega (arith, few)) tail are.1)
 
+  -- verdicts, and one End after them
+  end_last : (k n : ℕ) (vs es : List Item) → (place : ℕ) (ws : List Whose) → k < n → n ≤ r.shards → All is_verdict vs → AreEndsOf n es → AllZip (IsWhose r holders) (vs ++ es) ws → EndLast (entries_in 0 k place moment (vs ++ es) ws)
+  end_last k n [] es place ws high few verdicts ends are =
+      let one = one_at k 0 n place es ws (omega arith) (omega (arith, high)) (omega (arith, few)) ends are in
+      record { front = []; all = All-nil IsVerdict; last = one.entry; is = one.is; kind = one.kind }
+  end_last k n (v ∷ vs) es place [] high few verdicts ends are = absurd are
+  end_last k n (v ∷ vs) es place (w ∷ ws) high few verdicts ends are =
+      one_more (stands_in k w) (entry_of 0 place moment v) (entries_in 0 k (place + 1) moment (vs ++ es) ws) (All-head is_verdict v vs verdicts)
+      (end_last k n vs es (place + 1) ws high few (All-tail is_verdict v vs verdicts) ends are.1)
+
 -- Fewer sessions --------------------------------------------------------------------------------------------------------
 
 -- there are fewer, or there were none
@@ -173,7 +194,35 @@ one_step s (h ∷ []) e is kind steps =
     less_by (sessions_of s) (sessions_of (pppoe.settled (pppoe.next s h))) (end_leaves_fewer s h steps.0 (ap (λ (x : Entry). x.item.kind) of ∙ kind))
 one_step s (h ∷ g ∷ es) e is kind steps = let no : ⊥ = cc in absurd no
 
-module _ (r : Rules) (holders : List Holder) (moment : ℕ) (items : List Item) (whose : List Whose) (n : ℕ) (few : n ≤ r.shards) (ends : AreEndsOf n items) (are : AllZip (IsWhose r holders) items whose) where
+-- a verdict leaves as many
+judged : (s : State) (e : Entry) (d : Deed) (r : Rules) (v : Saying) → Judges r s e v d → made_in d.next ≡ made_in s
+judged s e d r v j =
+    let one = λ (x : Session). made_one x.service in
+    let was : one j.x ≡ 1 = ap made_one j.drives.is_made in
+    let now : one j.after ≡ 1 = ap one j.drives.session in
+    let both = sum_by-replaced one s.sessions e.item.target j.x j.after j.found in
+    omega (arith, was, now, both, ap (λ (x : Deed). made_in x.next) j.done)
+
+verdict_leaves_all : (s : ShardState) (h : Handled) → pppoe.is_step s h → h.deed.entry.item.kind ≡ Verdict → sessions_of (pppoe.next s h) ≡ sessions_of s
+verdict_leaves_all s h is kind =
+    let d = h.deed in
+    let hears : HearsVerdict s.rules s.slots d.entry d = subst (λ (k : ItemKind). Hears k s.rules s.slots d.entry d) kind is.hears in
+    ⊎_elim (λ told. judged s.slots d.entry d s.rules told.1 told.3)
+    (λ none. ⊎_elim (λ silent. ap (λ (x : Deed). made_in x.next) silent.2) (λ other. ap (λ (x : Deed). made_in x.next) other.1) none) hears
+
+last_step : (front : List Entry) (s : ShardState) (es : List Handled) (e : Entry) → map (λ (h : Handled). h.deed.entry) es ≡ front ++ e ∷ [] → All IsVerdict front → e.item.kind ≡ End → AreSteps pppoe s es → Less (sessions_of s) (sessions_of (pppoe.settled (after pppoe s es)))
+last_step [] s es e is all kind steps = one_step s es e is kind steps
+last_step (f ∷ front) s [] e is all kind steps = let no : ⊥ = cc in absurd no
+last_step (f ∷ front) s (h ∷ es) e is all kind steps =
+    let first : h.deed.entry ≡ f = cc in
+    let rest : map (λ (x : Handled). x.deed.entry) es ≡ front ++ e ∷ [] = cc in
+    let same = verdict_leaves_all s h steps.0 (ap (λ (x : Entry). x.item.kind) first ∙ All-head IsVerdict f front all) in
+    subst (λ (n : ℕ). Less n (sessions_of (pppoe.settled (after pppoe (pppoe.next s h) es)))) same (last_step front (pppoe.next s h) es e rest (All-tail IsVerdict f front all) kind steps.1)
+
+module _ (r : Rules) (holders : List Holder) (moment : ℕ) (vs₀ es₀ : List Item) (whose : List Whose) (n : ℕ) (few : n ≤ r.shards) (verdicts : All is_verdict vs₀) (ends : AreEndsOf n es₀) (are : AllZip (IsWhose r holders) (vs₀ ++ es₀) whose) where
+  abbrev items : List Item
+  items = vs₀ ++ es₀
+
   dwindles : (k : ℕ) (vs ws : Shards) (xs : Seens) → k + length vs ≤ n → AreParts (items ∷ []) (whose ∷ []) k moment xs → AllZip (Moves pppoe) (views_of vs) xs → AllZip IsLeftBy ws xs → Less (sessions_in vs) (sessions_in ws)
   dwindles k [] [] [] within parts moves left = inl (refl, refl)
   dwindles k [] (w ∷ ws) [] within parts moves left = absurd left
@@ -184,11 +233,11 @@ module _ (r : Rules) (holders : List Holder) (moment : ℕ) (items : List Item) 
       let entries = entries_of x in
       let seats : AllByRecursion OfSeat entries = all_weaker (λ (e : Entry). e.seat < 1) OfSeat (λ e lt. omega (arith, lt)) entries (recursion_from_All (λ (e : Entry). e.seat < 1) entries parts.0.seats) in
       let those : entries ≡ entries_in 0 k 0 moment items whose = sym (all_kept entries seats) ∙ parts.0.each 0 (omega arith) in
-      let one = one_at r holders moment k 0 n 0 items whose (omega arith) (omega (arith, within)) (omega (arith, few)) ends are in
+      let last = end_last r holders moment k n vs₀ es₀ 0 whose (omega (arith, within)) few verdicts ends are in
       let m = moves.0 in
       let state : w.state ≡ pppoe.settled (after pppoe v.state x.journal) = left.0.state ∙ m.state in
       let here : Less (sessions_of v.state) (sessions_of w.state) =
-      subst (λ (s : ShardState). Less (sessions_of v.state) (sessions_of s)) (sym state) (one_step v.state x.journal one.entry (those ∙ one.is) one.kind m.steps) in
+      subst (λ (s : ShardState). Less (sessions_of v.state) (sessions_of s)) (sym state) (last_step last.front v.state x.journal last.last (those ∙ last.is) last.all last.kind m.steps) in
       let f = λ (y : ShardView ShardState Entry). sessions_of y.state in
       let more = dwindles (k + 1) vs ws xs (omega (arith, within)) parts.1 moves.1 left.1 in
       subst (λ (a : ℕ). Less a (sessions_in (w ∷ ws))) (sym (sum_by-cons f v vs))
@@ -209,31 +258,29 @@ module _ (r : Rules) (holders : List Holder) (named : Named) (items : List Item)
   held_works by h works =
       All-from_recursion (WorksBy by) ws (moved_rules by h.ready ws h.held.round.shards h.held.is.turn.shards h.held.shards_are (recursion_from_All (WorksBy by) h.ready (kept_works by h.ready h.kept works)))
 
-  pub one_works : (by : Rules) → HoldsOne r holders named items old new vs ws drops drops' tally tally' record_is → All (WorksBy by) vs → All (WorksBy by) ws
-  one_works by (inl h) works = held_works by h works
-  one_works by (inr h) works = kept_works by ws h.kept works
-
-  pub ends_work : (by : Rules) (opened : Bool) (kept : List Item) → HoldsEnds r holders named items old new vs ws drops drops' tally tally' record_is opened kept → All (WorksBy by) vs → All (WorksBy by) ws
-  ends_work by opened kept (inl h) works = held_works by h.2 works
-  ends_work by opened kept (inr h) works = kept_works by ws h.2.kept works
+  pub all_work : (by : Rules) (opened : Bool) (kept : List Item) → Holds r holders named items old new vs ws drops drops' tally tally' record_is opened kept → All (WorksBy by) vs → All (WorksBy by) ws
+  all_work by opened kept (inl h) works = held_works by h.2 works
+  all_work by opened kept (inr h) works = kept_works by ws h.2.kept works
 
   same_sessions : (ready : Shards) → AllZip Kept vs ready → sessions_in ready ≡ sessions_in vs
   same_sessions ready kept = sym (sessions_rested ready) ∙ ap sessions_in (kept_rested vs ready kept) ∙ sessions_rested vs
 
-  dwindled : (whose : List (List Whose)) (xs : Seens) (ready : Shards) (n : ℕ) → n ≤ r.shards → AreEndsOf n items → length ready ≤ n → AllZip (AllZip (IsWhose r holders)) (items ∷ []) whose → AreParts (items ∷ []) whose 0 named.moment xs
+  dwindled : (whose : List (List Whose)) (xs : Seens) (ready : Shards) (n : ℕ) → n ≤ r.shards → (e : AreEnds n items) → length ready ≤ n → AllZip (AllZip (IsWhose r holders)) (items ∷ []) whose → AreParts (items ∷ []) whose 0 named.moment xs
       → AllZip (Moves pppoe) (views_of ready) xs → AllZip IsLeftBy ws xs → Less (sessions_in ready) (sessions_in ws)
-  dwindled [] xs ready n few ends within are parts moves left = absurd are
-  dwindled (w ∷ []) xs ready n few ends within are parts moves left = dwindles r holders named.moment items w n few ends are.0 0 ready ws xs (omega (arith, within)) parts moves left
-  dwindled (w ∷ x ∷ more) xs ready n few ends within are parts moves left = absurd are.1
+  dwindled [] xs ready n few e within are parts moves left = absurd are
+  dwindled (w ∷ []) xs ready n few e within are parts moves left =
+      dwindles r holders named.moment e.verdicts e.ends w n few e.all_verdicts e.each (subst (λ (is : List Item). AllZip (IsWhose r holders) is w) e.are are.0) 0 ready ws xs (omega (arith, within))
+      (subst (λ (is : List Item). AreParts (is ∷ []) (w ∷ []) 0 named.moment xs) e.are parts) moves left
+  dwindled (w ∷ x ∷ more) xs ready n few e within are parts moves left = absurd are.1
 
-  held_dwindles : IsHeld r holders named items old new vs ws drops drops' tally tally' record_is → length vs ≡ r.shards → AreEndsOf (length vs) items → Less (sessions_in vs) (sessions_in ws)
+  held_dwindles : IsHeld r holders named items old new vs ws drops drops' tally tally' record_is → length vs ≡ r.shards → AreEnds (length vs) items → Less (sessions_in vs) (sessions_in ws)
   held_dwindles h count ends =
       let is = h.held.is in
       let same : length vs ≡ length h.ready = zip_length Kept vs h.ready h.kept in
       subst (λ (n : ℕ). Less n (sessions_in ws)) (same_sessions h.ready h.kept)
       (dwindled h.held.round.whose h.held.round.shards h.ready (length vs) (omega (arith, count)) ends (omega (arith, same)) is.dealt.whose is.dealt.parts is.turn.shards h.held.shards_are)
 
-  pub nears : (opened : Bool) (kept : List Item) → HoldsEnds r holders named items old new vs ws drops drops' tally tally' record_is opened kept → length vs ≡ r.shards → AreEndsOf (length vs) items → Nears opened (sessions_in vs) (sessions_in ws)
+  pub nears : (opened : Bool) (kept : List Item) → Holds r holders named items old new vs ws drops drops' tally tally' record_is opened kept → length vs ≡ r.shards → AreEnds (length vs) items → Nears opened (sessions_in vs) (sessions_in ws)
   nears opened kept (inl h) count ends = subst (λ (b : Bool). Nears b (sessions_in vs) (sessions_in ws)) (sym h.0) (held_dwindles h.2 count ends)
   nears opened kept (inr h) count ends = subst (λ (b : Bool). Nears b (sessions_in vs) (sessions_in ws)) (sym h.0) (same_sessions ws h.2.kept)
 

@@ -1,29 +1,28 @@
 -- The shards of a desk that was just opened.
-use Rattle.std.proofs.Common.{◌≡◌, inl, ℕ, ◌+◌, ◌*◌, ◌<◌, ◌≤◌, ◌^◌, Bool, true, false, cond, List, [], ◌∷◌, map, length, get_or, refl, sym, ap, subst, ◌∙◌, arith}
+use Rattle.std.proofs.Common.{◌≡◌, ℕ, ◌*◌, ◌<◌, ◌≤◌, ◌^◌, Bool, true, false, cond, List, [], ◌∷◌, map, length, get_or, refl, sym, ap, subst, ◌∙◌, arith}
 use Rattle.std.specs.List.{All, range_with_len}
 use Rattle.std.proofs.lemmas.List.Sums.{sum_by-cons}
 use Rattle.std.proofs.lemmas.List.FromFn.{get_or-map-range_with_len, length-map-range_with_len}
 use Rattle.bng_base.specs.declared.item.Entry.{Entry}
 use Rattle.bng_base.specs.declared.settings.Static.{Static}
 use Rattle.bng_base.specs.declared.book.Book.{Book}
-use Rattle.bng_engine.specs.Books.{book_at}
 use Rattle.bng_engine.specs.Quantities.{Quantity, Octets, Packets, in_book, empty_book}
 use Rattle.bng_engine.specs.Sums.{is_any}
 use Rattle.bng_engine.specs.Views.{ShardView, Row, new_row, rows_where}
 use Rattle.bng_engine.specs.Terms.{Key, keys}
 use Rattle.bng_shard.specs.Protocol.{ShardState, opened, sessions_of, terms_of}
+use Rattle.bng_shard.specs.Questions.{none_handed}
 use Rattle.bng_shard.specs.Sums.{IsLow, AreLow, RowsAreLow}
 use Rattle.bng_shard.specs.declared.pool.Holder.{Holder}
 use Rattle.bng_shard.specs.declared.rules.Rules.{Rules}
 use Rattle.bng_base.specs.declared.item.Item.{Item}
 use Rattle.bng_desk.specs.declared.drops.Drops.{Drops}
 use Rattle.bng_desk.specs.Counting.{Within, no_drops}
-use Rattle.bng_desk.specs.Kept.{IsKept, IsUnended, all_turns, rested, octets_most, drops_most}
+use Rattle.bng_desk.specs.Kept.{IsKept, IsUnended, is_verdict, all_turns, rested, octets_most, drops_most}
 use Rattle.bng_desk.specs.Model.{Desk}
-use Rattle.bng_desk.specs.Round.{refused_of}
-use Rattle.bng_desk.specs.Taking.{IsEmpty, HasFewSessions, AreInOrder, AreItems, outs_of_items}
+use Rattle.bng_desk.specs.Taking.{IsEmpty, HasFewSessions, AreInOrder}
 use Rattle.bng_desk.proofs.Dwindling.{WorksBy}
-use Rattle.bng_desk.proofs.Keeping.{no_ends, one_low, unended_left}
+use Rattle.bng_desk.proofs.Keeping.{AreKept, none_kept, one_low, unended_left}
 
 -- Nothing was carried ---------------------------------------------------------------------------------------------------
 
@@ -76,9 +75,9 @@ none_in vs none k d lt = omega (arith, none k d lt)
 
 -- a desk with such shards, in which nothing has happened
 pub kept_fresh : (d : Desk) (statics : ℕ → List Static) → d.shards ≡ map (λ n. opened n d.rules (statics n)) (range_with_len 0 d.rules.shards) → All (λ v. sessions_of v.state ≡ 0) d.shards → 1 ≤ length d.rules.access → length d.rules.access ≤ 16 → 1 ≤ d.rules.shards → d.rules.shards ≤ 64
-    → All (λ (h : Holder). h.shard < d.rules.shards) d.holders → d.rounds ≤ 2 ^ 40 → d.turns ≡ 0 → d.endings ≡ 0 → d.unopened ≡ 0 → d.closed ≡ false → d.told ≡ 0 → d.drawn ≡ 1 → d.drops ≡ no_drops → d.tallies ≡ empty_book ∷ [] → d.kept ≡ [] → IsKept d
-kept_fresh d statics shards none some_port few_ports some_shard few_shards holders most turns endings unopened closed told drawn drops tallies kept =
-    let empty = no_ends d in
+    → All (λ (h : Holder). h.shard < d.rules.shards) d.holders → d.rounds ≤ 2 ^ 40 → d.turns ≡ 0 → d.endings ≡ 0 → d.unopened ≡ 0 → d.closed ≡ false → d.told ≡ 0 → d.drawn ≡ 1 → d.drops ≡ no_drops → d.tallies ≡ empty_book ∷ [] → d.kept ≡ [] → d.handed ≡ map (λ n. none_handed) (range_with_len 0 d.rules.shards) → IsKept d
+kept_fresh d statics shards none some_port few_ports some_shard few_shards holders most turns endings unopened closed told drawn drops tallies kept handed =
+    let staying = subst (λ (is : List Item). AreKept d is) (sym kept) (none_kept d) in
     let few = none_in d.shards none in
     let unended : IsUnended d = record { endings = endings; unopened = unopened; closed = closed } in
     let count = ap (λ (xs : List (ShardView ShardState Entry)). length xs) shards ∙ length-map-range_with_len (λ (n : ℕ). opened n d.rules (statics n)) 0 d.rules.shards in
@@ -106,8 +105,8 @@ kept_fresh d statics shards none some_port few_ports some_shard few_shards holde
       one_seat = ap (λ (bs : List Book). length bs) tallies;
       tallies = subst (λ (bs : List Book). AreLow (octets_most * all_turns d) bs) (sym tallies) (one_low (octets_most * all_turns d) empty_book (empty_low (octets_most * all_turns d)));
       counts = subst (λ (x : Drops). Within (drops_most * all_turns d) x) (sym drops) (record { malformed = omega arith; no_session = omega arith; not_open = omega arith; expired = omega arith; spoofed = omega arith; too_big = omega arith; exceeded = omega arith; link_failed = omega arith; want_of_memory = omega arith });
-      kept = subst AreItems (sym kept) empty.items;
-      kept_outs = subst (λ (is : List Item). outs_of_items is ≤ 4480 + 320 * length d.shards) (sym kept) empty.outs;
-      kept_ends = inl kept;
-      none_refused = subst (λ (is : List Item). refused_of is ≡ []) (sym kept) empty.none;
+      kept = staying.items;
+      stays = staying.stays;
+      while_serving = λ _. subst (λ (is : List Item). All is_verdict is) (sym kept) (λ k e l. absurd (omega arith));
+      handed = ap (λ (hs : List (List ℕ)). length hs) handed ∙ length-map-range_with_len (λ (n : ℕ). none_handed) 0 d.rules.shards ∙ sym count;
     }

@@ -1,11 +1,10 @@
 -- The items of a turn are items of a round.
-use Rattle.std.proofs.Common.{◌≡◌, ℕ, suc, ◌+◌, ◌*◌, ◌<◌, ◌≤◌, Bool, false, List, [], ◌∷◌, ◌++◌, map, length, cond, refl, sym, ap, subst, ◌∙◌, arith}
+use Rattle.std.proofs.Common.{◌≡◌, ℕ, suc, ◌+◌, ◌<◌, ◌≤◌, Bool, false, List, [], ◌∷◌, ◌++◌, map, cond, refl, sym, ap, ◌∙◌, arith}
 use Rattle.std.specs.List.{All, AllPairs, filter, range_with_len}
-use Rattle.std.proofs.lemmas.List.{length-append}
 use Rattle.std.proofs.lemmas.List.Elements.{All-nil, All-head, All-tail, All-append, All-map}
 use Rattle.std.proofs.lemmas.List.FromFn.{length-range_with_len, get_or-range_with_len}
 use Rattle.std.proofs.lemmas.List.Kept.{AllPairs-cons, AllPairs-filter}
-use Rattle.std.proofs.lemmas.List.Sums.{sum_by-cons, sum_by-append, sum_by-le}
+use Rattle.std.proofs.lemmas.List.Sums.{sum_by-cons}
 use Rattle.bng_base.specs.declared.item.Entry.{Entry}
 use Rattle.bng_base.specs.declared.item.Item.{Item}
 use Rattle.bng_base.specs.declared.item.ItemKind.TheVariants.{Tick, End}
@@ -17,28 +16,28 @@ use Rattle.bng_shard.specs.Hearing.{outs_most}
 use Rattle.bng_shard.specs.Protocol.{ShardState}
 use Rattle.bng_desk.specs.Items.{DataReading, arrived, kind_of, drawn_from, for_shard, is_due, taken_items, ticks_of, ends_of}
 use Rattle.bng_desk.specs.Random.{draw}
-use Rattle.bng_desk.specs.Taking.{AreInOrder, AreItems, is_once, outs_of_items}
-use Rattle.bng_desk.proofs.Drawing.{drawn_length, drawn_append, drawn_all, ends_length, ticks_length}
+use Rattle.bng_desk.specs.Taking.{AreInOrder, is_once, outs_of_items}
+use Rattle.bng_desk.proofs.Drawing.{drawn_all}
 
-abbrev IsWhole : Item → Type 0
+abbrev pub IsWhole : Item → Type 0
 IsWhole i = i.frame.headroom ≡ 64
 
-abbrev HasFew : ℕ → Item → Type 0
+abbrev pub HasFew : ℕ → Item → Type 0
 HasFew most i = outs_most i.kind ≤ most
 
-abbrev IsTaken : Item → Type 0
+abbrev pub IsTaken : Item → Type 0
 IsTaken i = is_once i.kind ≡ false
 
-abbrev IsBelow : Item → Item → Type 0
+abbrev pub IsBelow : Item → Item → Type 0
 IsBelow a b = a.target < b.target
 
 -- of what was taken ---------------------------------------------------------------------------------------------------
 
-all_taken : (P : Item → Type 0) → ((role : Role) (a : Arrival) → P (arrived role a)) → (readings : List DataReading) → All P (taken_items readings)
+pub all_taken : (P : Item → Type 0) → ((role : Role) (a : Arrival) → P (arrived role a)) → (readings : List DataReading) → All P (taken_items readings)
 all_taken P holds [] = All-nil P
 all_taken P holds (r ∷ rs) = All-append P (map (arrived r.role) r.arrivals) (taken_items rs) (All-map P (arrived r.role) r.arrivals (λ k d l. holds r.role _)) (all_taken P holds rs)
 
-taken_few : (role : Role) → outs_most (kind_of role) ≤ 10
+pub taken_few : (role : Role) → outs_most (kind_of role) ≤ 10
 taken_few (Access number) = omega arith
 taken_few Core = omega arith
 taken_few Tunnel = omega arith
@@ -47,7 +46,7 @@ taken_few Acct = omega arith
 taken_few Coa = omega arith
 taken_few Control = omega arith
 
-taken_twice : (role : Role) → is_once (kind_of role) ≡ false
+pub taken_twice : (role : Role) → is_once (kind_of role) ≡ false
 taken_twice (Access number) = refl
 taken_twice Core = refl
 taken_twice Tunnel = refl
@@ -68,12 +67,12 @@ pairs_map R f (x ∷ xs) pairs =
 numbers_rise : (vs : List (ShardView ShardState Entry)) → AreInOrder vs → AllPairs (λ (a b : ShardView ShardState Entry). a.number < b.number) vs
 numbers_rise vs order i j d low high = omega (arith, low, order i d (omega arith), order j d high)
 
-ticks_rise : (moment : ℕ) (vs : List (ShardView ShardState Entry)) → AreInOrder vs → AllPairs IsBelow (ticks_of moment vs)
+pub ticks_rise : (moment : ℕ) (vs : List (ShardView ShardState Entry)) → AreInOrder vs → AllPairs IsBelow (ticks_of moment vs)
 ticks_rise moment vs order =
     pairs_map IsBelow (λ (v : ShardView ShardState Entry). for_shard Tick v.number) (filter (is_due moment) vs)
     (AllPairs-filter (λ (a b : ShardView ShardState Entry). a.number < b.number) (is_due moment) vs (numbers_rise vs order))
 
-ends_rise : (n : ℕ) → AllPairs IsBelow (ends_of n)
+pub ends_rise : (n : ℕ) → AllPairs IsBelow (ends_of n)
 ends_rise n =
     pairs_map IsBelow (for_shard End) (range_with_len 0 n)
     (λ i j d low high. omega (arith, low, high, length-range_with_len 0 n, get_or-range_with_len 0 n i d (omega (arith, length-range_with_len 0 n)), get_or-range_with_len 0 n j d (omega (arith, length-range_with_len 0 n))))
@@ -92,74 +91,22 @@ pairs_head x xs pairs k d l = pairs 0 (suc k) d (omega arith) (omega arith)
 pairs_tail : (x : Item) (xs : List Item) → AllPairs IsBelow (x ∷ xs) → AllPairs IsBelow xs
 pairs_tail x xs pairs i j d low high = pairs (suc i) (suc j) d (omega arith) (omega arith)
 
-drawn_rise : (seed : List ℕ) (n : ℕ) (is : List Item) → AllPairs IsBelow is → AllPairs IsBelow (drawn_from seed n is)
+pub drawn_rise : (seed : List ℕ) (n : ℕ) (is : List Item) → AllPairs IsBelow is → AllPairs IsBelow (drawn_from seed n is)
 drawn_rise seed n [] pairs = λ i j d low high. absurd (omega arith)
 drawn_rise seed n (i ∷ is) pairs =
     AllPairs-cons IsBelow _ _
     (drawn_all (IsBelow i) (λ j octets below. below) seed (n + 1) is (pairs_head i is pairs))
     (drawn_rise seed (n + 1) is (pairs_tail i is pairs))
 
-drawn_outs : (seed : List ℕ) (n : ℕ) (is : List Item) → outs_of_items (drawn_from seed n is) ≡ outs_of_items is
+pub drawn_outs : (seed : List ℕ) (n : ℕ) (is : List Item) → outs_of_items (drawn_from seed n is) ≡ outs_of_items is
 drawn_outs seed n [] = refl
 drawn_outs seed n (i ∷ is) =
     let f = λ (x : Item). outs_most x.kind in
     sum_by-cons f (record i { random = draw seed n }) (drawn_from seed (n + 1) is) ∙ ap (λ (k : ℕ). outs_most i.kind + k) (drawn_outs seed (n + 1) is) ∙ sym (sum_by-cons f i is)
 
 -- what was taken may come more than once
-none_kept : (is : List Item) → All IsTaken is → (js : List Item) → filter (λ (i : Item). is_once i.kind) (is ++ js) ≡ filter (λ (i : Item). is_once i.kind) js
+pub none_kept : (is : List Item) → All IsTaken is → (js : List Item) → filter (λ (i : Item). is_once i.kind) (is ++ js) ≡ filter (λ (i : Item). is_once i.kind) js
 none_kept [] all js = refl
 none_kept (i ∷ is) all js =
     let kept = filter (λ (x : Item). is_once x.kind) (is ++ js) in
     ap (λ (b : Bool). cond b (i ∷ kept) kept) (All-head IsTaken i is all) ∙ none_kept is (All-tail IsTaken i is all) js
-
--- The items of a turn ---------------------------------------------------------------------------------------------------
-
--- what was taken, at most 448, and a Tick of each shard that has a due deadline, at most 64
-pub are_items : (seed : List ℕ) (n moment : ℕ) (readings : List DataReading) (shards : List (ShardView ShardState Entry)) → length (taken_items readings) ≤ 448 → length shards ≤ 64 → AreInOrder shards
-    → AreItems (drawn_from seed n (taken_items readings ++ ticks_of moment shards))
-are_items seed n moment readings shards taken few order =
-    let ts = taken_items readings in
-    let ds = ticks_of moment shards in
-    let is_once_item = λ (i : Item). is_once i.kind in
-    let kept : filter is_once_item (drawn_from seed n (ts ++ ds)) ≡ filter is_once_item (drawn_from seed (n + length ts) ds) =
-    ap (filter is_once_item) (drawn_append seed n ts ds)
-    ∙ none_kept (drawn_from seed n ts) (drawn_all IsTaken (λ i octets holds. holds) seed n ts (all_taken IsTaken (λ role a. taken_twice role) readings)) (drawn_from seed (n + length ts) ds) in
-    record {
-      few = omega (arith, taken, few, drawn_length seed n (ts ++ ds), length-append ts ds, ticks_length moment shards);
-      whole = drawn_all IsWhole (λ i octets holds. holds) seed n (ts ++ ds) (All-append IsWhole ts ds (all_taken IsWhole (λ role a. refl) readings) (all_due IsWhole (λ shard. refl) moment shards));
-      once = subst (AllPairs IsBelow) (sym kept) (AllPairs-filter IsBelow is_once_item (drawn_from seed (n + length ts) ds) (drawn_rise seed (n + length ts) ds (ticks_rise moment shards order)));
-    }
-
--- an End of each shard
-pub are_ends : (seed : List ℕ) (n shards : ℕ) → shards ≤ 64 → AreItems (drawn_from seed n (ends_of shards))
-are_ends seed n shards few = record {
-  few = omega (arith, few, drawn_length seed n (ends_of shards), ends_length shards);
-  whole = drawn_all IsWhole (λ i octets holds. holds) seed n (ends_of shards) (all_ends IsWhole (λ shard. refl) shards);
-  once = AllPairs-filter IsBelow (λ (i : Item). is_once i.kind) (drawn_from seed n (ends_of shards)) (drawn_rise seed n (ends_of shards) (ends_rise shards));
-}
-
--- how many outs they have at most
-pub outs_of_turn : (seed : List ℕ) (n moment : ℕ) (readings : List DataReading) (shards : List (ShardView ShardState Entry)) → length (taken_items readings) ≤ 448
-    → outs_of_items (drawn_from seed n (taken_items readings ++ ticks_of moment shards)) ≤ 4480 + 320 * length shards
-outs_of_turn seed n moment readings shards taken =
-    let f = λ (i : Item). outs_most i.kind in
-    let ts = taken_items readings in
-    let ds = ticks_of moment shards in
-    omega (
-      arith,
-      taken,
-      drawn_outs seed n (ts ++ ds),
-      sum_by-append f ts ds,
-      ticks_length moment shards,
-      sum_by-le f 10 ts (all_taken (HasFew 10) (λ role a. taken_few role) readings),
-      sum_by-le f 320 ds (all_due (HasFew 320) (λ shard. omega arith) moment shards),
-    )
-
-pub outs_of_ends : (seed : List ℕ) (n shards : ℕ) → outs_of_items (drawn_from seed n (ends_of shards)) ≤ 4480 + 320 * shards
-outs_of_ends seed n shards =
-    omega (
-      arith,
-      drawn_outs seed n (ends_of shards),
-      ends_length shards,
-      sum_by-le (λ (i : Item). outs_most i.kind) 320 (ends_of shards) (all_ends (HasFew 320) (λ shard. omega arith) shards),
-    )

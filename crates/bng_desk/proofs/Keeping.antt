@@ -1,8 +1,10 @@
 -- What a desk keeps from turn to turn.
-use Rattle.std.proofs.Common.{◌≡◌, ◌≢◌, ◌⊎◌, inl, inr, ℕ, zero, suc, ◌+◌, ◌-◌, ◌*◌, ◌<◌, ◌≤◌, Bool, true, false, not, ◌&&◌, ◌||◌, cond, List, [], ◌∷◌, length, eqb, refl, sym, ap, subst, ◌∙◌, arith}
+use Rattle.std.proofs.Common.{◌≡◌, ◌≢◌, ◌⊎◌, inl, inr, ℕ, zero, suc, ◌+◌, ◌-◌, ◌*◌, ◌<◌, ◌≤◌, Bool, true, false, not, ◌&&◌, ◌||◌, cond, List, [], ◌∷◌, Option, None, Some, length, eqb, refl, sym, ap, subst, ◌∙◌, arith}
 use Rattle.std.specs.List.{All}
 use Rattle.std.proofs.lemmas.Bool.{false≢true, or_parts, leb-false}
 use Rattle.std.proofs.lemmas.Bool.Decides.{nat_tests}
+use Rattle.std.proofs.lemmas.List.{length-append}
+use Rattle.std.proofs.lemmas.List.Elements.{All-filter}
 use Rattle.std.proofs.lemmas.List.Sums.{sum_by-le}
 use Rattle.bng_base.specs.declared.item.Entry.{Entry}
 use Rattle.bng_base.specs.declared.book.Book.{Book}
@@ -14,26 +16,32 @@ use Rattle.bng_base.specs.Told.{PlantTold}
 use Rattle.bng_desk.specs.declared.drops.Drops.{Drops}
 use Rattle.bng_desk.specs.declared.holding.Named.{Named}
 use Rattle.bng_desk.specs.Counting.{Within}
-use Rattle.bng_desk.specs.Kept.{IsKept, IsUnended, AreEndsOf, all_turns, octets_most, drops_most}
+use Rattle.bng_base.specs.FateOf.{Arrival}
+use Rattle.bng_lane.specs.State.{LaneState}
+use Rattle.bng_verdict.specs.declared.question.QuestionNo.{QuestionNo}
+use Rattle.bng_desk.specs.declared.reading.Ended.{Ended as Reading}
+use Rattle.bng_desk.specs.declared.reading.Ended.TheVariants.{Full, Dry, Broken}
+use Rattle.bng_desk.specs.Intake.{Gathers}
+use Rattle.bng_desk.specs.Kept.{IsKept, IsUnended, Stays, is_verdict, all_turns, octets_most, drops_most}
+use Rattle.bng_desk.specs.Logins.{Answered, reply_in, reply_items}
 use Rattle.bng_desk.specs.Model.{Desk, is_over, has_ended, has_starved, left_of, rounds_left, sessions_in, state_of, unopened_most}
-use Rattle.bng_desk.specs.Items.{drawn_from, ends_of}
+use Rattle.bng_desk.specs.Items.{kept_of, stays}
 use Rattle.bng_desk.specs.Random.{Drawn}
-use Rattle.bng_desk.specs.Reading.{is_empty}
-use Rattle.bng_desk.specs.Round.{refused_of}
-use Rattle.bng_desk.specs.Taking.{IsEmpty, HasFewSessions, HoldsEnds, AreInOrder, AreItems, outs_of_items}
+use Rattle.bng_desk.specs.Reading.{EndsRight, is_empty}
+use Rattle.bng_desk.specs.Taking.{IsEmpty, HasFewSessions, Holds, AreInOrder, AreItems}
 use Rattle.bng_desk.proofs.Readying.{Shards}
-use Rattle.bng_desk.specs.Turn.{ending_items, ending_draws, told_after}
+use Rattle.bng_desk.specs.Turn.{ending_items, ending_draws, has_end, told_after, ReadsWhere}
 use Rattle.bng_desk.proofs.DropLaws.{within_wider}
 use Rattle.bng_desk.proofs.Ending.{after_ending}
-use Rattle.bng_desk.proofs.ItemLaws.{are_ends, outs_of_ends}
+use Rattle.bng_desk.proofs.ItemLaws.{IsWhole}
 use Rattle.bng_shard.specs.Protocol.{ShardState, sessions_of}
 use Rattle.bng_shard.specs.Sums.{IsLow, AreLow}
 use Rattle.bng_engine.specs.Books.{book_at}
 use Rattle.bng_engine.specs.Views.{ShardView}
-use Rattle.bng_desk.proofs.Dwindling.{WorksBy, Nears, are_drawn_ends, less_left, nears, still_left, unopened_low}
+use Rattle.bng_desk.proofs.Dwindling.{WorksBy, Nears, less_left, nears, still_left, unopened_low}
 use Rattle.bng_desk.proofs.Joining.{HasLow, HasLowBooks, low_wider, books_wider}
 use Rattle.bng_desk.proofs.OneMore.{low_more}
-use Rattle.bng_desk.proofs.RefusedLaws.{none_refused}
+use Rattle.bng_desk.proofs.Staying.{AreEnds, IsStaying, are_there, ends_by, ending_few, ending_kept, ending_stays, few_while, items_of_ends, serving_stays, verdict_items, verdicts_stay}
 use Rattle.bng_desk.proofs.Turning.{after_turn}
 
 -- Where a desk stands, by its tests -----------------------------------------------------------------------------------------
@@ -101,13 +109,6 @@ few_in vs few = omega (arith, sum_by-le (λ (v : ShardView ShardState Entry). se
 pub unended_left : (d : Desk) (vs : Shards) → IsUnended d → All HasFewSessions vs → length vs ≤ 64 → d.endings + unopened_most * (sessions_in vs + cond d.closed 0 1) ≤ unopened_most * 65410 + d.unopened
 unended_left d vs u few count = omega (arith, u.endings, ap {B = ℕ} (λ (b : Bool). cond b 0 1) u.closed, few_in vs few, count)
 
--- what is kept of a round of the ending
-pub record AreEnds (d : Desk) (is : List Item) : Type 0 where
-  pub items : AreItems is
-  pub outs : outs_of_items is ≤ 4480 + 320 * length d.shards
-  pub ends : (is ≡ []) ⊎ AreEndsOf (length d.shards) is
-  pub none : refused_of is ≡ []
-
 -- One round more ------------------------------------------------------------------------------------------------------------
 
 -- the tally of the one seat
@@ -119,7 +120,7 @@ pub one_low : (most : ℕ) (tally : Book) → IsLow most tally → AreLow most (
 one_low most tally low = low_at most tally low
 
 -- what a round leaves
-pub record IsLeft (d : Desk) (ws : Shards) (drops : Drops) (tally : Book) (drawn : ℕ) : Type 0 where
+pub record IsLeft (d : Desk) (ws : Shards) (drops : Drops) (tally : Book) (drawn : ℕ) (handed : List (List ℕ)) : Type 0 where
   pub shards : length ws ≡ length d.shards
   pub order : AreInOrder ws
   pub rules : All (WorksBy d.rules) ws
@@ -129,10 +130,23 @@ pub record IsLeft (d : Desk) (ws : Shards) (drops : Drops) (tally : Book) (drawn
   pub books : All (HasLowBooks (octets_most * all_turns d + octets_most)) ws
   pub tally_low : IsLow (octets_most * all_turns d + octets_most) tally
   pub counts : Within (drops_most * all_turns d + drops_most) drops
-  pub drawn_is : drawn ≤ d.drawn + 512
+  pub drawn_is : drawn ≤ d.drawn + 1024
+  pub handed_is : length handed ≡ length d.handed
 
-pub kept_served : (d : Desk) (ws : Shards) (drops : Drops) (tally : Book) (draws : Drawn) (stopped : Bool) (moment told : ℕ) → IsKept d → is_over d ≡ false → d.turns < d.rounds → IsLeft d ws drops tally draws.drawn → told ≤ d.told + 1 → IsKept (after_turn d ws drops tally draws stopped moment told)
-kept_served d ws drops tally draws stopped moment told k serves turns l up =
+-- what stays of the round
+pub record AreKept (d : Desk) (kept : List Item) : Type 0 where
+  pub items : AreItems kept
+  pub stays : Stays (length d.shards) kept
+
+pub none_kept : (d : Desk) → AreKept d []
+none_kept d = record {
+  items = record { few = omega arith; whole = λ k e l. absurd (omega arith); once = λ i j e low high. absurd (omega arith) };
+  stays = record { verdicts = []; ends = []; are = refl; all_verdicts = λ k e l. absurd (omega arith); few = omega arith; one_each = inl refl };
+}
+
+pub kept_served : (d : Desk) (ws : Shards) (drops : Drops) (tally : Book) (draws : Drawn) (stopped : Bool) (moment told : ℕ) (lane : LaneState) (handed : List (List ℕ)) (kept : List Item) → IsKept d → is_over d ≡ false → d.turns < d.rounds → IsLeft d ws drops tally draws.drawn handed → told ≤ d.told + 1
+    → AreKept d kept → All is_verdict kept → IsKept (after_turn d ws drops tally draws stopped moment told lane handed kept)
+kept_served d ws drops tally draws stopped moment told lane handed kept k serves turns l up staying verdicts =
     let u = k.serving serves in
     record {
       some_port = k.some_port;
@@ -158,10 +172,10 @@ kept_served d ws drops tally draws stopped moment told k serves turns l up =
       books = books_wider (octets_most * all_turns d + octets_most) (octets_most * (d.turns + 1 + d.endings)) ws (omega arith) l.books;
       tallies = one_low (octets_most * (d.turns + 1 + d.endings)) tally (low_more (octets_most * all_turns d + octets_most) (octets_most * (d.turns + 1 + d.endings)) tally (omega arith) l.tally_low);
       counts = within_wider (drops_most * all_turns d + drops_most) (drops_most * (d.turns + 1 + d.endings)) drops (omega arith) l.counts;
-      kept = k.kept;
-      kept_outs = omega (arith, k.kept_outs, l.shards);
-      kept_ends = subst (λ (n : ℕ). (d.kept ≡ []) ⊎ AreEndsOf n d.kept) (sym l.shards) k.kept_ends;
-      none_refused = k.none_refused;
+      kept = staying.items;
+      stays = subst (λ (n : ℕ). Stays n kept) (sym l.shards) staying.stays;
+      while_serving = λ _. verdicts;
+      handed = l.handed_is ∙ k.handed ∙ sym l.shards;
     }
 
 -- what a turn of the ending leaves of those that there may be
@@ -185,9 +199,9 @@ not_served : (b : Bool) (X : Type 0) → b ≡ true → b ≡ false → X
 not_served true X e f = absurd (false≢true (sym f))
 not_served false X e f = absurd (false≢true e)
 
-pub kept_ended : (d : Desk) (ws : Shards) (drops : Drops) (tally : Book) (draws : Drawn) (unopened : ℕ) (closed : Bool) (kept : List Item) (moment told : ℕ) → IsKept d → is_over d ≡ true → IsNearer d ws unopened closed → IsLeft d ws drops tally draws.drawn → told ≤ d.told + 1
-    → AreEnds d kept → IsKept (after_ending d ws drops (tally ∷ []) draws unopened closed kept moment told)
-kept_ended d ws drops tally draws unopened closed kept moment told k over near l up ends = record {
+pub kept_ended : (d : Desk) (ws : Shards) (drops : Drops) (tally : Book) (draws : Drawn) (unopened : ℕ) (closed : Bool) (kept : List Item) (moment told : ℕ) (lane : LaneState) (handed : List (List ℕ)) → IsKept d → is_over d ≡ true → IsNearer d ws unopened closed → IsLeft d ws drops tally draws.drawn handed → told ≤ d.told + 1
+    → AreKept d kept → IsKept (after_ending d ws drops tally draws unopened closed kept moment told lane handed)
+kept_ended d ws drops tally draws unopened closed kept moment told lane handed k over near l up staying = record {
   some_port = k.some_port;
   few_ports = k.few_ports;
   shards = l.shards ∙ k.shards;
@@ -200,7 +214,7 @@ kept_ended d ws drops tally draws unopened closed kept moment told k over near l
   holders = k.holders;
   most = k.most;
   made = k.made;
-  serving = λ serves. not_served (is_over d) (IsUnended (after_ending d ws drops (tally ∷ []) draws unopened closed kept moment told)) over serves;
+  serving = λ serves. not_served (is_over d) (IsUnended (after_ending d ws drops tally draws unopened closed kept moment told lane handed)) over serves;
   endings = omega (arith, near.left, near.low);
   unopened = near.low;
   left = near.left;
@@ -211,10 +225,10 @@ kept_ended d ws drops tally draws unopened closed kept moment told k over near l
   books = books_wider (octets_most * all_turns d + octets_most) (octets_most * (d.turns + (d.endings + 1))) ws (omega arith) l.books;
   tallies = one_low (octets_most * (d.turns + (d.endings + 1))) tally (low_more (octets_most * all_turns d + octets_most) (octets_most * (d.turns + (d.endings + 1))) tally (omega arith) l.tally_low);
   counts = within_wider (drops_most * all_turns d + drops_most) (drops_most * (d.turns + (d.endings + 1))) drops (omega arith) l.counts;
-  kept = ends.items;
-  kept_outs = omega (arith, ends.outs, l.shards);
-  kept_ends = subst (λ (n : ℕ). (kept ≡ []) ⊎ AreEndsOf n kept) (sym l.shards) ends.ends;
-  none_refused = ends.none;
+  kept = staying.items;
+  stays = subst (λ (n : ℕ). Stays n kept) (sym l.shards) staying.stays;
+  while_serving = λ serves. not_served (is_over d) (All is_verdict kept) over serves;
+  handed = l.handed_is ∙ k.handed ∙ sym l.shards;
 }
 
 -- the number of the last round that the trace took rises by one at most
@@ -222,47 +236,79 @@ pub few_told : (noted : Bool) (n : ℕ) → told_after noted n ≤ n + 1
 few_told true n = omega arith
 few_told false n = omega arith
 
--- The items of a round of the ending ------------------------------------------------------------------------------------------
+-- The items of a round ------------------------------------------------------------------------------------------------------
 
-ends_by : (b : Bool) (d : Desk) → IsKept d → AreEnds d (cond b (drawn_from d.seed d.drawn (ends_of (length d.shards))) d.kept)
-ends_by true d k = record { items = are_ends d.seed d.drawn (length d.shards) (omega (arith, k.few_shards, k.shards)); outs = outs_of_ends d.seed d.drawn (length d.shards); ends = inr (are_drawn_ends d.seed d.drawn (length d.shards)); none = none_refused d.seed d.drawn (length d.shards) }
-ends_by false d k = record { items = k.kept; outs = k.kept_outs; ends = k.kept_ends; none = k.none_refused }
+-- of verdicts that stay while the desk serves there are few
+pub few_kept : (d : Desk) → IsKept d → is_over d ≡ false → length d.kept ≤ 128
+few_kept d k serves = few_while (length d.shards) d.kept (omega (arith, k.some_shard, k.shards)) k.stays (k.while_serving serves)
 
-pub are_ends_of : (d : Desk) → IsKept d → AreEnds d (ending_items d)
-are_ends_of d k = ends_by (is_empty d.kept) d k
+-- what stays of the items of a turn while serving
+pub record StaysServing (d : Desk) (items : List Item) : Type 0 where
+  pub few : length (kept_of items) ≤ 128
+  pub verdicts : All is_verdict (kept_of items)
+  pub kept : AreKept d (kept_of items)
 
-pub no_ends : (d : Desk) → AreEnds d []
-no_ends d = record {
-  items = record { few = omega arith; whole = λ k e l. absurd (omega arith); once = λ i j e low high. absurd (omega arith) };
-  outs = omega arith;
-  ends = inl refl;
-  none = refl;
-}
+ends_few : (most n : ℕ) (ended : Reading) → EndsRight most n ended → n ≤ most
+ends_few most n Full e = omega (arith, e)
+ends_few most n Dry lt = omega (arith, lt)
+ends_few most n Broken lt = omega (arith, lt)
 
-not_empty : (shards : ℕ) (is : List Item) → is_empty is ≡ false → (is ≡ []) ⊎ AreEndsOf shards is → AreEndsOf shards is
-not_empty shards [] e h = absurd (false≢true (sym e))
-not_empty shards (i ∷ is) e (inl none) = let no : ⊥ = cc in absurd no
-not_empty shards (i ∷ is) e (inr h) = h
+one_reply : (a : Arrival) (found : Option QuestionNo) → length (reply_in a found) ≤ 1
+one_reply a None = omega arith
+one_reply a (Some q) = omega arith
 
-all_ends_by : (b : Bool) (d : Desk) → IsKept d → is_empty d.kept ≡ b → AreEndsOf (length d.shards) (cond b (drawn_from d.seed d.drawn (ends_of (length d.shards))) d.kept)
-all_ends_by true d k e = are_drawn_ends d.seed d.drawn (length d.shards)
-all_ends_by false d k e = not_empty (length d.shards) d.kept e k.kept_ends
+replies_few : (answers : List Answered) → length (reply_items answers) ≤ length answers
+replies_few [] = omega arith
+replies_few (a ∷ answers) = omega (arith, replies_few answers, length-append (reply_in a.arrival a.found) (reply_items answers), one_reply a.arrival a.found)
 
--- each shard has its End
-pub all_end : (d : Desk) → IsKept d → AreEndsOf (length d.shards) (ending_items d)
-all_end d k = all_ends_by (is_empty d.kept) d k refl
+-- there are replies only where nothing stays
+replies_by : (kept : List Item) (answers : List Answered) (auth_end : Option Reading) → ReadsWhere (is_empty kept) answers auth_end → (length (reply_items answers) ≡ 0) ⊎ ((length kept ≡ 0) × (length (reply_items answers) ≤ 128))
+replies_by [] answers auth_end reads = inr (refl, omega (arith, replies_few answers, ends_few 128 (length answers) reads.0 reads.2))
+replies_by (i ∷ kept) answers auth_end reads = inl (ap (λ (xs : List Answered). length (reply_items xs)) reads.1)
 
-draws_by : (b : Bool) (n : ℕ) → n ≤ 64 → cond b n 0 ≤ 512
-draws_by true n few = omega (arith, few)
-draws_by false n few = omega arith
+given_few : (kept replies timed : ℕ) → kept ≤ 128 → (replies ≡ 0) ⊎ ((kept ≡ 0) × (replies ≤ 128)) → timed ≤ 128 - (kept + replies) → kept + replies + timed ≤ 128
+given_few kept replies timed few (inl e) given = omega (arith, few, e, given)
+given_few kept replies timed few (inr e) given = omega (arith, few, e.0, e.1, given)
 
-pub few_draws : (d : Desk) → IsKept d → ending_draws d ≤ 512
-few_draws d k = draws_by (is_empty d.kept) (length d.shards) (omega (arith, k.few_shards, k.shards))
+pub serving_staying : (d : Desk) (vs : Shards) (moment : ℕ) (p p' : PlantTold) (l l' : LaneState) (draws draws' : Drawn) (items : List Item) (quiet : Bool) → Gathers d.rules vs moment d.kept p p' l l' draws draws' items quiet → AreItems items → All is_verdict d.kept → length d.kept ≤ 128
+    → StaysServing d items
+serving_staying d vs moment p p' l l' draws draws' items quiet g whole verdicts few =
+    let most = length d.kept + length (reply_items g.answers) + length g.timed in
+    let staying : IsStaying items most = subst (λ (is : List Item). IsStaying is most) (sym g.items_are) (serving_stays d.rules draws.seed draws.drawn moment d.kept g.answers g.readings g.timed vs verdicts g.are_roles) in
+    let all_few : most ≤ 128 = given_few (length d.kept) (length (reply_items g.answers)) (length g.timed) few (replies_by d.kept g.answers g.auth_end g.auth) g.times_out.few in
+    let these : length (kept_of items) ≤ 128 = omega (arith, staying.few, all_few) in
+    record {
+      few = these;
+      verdicts = staying.verdicts;
+      kept = record {
+        items = verdict_items (kept_of items) staying.verdicts (All-filter (λ (i : Item). stays i.kind) IsWhole items whole.whole) (omega (arith, these));
+        stays = verdicts_stay (length d.shards) (kept_of items) staying.verdicts these;
+      };
+    }
+
+-- the items of a round of the ending are verdicts that stay and an End for each shard
+pub are_ends_of : (d : Desk) → IsKept d → AreEnds (length d.shards) (ending_items d)
+are_ends_of d k = ends_by (has_end d.kept) (length d.shards) d.kept d.seed d.drawn k.stays k.kept (are_there (length d.shards) d.kept (omega (arith, k.some_shard, k.shards)) k.stays)
+
+-- and all of them stay
+pub ends_kept : (d : Desk) (items : List Item) → IsKept d → AreEnds (length d.shards) items → AreKept d (kept_of items)
+ends_kept d items k e =
+    subst (λ (is : List Item). AreKept d is) (sym (ending_stays (length d.shards) items e))
+    (record { items = items_of_ends (length d.shards) items (omega (arith, k.shards, k.few_shards)) e; stays = ending_kept (length d.shards) items e })
+
+pub ends_few_kept : (d : Desk) (items : List Item) → IsKept d → AreEnds (length d.shards) items → length (kept_of items) ≤ 192
+ends_few_kept d items k e = omega (arith, ap (λ (is : List Item). length is) (ending_stays (length d.shards) items e), ending_few (length d.shards) items (omega (arith, k.shards, k.few_shards)) e)
+
+draws_by : (b : Bool) (n : ℕ) → n ≤ 64 → cond b 0 n ≤ 64
+draws_by true n few = omega arith
+draws_by false n few = omega (arith, few)
+
+pub few_draws : (d : Desk) → IsKept d → ending_draws d ≤ 64
+few_draws d k = draws_by (has_end d.kept) (length d.shards) (omega (arith, k.few_shards, k.shards))
 
 -- a round of the ending that was opened leaves fewer sessions
-pub ends_near : (d : Desk) (named : Named) (items : List Item) (old new : PlantTold) (vs ws : Shards) (drops' : Drops) (tally tally' : Book) (told_is : RoundRecord) (opened : Bool) (kept : List Item) → IsKept d → items ≡ ending_items d → vs ≡ d.shards
-    → HoldsEnds d.rules d.holders named items old new vs ws d.drops drops' tally tally' told_is opened kept → Nears opened (sessions_in d.shards) (sessions_in ws)
-ends_near d named items old new vs ws drops' tally tally' told_is opened kept k items_are shards_are held =
+pub ends_near : (d : Desk) (named : Named) (items : List Item) (old new : PlantTold) (vs ws : Shards) (drops' : Drops) (tally tally' : Book) (told_is : RoundRecord) (opened : Bool) (kept : List Item) → IsKept d → AreEnds (length d.shards) items → vs ≡ d.shards
+    → Holds d.rules d.holders named items old new vs ws d.drops drops' tally tally' told_is opened kept → Nears opened (sessions_in d.shards) (sessions_in ws)
+ends_near d named items old new vs ws drops' tally tally' told_is opened kept k ends shards_are held =
     nears d.rules d.holders named items old new d.shards ws d.drops drops' tally tally' told_is opened kept
-    (subst (λ (xs : Shards). HoldsEnds d.rules d.holders named items old new xs ws d.drops drops' tally tally' told_is opened kept) shards_are held) k.shards
-    (subst (λ (is : List Item). AreEndsOf (length d.shards) is) (sym items_are) (all_end d k))
+    (subst (λ (xs : Shards). Holds d.rules d.holders named items old new xs ws d.drops drops' tally tally' told_is opened kept) shards_are held) k.shards ends

@@ -11,13 +11,18 @@ pub mod Admitting
 pub mod Dealing
 pub mod OneMore
 pub mod RefusedLaws
+pub mod Staying
 pub mod Outfit
 pub mod Joining
 pub mod Resting
 pub mod Dwindling
 pub mod Done
+pub mod Lanes
 pub mod Fresh
 pub mod Turning
 pub mod Ending
 pub mod Keeping
 mod InPlace
+pub mod LoginLaws
+pub mod RequestLaws
+pub mod GatherLaws

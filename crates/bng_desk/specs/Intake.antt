@@ -1,15 +1,26 @@
 -- What is taken from the outside in a turn, as items.
-use Rattle.std.specs.Prelude.{◌≡◌, ℕ, ◌+◌, ◌≤◌, Bool, List, ◌++◌, All, length, map, take}
+use Rattle.std.specs.Prelude.{◌≡◌, ◌⊎◌, ℕ, ◌+◌, ◌-◌, ◌/◌, ◌≤◌, ◌&&◌, Bool, List, [], ◌++◌, Option, All, length, map, fold}
+use Rattle.std.specs.List.{range_with_len}
 use Rattle.bng_base.specs.declared.item.Item.{Item}
 use Rattle.bng_base.specs.declared.outside.Role.{Role}
+use Rattle.bng_base.specs.Chain.{Chain}
+use Rattle.bng_base.specs.FateOf.{Arrival}
 use Rattle.bng_base.specs.Told.{PlantTold}
-use Rattle.bng_base.specs.Stretch.{ExtendsPlant}
+use Rattle.bng_base.specs.Stretch.{ExtendsPlant, plant_joined}
+use Rattle.bng_lane.specs.Replies.{Takes as IsTaken}
+use Rattle.bng_lane.specs.Sends.{LaneSend, LaneAsk, AllResent, Asks}
+use Rattle.bng_lane.specs.State.{LaneState}
+use Rattle.bng_rad_client.specs.Table.{taken}
 use Rattle.bng_shard.specs.declared.rules.Rules.{Rules}
+use Rattle.bng_shard.specs.Questions.{asking_from, waiting, handed_after}
+use Rattle.bng_shard.specs.State.{State}
+use Rattle.bng_verdict.specs.declared.question.QuestionNo.{QuestionNo}
+use Rattle.bng_desk.specs.declared.reading.Ended.{Ended}
 use Rattle.bng_desk.specs.Items.{DataReading, taken_items, ticks_of, drawn_from}
-use Rattle.bng_desk.specs.Random.{Drawn}
+use Rattle.bng_desk.specs.Random.{Drawn, draw}
 use Rattle.bng_desk.specs.Reading.{EndsRight, is_empty}
-use Rattle.bng_desk.specs.Round.{refused_of}
-use Rattle.bng_desk.specs.Turn.{data_stretch, arrivals_in, data_roles, most_of}
+use Rattle.bng_desk.specs.Logins.{Answered, Requests, Hears, TimesOut, SettlesLane, reply_in, reply_items, timeout_items, auth_reading, lane_stretch, requests_stretch, verdicts_most}
+use Rattle.bng_desk.specs.Turn.{data_stretch, auth_stretch, reading_stretch, arrivals_in, data_roles, most_of, ReadsWhere}
 use Rattle.bng_desk.specs.Taking.{Shown}
 
 -- these roles were read, one after the other, and what was taken stands after the items before, each with its own random octets
@@ -23,14 +34,89 @@ pub record Takes (roles : List Role) (most : Role → ℕ) (few : ℕ) (old new 
   pub draws_are : draws' ≡ record draws { drawn = draws.drawn + length (taken_items readings) }
   pub quiet_is : quiet ≡ is_empty (arrivals_in readings)
 
--- What a turn takes while serving: these roles were read, and the items are what was taken and the Ticks that are due, each with its
--- own random octets. The first so many came from the outside.
-pub record Gathers (r : Rules) (shards : List Shown) (moment : ℕ) (old new : PlantTold) (draws draws' : Drawn) (items : List Item) (quiet : Bool) (taken : ℕ) : Type 0 where
+-- Auth was read: each reply to a question is an item, with its own random octets.
+pub record TakesReplies (old new : PlantTold) (lane lane' : LaneState) (draws draws' : Drawn) (items items' : List Item) (quiet : Bool) : Type 0 where
+  pub answers : List Answered
+  pub ended : Ended
+  pub ends : EndsRight verdicts_most (length answers) ended
+  pub told : ExtendsPlant old new (reading_stretch (auth_reading answers ended))
+  pub hears : Hears lane answers lane'
+  pub items_are : items' ≡ items ++ drawn_from draws.seed draws.drawn (reply_items answers)
+  pub draws_are : draws' ≡ record draws { drawn = draws.drawn + length (reply_items answers) }
+  pub quiet_is : quiet ≡ is_empty answers
+
+-- A datagram of Auth was heard: where it is the reply to a question it is an item.
+pub record AddsReply (a : Arrival) (lane lane' : LaneState) (draws draws' : Drawn) (items items' : List Item) : Type 0 where
+  pub found : Option QuestionNo
+  pub takes : IsTaken lane a.from a.octets found lane'
+  pub items_are : items' ≡ items ++ drawn_from draws.seed draws.drawn (reply_in a found)
+  pub draws_are : draws' ≡ record draws { drawn = draws.drawn + length (reply_in a found) }
+
+-- Auth was read, where it is read.
+pub record TakesAuth (reads : Bool) (old new : PlantTold) (lane lane' : LaneState) (draws draws' : Drawn) (items items' : List Item) (quiet : Bool) : Type 0 where
+  pub answers : List Answered
+  pub auth_end : Option Ended
+  pub auth : ReadsWhere reads answers auth_end
+  pub told : ExtendsPlant old new (auth_stretch answers auth_end)
+  pub hears : Hears lane answers lane'
+  pub items_are : items' ≡ items ++ drawn_from draws.seed draws.drawn (reply_items answers)
+  pub draws_are : draws' ≡ record draws { drawn = draws.drawn + length (reply_items answers) }
+  pub quiet_is : quiet ≡ is_empty answers
+
+-- Questions were given up, so many at most: each is an item.
+pub record AddsTimeouts (now most : ℕ) (lane lane' : LaneState) (draws draws' : Drawn) (items items' : List Item) : Type 0 where
+  pub timed : List QuestionNo
+  pub times_out : TimesOut now most lane timed lane'
+  pub items_are : items' ≡ items ++ drawn_from draws.seed draws.drawn (timeout_items timed)
+  pub draws_are : draws' ≡ record draws { drawn = draws.drawn + length timed }
+
+-- What a turn takes while serving: Auth was read, unless items stay of the round before, and then the other roles. The items are those
+-- that stay, and then the replies, what was taken, the questions that are given up and the Ticks that are due, each with its own random
+-- octets.
+pub record Gathers (r : Rules) (shards : List Shown) (moment : ℕ) (kept : List Item) (old new : PlantTold) (lane lane' : LaneState) (draws draws' : Drawn) (items : List Item) (quiet : Bool) : Type 0 where
+  pub answers : List Answered
+  pub auth_end : Option Ended
+  pub auth : ReadsWhere (is_empty kept) answers auth_end
   pub readings : List DataReading
   pub are_roles : map (λ r. r.role) readings ≡ data_roles r
   pub read : All (λ x. EndsRight (most_of r x.role) (length x.arrivals) x.ended) readings
-  pub told : ExtendsPlant old new (data_stretch readings)
-  pub items_are : items ≡ drawn_from draws.seed draws.drawn (taken_items readings ++ ticks_of moment shards)
-  pub draws_are : draws' ≡ record draws { drawn = draws.drawn + length items }
-  pub quiet_is : quiet ≡ is_empty (arrivals_in readings)
-  pub outside : refused_of items ≡ take taken items
+  pub told : ExtendsPlant old new (plant_joined (auth_stretch answers auth_end) (data_stretch readings))
+  pub heard : LaneState
+  pub hears : Hears lane answers heard
+  pub timed : List QuestionNo
+  pub times_out : TimesOut moment (verdicts_most - (length kept + length (reply_items answers))) heard timed lane'
+  pub items_are : items ≡ kept ++ drawn_from draws.seed draws.drawn (reply_items answers ++ taken_items readings ++ timeout_items timed ++ ticks_of moment shards)
+  pub draws_are : draws' ≡ record draws { drawn = draws.drawn + length (reply_items answers ++ taken_items readings ++ timeout_items timed ++ ticks_of moment shards) }
+  pub quiet_is : quiet ≡ (is_empty answers && is_empty (arrivals_in readings))
+
+-- The requests that are due were sent again, and the questions that wait were asked.
+pub record SendsRequests (now : ℕ) (shards : List Shown) (old new : PlantTold) (lane lane' : LaneState) (handed handed' : List (List ℕ)) (draws draws' : Drawn) : Type 0 where
+  pub requests : Requests
+  pub settles : SettlesLane now lane shards handed draws.seed draws.drawn requests lane' handed'
+  pub told : ExtendsPlant old new (requests_stretch lane.client.auth_server requests)
+  pub draws_are : draws' ≡ record draws { drawn = draws.drawn + length requests.asked }
+
+-- The requests that are due were sent again.
+pub record SendsAgain (now : ℕ) (old new : PlantTold) (lane lane' : LaneState) : Type 0 where
+  pub resent : List LaneSend
+  pub resends : AllResent now lane resent lane'
+  pub told : ExtendsPlant old new (lane_stretch lane.client.auth_server resent)
+
+-- Questions that wait in the shard with this number were asked, in their order: each is handed out, and its request has the next sixteen
+-- random octets as its authenticator.
+pub record AsksSome (now shard : ℕ) (slots : State) (old new : PlantTold) (lane lane' : LaneState) (handed handed' : List ℕ) (draws draws' : Drawn) : Type 0 where
+  pub asked : List LaneAsk
+  pub asks : Chain (Asks now) lane asked lane'
+  pub questions : waiting slots handed ≡ map (λ (a : LaneAsk). asking_from a.ask) asked ++ waiting slots handed'
+  pub own : All (λ (a : LaneAsk). a.ask.number.session.0 / 1024 ≡ shard) asked
+  pub handed_is : handed' ≡ fold handed_after handed (map (λ (a : LaneAsk). a.ask.number) asked)
+  pub authenticators : map (λ (a : LaneAsk). a.authenticator) asked ≡ map (draw draws.seed) (range_with_len draws.drawn (length asked))
+  pub told : ExtendsPlant old new (lane_stretch lane.client.auth_server (map (λ (a : LaneAsk). a.send) asked))
+  pub draws_are : draws' ≡ record draws { drawn = draws.drawn + length asked }
+  pub counted : taken lane'.client.auth.places ≡ taken lane.client.auth.places + length asked
+  pub few : (asked ≡ []) ⊎ (taken lane'.client.auth.places ≤ 256)
+
+-- and all of them were, or the lane has no identifier left
+abbrev pub AsksAll : (now shard : ℕ) → State → PlantTold → PlantTold → LaneState → LaneState → List ℕ → List ℕ → Drawn → Drawn → Type 0
+AsksAll now shard slots old new lane lane' handed handed' draws draws' =
+    AsksSome now shard slots old new lane lane' handed handed' draws draws' × ((waiting slots handed' ≡ []) ⊎ (256 ≤ taken lane'.client.auth.places))

@@ -95,6 +95,19 @@ is_from_outside kind.Change = false
 is_from_outside kind.Tick = false
 is_from_outside kind.End = false
 
+-- the item stands first in the next round where its own could not be opened
+abbrev pub stays : ItemKind → Bool
+stays (kind.Access number) = false
+stays kind.Core = false
+stays kind.Tunnel = false
+stays kind.Verdict = true
+stays kind.Change = true
+stays kind.Tick = false
+stays kind.End = true
+
+abbrev pub kept_of : List Item → List Item
+kept_of items = filter (λ (i : Item). stays i.kind) items
+
 abbrev pub stands_in : ℕ → Whose → Bool
 stands_in shard (IsLoose fate) = false
 stands_in shard (Stands n) = n == shard

@@ -1,27 +1,28 @@
 -- What a desk keeps from turn to turn.
-use Rattle.std.specs.Prelude.{◌≡◌, ◌⊎◌, ℕ, ◌+◌, ◌*◌, ◌^◌, ◌≤◌, ◌<◌, false, List, [], length, map}
+use Rattle.std.specs.Prelude.{◌≡◌, ◌⊎◌, ℕ, ◌+◌, ◌*◌, ◌^◌, ◌≤◌, ◌<◌, false, List, [], ◌++◌, length, map}
 use Rattle.std.specs.List.{All}
 use Rattle.bng_base.specs.declared.item.Entry.{Entry}
 use Rattle.bng_base.specs.declared.item.Item.{Item}
+use Rattle.bng_base.specs.declared.item.ItemKind.TheVariants.{Verdict}
 use Rattle.bng_engine.specs.Views.{ShardView}
 use Rattle.bng_shard.specs.declared.pool.Holder.{Holder}
 use Rattle.bng_shard.specs.Protocol.{ShardState}
 use Rattle.bng_shard.specs.Sums.{AreLow, RowsAreLow}
 use Rattle.bng_desk.specs.Counting.{Within}
 use Rattle.bng_desk.specs.Items.{ends_of}
+use Rattle.bng_desk.specs.Logins.{verdicts_most}
 use Rattle.bng_desk.specs.Model.{Desk, HasOneRule, is_over, rounds_left, unopened_most}
-use Rattle.bng_desk.specs.Taking.{IsEmpty, HasFewSessions, AreInOrder, AreItems, outs_of_items}
-use Rattle.bng_desk.specs.Round.{refused_of}
+use Rattle.bng_desk.specs.Taking.{IsEmpty, HasFewSessions, AreInOrder, AreItems}
 
 -- a shard between two rounds, as the desk's contracts see it: nothing of a round, and no room for one
 abbrev pub rested : ShardView ShardState Entry → ShardView ShardState Entry
 rested v = record v { allowance = 0; journal = []; outs = []; sends = []; stops = []; starts = []; room = 0 }
 
--- what a round adds at most to all rows of a shard, to a book and to a tally: 512 packets of at most 4,160 octets
+-- what a round adds at most to all rows of a shard, to a book and to a tally: 1,024 packets of at most 4,160 octets
 abbrev pub octets_most : ℕ
-octets_most = 2129920
+octets_most = 4259840
 
--- what a round adds at most to a count: 512 items, and as many packets as it may have outs, whose sends failed
+-- what a round adds at most to a count: 1,024 items, and as many packets as it may have outs, whose sends failed
 abbrev pub drops_most : ℕ
 drops_most = 32768
 
@@ -43,9 +44,21 @@ pub record IsUnended (d : Desk) : Type 0 where
   pub unopened : d.unopened ≡ 0
   pub closed : d.closed ≡ false
 
+abbrev pub is_verdict : Item → Type 0
+is_verdict i = i.kind ≡ Verdict
+
+-- what stays of a round that was not opened: at most 128 verdicts, and then an End for each shard, or none
+pub record Stays (shards : ℕ) (items : List Item) : Type 0 where
+  pub verdicts : List Item
+  pub ends : List Item
+  pub are : items ≡ verdicts ++ ends
+  pub all_verdicts : All is_verdict verdicts
+  pub few : length verdicts ≤ verdicts_most
+  pub one_each : (ends ≡ []) ⊎ AreEndsOf shards ends
+
 -- One port to sixteen, one shard to 64 in their order, all by the desk's rules, with nothing of a round in them and at most 1,022
--- sessions in each, one seat. No sum is above what the turns so far could add, and none wraps before the last. What is kept of a
--- round that was not opened is an End for each shard.
+-- sessions in each, one seat. No sum is above what the turns so far could add, and none wraps before the last. What stays of a round
+-- that was not opened are verdicts, and Ends in the ending alone. Of each shard there is a list of the questions that it handed out.
 pub record IsKept (d : Desk) : Type 0 where
   pub some_port : 1 ≤ length d.rules.access
   pub few_ports : length d.rules.access ≤ 16
@@ -60,17 +73,17 @@ pub record IsKept (d : Desk) : Type 0 where
   pub most : d.rounds ≤ 2 ^ 40
   pub made : d.turns ≤ d.rounds
   pub serving : is_over d ≡ false → IsUnended d
-  pub endings : d.endings ≤ 2 ^ 40
+  pub endings : d.endings ≤ 2 ^ 37
   pub unopened : d.unopened ≤ unopened_most
   pub left : d.endings + unopened_most * rounds_left d ≤ unopened_most * 65410 + d.unopened
   pub told : d.told ≤ all_turns d
-  pub drawn : d.drawn ≤ 1 + 512 * all_turns d
+  pub drawn : d.drawn ≤ 1 + 1024 * all_turns d
   pub one_seat : length d.tallies ≡ 1
   pub low : All (λ v. RowsAreLow (octets_most * all_turns d) v.rows) d.shards
   pub books : All (λ v. AreLow (octets_most * all_turns d) v.books) d.shards
   pub tallies : AreLow (octets_most * all_turns d) d.tallies
   pub counts : Within (drops_most * all_turns d) d.drops
   pub kept : AreItems d.kept
-  pub kept_outs : outs_of_items d.kept ≤ 4480 + 320 * length d.shards
-  pub kept_ends : (d.kept ≡ []) ⊎ AreEndsOf (length d.shards) d.kept
-  pub none_refused : refused_of d.kept ≡ []
+  pub stays : Stays (length d.shards) d.kept
+  pub while_serving : is_over d ≡ false → All is_verdict d.kept
+  pub handed : length d.handed ≡ length d.shards

@@ -5,6 +5,7 @@ use Rattle.bng_base.specs.declared.book.Book.{Book}
 use Rattle.bng_base.specs.declared.item.Entry.{Entry}
 use Rattle.bng_base.specs.declared.item.Item.{Item}
 use Rattle.bng_engine.specs.Views.{ShardView, Row}
+use Rattle.bng_lane.specs.State.{LaneState}
 use Rattle.bng_shard.specs.declared.pool.Holder.{Holder}
 use Rattle.bng_shard.specs.declared.rules.Rules.{Rules}
 use Rattle.bng_shard.specs.declared.sums.Traffic.{Traffic}
@@ -18,8 +19,9 @@ use Rattle.bng_desk.specs.declared.line.Line.{Line}
 -- By what it serves, the provisioned circuits in the order of the configuration, after how many turns it ends serving by
 -- itself, how many it made, whether it was told to stop, the shards in the order of their numbers, who holds an address, what each seat passed, the
 -- seed and how many times sixteen octets were drawn from it, the drops, the last moment that it was given, and the number of the
--- last round that the trace took, 0 before the first. Of the ending: how many of its turns were made, how many in a row opened no round, whether one opened a round, and
--- the items of the last round that was not opened.
+-- last round that the trace took, 0 before the first. The lane of the questions that are out at the server, and of each shard which
+-- of its questions were handed out. Of the ending: how many of its turns were made, how many in a row opened no round, and whether one
+-- opened a round. The items that stay of the last round, where it was not opened.
 pub record Desk : Type 0 where
   pub rules : Rules
   pub lines : List Line
@@ -34,6 +36,8 @@ pub record Desk : Type 0 where
   pub drops : Drops
   pub moment : ℕ
   pub told : ℕ
+  pub lane : LaneState
+  pub handed : List (List ℕ)
   pub endings : ℕ
   pub unopened : ℕ
   pub closed : Bool

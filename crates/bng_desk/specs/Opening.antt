@@ -10,9 +10,12 @@ use Rattle.bng_config.specs.declared.config.Config.{Config}
 use Rattle.bng_discovery.specs.declared.port.PortRules.{PortRules}
 use Rattle.bng_base.specs.Books.{empty_book}
 use Rattle.bng_engine.specs.Views.{ShardView}
+use Rattle.bng_lane.specs.declared.rules.LaneRules.{LaneRules}
+use Rattle.bng_lane.specs.State.{LaneState, IsNewLane}
 use Rattle.bng_shard.specs.declared.pool.Holder.{Holder}
 use Rattle.bng_shard.specs.declared.rules.Rules.{Rules}
 use Rattle.bng_shard.specs.Protocol.{ShardState, opened, profiles_there}
+use Rattle.bng_shard.specs.Questions.{none_handed}
 use Rattle.bng_slots.specs.Sessions.{IsNumberOf}
 use Rattle.bng_desk.specs.declared.line.Line.{Line}
 use Rattle.bng_desk.specs.Counting.{no_drops}
@@ -83,11 +86,18 @@ statics_of config shard = filter (λ c. shard_of c == shard) config.statics
 abbrev pub opened_shards : Config → Rules → List (ShardView ShardState Entry)
 opened_shards config rules = map (λ n. opened n rules (statics_of config n)) (range_with_len 0 config.shards)
 
+-- what the lane of questions is opened with: what an Access-Request says of the gateway, the server, the secret and how often a request
+-- is sent
+abbrev pub lane_rules : Config → LaneRules
+lane_rules config = record { nas = record { name = config.name; nas_ip = config.nas_ip }; server = config.auth_server; secret = config.secret; tries = config.tries }
+
 -- Each shard works by the same rules. Each provisioned circuit has its term in the shard of its number and holds its address; there is
 -- no session, and nothing has passed.
 pub record IsOpened (config : Config) (rounds : ℕ) (seed : List ℕ) (now : ℕ) (d : Desk) : Type 0 where
   pub rules : Rules
   pub are_rules : AreRules config seed rules
+  pub lane : LaneState
+  pub new_lane : IsNewLane (lane_rules config) lane
   pub desk : d ≡ record {
     rules = rules;
     lines = map line_of config.statics;
@@ -102,6 +112,8 @@ pub record IsOpened (config : Config) (rounds : ℕ) (seed : List ℕ) (now : �
     drops = no_drops;
     moment = now;
     told = 0;
+    lane = lane;
+    handed = map (λ n. none_handed) (range_with_len 0 config.shards);
     endings = 0;
     unopened = 0;
     closed = false;

@@ -35,7 +35,7 @@ use Rattle.bng_shard.specs.Whose.{IsWhose}
 use Rattle.bng_desk.specs.declared.drops.Drops.{Drops}
 use Rattle.bng_desk.specs.declared.holding.Named.{Named}
 use Rattle.bng_desk.specs.Counting.{drops_of, plus}
-use Rattle.bng_desk.specs.Items.{entries_in, loose_item, loose_in}
+use Rattle.bng_desk.specs.Items.{entries_in, kept_of, loose_item, loose_in}
 use Rattle.bng_desk.specs.Round.{Round, IsRound, StandsWithin, views_of, held_by, entries_of, is_failed, with_failed, sends_stretch, drops_in, record_of, refused_of, refused_record, with_refused}
 
 -- a shard as the desk has it, and as the engine sees it
@@ -69,9 +69,9 @@ is_once kind = is_tick kind || is_end kind
 abbrev pub AreOnce : List Item → Type 0
 AreOnce items = AllPairs (λ (a b : Item). a.target < b.target) (filter (λ (i : Item). is_once i.kind) items)
 
--- the items of a round: at most 512, each frame with all its headroom, and one Tick or End for a shard
+-- the items of a round: at most 1,024, each frame with all its headroom, and one Tick or End for a shard
 pub record AreItems (items : List Item) : Type 0 where
-  pub few : length items ≤ 512
+  pub few : length items ≤ 1024
   pub whole : All (λ (i : Item). i.frame.headroom ≡ 64) items
   pub once : AreOnce items
 
@@ -230,12 +230,8 @@ pub record IsRefused (named : Named) (items : List Item) (old new : PlantTold) (
   pub tally_is : tally' ≡ tally
   pub record_told : record_is ≡ refused_record named.number named.moment named.wall (length shards) items
 
-abbrev pub HoldsOne : Rules → List Holder → Named → List Item → PlantTold → PlantTold → List Shown → List Shown → Drops → Drops → Book → Book → RoundRecord → Type 0
-HoldsOne r holders named items old new shards shards' drops drops' tally tally' record_is =
-    IsHeld r holders named items old new shards shards' drops drops' tally tally' record_is ⊎ IsRefused named items old new shards shards' drops drops' tally tally' record_is
-
--- A round of Ends was held, and none is kept; or it could not be opened, and its items are kept.
-abbrev pub HoldsEnds : Rules → List Holder → Named → List Item → PlantTold → PlantTold → List Shown → List Shown → Drops → Drops → Book → Book → RoundRecord → Bool → List Item → Type 0
-HoldsEnds r holders named items old new shards shards' drops drops' tally tally' record_is opened kept =
+-- A round was held, and no item stays; or it could not be opened, and its verdicts and Ends stay.
+abbrev pub Holds : Rules → List Holder → Named → List Item → PlantTold → PlantTold → List Shown → List Shown → Drops → Drops → Book → Book → RoundRecord → Bool → List Item → Type 0
+Holds r holders named items old new shards shards' drops drops' tally tally' record_is opened kept =
     ((opened ≡ true) × (kept ≡ []) × IsHeld r holders named items old new shards shards' drops drops' tally tally' record_is)
-    ⊎ ((opened ≡ false) × (kept ≡ items) × IsRefused named items old new shards shards' drops drops' tally tally' record_is)
+    ⊎ ((opened ≡ false) × (kept ≡ kept_of items) × IsRefused named items old new shards shards' drops drops' tally tally' record_is)

@@ -1,6 +1,6 @@
 -- One turn of the desk: what the outside answered in it, what it sent, and the desk that it leaves.
 use Rattle.std.specs.Prelude.{◌≡◌, ℕ, ◌+◌, ◌-◌, ◌/◌, ◌≤◌, Bool, true, false, not, ◌&&◌, ◌||◌, List, [], ◌∷◌, ◌++◌, Option, Some, None, All, length, map, min, fold, if◌then◌else◌}
-use Rattle.std.specs.List.{flat_map, range_with_len}
+use Rattle.std.specs.List.{flat_map, range_with_len, list_any}
 use Rattle.bng_base.specs.declared.item.Entry.{Entry}
 use Rattle.bng_base.specs.declared.item.Item.{Item}
 use Rattle.bng_base.specs.declared.outside.Heard.{Heard}
@@ -16,12 +16,17 @@ use Rattle.bng_engine.specs.Views.{ShardView}
 use Rattle.bng_ppp.specs.LinkRelation.{earliest}
 use Rattle.bng_shard.specs.declared.rules.Rules.{Rules}
 use Rattle.bng_shard.specs.Protocol.{ShardState, deadline_of}
+use Rattle.bng_shard.specs.Room.{is_end}
 use Rattle.bng_desk.specs.declared.desk.Turned.{Turned}
 use Rattle.bng_desk.specs.declared.desk.Turned.TheVariants.{Ok, TraceFault, WantOfMemory}
 use Rattle.bng_desk.specs.declared.reading.Ended.{Ended}
 use Rattle.bng_desk.specs.Control.{Heeded, has_stop, control_stretch}
 use Rattle.bng_desk.specs.Counting.{plus}
-use Rattle.bng_desk.specs.Items.{DataReading, taken_items, ticks_of, ends_of, drawn_from}
+use Rattle.bng_lane.specs.State.{LaneState}
+use Rattle.bng_rad_client.specs.DueRequests.{IsDeadline}
+use Rattle.bng_verdict.specs.declared.question.QuestionNo.{QuestionNo}
+use Rattle.bng_desk.specs.Items.{DataReading, taken_items, ticks_of, ends_of, drawn_from, kept_of}
+use Rattle.bng_desk.specs.Logins.{Answered, Requests, Hears, TimesOut, SettlesLane, reply_items, timeout_items, auth_reading, requests_stretch, verdicts_most}
 use Rattle.bng_desk.specs.Model.{Desk}
 use Rattle.bng_desk.specs.Reading.{receives, taken_in, ending_stretch, EndsRight, is_empty}
 use Rattle.bng_desk.specs.Round.{Round, IsRound, left_by, drops_in, sends_stretch, record_of, refused_of, refused_record, with_refused}
@@ -43,46 +48,76 @@ most_of r Acct = 0
 most_of r Coa = 0
 most_of r Control = 0
 
--- the moments, what was taken from Control and how its reading ended, the readings of the other roles, the round, which is None
--- where it could not be opened for want of memory, and whether the trace took it
+-- The moments; what was taken from Control and how its reading ended; what was taken from Auth and how its reading ended, which is None
+-- where it was not read; the readings of the other roles; the questions that were given up; the round, which is None where it could
+-- not be opened for want of memory; the requests that were sent; whether the trace took the round. Of the lane: how it stood once it had
+-- heard Auth, once the questions were given up, and in the end, with its first deadline, and which questions were handed out then.
 pub record Turn : Type 0 where
   pub moment : ℕ
   pub wall : ℕ
   pub control : List Heeded
   pub control_end : Ended
+  pub answers : List Answered
+  pub auth_end : Option Ended
   pub readings : List DataReading
+  pub timed : List QuestionNo
   pub round : Option Round
+  pub requests : Requests
   pub noted : Bool
+  pub heard : LaneState
+  pub waited : LaneState
+  pub lane : LaneState
+  pub deadline : Option ℕ
+  pub handed : List (List ℕ)
 
--- Control is read at most 8 times, then the access ports in their order, which share 224 receives, and then the core, at most
--- 224 times.
+-- Auth is read at most 128 times; it is not read where verdicts of a round that was not opened stand first.
+abbrev pub ReadsWhere : Bool → List Answered → Option Ended → Type 0
+ReadsWhere true answers auth_end = (ended : Ended) × (auth_end ≡ Some ended) × EndsRight verdicts_most (length answers) ended
+ReadsWhere false answers auth_end = (auth_end ≡ None) × (answers ≡ [])
+
+-- Control is read at most 8 times, then Auth, then the access ports in their order, which share 224 receives, and then the core, at
+-- most 224 times.
 pub record IsReading (d : Desk) (t : Turn) : Type 0 where
   pub moment : d.moment ≤ t.moment
   pub control : EndsRight 8 (length t.control) t.control_end
+  pub auth : ReadsWhere (is_empty d.kept) t.answers t.auth_end
   pub roles : map (λ r. r.role) t.readings ≡ data_roles d.rules
   pub read : All (λ r. EndsRight (most_of d.rules r.role) (length r.arrivals) r.ended) t.readings
 
--- the items of a turn while serving: those of the datagrams, and then the Ticks that are due; each draws its random octets
-abbrev pub items_of : Desk → Turn → List Item
-items_of d t = drawn_from d.seed d.drawn (taken_items t.readings ++ ticks_of t.moment d.shards)
+-- the items that are new in a turn while serving: those of the replies, those of the datagrams, the questions that are given up, and
+-- then the Ticks that are due
+abbrev pub new_items : Desk → Turn → List Item
+new_items d t = reply_items t.answers ++ taken_items t.readings ++ timeout_items t.timed ++ ticks_of t.moment d.shards
 
--- the items of a turn of the ending: those of the round that could not be opened, else an End for each shard
+-- the items of a turn while serving: those that stay of the round before, and then the new ones, each of which draws its random octets
+abbrev pub items_of : Desk → Turn → List Item
+items_of d t = d.kept ++ drawn_from d.seed d.drawn (new_items d t)
+
+-- how many verdicts there may still be beside those that stay and those of the replies
+abbrev pub timeouts_most : Desk → Turn → ℕ
+timeouts_most d t = verdicts_most - (length d.kept + length (reply_items t.answers))
+
+-- an End is among these
+abbrev pub has_end : List Item → Bool
+has_end items = list_any (λ (i : Item). is_end i.kind) items
+
+-- the items of a turn of the ending: those that stay of the round before, and an End for each shard, unless Ends are among them
 abbrev pub ending_items : Desk → List Item
-ending_items d = if is_empty d.kept then drawn_from d.seed d.drawn (ends_of (length d.shards)) else d.kept
+ending_items d = if has_end d.kept then d.kept else d.kept ++ drawn_from d.seed d.drawn (ends_of (length d.shards))
 
 -- how many draw anew
 abbrev pub ending_draws : Desk → ℕ
-ending_draws d = if is_empty d.kept then length d.shards else 0
+ending_draws d = if has_end d.kept then 0 else length d.shards
 
 -- the round, where it was opened
 abbrev pub RoundOf : Desk → ℕ → List Item → Option Round → Type 0
 RoundOf d moment items None = Unit {0}
 RoundOf d moment items (Some round) = IsRound d.rules d.shards d.holders d.tallies moment (items ∷ []) round
 
--- the desk after a round, or after one that was not opened, whose items of the outside are dropped
+-- the desk after a round, or after one that was not opened, whose items of the outside are dropped, and whose verdicts and Ends stay
 abbrev pub after_round : Desk → List Item → Option Round → Desk
-after_round d items None = record d { drops = plus d.drops (with_refused (length (refused_of items))) }
-after_round d items (Some round) = record d { shards = map left_by round.shards; tallies = round.tallies; drops = plus d.drops (drops_in (items ∷ []) round) }
+after_round d items None = record d { drops = plus d.drops (with_refused (length (refused_of items))); kept = kept_of items }
+after_round d items (Some round) = record d { shards = map left_by round.shards; tallies = round.tallies; drops = plus d.drops (drops_in (items ∷ []) round); kept = [] }
 
 -- the number of the last round that the trace took, after one more; one that it did not take leaves it
 abbrev pub told_after : Bool → ℕ → ℕ
@@ -94,15 +129,25 @@ abbrev pub after : Desk → Turn → Desk
 after d t = record (after_round d (items_of d t) t.round) {
   turns = d.turns + 1;
   stopped = d.stopped || has_stop t.control;
-  drawn = d.drawn + length (items_of d t);
+  drawn = d.drawn + length (new_items d t) + length t.requests.asked;
   moment = t.moment;
   told = told_after t.noted d.told;
+  lane = t.lane;
+  handed = t.handed;
 }
+
+-- The lane in a turn while serving: it hears Auth, gives up the questions that are due, and in the settlement sends what is due again
+-- and asks the questions that wait in the shards.
+pub record LaneTurn (d : Desk) (t : Turn) : Type 0 where
+  pub hears : Hears d.lane t.answers t.heard
+  pub times_out : TimesOut t.moment (timeouts_most d t) t.heard t.timed t.waited
+  pub settles : SettlesLane t.moment t.waited (after_round d (items_of d t) t.round).shards d.handed d.seed (d.drawn + length (new_items d t)) t.requests t.lane t.handed
+  pub due : IsDeadline t.lane.client.auth.places t.deadline
 
 -- A turn that wanted memory is None: it counts as a turn, and all else is as before.
 abbrev pub Step : Desk → Option Turn → Desk → Type 0
 Step d None d' = d' ≡ record d { turns = d.turns + 1 }
-Step d (Some t) d' = IsReading d t × RoundOf d t.moment (items_of d t) t.round × (d' ≡ after d t)
+Step d (Some t) d' = IsReading d t × RoundOf d t.moment (items_of d t) t.round × LaneTurn d t × (d' ≡ after d t)
 
 -- the milliseconds from a moment to a deadline: 0 where that is past, 100 at most and where there is none
 abbrev pub wait_for : Option ℕ → ℕ → ℕ
@@ -118,7 +163,7 @@ arrivals_in readings = flat_map (λ r. r.arrivals) readings
 
 -- no datagram was taken
 abbrev pub is_idle : Turn → Bool
-is_idle t = is_empty t.control && is_empty (arrivals_in t.readings)
+is_idle t = is_empty t.control && is_empty t.answers && is_empty (arrivals_in t.readings)
 
 -- a turn that took no datagram ends with one wait, unless the trace failed
 abbrev pub waits : Bool → ℕ → List Heard
@@ -136,6 +181,11 @@ reading_stretch r = plant_joined (record { heard = receives r.role r.arrivals; t
 abbrev pub data_stretch : List DataReading → PlantStretch
 data_stretch [] = plant_none
 data_stretch (r ∷ rs) = plant_joined (reading_stretch r) (data_stretch rs)
+
+-- what the reading of Auth adds, where it was read
+abbrev pub auth_stretch : List Answered → Option Ended → PlantStretch
+auth_stretch answers None = plant_none
+auth_stretch answers (Some ended) = reading_stretch (auth_reading answers ended)
 
 -- what the sends of the round add
 abbrev pub round_stretch : Option Round → PlantStretch
@@ -155,9 +205,11 @@ told_if false r = []
 abbrev pub plant_stretch : Desk → Turn → PlantStretch
 plant_stretch d t =
     plant_joined (control_stretch t.control t.control_end)
+    (plant_joined (auth_stretch t.answers t.auth_end)
     (plant_joined (data_stretch t.readings)
     (plant_joined (round_stretch t.round)
-    (waiting_stretch (is_idle t && t.noted) (wait_for (deadline_in (after d t).shards) t.moment))))
+    (plant_joined (requests_stretch d.lane.client.auth_server t.requests)
+    (waiting_stretch (is_idle t && t.noted) (wait_for (earliest (deadline_in (after d t).shards) t.deadline) t.moment))))))
 
 -- what a turn adds to what the outside tells
 abbrev pub stretch_of : Desk → Option Turn → Stretch
@@ -188,12 +240,16 @@ pub record MakesTurn (d d' : Desk) (o o' : Outside) (result : Turned) : Type 0 w
 
 -- Ending ----------------------------------------------------------------------------------------------------------------
 
--- a turn of the ending: its moments, its round of Ends, and whether the trace took it
+-- a turn of the ending: its moments, its round of Ends, the requests that were sent, whether the trace took the round, and how the lane
+-- stands then, with the questions that were handed out
 pub record EndTurn : Type 0 where
   pub moment : ℕ
   pub wall : ℕ
   pub round : Option Round
+  pub requests : Requests
   pub noted : Bool
+  pub lane : LaneState
+  pub handed : List (List ℕ)
 
 -- whether a round was opened
 abbrev pub is_opened : Option Round → Bool
@@ -202,25 +258,30 @@ is_opened (Some round) = true
 
 abbrev pub after_end : Desk → EndTurn → Desk
 after_end d t = record (after_round d (ending_items d) t.round) {
-  drawn = d.drawn + ending_draws d;
+  drawn = d.drawn + ending_draws d + length t.requests.asked;
   moment = t.moment;
   told = told_after t.noted d.told;
+  lane = t.lane;
+  handed = t.handed;
   endings = d.endings + 1;
   unopened = (if is_opened t.round then 0 else d.unopened + 1);
   closed = d.closed || is_opened t.round;
-  kept = (if is_opened t.round then [] else ending_items d);
 }
+
+-- the lane in a turn of the ending: its settlement alone
+abbrev pub LaneEnd : Desk → EndTurn → Type 0
+LaneEnd d t = SettlesLane t.moment d.lane (after_round d (ending_items d) t.round).shards d.handed d.seed (d.drawn + ending_draws d) t.requests t.lane t.handed
 
 -- A turn that wanted memory is None: it counts as one that opened no round.
 abbrev pub EndStep : Desk → Option EndTurn → Desk → Type 0
 EndStep d None d' = d' ≡ record d { endings = d.endings + 1; unopened = d.unopened + 1 }
-EndStep d (Some t) d' = (d.moment ≤ t.moment) × RoundOf d t.moment (ending_items d) t.round × (d' ≡ after_end d t)
+EndStep d (Some t) d' = (d.moment ≤ t.moment) × RoundOf d t.moment (ending_items d) t.round × LaneEnd d t × (d' ≡ after_end d t)
 
 -- it reads its moments, sends what the round has to send and tells the trace, and takes nothing and does not wait
 abbrev pub end_stretch : Desk → Option EndTurn → Stretch
 end_stretch d None = no_stretch
 end_stretch d (Some t) = record {
-  plant = round_stretch t.round;
+  plant = plant_joined (round_stretch t.round) (requests_stretch d.lane.client.auth_server t.requests);
   answers = Now t.moment ∷ Wall t.wall ∷ [];
   rounds = told_if t.noted (round_told d t.moment t.wall (ending_items d) t.round);
   unnoted = not t.noted;

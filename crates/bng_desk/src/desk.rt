@@ -1,4 +1,4 @@
-ghost use Rattle.std.specs.Prelude.{◌≡◌, ◌+◌, ◌≤◌, ◌<◌, ◌^◌, ◌++◌, ◌⊎◌, true, not, if◌then◌else◌, IfOk, OnOk, OnErr};
+ghost use Rattle.std.specs.Prelude.{◌≡◌, ◌+◌, ◌≤◌, ◌<◌, ◌^◌, ◌++◌, ◌⊎◌, [], true, not, if◌then◌else◌, vec_capacity, IfOk, OnOk, OnErr};
 ghost use Rattle.bng_base.specs.Stretch.{ExtendsPlant};
 ghost use Rattle.std.specs.List.{All};
 ghost use Rattle.bng_config.specs.Rules.{KeepsRules};
@@ -11,28 +11,33 @@ ghost use Rattle.bng_desk.specs.Turn.{told_after as number_after};
 
 use crate::control::heed;
 use crate::drops::{Drops, NO_DROPS};
-use crate::due::{deadline_of, to_end, wait_until};
+use crate::due::{deadline_of, earlier, wait_until};
+use crate::ends::to_end;
 use crate::flags::{both, either};
 use crate::gathering::gather;
-use crate::holding::{Ending, Named, hold, hold_ends, note};
+use crate::holding::{Held, Named, hold, note};
 use crate::line::Line;
 use crate::lists::Lists;
 use crate::opening;
 use crate::random::Draws;
 use crate::report::report;
+use crate::requests::send_requests;
 use crate::sums::{all_carried, sessions_in};
 use bng_base::{Book, Entry, Frame, Item};
 use bng_config::Config;
+use bng_lane::Lane;
 use bng_plant::{Clock, Gate, Plant, Trace};
-use bng_shard::{PlainPool, Rules, Shard};
+use bng_shard::{Handed, PlainPool, Rules, Shard};
 use std::alloc::Global;
 use std::marker::Model;
-use std::mem;
 use std::sync::Wait;
 use std::thread::Threads;
 
 /// So many turns of the ending in a row that open no round are the end.
 const UNOPENED_MOST: u64 = 1_000_000;
+
+/// The most items that stay of a round: 128 verdicts, and an End for each of 64 shards.
+const KEPT_MOST: usize = 192;
 
 /// What a desk was not opened or did not report for.
 #[derive(Clone, Copy, PartialEq, Eq, Debug)]
@@ -60,8 +65,9 @@ pub enum Turned {
     WantOfMemory,
 }
 
-/// The desk. Contracts see what it serves, its shards, and what it counts. The lists of its turns are kept from one to the next:
-/// `lists`, and in `spare` those of the shards' journals.
+/// The desk. Contracts see what it serves, its shards, the questions that are out, and what it counts. The lists of its turns are kept
+/// from one to the next: `lists`, and in `spare` those of the shards' journals. `kept` has room for all that may stay of a round, so
+/// that a round that could not be opened for want of memory takes none.
 #[derive(Drop)]
 pub struct Desk {
     rules: Rules,
@@ -76,6 +82,8 @@ pub struct Desk {
     drops: Drops,
     moment: u64,
     told: u64,
+    lane: Lane,
+    handed: Vec<Handed>,
     endings: u64,
     unopened: u64,
     closed: bool,
@@ -86,7 +94,7 @@ pub struct Desk {
 
 impl Model for Desk {
     ghost use Rattle.bng_desk.specs.Model.{Desk as Seen};
-    ghost use Rattle.std.specs.Prelude.{map, [], ◌∷◌};
+    ghost use Rattle.std.specs.Prelude.{◌≤◌, map, [], ◌∷◌, vec_capacity};
     ghost use Rattle.std.specs.Coded.{codes};
     ghost use Rattle.bng_shard.specs.Codes.{state_code};
     ghost use Rattle.bng_desk.specs.Kept.{IsKept, rested};
@@ -95,9 +103,19 @@ impl Model for Desk {
 
     ghost coded = { Prim.hlevel (codes, state_code) };
 
-    ghost view = { λ d. record { rules = d.rules; lines = d.lines.items; rounds = d.rounds; turns = d.turns; stopped = d.stopped; shards = map rested d.shards.items; holders = d.pool; tallies = d.tally ∷ []; seed = d.draws.seed; drawn = d.draws.drawn; drops = d.drops; moment = d.moment; told = d.told; endings = d.endings; unopened = d.unopened; closed = d.closed; kept = d.kept.items } };
+    ghost view = { λ d. record { rules = d.rules; lines = d.lines.items; rounds = d.rounds; turns = d.turns; stopped = d.stopped; shards = map rested d.shards.items; holders = d.pool; tallies = d.tally ∷ []; seed = d.draws.seed; drawn = d.draws.drawn; drops = d.drops; moment = d.moment; told = d.told; lane = d.lane; handed = d.handed.items; endings = d.endings; unopened = d.unopened; closed = d.closed; kept = d.kept.items } };
 
-    ghost invariant = { λ d. IsKept (record { rules = d.rules; lines = d.lines.items; rounds = d.rounds; turns = d.turns; stopped = d.stopped; shards = d.shards.items; holders = d.pool; tallies = d.tally ∷ []; seed = d.draws.seed; drawn = d.draws.drawn; drops = d.drops; moment = d.moment; told = d.told; endings = d.endings; unopened = d.unopened; closed = d.closed; kept = d.kept.items }) };
+    ghost invariant = { λ d. IsKept (record { rules = d.rules; lines = d.lines.items; rounds = d.rounds; turns = d.turns; stopped = d.stopped; shards = d.shards.items; holders = d.pool; tallies = d.tally ∷ []; seed = d.draws.seed; drawn = d.draws.drawn; drops = d.drops; moment = d.moment; told = d.told; lane = d.lane; handed = d.handed.items; endings = d.endings; unopened = d.unopened; closed = d.closed; kept = d.kept.items }) × (192 ≤ vec_capacity d.kept) };
+}
+
+// An empty list with room for all items that may stay of a round.
+fn room_to_keep(alloc: Global) -> Result<Vec<Item>, DeskError>
+    ensures { IfOk result (λ kept. (kept.items ≡ []) × (192 ≤ vec_capacity kept)) }
+{
+    match Vec::with_capacity(alloc, KEPT_MOST) {
+        Ok(kept) => Ok(kept),
+        Err(_) => Err(DeskError::OutOfMemory),
+    }
 }
 
 // What a turn answers whose round the trace took, or did not take.
@@ -180,12 +198,20 @@ impl Desk {
             core_peer,
             access,
             statics,
+            nas_ip,
+            auth_local: _,
+            auth_server,
+            secret,
+            tries,
         } = config;
         let mut draws = Draws::of(seed);
         let key = draws.sixteen();
         let offers = opening::offers(alloc, access.as_slice(), key, &name, &services)?;
         let lines = opening::lines(alloc, statics.as_slice())?;
         let holders = opening::holders(alloc, statics.as_slice())?;
+        let lane = opening::lane(alloc, &name, nas_ip, auth_server, secret, tries)?;
+        let handed = opening::handed(alloc, shards)?;
+        let kept = room_to_keep(alloc)?;
         let rules = opening::rules(shards, core_peer, access, offers, name, auth, echo);
         let opens = opening::shards(alloc, &rules, statics.into_vec())?;
         Ok(Desk {
@@ -201,19 +227,23 @@ impl Desk {
             drops: NO_DROPS,
             moment: now,
             told: 0,
+            lane,
+            handed,
             endings: 0,
             unopened: 0,
             closed: false,
-            kept: Vec::new(alloc),
+            kept,
             lists: Lists::new(alloc),
             spare: Vec::new(alloc),
         })
     }
 
-    /// Whether the desk serves, or where it stands in ending. However it stands, each shard works by the desk's rules.
+    /// Whether the desk serves, or where it stands in ending. However it stands, each shard works by the desk's rules, and fewer than
+    /// 2^37 turns of the ending were made.
     pub fn state(&self) -> DeskState
         ensures stands { result ≡ state_of self.now }
         ensures rules { HasOneRule self.now }
+        ensures few { self.now.endings < 2 ^ 37 }
     {
         let over = either(self.stopped, self.turns == self.rounds);
         let ended = both(self.closed, sessions_in(self.shards.as_slice()) == 0);
@@ -268,12 +298,14 @@ impl Desk {
         let wall = clock.wall();
         let mut frame = Frame::new();
         let heeding = heed(plant, &mut frame);
-        let gathered = gather(
+        let quiet = gather(
             &self.rules,
             self.shards.as_slice(),
             plant,
             now,
             &mut self.draws,
+            &mut self.lane,
+            &mut self.kept,
             &mut lists.items,
         );
         let named = Named {
@@ -281,7 +313,7 @@ impl Desk {
             moment: now,
             wall,
         };
-        let round = hold(
+        let held = hold(
             alloc,
             &self.rules,
             self.shards.as_mut_slice(),
@@ -289,15 +321,28 @@ impl Desk {
             plant,
             named,
             lists,
-            gathered.taken,
+            &mut self.kept,
             &mut self.spare,
             &mut self.drops,
             &mut self.tally,
         );
-        let noted = note(trace, &round);
-        self.lists = Lists::of_round(alloc, round, &mut self.spare);
-        let wait = wait_until(deadline_of(self.shards.as_slice()), now);
-        wait_if(plant, both(both(heeding.idle, gathered.quiet), noted), wait);
+        send_requests(
+            plant,
+            &mut self.lane,
+            self.shards.as_slice(),
+            self.handed.as_mut_slice(),
+            &mut self.draws,
+            now,
+        );
+        let Held {
+            record,
+            is_opened: _,
+        } = held;
+        let noted = note(trace, &record);
+        self.lists = Lists::of_round(alloc, record, &mut self.spare);
+        let due = earlier(deadline_of(self.shards.as_slice()), self.lane.deadline());
+        let wait = wait_until(due, now);
+        wait_if(plant, both(both(heeding.idle, quiet), noted), wait);
         self.told = told_after(noted, self.told);
         self.turns += 1;
         self.stopped = either(self.stopped, heeding.stop);
@@ -327,14 +372,18 @@ impl Desk {
         };
         let now = clock.now();
         let wall = clock.wall();
-        let kept = mem::replace(&mut self.kept, Vec::new(alloc));
-        lists.items = to_end(kept, self.shards.len(), &mut self.draws, lists.items);
+        to_end(
+            &mut self.kept,
+            self.shards.len(),
+            &mut self.draws,
+            &mut lists.items,
+        );
         let named = Named {
             number: self.told + 1,
             moment: now,
             wall,
         };
-        let ending = hold_ends(
+        let held = hold(
             alloc,
             &self.rules,
             self.shards.as_mut_slice(),
@@ -347,7 +396,15 @@ impl Desk {
             &mut self.drops,
             &mut self.tally,
         );
-        let Ending { record, is_opened } = ending;
+        send_requests(
+            plant,
+            &mut self.lane,
+            self.shards.as_slice(),
+            self.handed.as_mut_slice(),
+            &mut self.draws,
+            now,
+        );
+        let Held { record, is_opened } = held;
         let noted = note(trace, &record);
         self.lists = Lists::of_round(alloc, record, &mut self.spare);
         self.told = told_after(noted, self.told);
@@ -358,11 +415,13 @@ impl Desk {
         answer(noted)
     }
 
-    /// One turn. While the desk serves: it reads Control, then the access ports and then the core, and answers each word from
-    /// 127.0.0.0/8; each datagram of a port and of the core is an item of a round, and so is a Tick of each shard that has a due
-    /// deadline; it hands each item to its shard, sends what they have to send, charges each packet that was sent to its circuit,
-    /// and tells the trace the round; where nothing was taken it waits. While it ends: a round of one End for each shard, after which
-    /// fewer turns are left. When all is over it does nothing.
+    /// One turn. While the desk serves: it reads Control, then Auth, then the access ports and then the core, and answers each word
+    /// from 127.0.0.0/8; each reply to a question is an item of a round, and so is each datagram of a port and of the core, each
+    /// question that is given up, and a Tick of each shard that has a due deadline; it hands each item to its shard, sends what they
+    /// have to send, charges each packet that was sent to its circuit, sends the requests that are due again and those of the questions
+    /// that wait (RFC 2865 section 2.5), and tells the trace the round; where nothing was taken it waits. Where the round could not be
+    /// opened, its verdicts stand first in the next one, and Auth is not read until they were handled. While it ends: a round of what
+    /// stays and of one End for each shard, after which fewer turns are left. When all is over it does nothing.
     pub fn turn<R, P: Plant, C: Clock, T: Trace, G>(
         &mut self,
         _rt: &R,

@@ -1,15 +1,23 @@
 //! What is due in the shards.
-ghost use Rattle.std.specs.Prelude.{◌≡◌, ◌+◌, ◌≤◌, ◌<◌, ◌^◌, ◌++◌, ◌∷◌, [], length, vec_capacity, if◌then◌else◌};
+ghost use Rattle.std.specs.Prelude.{◌≡◌, ◌+◌, ◌≤◌, ◌<◌, ◌^◌, ◌++◌, ◌∷◌, [], length, vec_capacity};
+ghost use Rattle.bng_desk.specs.Intake.{AddsTimeouts};
 ghost use Rattle.bng_desk.specs.Items.{ticks_of, ends_of, drawn_from, for_shard, is_reached};
 ghost use Rattle.bng_desk.specs.Random.{draw};
-ghost use Rattle.bng_desk.specs.Reading.{is_empty};
 ghost use Rattle.bng_desk.specs.Taking.{AreInOrder};
 ghost use Rattle.bng_desk.specs.Turn.{deadline_in, wait_for};
 ghost use Rattle.bng_ppp.specs.LinkRelation.{earliest as first_of};
 
+use crate::answers::verdict;
 use crate::random::Draws;
 use bng_base::{Frame, Ip4, Item, ItemKind, Peer};
+use bng_lane::Lane;
 use bng_shard::Shard;
+
+/// The sender of what no datagram brought.
+const NOBODY: Peer = Peer {
+    ip: Ip4(0),
+    port: 0,
+};
 
 /// The milliseconds of a wait before which nothing is due.
 const WAIT_MOST: u64 = 100;
@@ -32,10 +40,7 @@ fn item_for(kind: ItemKind, shard: u16, draws: &mut Draws) -> Item
     let random = draws.sixteen();
     Item {
         kind,
-        from: Peer {
-            ip: Ip4(0),
-            port: 0,
-        },
+        from: NOBODY,
         frame: Frame::new(),
         cut: false,
         random,
@@ -74,6 +79,31 @@ pub(crate) fn add_ticks(shards: &[Shard], now: u64, draws: &mut Draws, items: &m
     }
 }
 
+/// Gives up the questions whose server was silent to the last, so many at most: each is an item without octets.
+pub(crate) fn add_timeouts(
+    lane: &mut Lane,
+    now: u64,
+    most: usize,
+    draws: &mut Draws,
+    items: &mut Vec<Item>,
+)
+    requires few { most ≤ 128 }
+    requires room { length items.old.items + most ≤ vec_capacity items.old }
+    requires drawn { draws.old.drawn < 2 ^ 61 }
+    ensures adds { AddsTimeouts now most lane.old lane.new draws.old draws.new items.old.items items.new.items }
+    ensures few { length items.new.items ≤ length items.old.items + most }
+    ensures few_drawn { draws.new.drawn ≤ draws.old.drawn + most }
+    ensures capacity { vec_capacity items.new ≡ vec_capacity items.old }
+{
+    for _given_up in 0..most {
+        let Some(number) = lane.give_up(now) else {
+            return;
+        };
+        let random = draws.sixteen();
+        items.push_reserved(verdict(number, NOBODY, false, Frame::new(), random));
+    }
+}
+
 /// Adds an End for each of so many shards.
 pub(crate) fn add_ends(shards: usize, draws: &mut Draws, items: &mut Vec<Item>)
     requires few { shards ≤ 64 }
@@ -89,28 +119,8 @@ pub(crate) fn add_ends(shards: usize, draws: &mut Draws, items: &mut Vec<Item>)
     }
 }
 
-/// The items of a round of the ending: those that are kept, or else an End for each of so many shards, which are put on `items`.
-pub(crate) fn to_end(
-    kept: Vec<Item>,
-    shards: usize,
-    draws: &mut Draws,
-    mut items: Vec<Item>,
-) -> Vec<Item>
-    requires few { shards ≤ 64 }
-    requires empty { items.items ≡ [] }
-    requires room { shards ≤ vec_capacity items }
-    requires drawn { draws.old.drawn < 2 ^ 61 }
-    ensures items { result.items ≡ (if is_empty kept.items then drawn_from draws.old.seed draws.old.drawn (ends_of shards) else kept.items) }
-    ensures drawn { draws.new ≡ record draws.old { drawn = draws.old.drawn + (if is_empty kept.items then shards else 0) } }
-{
-    if !kept.is_empty() {
-        return kept;
-    }
-    add_ends(shards, draws, &mut items);
-    items
-}
-
-fn earlier(a: Option<u64>, b: Option<u64>) -> Option<u64>
+/// The earlier of two deadlines.
+pub(crate) fn earlier(a: Option<u64>, b: Option<u64>) -> Option<u64>
     ensures { result ≡ first_of a b }
 {
     match (a, b) {

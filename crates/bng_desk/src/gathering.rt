@@ -1,44 +1,110 @@
 //! The items of a turn while serving.
 ghost use Rattle.std.specs.Prelude.{◌≡◌, ◌≤◌, ◌<◌, ◌+◌, ◌*◌, ◌^◌, [], length, vec_capacity};
-ghost use Rattle.bng_desk.specs.Intake.{Gathers};
+ghost use Rattle.std.specs.List.{All};
+ghost use Rattle.bng_desk.specs.Intake.{TakesAuth, Gathers};
+ghost use Rattle.bng_desk.specs.Kept.{is_verdict};
+ghost use Rattle.bng_desk.specs.Reading.{is_empty};
 ghost use Rattle.bng_desk.specs.Taking.{AreInOrder, AreItems, outs_of_items};
 
-use crate::due::add_ticks;
+use crate::answers::{VERDICTS_MOST, take_replies};
+use crate::due::{add_ticks, add_timeouts};
+use crate::flags::both;
 use crate::intake::take_data;
+use crate::lists::move_all;
 use crate::random::Draws;
 use bng_base::Item;
+use bng_lane::Lane;
 use bng_plant::Plant;
 use bng_shard::{Rules, Shard};
 
-/// What was gathered: how many items came from the outside, which stand first, and whether none did.
-#[derive(Clone, Copy)]
-pub(crate) struct Gathered {
-    pub(crate) taken: usize,
-    pub(crate) quiet: bool,
+fn is_none(items: &[Item]) -> bool
+    ensures { result ≡ is_empty items.now }
+{
+    match items {
+        [] => true,
+        [_, ..] => false,
+    }
 }
 
-/// Takes what came on the access ports and from the core, and adds a Tick for each shard that has a due deadline.
+// Takes the replies of the server, where it is read, and says whether none was taken.
+fn take_if<P: Plant>(
+    reads: bool,
+    plant: &mut P,
+    lane: &mut Lane,
+    draws: &mut Draws,
+    items: &mut Vec<Item>,
+) -> bool
+    requires room { length items.old.items + 128 ≤ vec_capacity items.old }
+    requires drawn { draws.old.drawn < 2 ^ 61 }
+    ensures takes { TakesAuth reads (P.told plant.old) (P.told plant.new) lane.old lane.new draws.old draws.new items.old.items items.new.items result }
+    ensures capacity { vec_capacity items.new ≡ vec_capacity items.old }
+{
+    if reads {
+        take_replies(plant, lane, draws, items)
+    } else {
+        true
+    }
+}
+
+// Puts the items that stay of the round before on the list, and where there is none the replies of the server. Says whether none was
+// taken.
+fn begin<P: Plant>(
+    plant: &mut P,
+    draws: &mut Draws,
+    lane: &mut Lane,
+    kept: &mut Vec<Item>,
+    items: &mut Vec<Item>,
+) -> bool
+    requires empty { items.old.items ≡ [] }
+    requires room { 1024 ≤ vec_capacity items.old }
+    requires drawn { draws.old.drawn < 2 ^ 59 }
+    requires few_kept { length kept.old.items ≤ 128 }
+    ensures takes { TakesAuth (is_empty kept.old.items) (P.told plant.old) (P.told plant.new) lane.old lane.new draws.old draws.new kept.old.items items.new.items result }
+    ensures few { length items.new.items ≤ 128 }
+    ensures few_drawn { draws.new.drawn ≤ draws.old.drawn + 128 }
+    ensures room { 1024 ≤ vec_capacity items.new }
+    ensures none_kept { kept.new.items ≡ [] }
+    ensures kept_room { vec_capacity kept.new ≡ vec_capacity kept.old }
+{
+    let reads = is_none(kept.as_slice());
+    move_all(kept, items);
+    take_if(reads, plant, lane, draws, items)
+}
+
+/// Puts the items that stay of the round before on the list. Where there is none it takes what came from the RADIUS server. Then it
+/// takes what came on the access ports and from the core, gives up the questions whose server was silent, as long as there are fewer
+/// than 128 verdicts, and adds a Tick for each shard that has a due deadline. Says whether nothing was taken.
 pub(crate) fn gather<P: Plant>(
     rules: &Rules,
     shards: &[Shard],
     plant: &mut P,
     now: u64,
     draws: &mut Draws,
+    lane: &mut Lane,
+    kept: &mut Vec<Item>,
     items: &mut Vec<Item>,
-) -> Gathered
+) -> bool
     requires some { 1 ≤ length rules.now.access }
     requires few { length rules.now.access ≤ 16 }
     requires numbers { AreInOrder shards.now }
     requires few_shards { length shards.now ≤ 64 }
     requires empty { items.old.items ≡ [] }
-    requires room { 512 ≤ vec_capacity items.old }
+    requires room { 1024 ≤ vec_capacity items.old }
     requires drawn { draws.old.drawn < 2 ^ 59 }
-    ensures gathers { Gathers rules.now shards.now now (P.told plant.old) (P.told plant.new) draws.old draws.new items.new.items result.quiet result.taken }
+    requires verdicts { All is_verdict kept.old.items }
+    requires few_kept { length kept.old.items ≤ 128 }
+    requires kept { AreItems kept.old.items }
+    ensures gathers { Gathers rules.now shards.now now kept.old.items (P.told plant.old) (P.told plant.new) lane.old lane.new draws.old draws.new items.new.items result }
     ensures items { AreItems items.new.items }
-    ensures few_outs { outs_of_items items.new.items ≤ 4480 + 320 * length shards.now }
+    ensures few_outs { outs_of_items items.new.items ≤ 5760 + 320 * length shards.now }
+    ensures few_drawn { draws.new.drawn ≤ draws.old.drawn + 640 }
+    ensures none_kept { kept.new.items ≡ [] }
+    ensures kept_room { vec_capacity kept.new ≡ vec_capacity kept.old }
 {
+    let silent = begin(plant, draws, lane, kept, items);
+    let verdicts = items.len();
     let quiet = take_data(rules, plant, draws, items);
-    let taken = items.len();
+    add_timeouts(lane, now, VERDICTS_MOST - verdicts, draws, items);
     add_ticks(shards, now, draws, items);
-    Gathered { taken, quiet }
+    both(silent, quiet)
 }

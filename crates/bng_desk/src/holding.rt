@@ -1,20 +1,23 @@
 //! A round of given items: opened and settled, or refused for want of memory.
-ghost use Rattle.std.specs.Prelude.{◌≡◌, ◌+◌, ◌*◌, ◌^◌, ◌≤◌, ◌<◌, [], ℕ, true, false, length, replicate, take, vec_capacity};
+ghost use Rattle.std.specs.Prelude.{◌≡◌, ◌+◌, ◌*◌, ◌^◌, ◌≤◌, ◌<◌, ◌++◌, ◌∷◌, [], ℕ, true, false, length, replicate, vec_capacity};
 ghost use Rattle.std.specs.List.{All};
 ghost use Rattle.bng_base.specs.Causes.{HasCause};
 ghost use Rattle.bng_base.specs.Told.{Grows};
 ghost use Rattle.bng_engine.specs.Calls.{IsReady};
 ghost use Rattle.bng_shard.specs.Sums.{IsLow, AreLow, RowsAreLow};
 ghost use Rattle.bng_desk.specs.Counting.{Within};
+ghost use Rattle.bng_desk.specs.Items.{stays, kept_of, is_from_outside};
 ghost use Rattle.bng_desk.specs.Kept.{octets_most, drops_most};
-ghost use Rattle.bng_desk.specs.Taking.{IsEmpty, HasFewSessions, HasRows, AreInOrder, AreItems, RoundHeld, HoldsOne, HoldsEnds, outs_of_items};
+ghost use Rattle.bng_desk.specs.Taking.{IsEmpty, HasFewSessions, HasRows, AreInOrder, AreItems, RoundHeld, Holds, outs_of_items};
 ghost use Rattle.bng_desk.specs.Round.{refused_of};
 ghost use Rattle.bng_desk.specs.Turn.{told_if};
 
 use crate::drops::{Drops, count_refused};
 use crate::lists::Lists;
 use crate::round::{deal_all, prepare_all, settle_all};
-use bng_base::{Book, Entry, Item, Listed, Loose, OutRecord, RoundRecord};
+use bng_base::{
+    Book, Entry, Frame, Ip4, Item, ItemKind, Listed, Loose, OutRecord, Peer, RoundRecord,
+};
 use bng_plant::{Noted, Plant, Trace};
 use bng_shard::{PlainPool, Rules, Shard};
 use std::alloc::Global;
@@ -74,10 +77,10 @@ pub(crate) fn opened<P: Plant>(
     requires low { All (λ v. RowsAreLow (2 ^ 62 + 2 ^ 61) v.rows) shards.old }
     requires low_books { All (λ v. AreLow (2 ^ 62 + 2 ^ 61) v.books) shards.old }
     requires low_tally { IsLow (2 ^ 62 + 2 ^ 61) tally.old }
-    requires few_outs { outs_of_items lists.items.items ≤ 4480 + 320 * length shards.old }
-    requires loose { (lists.loose.items ≡ []) × (512 ≤ vec_capacity lists.loose) }
+    requires few_outs { outs_of_items lists.items.items ≤ 5760 + 320 * length shards.old }
+    requires loose { (lists.loose.items ≡ []) × (1024 ≤ vec_capacity lists.loose) }
     requires journals { (lists.journals.items ≡ []) × (length shards.old ≤ vec_capacity lists.journals) }
-    requires outs { (lists.outs.items ≡ []) × (4480 + 320 * length shards.old ≤ vec_capacity lists.outs) }
+    requires outs { (lists.outs.items ≡ []) × (5760 + 320 * length shards.old ≤ vec_capacity lists.outs) }
     requires allowances { lists.allowances.items ≡ replicate (length shards.old) 0 }
     requires refused { lists.refused.items ≡ [] }
     requires drops { Within (2 ^ 61) drops.old }
@@ -140,67 +143,79 @@ pub(crate) fn refused(
     recorded(named, allowances, journals, loose, outs, refused)
 }
 
-/// Holds a round of these items; or, for want of memory, refuses the first so many of them, which came from the outside.
-pub(crate) fn hold<P: Plant>(
-    alloc: Global,
-    rules: &Rules,
-    shards: &mut [Shard],
-    pool: &PlainPool,
-    plant: &mut P,
-    named: Named,
-    mut lists: Lists,
-    taken: usize,
-    spare: &mut Vec<Vec<Entry>>,
-    drops: &mut Drops,
-    tally: &mut Book,
-) -> RoundRecord
-    requires numbers { AreInOrder shards.old }
-    requires count { length shards.old ≡ rules.now.shards }
-    requires some { 1 ≤ rules.now.shards }
-    requires few { rules.now.shards ≤ 64 }
-    requires held { All (λ h. h.shard < rules.now.shards) pool.now }
-    requires moment { named.moment < 2 ^ 60 }
-    requires items { AreItems lists.items.items }
-    requires empty_before { All IsEmpty shards.old }
-    requires low { All (λ v. RowsAreLow (2 ^ 62 + 2 ^ 61) v.rows) shards.old }
-    requires low_books { All (λ v. AreLow (2 ^ 62 + 2 ^ 61) v.books) shards.old }
-    requires low_tally { IsLow (2 ^ 62 + 2 ^ 61) tally.old }
-    requires few_outs { outs_of_items lists.items.items ≤ 4480 + 320 * length shards.old }
-    requires loose { (lists.loose.items ≡ []) × (512 ≤ vec_capacity lists.loose) }
-    requires journals { (lists.journals.items ≡ []) × (length shards.old ≤ vec_capacity lists.journals) }
-    requires outs { (lists.outs.items ≡ []) × (4480 + 320 * length shards.old ≤ vec_capacity lists.outs) }
-    requires allowances { lists.allowances.items ≡ replicate (length shards.old) 0 }
-    requires refused { lists.refused.items ≡ [] }
-    requires outside { refused_of lists.items.items ≡ take taken lists.items.items }
-    requires drops { Within (2 ^ 61) drops.old }
-    ensures round { HoldsOne rules.now pool.now named lists.items.items (P.told plant.old) (P.told plant.new) shards.old shards.new drops.old drops.new tally.old tally.new result }
-    ensures empty { All IsEmpty shards.new }
-    ensures sessions { All HasFewSessions shards.old → All HasFewSessions shards.new }
-    ensures numbers { AreInOrder shards.new }
-    ensures low { (most : ℕ) → All (λ v. RowsAreLow most v.rows) shards.old → All (λ v. RowsAreLow (most + octets_most) v.rows) shards.new }
-    ensures books { (most : ℕ) → All (λ v. AreLow most v.books) shards.old → All (λ v. AreLow (most + octets_most) v.books) shards.new }
-    ensures tally { (most : ℕ) → IsLow most tally.old → IsLow (most + octets_most) tally.new }
-    ensures within { (most : ℕ) → Within most drops.old → Within (most + drops_most) drops.new }
+// An item in the place of one that was taken off a list.
+fn nothing() -> Item
+    ensures { result.kind ≡ ItemKind.Tick }
 {
-    let count = lists.items.len() as u16;
-    if prepare_all(shards, alloc, count, spare) {
-        return opened(rules, shards, pool, plant, named, lists, drops, tally);
+    Item {
+        kind: ItemKind::Tick,
+        from: Peer {
+            ip: Ip4(0),
+            port: 0,
+        },
+        frame: Frame::new(),
+        cut: false,
+        random: [0; 16],
+        target: 0,
+        ask: 0,
     }
-    let mut items = mem::replace(&mut lists.items, Vec::new(alloc));
-    items.truncate(taken);
-    count_refused(drops, items.len());
-    refused(alloc, shards.len(), named, lists, items)
 }
 
-/// A round of Ends as it came out: its record, and whether it was opened.
+// Whether an item of this kind stands first in the next round where its own could not be opened.
+fn stays(kind: ItemKind) -> bool
+    ensures { result ≡ stays kind }
+{
+    match kind {
+        ItemKind::Verdict | ItemKind::Change | ItemKind::End => true,
+        ItemKind::Access(_) | ItemKind::Core | ItemKind::Tunnel | ItemKind::Tick => false,
+    }
+}
+
+fn is_from_outside(kind: ItemKind) -> bool
+    ensures { result ≡ is_from_outside kind }
+{
+    match kind {
+        ItemKind::Access(_) | ItemKind::Core | ItemKind::Tunnel => true,
+        ItemKind::Verdict | ItemKind::Change | ItemKind::Tick | ItemKind::End => false,
+    }
+}
+
+// Moves an item to the end of `kept`, if it stays.
+fn keep_one(item: &mut Item, kept: &mut Vec<Item>)
+    requires room { length kept.old.items + length (kept_of (item.old ∷ [])) ≤ vec_capacity kept.old }
+    ensures kept { kept.new.items ≡ kept.old.items ++ kept_of (item.old ∷ []) }
+    ensures capacity { vec_capacity kept.new ≡ vec_capacity kept.old }
+    ensures others { refused_of (item.new ∷ []) ≡ refused_of (item.old ∷ []) }
+{
+    if stays(item.kind) {
+        kept.push_reserved(mem::replace(item, nothing()));
+    }
+}
+
+// Moves the items that stay to the end of `kept`, and answers those of the outside. It takes no memory.
+fn part(mut items: Vec<Item>, kept: &mut Vec<Item>) -> Vec<Item>
+    requires room { length kept.old.items + length (kept_of items.items) ≤ vec_capacity kept.old }
+    ensures refused { result.items ≡ refused_of items.items }
+    ensures kept { kept.new.items ≡ kept.old.items ++ kept_of items.items }
+    ensures capacity { vec_capacity kept.new ≡ vec_capacity kept.old }
+{
+    for item in items.iter_mut() {
+        keep_one(item, kept);
+    }
+    items.retain(|item| is_from_outside(item.kind));
+    items
+}
+
+/// A round as it came out: its record, and whether it was opened.
 #[derive(Drop)]
-pub(crate) struct Ending {
+pub(crate) struct Held {
     pub(crate) record: RoundRecord,
     pub(crate) is_opened: bool,
 }
 
-/// Holds a round of these Ends; or, for want of memory, keeps them for the next turn.
-pub(crate) fn hold_ends<P: Plant>(
+/// Holds a round of these items; or, for want of memory, refuses those of the outside, and keeps the verdicts and the Ends for the
+/// next turn.
+pub(crate) fn hold<P: Plant>(
     alloc: Global,
     rules: &Rules,
     shards: &mut [Shard],
@@ -212,7 +227,7 @@ pub(crate) fn hold_ends<P: Plant>(
     spare: &mut Vec<Vec<Entry>>,
     drops: &mut Drops,
     tally: &mut Book,
-) -> Ending
+) -> Held
     requires numbers { AreInOrder shards.old }
     requires count { length shards.old ≡ rules.now.shards }
     requires some { 1 ≤ rules.now.shards }
@@ -224,16 +239,17 @@ pub(crate) fn hold_ends<P: Plant>(
     requires low { All (λ v. RowsAreLow (2 ^ 62 + 2 ^ 61) v.rows) shards.old }
     requires low_books { All (λ v. AreLow (2 ^ 62 + 2 ^ 61) v.books) shards.old }
     requires low_tally { IsLow (2 ^ 62 + 2 ^ 61) tally.old }
-    requires few_outs { outs_of_items lists.items.items ≤ 4480 + 320 * length shards.old }
-    requires loose { (lists.loose.items ≡ []) × (512 ≤ vec_capacity lists.loose) }
+    requires few_outs { outs_of_items lists.items.items ≤ 5760 + 320 * length shards.old }
+    requires loose { (lists.loose.items ≡ []) × (1024 ≤ vec_capacity lists.loose) }
     requires journals { (lists.journals.items ≡ []) × (length shards.old ≤ vec_capacity lists.journals) }
-    requires outs { (lists.outs.items ≡ []) × (4480 + 320 * length shards.old ≤ vec_capacity lists.outs) }
+    requires outs { (lists.outs.items ≡ []) × (5760 + 320 * length shards.old ≤ vec_capacity lists.outs) }
     requires allowances { lists.allowances.items ≡ replicate (length shards.old) 0 }
     requires refused { lists.refused.items ≡ [] }
-    requires outside { refused_of lists.items.items ≡ [] }
     requires none_kept { kept.old.items ≡ [] }
+    requires kept_room { length (kept_of lists.items.items) ≤ vec_capacity kept.old }
     requires drops { Within (2 ^ 61) drops.old }
-    ensures round { HoldsEnds rules.now pool.now named lists.items.items (P.told plant.old) (P.told plant.new) shards.old shards.new drops.old drops.new tally.old tally.new result.record result.is_opened kept.new.items }
+    ensures round { Holds rules.now pool.now named lists.items.items (P.told plant.old) (P.told plant.new) shards.old shards.new drops.old drops.new tally.old tally.new result.record result.is_opened kept.new.items }
+    ensures kept_room { vec_capacity kept.new ≡ vec_capacity kept.old }
     ensures empty { All IsEmpty shards.new }
     ensures sessions { All HasFewSessions shards.old → All HasFewSessions shards.new }
     ensures numbers { AreInOrder shards.new }
@@ -244,14 +260,16 @@ pub(crate) fn hold_ends<P: Plant>(
 {
     let count = lists.items.len() as u16;
     if prepare_all(shards, alloc, count, spare) {
-        return Ending {
+        return Held {
             record: opened(rules, shards, pool, plant, named, lists, drops, tally),
             is_opened: true,
         };
     }
-    *kept = mem::replace(&mut lists.items, Vec::new(alloc));
-    Ending {
-        record: refused(alloc, shards.len(), named, lists, Vec::new(alloc)),
+    let items = mem::replace(&mut lists.items, Vec::new(alloc));
+    let outside = part(items, kept);
+    count_refused(drops, outside.len());
+    Held {
+        record: refused(alloc, shards.len(), named, lists, outside),
         is_opened: false,
     }
 }

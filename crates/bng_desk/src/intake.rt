@@ -98,8 +98,10 @@ pub(crate) fn take_data<P: Plant>(
     requires some { 1 ≤ length rules.now.access }
     requires few { length rules.now.access ≤ 16 }
     requires room { length items.old.items + 448 ≤ vec_capacity items.old }
-    requires drawn { draws.old.drawn < 2 ^ 59 }
+    requires drawn { draws.old.drawn < 2 ^ 60 }
     ensures takes { Takes (data_roles rules.now) (most_of rules.now) 448 (P.told plant.old) (P.told plant.new) draws.old draws.new items.old.items items.new.items result }
+    ensures few { length items.new.items ≤ length items.old.items + 448 }
+    ensures few_drawn { draws.new.drawn ≤ draws.old.drawn + 448 }
     ensures capacity { vec_capacity items.new ≡ vec_capacity items.old }
 {
     let ports = take_ports(rules, plant, draws, items);

@@ -4,11 +4,13 @@
 //! contract of `Desk::turn` says the whole of it over what the outside tells.
 #![tactic(auto)]
 
+mod answers;
 mod calls;
 mod control;
 mod desk;
 mod drops;
 mod due;
+mod ends;
 mod flags;
 mod gathering;
 mod holding;
@@ -19,6 +21,7 @@ mod opening;
 mod random;
 mod reading;
 mod report;
+mod requests;
 mod round;
 mod sums;
 

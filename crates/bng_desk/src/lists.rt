@@ -1,15 +1,16 @@
 //! The lists of a turn.
-ghost use Rattle.std.specs.Prelude.{◌≡◌, ◌≤◌, ◌+◌, ◌*◌, [], length, vec_capacity, replicate, IfOk};
+ghost use Rattle.std.specs.Prelude.{◌≡◌, ◌≤◌, ◌+◌, ◌*◌, ◌++◌, [], length, vec_capacity, replicate, IfOk};
 
 use bng_base::{Entry, Item, Listed, Loose, OutRecord, RoundRecord};
 use std::alloc::{AllocError, Global};
 use std::mem;
 
-/// The most items of a round: 448 datagrams, and one Tick or End for each of 64 shards.
-pub(crate) const ITEMS_MOST: usize = 512;
+/// The most items that the lists have room for. At most 640 come: 128 verdicts, 448 datagrams, and one Tick or End for each of 64
+/// shards.
+pub(crate) const ITEMS_MOST: usize = 1024;
 
-/// The most outs that items of the outside have, all together.
-const TAKEN_OUTS_MOST: usize = 4480;
+/// The most outs that verdicts and items of the outside have, all together.
+const TAKEN_OUTS_MOST: usize = 5760;
 
 /// The most outs of a Tick or an End.
 const SHARD_OUTS_MOST: usize = 320;
@@ -37,6 +38,18 @@ fn roomy<T: Drop>(mut list: Vec<T>, room: usize) -> Result<Vec<T>, AllocError>
         Ok(()) => Ok(list),
         Err(_) => Err(AllocError),
     }
+}
+
+/// Moves all items of a list to the end of another one that has room for them. Both keep their memory.
+pub(crate) fn move_all(from: &mut Vec<Item>, to: &mut Vec<Item>)
+    requires room { length to.old.items + length from.old.items ≤ vec_capacity to.old }
+    ensures moved { to.new.items ≡ to.old.items ++ from.old.items }
+    ensures none { from.new.items ≡ [] }
+    ensures from_room { vec_capacity from.new ≡ vec_capacity from.old }
+    ensures to_room { vec_capacity to.old ≤ vec_capacity to.new }
+{
+    let moved = to.append(from);
+    prove!(moved.is_ok());
 }
 
 // So many zeros, in the place of what was on a list.
@@ -77,11 +90,11 @@ impl Lists {
     /// Empty lists for a turn over so many shards, of those of the turn before. No term may begin in a round: each allowance is 0.
     pub(crate) fn take(&mut self, alloc: Global, shards: usize) -> Result<Lists, AllocError>
         requires { shards ≤ 64 }
-        ensures items { IfOk result (λ l. (l.items.items ≡ []) × (512 ≤ vec_capacity l.items)) }
-        ensures loose { IfOk result (λ l. (l.loose.items ≡ []) × (512 ≤ vec_capacity l.loose)) }
+        ensures items { IfOk result (λ l. (l.items.items ≡ []) × (1024 ≤ vec_capacity l.items)) }
+        ensures loose { IfOk result (λ l. (l.loose.items ≡ []) × (1024 ≤ vec_capacity l.loose)) }
         ensures allowances { IfOk result (λ l. l.allowances.items ≡ replicate shards 0) }
         ensures journals { IfOk result (λ l. (l.journals.items ≡ []) × (shards ≤ vec_capacity l.journals)) }
-        ensures outs { IfOk result (λ l. (l.outs.items ≡ []) × (4480 + 320 * shards ≤ vec_capacity l.outs)) }
+        ensures outs { IfOk result (λ l. (l.outs.items ≡ []) × (5760 + 320 * shards ≤ vec_capacity l.outs)) }
         ensures refused { IfOk result (λ l. l.refused.items ≡ []) }
     {
         let Lists {

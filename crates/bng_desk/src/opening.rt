@@ -2,15 +2,19 @@
 ghost use Rattle.std.specs.Prelude.{◌≡◌, ◌≤◌, ◌<◌, ◌==◌, ◌/◌, [], ◌∷◌, ℕ, None, IfOk, length, map, filter};
 ghost use Rattle.std.specs.List.{All, range_with_len};
 ghost use Rattle.bng_shard.specs.Protocol.{opened, sessions_of};
+ghost use Rattle.bng_lane.specs.State.{IsNewLane};
+ghost use Rattle.bng_shard.specs.Questions.{none_handed};
 ghost use Rattle.bng_desk.specs.Opening.{line_of, holder_of, shard_of, no_address, no_dns, IsOfferOf, AreOffersOf, AreServed};
 
 use crate::desk::DeskError;
 use crate::line::Line;
 use arrayvec::ArrayVec;
+use bng_access::NasRules;
 use bng_base::{AccessPort, AuthKind, Ip4, Listed, Peer, Static};
 use bng_discovery::PortRules;
+use bng_lane::{Lane, LaneRules};
 use bng_ppp::LinkRules;
-use bng_shard::{Holder, Rules, Shard};
+use bng_shard::{Handed, Holder, Rules, Shard};
 use std::alloc::Global;
 
 // The same octets again.
@@ -160,6 +164,49 @@ pub(crate) fn offers(
         });
     }
     Ok(offers)
+}
+
+/// The lane of the questions at the RADIUS server, with none.
+pub(crate) fn lane(
+    alloc: Global,
+    name: &ArrayVec<u8, 64>,
+    nas_ip: Ip4,
+    server: Peer,
+    secret: ArrayVec<u8, 64>,
+    tries: u8,
+) -> Result<Lane, DeskError>
+    ensures { IfOk result (λ l. IsNewLane (record { nas = record { name = name.now; nas_ip = nas_ip }; server = server; secret = secret; tries = tries }) l) }
+{
+    let nas = NasRules {
+        name: copied(name),
+        nas_ip,
+    };
+    let rules = LaneRules {
+        nas,
+        server,
+        secret,
+        tries,
+    };
+    match Lane::open(alloc, rules) {
+        Ok(lane) => Ok(lane),
+        Err(_) => Err(DeskError::OutOfMemory),
+    }
+}
+
+/// Of each shard a list of the questions that it handed out, with none.
+pub(crate) fn handed(alloc: Global, shards: u16) -> Result<Vec<Handed>, DeskError>
+    ensures { IfOk result (λ lists. lists.items ≡ map (λ n. none_handed) (range_with_len 0 shards)) }
+{
+    let Ok(mut lists) = Vec::with_capacity(alloc, usize::from(shards)) else {
+        return Err(DeskError::OutOfMemory);
+    };
+    for _shard in 0..shards {
+        let Ok(list) = Handed::open(alloc) else {
+            return Err(DeskError::OutOfMemory);
+        };
+        lists.push_reserved(list);
+    }
+    Ok(lists)
 }
 
 /// How the report names the circuits.

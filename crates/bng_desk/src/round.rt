@@ -188,7 +188,7 @@ fn settle<P: Plant>(
 ) -> Vec<Entry>
     requires turns { Turns shard.old }
     requires low { RowsAreLow (2 ^ 62 + 2 ^ 61) shard.old.rows }
-    requires light { IsLight (4160 * 512) shard.old.outs }
+    requires light { IsLight (4160 * 1024) shard.old.outs }
     requires room { length outs.old.items + length shard.old.outs ≤ vec_capacity outs.old }
     requires few { length shard.old.outs ≤ 2 ^ 32 }
     requires drops { Within (2 ^ 62 + 2 ^ 61) drops.old }
@@ -222,7 +222,7 @@ pub(crate) fn settle_all<P: Plant>(
 )
     requires turning { AllTurn shards.old }
     requires low { All (λ v. RowsAreLow (2 ^ 62 + 2 ^ 61) v.rows) shards.old }
-    requires light { All (λ v. IsLight (4160 * 512) v.outs) shards.old }
+    requires light { All (λ v. IsLight (4160 * 1024) v.outs) shards.old }
     requires outs { outs.old.items ≡ [] }
     requires journals { journals.old.items ≡ [] }
     requires outs_room { sum_by (λ v. length v.outs) shards.old ≤ vec_capacity outs.old }

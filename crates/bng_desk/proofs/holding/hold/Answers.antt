@@ -1,6 +1,11 @@
-use Rattle.std.proofs.Common.{◌+◌, ◌^◌, arith}
+use Rattle.std.proofs.Common.{◌≤◌, ◌+◌, ◌^◌, List, Vec, Global, length, ap, sym, subst, arith}
+use Rattle.std.proofs.lemmas.List.Sums.{count_by-le-length, length-filter}
+use Rattle.bng_base.specs.declared.item.Item.{Item}
 use Rattle.bng_engine.specs.Calls.{Kept}
-use Rattle.bng_desk.specs.Kept.{octets_most}
+use Rattle.bng_desk.specs.Counting.{Within}
+use Rattle.bng_desk.specs.Items.{is_from_outside}
+use Rattle.bng_desk.specs.Kept.{octets_most, drops_most}
+use Rattle.bng_desk.specs.Round.{refused_of}
 use Rattle.bng_desk.proofs.Joining.{sessions_kept, low_kept, low_wider, books_kept, books_wider}
 use Rattle.bng_desk.proofs.OneMore.{low_more}
 use Rattle.bng_desk.proofs.Readying.{order_kept}
@@ -35,3 +40,30 @@ returns-clause-books g c most low = books_wider most (most + octets_most) c.prep
 
 pub returns-clause-tally : goal.returns-clause-tally
 returns-clause-tally g c most low = low_more most (most + octets_most) c.args.tally.now (omega arith) low
+
+pub returns-clause-within : goal.returns-clause-within
+returns-clause-within g c most within =
+    let items = c.args.lists.items.items in
+    let n = c.len.result in
+    let few : n ≤ drops_most = omega (
+      arith,
+      c.len.ensures,
+      c.part-outside.result.ok.0,
+      ap (λ (is : List Item). length is) c.part-outside.ensures.refused,
+      ap (λ (is : List Item). length (refused_of is)) (ap (λ (v : Vec Item Global). v.items) c.replace-items.ensures.value),
+      length-filter (λ (i : Item). is_from_outside i.kind) items,
+      count_by-le-length (λ (i : Item). is_from_outside i.kind) items,
+      c.requires.items.few,
+    ) in
+    subst (Within (most + drops_most)) (sym c.count_refused.ensures)
+    (record {
+      malformed = omega (arith, within.malformed);
+      no_session = omega (arith, within.no_session);
+      not_open = omega (arith, within.not_open);
+      expired = omega (arith, within.expired);
+      spoofed = omega (arith, within.spoofed);
+      too_big = omega (arith, within.too_big);
+      exceeded = omega (arith, within.exceeded);
+      link_failed = omega (arith, within.link_failed);
+      want_of_memory = omega (arith, within.want_of_memory, few);
+    })

@@ -56,7 +56,7 @@ deal-fate-requires-clause-low_tally c =
 pub count-requires : goal.count-requires
 count-requires c =
     let number = ap (λ (is : List Item). length is) c.loop-item.invariant.whole in
-    let few : length c.loop-item.yielded ≤ 512 = omega (arith, number, length-append c.loop-item.yielded c.loop-item.item-iterator.rest.items, c.requires.items.few) in
+    let few : length c.loop-item.yielded ≤ 1024 = omega (arith, number, length-append c.loop-item.yielded c.loop-item.item-iterator.rest.items, c.requires.items.few) in
     within_wider (2 ^ 62 + length c.loop-item.yielded) (2 ^ 63) c.loop-item.drops (omega (arith, few)) (c.loop-item.invariant.drops (2 ^ 62) c.requires.drops)
 
 pub loop-item-preserved : goal.loop-item-preserved

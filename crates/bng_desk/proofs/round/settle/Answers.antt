@@ -32,7 +32,7 @@ charge-charged-requires g c =
     let t = c.requires.turns in
     let x = was.turn t.was t.now t.turning in
     record {
-      low = λ q input. omega (arith, sent_low v t.was t.now t.turning w was.sends x (o ∷ drop (i + 1) items) was.are_outs (2 ^ 62 + 2 ^ 61) (4160 * 512) c.requires.low c.requires.light q input);
+      low = λ q input. omega (arith, sent_low v t.was t.now t.turning w was.sends x (o ∷ drop (i + 1) items) was.are_outs (2 ^ 62 + 2 ^ 61) (4160 * 1024) c.requires.low c.requires.light q input);
       covered = book_has v t.was t.now t.turning w was.sends x (drop (i + 1) items) o (answered o sent) sent was.are_outs refl;
       own = row_has v t.was t.now t.turning w was.sends x (drop (i + 1) items) o (answered o sent) sent was.are_outs refl;
     }

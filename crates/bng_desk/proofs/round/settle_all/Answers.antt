@@ -33,7 +33,7 @@ settle-journal-requires-clause-low g c =
 pub settle-journal-requires-clause-light : goal.settle-journal-requires-clause-light
 settle-journal-requires-clause-light g c =
     let i = c.loop-shard.shard-index in let d = c.shard-item.result in
-    subst (λ (v : ShardView ShardState Entry). IsLight (4160 * 512) v.outs) (sym (same_at c.args.shards.now c.loop-shard.shards i d c.loop-shard.invariant.settles.rest)) (c.requires.light i d c.loop-shard-test.true)
+    subst (λ (v : ShardView ShardState Entry). IsLight (4160 * 1024) v.outs) (sym (same_at c.args.shards.now c.loop-shard.shards i d c.loop-shard.invariant.settles.rest)) (c.requires.light i d c.loop-shard-test.true)
 
 pub settle-journal-requires-clause-room : goal.settle-journal-requires-clause-room
 settle-journal-requires-clause-room g c =

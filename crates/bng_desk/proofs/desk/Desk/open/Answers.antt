@@ -1,7 +1,6 @@
-use Rattle.std.proofs.Common.{◌≡◌, ℕ, ◌+◌, ◌<◌, ◌==◌, false, List, [], ◌∷◌, Option, None, length, map, filter, get_or, refl, sym, ap, subst, arith, ◌∙◌}
+use Rattle.std.proofs.Common.{◌≡◌, ℕ, ◌+◌, ◌<◌, ◌==◌, false, List, [], ◌∷◌, length, map, filter, get_or, refl, sym, ap, subst, arith, ◌∙◌}
 use Rattle.std.specs.List.{All, range_with_len}
 use Rattle.std.proofs.lemmas.List.Elements.{All-map}
-use Rattle.bng_base.specs.declared.address.Ip4.{Ip4}
 use Rattle.bng_base.specs.declared.book.Book.{Book}
 use Rattle.bng_base.specs.declared.item.Entry.{Entry}
 use Rattle.bng_base.specs.declared.item.Item.{Item}
@@ -13,6 +12,7 @@ use Rattle.bng_discovery.specs.declared.port.PortRules.{PortRules}
 use Rattle.bng_shard.specs.declared.pool.Holder.{Holder}
 use Rattle.bng_shard.specs.declared.rules.Rules.{Rules}
 use Rattle.bng_shard.specs.Protocol.{ShardState, opened}
+use Rattle.bng_shard.specs.Questions.{none_handed}
 use Rattle.bng_config.specs.Rules.{IsSessionOf}
 use Rattle.bng_slots.specs.Sessions.{IsNumberOf}
 use Rattle.bng_desk.specs.declared.line.Line.{Line}
@@ -24,13 +24,13 @@ use Rattle.bng_desk.specs.Random.{Drawn, draw}
 use Rattle.bng_desk.proofs.Fresh.{fresh_rested, kept_fresh}
 use Rattle.bng_desk.proofs.Outfit.{offers_count}
 use Rattle.bng_desk.proofs.desk.Desk.open.Goals as goal
-use Rattle.bng_desk.proofs.desk.Desk.open.Goals.{After-new-3}
+use Rattle.bng_desk.proofs.desk.Desk.open.Goals.{After-new-2}
 
 -- a session number of a shard
 number_of : (s : Static) (shards : ℕ) → IsSessionOf shards s.session.0 → IsNumberOf (shard_of s) s.session.0
 number_of s shards is = (omega (arith, is.low), omega (arith, is.high))
 
-module _ (c : After-new-3) where
+module _ (c : After-new-2) where
   abbrev statics : ℕ → List Static
   statics n = filter (λ (s : Static). shard_of s == n) c.args.config.statics
 
@@ -58,6 +58,9 @@ module _ (c : After-new-3) where
   tallies_are : c.empty.result ∷ [] ≡ empty_book ∷ []
   tallies_are = ap (λ (b : Book). let bs : List Book = b ∷ [] in bs) c.empty.ensures
 
+  handed_are : c.in_ok-handed.handed.items ≡ map (λ n. none_handed) (range_with_len 0 made.shards)
+  handed_are = c.in_ok-handed.ensures ∙ ap (λ (n : ℕ). map (λ k. none_handed) (range_with_len 0 n)) (sym (ap (λ (r : Rules). r.shards) made_as))
+
   key_is : c.sixteen-key.result ≡ draw c.args.seed 0
   key_is = c.sixteen-key.ensures.octets ∙ ap (λ (x : Drawn). draw x.seed x.drawn) c.of-draws.ensures
 
@@ -82,18 +85,20 @@ module _ (c : After-new-3) where
 
 pub invariant_of-result : goal.invariant_of-result
 invariant_of-result c =
-    let rules = are_rules c in
-    kept_fresh _ (statics c) (shards_are c) c.in_ok-opens.ensures.none
-    (omega (arith, c.requires.rules.some_port, ap (λ (ps : List AccessPort). length ps) rules.access)) (omega (arith, c.requires.rules.few_ports, ap (λ (ps : List AccessPort). length ps) rules.access))
-    (omega (arith, c.requires.rules.some_shard, rules.shards)) (omega (arith, c.requires.rules.few_shards, rules.shards))
-    (subst (λ (hs : List Holder). All (λ (h : Holder). h.shard < (made c).shards) hs) (sym (holders_are c)) (All-map (λ (h : Holder). h.shard < (made c).shards) holder_of c.args.config.statics (λ k d l. omega (arith, (c.requires.rules.sharded k d l).shard, rules.shards))))
-    c.requires.most refl refl refl refl refl (ap (λ (x : Drawn). x.drawn) (draws_are c)) refl (tallies_are c) c.new.ensures.items
+    let rules = are_rules c in (
+      kept_fresh _ (statics c) (shards_are c) c.in_ok-opens.ensures.none
+          (omega (arith, c.requires.rules.some_port, ap (λ (ps : List AccessPort). length ps) rules.access)) (omega (arith, c.requires.rules.few_ports, ap (λ (ps : List AccessPort). length ps) rules.access))
+          (omega (arith, c.requires.rules.some_shard, rules.shards)) (omega (arith, c.requires.rules.few_shards, rules.shards))
+          (subst (λ (hs : List Holder). All (λ (h : Holder). h.shard < (made c).shards) hs) (sym (holders_are c)) (All-map (λ (h : Holder). h.shard < (made c).shards) holder_of c.args.config.statics (λ k d l. omega (arith, (c.requires.rules.sharded k d l).shard, rules.shards))))
+          c.requires.most refl refl refl refl refl (ap (λ (x : Drawn). x.drawn) (draws_are c)) refl (tallies_are c) c.in_ok-kept.ensures.0 (handed_are c),
+      c.in_ok-kept.ensures.1,
+    )
 
 pub returns : goal.returns
 returns c =
     let config = c.args.config in
     let r = made c in
-    let desk = λ (tallies : List Book) (lines : List Line) (shards : List (ShardView ShardState Entry)) (holders : List Holder) (draws : Drawn) (kept : List Item). let x : Desk = record {
+    let desk = λ (tallies : List Book) (lines : List Line) (shards : List (ShardView ShardState Entry)) (holders : List Holder) (draws : Drawn) (handed : List (List ℕ)) (kept : List Item). let x : Desk = record {
       rules = r;
       lines = lines;
       rounds = c.args.rounds;
@@ -107,6 +112,8 @@ returns c =
       drops = no_drops;
       moment = c.args.now;
       told = 0;
+      lane = c.in_ok-lane.lane;
+      handed = handed;
       endings = 0;
       unopened = 0;
       closed = false;
@@ -120,13 +127,16 @@ returns c =
     record {
       rules = r;
       are_rules = are_rules c;
+      lane = c.in_ok-lane.lane;
+      new_lane = c.in_ok-lane.ensures;
       desk =
-          ap (λ (bs : List Book). desk bs c.in_ok-lines.lines.items (map rested c.in_ok-opens.opens.items) c.of.result c.sixteen-key.new.self c.new.result.items) (tallies_are c)
-          ∙ ap (λ (ls : List Line). desk (empty_book ∷ []) ls (map rested c.in_ok-opens.opens.items) c.of.result c.sixteen-key.new.self c.new.result.items) (lines_are c)
-          ∙ ap (λ (xs : List (ShardView ShardState Entry)). desk (empty_book ∷ []) (map line_of config.statics) xs c.of.result c.sixteen-key.new.self c.new.result.items) shards
-          ∙ ap (λ (hs : List Holder). desk (empty_book ∷ []) (map line_of config.statics) opens hs c.sixteen-key.new.self c.new.result.items) (holders_are c)
-          ∙ ap (λ (x : Drawn). desk (empty_book ∷ []) (map line_of config.statics) opens (map holder_of config.statics) x c.new.result.items) (draws_are c)
-          ∙ ap (λ (is : List Item). desk (empty_book ∷ []) (map line_of config.statics) opens (map holder_of config.statics) first is) c.new.ensures.items;
+          ap (λ (bs : List Book). desk bs c.in_ok-lines.lines.items (map rested c.in_ok-opens.opens.items) c.of.result c.sixteen-key.new.self c.in_ok-handed.handed.items c.in_ok-kept.kept.items) (tallies_are c)
+          ∙ ap (λ (ls : List Line). desk (empty_book ∷ []) ls (map rested c.in_ok-opens.opens.items) c.of.result c.sixteen-key.new.self c.in_ok-handed.handed.items c.in_ok-kept.kept.items) (lines_are c)
+          ∙ ap (λ (xs : List (ShardView ShardState Entry)). desk (empty_book ∷ []) (map line_of config.statics) xs c.of.result c.sixteen-key.new.self c.in_ok-handed.handed.items c.in_ok-kept.kept.items) shards
+          ∙ ap (λ (hs : List Holder). desk (empty_book ∷ []) (map line_of config.statics) opens hs c.sixteen-key.new.self c.in_ok-handed.handed.items c.in_ok-kept.kept.items) (holders_are c)
+          ∙ ap (λ (x : Drawn). desk (empty_book ∷ []) (map line_of config.statics) opens (map holder_of config.statics) x c.in_ok-handed.handed.items c.in_ok-kept.kept.items) (draws_are c)
+          ∙ ap (λ (ls : List (List ℕ)). desk (empty_book ∷ []) (map line_of config.statics) opens (map holder_of config.statics) first ls c.in_ok-kept.kept.items) c.in_ok-handed.ensures
+          ∙ ap (λ (is : List Item). desk (empty_book ∷ []) (map line_of config.statics) opens (map holder_of config.statics) first (map (λ n. none_handed) (range_with_len 0 config.shards)) is) c.in_ok-kept.ensures.0;
     }
 
 pub shards-requires-clause-circuits : goal.shards-requires-clause-circuits

@@ -1,0 +1,86 @@
+//! What came from the RADIUS server, as the verdicts of a round.
+ghost use Rattle.std.specs.Prelude.{◌≡◌, ◌+◌, ◌≤◌, ◌<◌, ◌^◌, length, vec_capacity};
+ghost use Rattle.bng_desk.specs.Intake.{AddsReply, TakesReplies};
+ghost use Rattle.bng_desk.specs.Logins.{verdict_item};
+
+use crate::calls::receive;
+use crate::random::Draws;
+use bng_base::{Frame, Item, ItemKind, Peer, Received, Role};
+use bng_lane::Lane;
+use bng_plant::Plant;
+use bng_verdict::QuestionNo;
+
+/// The most verdicts of a round, and so many datagrams of Auth a turn takes.
+pub(crate) const VERDICTS_MOST: usize = 128;
+
+/// The octets of a reply to a question, as an item.
+pub(crate) fn verdict(
+    number: QuestionNo,
+    from: Peer,
+    cut: bool,
+    frame: Frame,
+    random: [u8; 16],
+) -> Item
+    requires { frame.headroom ≡ 64 }
+    ensures { result ≡ record (verdict_item (record { from = from; cut = cut; octets = frame.payload }) number) { random = random } }
+{
+    Item {
+        kind: ItemKind::Verdict,
+        from,
+        frame,
+        cut,
+        random,
+        target: number.session.0,
+        ask: number.ask,
+    }
+}
+
+// Adds the item of a datagram of Auth, if it is the reply to a question.
+fn add_reply(
+    lane: &mut Lane,
+    from: Peer,
+    cut: bool,
+    frame: Frame,
+    draws: &mut Draws,
+    items: &mut Vec<Item>,
+)
+    requires whole { frame.headroom ≡ 64 }
+    requires room { length items.old.items < vec_capacity items.old }
+    requires drawn { draws.old.drawn < 2 ^ 62 }
+    ensures adds { AddsReply (record { from = from; cut = cut; octets = frame.payload }) lane.old lane.new draws.old draws.new items.old.items items.new.items }
+    ensures capacity { vec_capacity items.new ≡ vec_capacity items.old }
+    ensures few { length items.new.items ≤ length items.old.items + 1 }
+    ensures few_drawn { draws.new.drawn ≤ draws.old.drawn + 1 }
+{
+    if let Some(number) = lane.take(from, frame.payload()) {
+        let random = draws.sixteen();
+        items.push_reserved(verdict(number, from, cut, frame, random));
+    }
+}
+
+/// Takes datagrams of Auth until Empty, Failed or the number of a turn; each that is the reply to a question is an item. Says whether
+/// none was taken.
+pub(crate) fn take_replies<P: Plant>(
+    plant: &mut P,
+    lane: &mut Lane,
+    draws: &mut Draws,
+    items: &mut Vec<Item>,
+) -> bool
+    requires room { length items.old.items + 128 ≤ vec_capacity items.old }
+    requires drawn { draws.old.drawn < 2 ^ 61 }
+    ensures takes { TakesReplies (P.told plant.old) (P.told plant.new) lane.old lane.new draws.old draws.new items.old.items items.new.items result }
+    ensures capacity { vec_capacity items.new ≡ vec_capacity items.old }
+{
+    let mut quiet = true;
+    for _taken in 0..VERDICTS_MOST {
+        let mut frame = Frame::new();
+        match receive(plant, Role::Auth, &mut frame) {
+            Received::Got { from, cut } => {
+                add_reply(lane, from, cut, frame, draws, items);
+                quiet = false;
+            }
+            Received::Empty | Received::Failed => return quiet,
+        }
+    }
+    quiet
+}
