@@ -73,11 +73,11 @@ step_follows d d' None step = record {
 }
 step_follows d d' (Some t) step = record {
   is_round = is_of d t.moment (items_of d t) t.round step.1;
-  shards = ap (λ (x : Desk). x.shards) step.2 ∙ shards_after d (items_of d t) t.round;
-  tallies = ap (λ (x : Desk). x.tallies) step.2 ∙ tallies_left d (items_of d t) t.round;
-  holders = ap (λ (x : Desk). x.holders) step.2 ∙ holders_after d (items_of d t) t.round;
-  rules = ap (λ (x : Desk). x.rules) step.2 ∙ rules_after d (items_of d t) t.round;
-  lines = ap (λ (x : Desk). x.lines) step.2 ∙ lines_after d (items_of d t) t.round;
+  shards = ap (λ (x : Desk). x.shards) step.3 ∙ shards_after d (items_of d t) t.round;
+  tallies = ap (λ (x : Desk). x.tallies) step.3 ∙ tallies_left d (items_of d t) t.round;
+  holders = ap (λ (x : Desk). x.holders) step.3 ∙ holders_after d (items_of d t) t.round;
+  rules = ap (λ (x : Desk). x.rules) step.3 ∙ rules_after d (items_of d t) t.round;
+  lines = ap (λ (x : Desk). x.lines) step.3 ∙ lines_after d (items_of d t) t.round;
 }
 
 pub end_follows : (d d' : Desk) (t : Option EndTurn) → EndStep d t d' → Follows d (end_round_in t) d'
@@ -91,15 +91,15 @@ end_follows d d' None step = record {
 }
 end_follows d d' (Some t) step = record {
   is_round = is_of d t.moment (ending_items d) t.round step.1;
-  shards = ap (λ (x : Desk). x.shards) step.2 ∙ shards_after d (ending_items d) t.round;
-  tallies = ap (λ (x : Desk). x.tallies) step.2 ∙ tallies_left d (ending_items d) t.round;
-  holders = ap (λ (x : Desk). x.holders) step.2 ∙ holders_after d (ending_items d) t.round;
-  rules = ap (λ (x : Desk). x.rules) step.2 ∙ rules_after d (ending_items d) t.round;
-  lines = ap (λ (x : Desk). x.lines) step.2 ∙ lines_after d (ending_items d) t.round;
+  shards = ap (λ (x : Desk). x.shards) step.3 ∙ shards_after d (ending_items d) t.round;
+  tallies = ap (λ (x : Desk). x.tallies) step.3 ∙ tallies_left d (ending_items d) t.round;
+  holders = ap (λ (x : Desk). x.holders) step.3 ∙ holders_after d (ending_items d) t.round;
+  rules = ap (λ (x : Desk). x.rules) step.3 ∙ rules_after d (ending_items d) t.round;
+  lines = ap (λ (x : Desk). x.lines) step.3 ∙ lines_after d (ending_items d) t.round;
 }
 
 -- a chain, seen by what each of its links has
-chain_map : {S T U : Type 0} (step : S → T → S → Type 0) (other : S → U → S → Type 0) (f : T → U) → ((s : S) (t : T) (s' : S) → step s t s' → other s (f t) s') → (s s' : S) (ts : List T) → Chain step s ts s' → Chain other s (map f ts) s'
+pub chain_map : {S T U : Type 0} (step : S → T → S → Type 0) (other : S → U → S → Type 0) (f : T → U) → ((s : S) (t : T) (s' : S) → step s t s' → other s (f t) s') → (s s' : S) (ts : List T) → Chain step s ts s' → Chain other s (map f ts) s'
 chain_map step other f each s s' [] run = run
 chain_map step other f each s s' (t ∷ ts) run = (run.0, each s t run.0 run.1, chain_map step other f each run.0 s' ts run.2)
 

@@ -11,7 +11,7 @@ use Rattle.bng_config.specs.Rules.{KeepsRules}
 use Rattle.bng_config.proofs.Kept.{read_keeps}
 use Rattle.bng_engine.specs.Accounted.{Accounted, opening as nothing_yet}
 use Rattle.bng_engine.specs.Histories.{History, ShardHistory, ShardTurn, Run as Rounds}
-use Rattle.bng_engine.specs.Laws.{Opens, RunFrom, RowsAccountOnWire, TurnBy, sends_of, stops_of}
+use Rattle.bng_engine.specs.Laws.{Opens, RunFrom, RowsAccountOnWire, sends_of, stops_of}
 use Rattle.bng_engine.specs.Quantities.{empty_book, Octets}
 use Rattle.bng_engine.specs.Terms.{keys}
 use Rattle.bng_engine.specs.Views.{DeskView}
@@ -32,15 +32,20 @@ use Rattle.bng_desk.specs.Report.{report_text, by_number}
 use Rattle.bng_desk.specs.Round.{view_of}
 use Rattle.bng_gate.specs.declared.texts.Refusal.{Refusal}
 use Rattle.bng_gate.specs.declared.texts.Refusal.TheVariants.{Usage, Refused, CannotOpen, OutOfMemory, TraceFailed, OutputFailed}
+use Rattle.bng_gate.specs.Granted.{Granted}
+use Rattle.bng_gate.specs.Replied.{AreReplied}
 use Rattle.bng_gate.specs.Headline.{Headline, IsSafe, IsQuiet, WasSafe, all_traffic}
 use Rattle.bng_gate.specs.Rounds.{rounds_in, rounds_of, plant_of, on_data, drops_of_run}
-use Rattle.bng_gate.specs.Run.{World, outside, Course, Runs, IsReady, IsUntouched, WantsToServe, Why, IsUnwritten, RunEnds}
+use Rattle.bng_gate.specs.Run.{World, turns_most, outside, Course, Runs, IsReady, IsUntouched, WantsToServe, Why, IsUnwritten, RunEnds}
 use Rattle.bng_gate.proofs.Addressing.{all_addressed}
 use Rattle.bng_gate.proofs.Drops.{all_dropped}
 use Rattle.bng_gate.proofs.Follows.{Follows, run_follows, lines_stay}
 use Rattle.bng_gate.proofs.Going.{Leads, stands_itself, rounds_lead}
 use Rattle.bng_gate.proofs.Keys.{HasKeys, HasRows, IsKeyOf, IsOurs, all_keys, opened_keys, all_keys_known, run_keys, run_ours, run_stops, rows_have, history_keys}
+use Rattle.bng_gate.proofs.LoginsGranted.{logins_granted}
 use Rattle.bng_gate.proofs.Openings.{opens}
+use Rattle.bng_gate.proofs.Replying.{replies_of}
+use Rattle.bng_gate.proofs.Staging.{stages_heard, stages_sent}
 use Rattle.bng_gate.proofs.Telling.{sent_are, taken_are, unsent_failed}
 use Rattle.bng_gate.proofs.Traffic.{traffic_same, input_all, output_all}
 
@@ -120,6 +125,14 @@ module _ (text : List ℕ) (config : Config) (read : IsRead text config) (seed :
   drops : course.last.drops ≡ drops_of_run course.turns course.endings
   drops = all_dropped course.opening course.over course.last course.turns course.endings (ap (λ (d : Desk). d.drops) course.begins.is_opened.desk) course.run course.ending
 
+  granted : Granted config seed course.turns course.endings
+  granted =
+      logins_granted config turns_most seed course.begins.bound.now course.opening course.over course.last course.turns course.endings rules course.begins.is_opened course.run course.ending
+      course.few_turns course.few_endings
+
+  replied : AreReplied config seed course.turns
+  replied = replies_of config turns_most seed course.begins.bound.now course.opening course.over course.turns course.begins.is_opened course.run
+
   pub safe_of : IsSafe config seed old new course
   safe_of = record {
     heard = (plant_of course.turns course.endings).heard;
@@ -140,6 +153,10 @@ module _ (text : List ℕ) (config : Config) (read : IsRead text config) (seed :
     conserved = run_conserves_at pppoe pppoe_laws start rounds goes.0 run_from;
     balanced = balanced pppoe end goes.0 accounted;
     addressed = all_addressed config sent (sends_of rounds) sends ours;
+    stages_heard = stages_heard course.opening course.over course.turns course.endings course.run;
+    stages_sent = stages_sent course.turns course.endings;
+    replied = replied;
+    granted = granted;
     unsent = record {
       later = omega (arith, course.begins.bound.unfailed, course.told.plant.causes.later);
       rose = omega (arith, course.begins.bound.unfailed, course.told.plant.causes.rose, unsent_failed course.turns course.endings);

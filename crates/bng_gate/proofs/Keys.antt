@@ -1,7 +1,7 @@
 -- The terms of a run are those of the circuits from the opening on: none begins and none ends. What is sent is theirs.
 use Rattle.std.proofs.Common.{◌≡◌, ⊎_elim, ℕ, ◌+◌, List, [], ◌∷◌, ◌++◌, map, Some, IfSome, eqb, refl, sym, ap, subst, ◌∙◌}
 use Rattle.std.specs.Prelude.{slice_get}
-use Rattle.std.specs.List.{AllByRecursion, AllZip, flat_map, sum_by, range_with_len}
+use Rattle.std.specs.List.{AllByRecursion, AllZip, sum_by, range_with_len}
 use Rattle.bng_base.specs.declared.circuit.Circuit.TheVariants.{Pppoe}
 use Rattle.bng_base.specs.declared.item.Charge.{Charge}
 use Rattle.bng_base.specs.declared.item.Entry.{Entry}

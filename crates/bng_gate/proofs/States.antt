@@ -1,7 +1,5 @@
 -- Where a desk stands, by its tests.
-use Rattle.std.proofs.Common.{◌≡◌, ◌<◌, ◌^◌, ◌⊎◌, inl, inr, Bool, true, false, not, cond, Option, Some, None, refl, sym, ap, ◌∙◌}
-use Rattle.std.specs.Prelude.{nat_le}
-use Rattle.std.proofs.lemmas.Bool.{or_parts, leb-false}
+use Rattle.std.proofs.Common.{◌≡◌, ◌⊎◌, inl, inr, Bool, true, false, not, cond, Option, Some, None, refl, sym, ap, ◌∙◌}
 use Rattle.bng_desk.specs.declared.desk.DeskState.{DeskState}
 use Rattle.bng_desk.specs.declared.desk.DeskState.TheVariants.{Serving, Ending, Ended, Starved}
 use Rattle.bng_desk.specs.declared.desk.Turned.{Turned}

@@ -1,15 +1,16 @@
 -- What the turns of a run tell: what they took on the access ports and the core, and what their rounds sent.
-use Rattle.std.proofs.Common.{◌≡◌, ℕ, zero, suc, ◌+◌, Bool, true, cond, List, [], ◌∷◌, ◌++◌, map, Option, Some, None, refl, sym, ap, subst, ◌∙◌, append-nil, ◌≤◌, arith}
-use Rattle.std.specs.Prelude.{filter}
+use Rattle.std.proofs.Common.{◌≡◌, ℕ, zero, suc, ◌+◌, Bool, true, false, cond, List, [], ◌∷◌, ◌++◌, map, Option, Some, None, refl, sym, ap, subst, ◌∙◌, append-nil, ◌≤◌, arith}
+use Rattle.std.specs.Prelude.{filter, if◌then◌else◌}
 use Rattle.std.specs.List.{AllByRecursion, count_by, flat_map, range_with_len}
 use Rattle.std.proofs.lemmas.List.Concat.{flat_map-append}
 use Rattle.std.proofs.lemmas.List.Elements.{filter-append}
 use Rattle.std.proofs.lemmas.List.Folds.{flat_map-map}
 use Rattle.std.proofs.lemmas.List.Sums.{sum_by-append}
+use Rattle.bng_base.specs.declared.address.Peer.{Peer}
 use Rattle.bng_base.specs.declared.item.OutRecord.{OutRecord}
 use Rattle.bng_base.specs.declared.outside.Datagram.{Datagram}
 use Rattle.bng_base.specs.declared.outside.Role.{Role}
-use Rattle.bng_base.specs.declared.outside.Role.TheVariants.{Access, Core, Control}
+use Rattle.bng_base.specs.declared.outside.Role.TheVariants.{Access, Auth, Core, Control}
 use Rattle.bng_base.specs.FateOf.{Arrival}
 use Rattle.bng_base.specs.Roles.{is_data}
 use Rattle.bng_engine.specs.Calls.{all_sends}
@@ -19,14 +20,17 @@ use Rattle.bng_engine.specs.Lists.{one_if}
 use Rattle.bng_engine.specs.Views.{turn_in}
 use Rattle.bng_engine.specs.Wire.{went}
 use Rattle.bng_engine.proofs.Wire.{went_append}
+use Rattle.bng_lane.specs.Sends.{LaneSend}
 use Rattle.bng_shard.specs.Protocol.{Handled}
+use Rattle.bng_desk.specs.declared.reading.Ended.{Ended}
 use Rattle.bng_desk.specs.Control.{Heeded, reply, is_answered}
 use Rattle.bng_desk.specs.Items.{DataReading}
+use Rattle.bng_desk.specs.Logins.{Answered, Requests, lane_datagram, lane_sends, requests_stretch}
 use Rattle.bng_desk.specs.Model.{Desk}
 use Rattle.bng_desk.specs.Reading.{taken_in}
 use Rattle.bng_desk.specs.Round.{Round, not_sent}
-use Rattle.bng_desk.specs.Turn.{Turn, EndTurn, Step, data_stretch, round_stretch, stretch_of, end_stretch}
-use Rattle.bng_gate.specs.Rounds.{round_in, end_round_in, rounds_in, turns_of, rounds_of, plant_of, on_data, readings_in, readings_of}
+use Rattle.bng_desk.specs.Turn.{Turn, EndTurn, Step, auth_stretch, data_stretch, round_stretch, stretch_of, end_stretch}
+use Rattle.bng_gate.specs.Rounds.{round_in, end_round_in, rounds_in, turns_of, rounds_of, plant_of, on_data, readings_in, readings_of, requests_in, end_requests_in, requests_of, is_unsent}
 use Rattle.bng_gate.specs.Serving.{Made, MadeEnd, Run, run_stretch, ending_stretch}
 
 on_data_append : (a b : List Datagram) → on_data (a ++ b) ≡ on_data a ++ on_data b
@@ -57,20 +61,45 @@ round_sent : (round : Option Round) → (round_stretch round).sent ≡ went (sen
 round_sent None = refl
 round_sent (Some round) = refl
 
+none_to_auth : (answers : List Answered) (ended : Option Ended) → (auth_stretch answers ended).sent ≡ []
+none_to_auth answers None = refl
+none_to_auth answers (Some ended) = refl
+
+-- a request goes out on Auth
+one_request : (server : Peer) (octets : List ℕ) (b : Bool) (ds : List Datagram) → on_data ((if b then record { role = Auth; peer = server; octets = octets } ∷ [] else []) ++ ds) ≡ on_data ds
+one_request server octets true ds = refl
+one_request server octets false ds = refl
+
+no_requests : (server : Peer) (ss : List LaneSend) → on_data (flat_map (lane_datagram server) ss) ≡ []
+no_requests server [] = refl
+no_requests server (s ∷ ss) = one_request server s.octets s.sent (flat_map (lane_datagram server) ss) ∙ no_requests server ss
+
+beside_requests : (ds : List Datagram) (server : Peer) (ss : List LaneSend) → on_data (ds ++ flat_map (lane_datagram server) ss) ≡ on_data ds
+beside_requests ds server ss =
+    on_data_append ds (flat_map (lane_datagram server) ss)
+    ∙ ap (λ (rest : List Datagram). on_data ds ++ rest) (no_requests server ss)
+    ∙ append-nil (on_data ds)
+
 turn_sent : (d : Desk) (t : Option Turn) → on_data (stretch_of d t).plant.sent ≡ on_data (went (sends_in (round_in t)))
 turn_sent d None = refl
 turn_sent d (Some t) =
     let replies = map reply (filter is_answered t.control) in
-    let rest = (data_stretch t.readings).sent ++ ((round_stretch t.round).sent ++ []) in
+    let server = d.lane.client.auth_server in
+    let asked = flat_map (lane_datagram server) (lane_sends t.requests) in
+    let settled = (round_stretch t.round).sent ++ (asked ++ []) in
+    let rest = (auth_stretch t.answers t.auth_end).sent ++ ((data_stretch t.readings).sent ++ settled) in
     on_data_append (replies ++ []) rest
     ∙ ap (λ (ds : List Datagram). on_data ds ++ on_data rest) (append-nil replies)
     ∙ ap (λ (ds : List Datagram). ds ++ on_data rest) (no_replies (filter is_answered t.control))
-    ∙ ap (λ (ds : List Datagram). on_data (ds ++ ((round_stretch t.round).sent ++ []))) (none_sent t.readings)
-    ∙ ap on_data (append-nil (round_stretch t.round).sent ∙ round_sent t.round)
+    ∙ ap (λ (ds : List Datagram). on_data (ds ++ ((data_stretch t.readings).sent ++ settled))) (none_to_auth t.answers t.auth_end)
+    ∙ ap (λ (ds : List Datagram). on_data (ds ++ settled)) (none_sent t.readings)
+    ∙ ap (λ (ds : List Datagram). on_data ((round_stretch t.round).sent ++ ds)) (append-nil asked)
+    ∙ beside_requests (round_stretch t.round).sent server (lane_sends t.requests)
+    ∙ ap on_data (round_sent t.round)
 
-end_sent : (d : Desk) (t : Option EndTurn) → (end_stretch d t).plant.sent ≡ went (sends_in (end_round_in t))
+end_sent : (d : Desk) (t : Option EndTurn) → on_data (end_stretch d t).plant.sent ≡ on_data (went (sends_in (end_round_in t)))
 end_sent d None = refl
-end_sent d (Some t) = round_sent t.round
+end_sent d (Some t) = beside_requests (round_stretch t.round).sent d.lane.client.auth_server (lane_sends t.requests) ∙ ap on_data (round_sent t.round)
 
 turns_sent : (turns : List Made) → on_data (run_stretch turns).plant.sent ≡ on_data (went (flat_map sends_in (map (λ m. round_in m.turn) turns)))
 turns_sent [] = refl
@@ -82,13 +111,15 @@ turns_sent (m ∷ turns) =
     ∙ ap (λ (ds : List Datagram). on_data here ++ ds) (turns_sent turns)
     ∙ sym (ap on_data (went_append (sends_in (round_in m.turn)) later) ∙ on_data_append here (went later))
 
-endings_sent : (endings : List MadeEnd) → (ending_stretch endings).plant.sent ≡ went (flat_map sends_in (map (λ m. end_round_in m.turn) endings))
+endings_sent : (endings : List MadeEnd) → on_data (ending_stretch endings).plant.sent ≡ on_data (went (flat_map sends_in (map (λ m. end_round_in m.turn) endings)))
 endings_sent [] = refl
 endings_sent (m ∷ endings) =
+    let here = went (sends_in (end_round_in m.turn)) in
     let later = flat_map sends_in (map (λ (x : MadeEnd). end_round_in x.turn) endings) in
-    ap (λ (ds : List Datagram). ds ++ (ending_stretch endings).plant.sent) (end_sent m.desk m.turn)
-    ∙ ap (λ (ds : List Datagram). went (sends_in (end_round_in m.turn)) ++ ds) (endings_sent endings)
-    ∙ sym (went_append (sends_in (end_round_in m.turn)) later)
+    on_data_append (end_stretch m.desk m.turn).plant.sent (ending_stretch endings).plant.sent
+    ∙ ap (λ (ds : List Datagram). ds ++ on_data (ending_stretch endings).plant.sent) (end_sent m.desk m.turn)
+    ∙ ap (λ (ds : List Datagram). on_data here ++ ds) (endings_sent endings)
+    ∙ sym (ap on_data (went_append (sends_in (end_round_in m.turn)) later) ∙ on_data_append here (went later))
 
 -- what was sent on the access ports and to the core are the datagrams of the rounds
 pub sent_are : (turns : List Made) (endings : List MadeEnd) → on_data (plant_of turns endings).sent ≡ on_data (went (sends_of (rounds_of turns endings)))
@@ -97,7 +128,7 @@ sent_are turns endings =
     let ending = map (λ (m : MadeEnd). end_round_in m.turn) endings in
     on_data_append (run_stretch turns).plant.sent (ending_stretch endings).plant.sent
     ∙ ap (λ (ds : List Datagram). ds ++ on_data (ending_stretch endings).plant.sent) (turns_sent turns)
-    ∙ ap (λ (ds : List Datagram). on_data (went (flat_map sends_in serving)) ++ on_data ds) (endings_sent endings)
+    ∙ ap (λ (ds : List Datagram). on_data (went (flat_map sends_in serving)) ++ ds) (endings_sent endings)
     ∙ sym (ap (λ (os : List OutRecord). on_data (went os)) (sends_are (rounds_in turns endings) ∙ flat_map-append sends_in serving ending)
     ∙ ap on_data (went_append (flat_map sends_in serving) (flat_map sends_in ending))
     ∙ on_data_append (went (flat_map sends_in serving)) (went (flat_map sends_in ending)))
@@ -107,6 +138,16 @@ sent_are turns endings =
 none_of_control : (arrivals : List Arrival) → on_data (taken_in Control arrivals) ≡ []
 none_of_control [] = refl
 none_of_control (a ∷ as') = none_of_control as'
+
+none_of_auth : (arrivals : List Arrival) → on_data (taken_in Auth arrivals) ≡ []
+none_of_auth [] = refl
+none_of_auth (a ∷ as') = none_of_auth as'
+
+auth_taken : (answers : List Answered) (ended : Option Ended) → on_data (auth_stretch answers ended).taken ≡ []
+auth_taken answers None = refl
+auth_taken answers (Some ended) =
+    let arrivals = map (λ (a : Answered). a.arrival) answers in
+    ap on_data (append-nil (taken_in Auth arrivals)) ∙ none_of_auth arrivals
 
 all_of_role : (role : Role) (arrivals : List Arrival) → is_data role ≡ true → on_data (taken_in role arrivals) ≡ taken_in role arrivals
 all_of_role role [] e = refl
@@ -134,11 +175,14 @@ turn_taken : (d d' : Desk) (t : Option Turn) → Step d t d' → (e : Desk) → 
 turn_taken d d' None step e = refl
 turn_taken d d' (Some t) step e =
     let heeded = map (λ (h : Heeded). h.arrival) t.control in
+    let auth = (auth_stretch t.answers t.auth_end).taken in
     let rest = (data_stretch t.readings).taken ++ ((round_stretch t.round).taken ++ []) in
     let roles : AllByRecursion (λ role. is_data role ≡ true) (map (λ r. r.role) t.readings) = subst (AllByRecursion (λ role. is_data role ≡ true)) (sym step.0.roles) (ports_data 1 _) in
-    on_data_append (taken_in Control heeded ++ []) rest
-    ∙ ap (λ (ds : List Datagram). on_data ds ++ on_data rest) (append-nil (taken_in Control heeded))
-    ∙ ap (λ (ds : List Datagram). ds ++ on_data rest) (none_of_control heeded)
+    on_data_append (taken_in Control heeded ++ []) (auth ++ rest)
+    ∙ ap (λ (ds : List Datagram). on_data ds ++ on_data (auth ++ rest)) (append-nil (taken_in Control heeded))
+    ∙ ap (λ (ds : List Datagram). ds ++ on_data (auth ++ rest)) (none_of_control heeded)
+    ∙ on_data_append auth rest
+    ∙ ap (λ (ds : List Datagram). ds ++ on_data rest) (auth_taken t.answers t.auth_end)
     ∙ ap (λ (ds : List Datagram). on_data ((data_stretch t.readings).taken ++ (ds ++ []))) (round_taken t.round)
     ∙ ap on_data (append-nil (data_stretch t.readings).taken)
     ∙ data_taken t.readings roles
@@ -157,7 +201,7 @@ turns_taken d d' (m ∷ turns) run =
 
 end_taken : (d : Desk) (t : Option EndTurn) → (end_stretch d t).plant.taken ≡ []
 end_taken d None = refl
-end_taken d (Some t) = round_taken t.round
+end_taken d (Some t) = ap (λ (ds : List Datagram). ds ++ []) (round_taken t.round)
   where
     round_taken : (round : Option Round) → (round_stretch round).taken ≡ []
     round_taken None = refl
@@ -179,40 +223,54 @@ taken_are d d' turns endings run =
 unsent_append : (as' bs : List OutRecord) → count_by not_sent (as' ++ bs) ≡ count_by not_sent as' + count_by not_sent bs
 unsent_append as' bs = sum_by-append (λ (o : OutRecord). one_if (not_sent o)) as' bs
 
+requests_append : (as' bs : List LaneSend) → count_by is_unsent (as' ++ bs) ≡ count_by is_unsent as' + count_by is_unsent bs
+requests_append as' bs = sum_by-append (λ (s : LaneSend). one_if (is_unsent s)) as' bs
+
 round_failed : (round : Option Round) → (round_stretch round).failed ≡ count_by not_sent (sends_in round)
 round_failed None = refl
 round_failed (Some round) = refl
 
-turn_failed : (d : Desk) (t : Option Turn) → count_by not_sent (sends_in (round_in t)) ≤ (stretch_of d t).plant.failed
+requests_failed : (server : Peer) (q : Requests) → (requests_stretch server q).failed ≡ count_by is_unsent (lane_sends q)
+requests_failed server q = refl
+
+turn_failed : (d : Desk) (t : Option Turn) → count_by not_sent (sends_in (round_in t)) + count_by is_unsent (requests_in t) ≤ (stretch_of d t).plant.failed
 turn_failed d None = omega arith
-turn_failed d (Some t) = omega (arith, round_failed t.round)
+turn_failed d (Some t) = omega (arith, round_failed t.round, requests_failed d.lane.client.auth_server t.requests)
 
-end_failed : (d : Desk) (t : Option EndTurn) → count_by not_sent (sends_in (end_round_in t)) ≤ (end_stretch d t).plant.failed
+end_failed : (d : Desk) (t : Option EndTurn) → count_by not_sent (sends_in (end_round_in t)) + count_by is_unsent (end_requests_in t) ≤ (end_stretch d t).plant.failed
 end_failed d None = omega arith
-end_failed d (Some t) = omega (arith, round_failed t.round)
+end_failed d (Some t) = omega (arith, round_failed t.round, requests_failed d.lane.client.auth_server t.requests)
 
-turns_failed : (turns : List Made) → count_by not_sent (flat_map sends_in (map (λ m. round_in m.turn) turns)) ≤ (run_stretch turns).plant.failed
+abbrev of_serving : List Made → List LaneSend
+of_serving turns = flat_map (λ m. requests_in m.turn) turns
+
+abbrev of_ending : List MadeEnd → List LaneSend
+of_ending endings = flat_map (λ m. end_requests_in m.turn) endings
+
+turns_failed : (turns : List Made) → count_by not_sent (flat_map sends_in (map (λ m. round_in m.turn) turns)) + count_by is_unsent (of_serving turns) ≤ (run_stretch turns).plant.failed
 turns_failed [] = omega arith
 turns_failed (m ∷ turns) =
     omega (
       arith,
       unsent_append (sends_in (round_in m.turn)) (flat_map sends_in (map (λ (x : Made). round_in x.turn) turns)),
+      requests_append (requests_in m.turn) (of_serving turns),
       turn_failed m.desk m.turn,
       turns_failed turns,
     )
 
-endings_failed : (endings : List MadeEnd) → count_by not_sent (flat_map sends_in (map (λ m. end_round_in m.turn) endings)) ≤ (ending_stretch endings).plant.failed
+endings_failed : (endings : List MadeEnd) → count_by not_sent (flat_map sends_in (map (λ m. end_round_in m.turn) endings)) + count_by is_unsent (of_ending endings) ≤ (ending_stretch endings).plant.failed
 endings_failed [] = omega arith
 endings_failed (m ∷ endings) =
     omega (
       arith,
       unsent_append (sends_in (end_round_in m.turn)) (flat_map sends_in (map (λ (x : MadeEnd). end_round_in x.turn) endings)),
+      requests_append (end_requests_in m.turn) (of_ending endings),
       end_failed m.desk m.turn,
       endings_failed endings,
     )
 
--- no more of what the rounds had to send was not sent than failed
-pub unsent_failed : (turns : List Made) (endings : List MadeEnd) → count_by not_sent (sends_of (rounds_of turns endings)) ≤ (plant_of turns endings).failed
+-- no more of what the rounds had to send and of the requests was not sent than failed
+pub unsent_failed : (turns : List Made) (endings : List MadeEnd) → count_by not_sent (sends_of (rounds_of turns endings)) + count_by is_unsent (requests_of turns endings) ≤ (plant_of turns endings).failed
 unsent_failed turns endings =
     let serving = map (λ (m : Made). round_in m.turn) turns in
     let ending = map (λ (m : MadeEnd). end_round_in m.turn) endings in
@@ -220,6 +278,7 @@ unsent_failed turns endings =
       arith,
       ap (count_by not_sent) (sends_are (rounds_in turns endings) ∙ flat_map-append sends_in serving ending),
       unsent_append (flat_map sends_in serving) (flat_map sends_in ending),
+      requests_append (of_serving turns) (of_ending endings),
       turns_failed turns,
       endings_failed endings,
     )

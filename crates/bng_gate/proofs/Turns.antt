@@ -12,7 +12,7 @@ use Rattle.bng_base.proofs.ChainLaws.{all_stretches_more, told_more_turn}
 use Rattle.bng_desk.specs.Model.{Desk, is_over}
 use Rattle.bng_desk.specs.Round.{Round}
 use Rattle.bng_desk.specs.Turn.{Turn, Step, after_round, items_of, EndTurn, EndStep, ending_items}
-use Rattle.bng_gate.specs.Serving.{Made, MadeEnd, Run, made_stretch, made_end_stretch, run_stretch, ending_stretch, took, took_stop, AreNoted, EndsServing}
+use Rattle.bng_gate.specs.Serving.{Made, MadeEnd, Run, EndRun, made_stretch, made_end_stretch, run_stretch, ending_stretch, took, took_stop, AreNoted, EndsServing}
 
 or_assoc : (a b c : Bool) → ((a || b) || c) ≡ (a || (b || c))
 or_assoc true b c = refl
@@ -38,15 +38,15 @@ kept_stopped d items (Some round) = refl
 -- a step of serving counts one turn, and stops the desk where it took `stop`
 step_rounds : (d d' : Desk) (t : Option Turn) → Step d t d' → d'.rounds ≡ d.rounds
 step_rounds d d' None step = ap (λ (u : Desk). u.rounds) step
-step_rounds d d' (Some t) step = ap (λ (u : Desk). u.rounds) step.2 ∙ kept_rounds d (items_of d t) t.round
+step_rounds d d' (Some t) step = ap (λ (u : Desk). u.rounds) step.3 ∙ kept_rounds d (items_of d t) t.round
 
 pub step_turns : (d d' : Desk) (t : Option Turn) → Step d t d' → d'.turns ≡ d.turns + 1
 step_turns d d' None step = ap (λ (u : Desk). u.turns) step
-step_turns d d' (Some t) step = ap (λ (u : Desk). u.turns) step.2
+step_turns d d' (Some t) step = ap (λ (u : Desk). u.turns) step.3
 
 step_stopped : (d d' : Desk) (t : Option Turn) → Step d t d' → d'.stopped ≡ (d.stopped || took t)
 step_stopped d d' None step = ap (λ (u : Desk). u.stopped) step ∙ sym (or_false d.stopped)
-step_stopped d d' (Some t) step = ap (λ (u : Desk). u.stopped) step.2
+step_stopped d d' (Some t) step = ap (λ (u : Desk). u.stopped) step.3
 
 pub run_rounds : (d d' : Desk) (turns : List Made) → Run d turns d' → d'.rounds ≡ d.rounds
 run_rounds d d' [] run = ap (λ (u : Desk). u.rounds) run
@@ -104,9 +104,18 @@ pub stays_over : (d d' : Desk) (t : Option EndTurn) → EndStep d t d' → is_ov
 stays_over d d' None step = ap is_over step
 stays_over d d' (Some t) step =
     end_over d d'
-    (ap (λ (u : Desk). u.stopped) step.2 ∙ kept_stopped d (ending_items d) t.round)
-    (ap (λ (u : Desk). u.turns) step.2 ∙ kept_turns d (ending_items d) t.round)
-    (ap (λ (u : Desk). u.rounds) step.2 ∙ kept_rounds d (ending_items d) t.round)
+    (ap (λ (u : Desk). u.stopped) step.3 ∙ kept_stopped d (ending_items d) t.round)
+    (ap (λ (u : Desk). u.turns) step.3 ∙ kept_turns d (ending_items d) t.round)
+    (ap (λ (u : Desk). u.rounds) step.3 ∙ kept_rounds d (ending_items d) t.round)
+
+-- the desk counts the turns of its ending
+step_endings : (d d' : Desk) (t : Option EndTurn) → EndStep d t d' → d'.endings ≡ d.endings + 1
+step_endings d d' None step = ap (λ (u : Desk). u.endings) step
+step_endings d d' (Some t) step = ap (λ (u : Desk). u.endings) step.3
+
+pub endings_made : (d d' : Desk) (endings : List MadeEnd) → EndRun d endings d' → d'.endings ≡ d.endings + length endings
+endings_made d d' [] run = omega (arith, ap (λ (u : Desk). u.endings) run)
+endings_made d d' (m ∷ endings) run = omega (arith, endings_made run.0 d' endings run.2, step_endings d run.0 m.turn run.1.1)
 
 both_noted : (a b : Bool) → a ≡ false → b ≡ false → (a || b) ≡ false
 both_noted a b x y = cc

@@ -1,5 +1,5 @@
 -- A run is its opening, its turns and its report.
-use Rattle.std.proofs.Common.{◌≡◌, ◌<◌, inl, inr, ℕ, Bool, false, ◌||◌, List, [], ◌∷◌, ◌++◌, length, refl, sym, ap, subst}
+use Rattle.std.proofs.Common.{◌≡◌, ◌<◌, ◌≤◌, inl, inr, ℕ, Bool, false, ◌||◌, List, [], ◌∷◌, ◌++◌, length, length-append, refl, sym, ap, subst, arith}
 use Rattle.bng_base.specs.Causes.{Rose}
 use Rattle.bng_base.specs.Told.{TraceTold, SinkTold}
 use Rattle.bng_base.specs.Stretch.{Outside, Stretch, Extends}
@@ -24,6 +24,9 @@ module _ (config : Config) (seed : List ℕ) (old between new : Outside) (openin
   pub ends_all : (turns : List Made) → EndsServing opening.rounds turns → EndsServing turns_most turns
   ends_all turns ends = subst (λ (n : ℕ). EndsServing n turns) all_turns ends
 
+  pub few_turns : (turns : List Made) → length turns ≤ opening.rounds → length turns ≤ turns_most
+  few_turns turns within = subst (λ (n : ℕ). length turns ≤ n) all_turns within
+
   abbrev pub completes_of : MakesTurns opening last between new → Completes config seed old new
   completes_of made = record {
     course = record {
@@ -37,6 +40,8 @@ module _ (config : Config) (seed : List ℕ) (old between new : Outside) (openin
       endings = made.finishes.ends;
       last = last;
       ending = made.finishes.run;
+      few_turns = few_turns made.serves.turns made.serves.ends.within;
+      few_endings = made.finishes.within;
       told = extends_more between made.between new (run_stretch made.serves.turns) (ending_stretch made.finishes.ends) made.serves.told made.finishes.told;
     };
     whole = record {
@@ -77,6 +82,8 @@ module _ (config : Config) (seed : List ℕ) (old between new : Outside) (openin
           endings = [];
           last = last;
           ending = refl;
+          few_turns = few_turns turns (omega (arith, f.within, length-append f.turns (f.fault ∷ [])));
+          few_endings = omega arith;
           told = subst (λ (s : Stretch). Extends between new s) (sym (joined_none (run_stretch turns))) f.told;
         };
         breaks = inl (record {
@@ -105,6 +112,8 @@ module _ (config : Config) (seed : List ℕ) (old between new : Outside) (openin
           endings = endings;
           last = last;
           ending = f.fails.run;
+          few_turns = few_turns f.serves.turns f.serves.ends.within;
+          few_endings = omega (arith, f.fails.within, length-append f.fails.ends (f.fails.fault ∷ []));
           told = extends_more between f.between new (run_stretch f.serves.turns) (ending_stretch endings) f.serves.told f.fails.told;
         };
         breaks = inr (record {

@@ -1,5 +1,5 @@
 -- What a run says in the subject's own words.
-use Rattle.std.specs.Prelude.{◌≡◌, ℕ, true, List, [], Some, length, map, take, drop, slice_get, count_by}
+use Rattle.std.specs.Prelude.{◌≡◌, ℕ, ◌+◌, ◌++◌, true, List, [], Some, length, map, take, drop, slice_get, count_by}
 use Rattle.std.specs.List.{All, flat_map, range_with_len}
 use Rattle.byteorder.specs.Endian.{big_from}
 use Rattle.bng_base.specs.declared.circuit.Circuit.TheVariants.{Pppoe}
@@ -30,7 +30,9 @@ use Rattle.bng_desk.specs.Opening.{line_of, statics_of}
 use Rattle.bng_desk.specs.Reading.{taken_in}
 use Rattle.bng_desk.specs.Report.{report_text, by_number}
 use Rattle.bng_desk.specs.Round.{not_sent, view_of}
-use Rattle.bng_gate.specs.Rounds.{rounds_of, history_of, plant_of, on_data, readings_of, drops_of_run}
+use Rattle.bng_gate.specs.Granted.{Granted, stages_of}
+use Rattle.bng_gate.specs.Replied.{AreReplied}
+use Rattle.bng_gate.specs.Rounds.{rounds_of, history_of, plant_of, on_auth, on_data, beside_control, readings_of, requests_of, is_unsent, drops_of_run}
 use Rattle.bng_gate.specs.Run.{World, outside, Prepares, Course, Runs}
 
 -- the octets are an IPv4 packet of which this holds, and nothing else
@@ -111,8 +113,22 @@ pub record IsSafe (config : Config) (seed : List ℕ) (old new : World) (course 
   -- Each datagram to the core was a packet from the address of a circuit, and each packet on an access port was on a circuit, to its
   -- address.
   pub addressed : All (IsAddressed config) sent
-  -- Of what the rounds had to send, no more was not sent than the plant's count rose, unless that stands at its end.
-  pub unsent : HasCauses old.plant.faults new.plant.faults (count_by not_sent (sends_of (rounds_of course.turns course.endings)))
+  -- What was taken from Auth, each datagram once and in order, are the datagrams that the stages of the turns heard. What was sent on
+  -- all roles but Control, each datagram once and in order, is what each stage sent there for its round, and then its requests.
+  pub stages_heard : on_auth taken ≡ flat_map (λ s. s.heard) (stages_of course.turns course.endings)
+  pub stages_sent : beside_control sent ≡ beside_control (flat_map (λ s. s.sent ++ s.requests) (stages_of course.turns course.endings))
+  -- Each of the datagrams of Auth that was taken for the reply to a question comes from the configured server and is signed for the
+  -- request of that question, which was open and asked in an earlier turn, and whose request was sent since.
+  pub replied : AreReplied config seed course.turns
+  -- Each yes that was sent to a peer, a Success of CHAP or an Authenticate-Ack of PAP, is that of a login of its circuit: of a question
+  -- that was asked, whose very request, with the name and the proof of the question, was sent to the configured server, and to which
+  -- later an Access-Accept was taken from that server, signed for this request. It is the question that the peer's link asked last. No
+  -- datagram of the server is that of two logins, and no two logins of different questions have requests with the same draw as their
+  -- authenticator.
+  pub granted : Granted config seed course.turns course.endings
+  -- Of what the rounds had to send and the requests of the turns, no more was not sent than the plant's count rose, unless that stands
+  -- at its end.
+  pub unsent : HasCauses old.plant.faults new.plant.faults (count_by not_sent (sends_of (rounds_of course.turns course.endings)) + count_by is_unsent (requests_of course.turns course.endings))
 
 -- What holds of a run that ended with its report.
 pub record Headline (config : Config) (old new : World) : Type 0 where

@@ -3,6 +3,8 @@ pub mod Texts
 pub mod Saying
 pub mod Taken
 pub mod Serving
+pub mod Granted
+pub mod Replied
 pub mod Run
 pub mod Rounds
 pub mod Headline

@@ -1,18 +1,22 @@
 -- The rounds of a run, and what they sent and dropped.
-use Rattle.std.specs.Prelude.{List, [], ◌∷◌, ◌++◌, Option, Some, None, filter, length, map}
+use Rattle.std.specs.Prelude.{Bool, true, false, not, List, [], ◌∷◌, ◌++◌, Option, Some, None, filter, length, map}
 use Rattle.std.specs.List.{flat_map}
 use Rattle.bng_base.specs.declared.item.Item.{Item}
 use Rattle.bng_base.specs.declared.outside.Datagram.{Datagram}
+use Rattle.bng_base.specs.declared.outside.Role.{Role}
+use Rattle.bng_base.specs.declared.outside.Role.TheVariants.{Access, Core, Tunnel, Auth, Acct, Coa, Control}
 use Rattle.bng_base.specs.Roles.{is_data}
 use Rattle.bng_base.specs.Stretch.{PlantStretch, plant_joined}
 use Rattle.bng_engine.specs.Accounted.{opening}
 use Rattle.bng_engine.specs.Histories.{History, ShardTurn}
 use Rattle.bng_engine.specs.Views.{turn_in}
+use Rattle.bng_lane.specs.Sends.{LaneSend}
 use Rattle.bng_shard.specs.Protocol.{ShardState, Handled}
 use Rattle.bng_desk.specs.declared.drops.Drops.{Drops}
 use Rattle.bng_desk.specs.Counting.{no_drops, plus}
 use Rattle.bng_desk.specs.Model.{Desk}
 use Rattle.bng_desk.specs.Items.{DataReading}
+use Rattle.bng_desk.specs.Logins.{lane_sends}
 use Rattle.bng_desk.specs.Round.{Round, view_of, drops_in, refused_of, with_refused}
 use Rattle.bng_desk.specs.Turn.{Turn, EndTurn, items_of, ending_items}
 use Rattle.bng_gate.specs.Serving.{Made, MadeEnd, run_stretch, ending_stretch}
@@ -51,6 +55,32 @@ plant_of turns endings = plant_joined (run_stretch turns).plant (ending_stretch 
 abbrev pub on_data : List Datagram → List Datagram
 on_data ds = filter (λ d. is_data d.role) ds
 
+abbrev pub is_auth : Role → Bool
+is_auth (Access number) = false
+is_auth Core = false
+is_auth Tunnel = false
+is_auth Auth = true
+is_auth Acct = false
+is_auth Coa = false
+is_auth Control = false
+
+-- those of Auth
+abbrev pub on_auth : List Datagram → List Datagram
+on_auth ds = filter (λ d. is_auth d.role) ds
+
+abbrev pub is_control : Role → Bool
+is_control (Access number) = false
+is_control Core = false
+is_control Tunnel = false
+is_control Auth = false
+is_control Acct = false
+is_control Coa = false
+is_control Control = true
+
+-- those of all roles but Control
+abbrev pub beside_control : List Datagram → List Datagram
+beside_control ds = filter (λ d. not (is_control d.role)) ds
+
 -- the readings of the access ports and of the core
 abbrev pub readings_in : Option Turn → List DataReading
 readings_in None = []
@@ -58,6 +88,23 @@ readings_in (Some t) = t.readings
 
 abbrev pub readings_of : List Made → List DataReading
 readings_of turns = flat_map (λ m. readings_in m.turn) turns
+
+-- the requests of a turn, with the answers to their sends
+abbrev pub requests_in : Option Turn → List LaneSend
+requests_in None = []
+requests_in (Some t) = lane_sends t.requests
+
+abbrev pub end_requests_in : Option EndTurn → List LaneSend
+end_requests_in None = []
+end_requests_in (Some t) = lane_sends t.requests
+
+-- those of all turns: of serving, and then of the ending
+abbrev pub requests_of : List Made → List MadeEnd → List LaneSend
+requests_of turns endings = flat_map (λ m. requests_in m.turn) turns ++ flat_map (λ m. end_requests_in m.turn) endings
+
+-- a request that the plant did not take
+abbrev pub is_unsent : LaneSend → Bool
+is_unsent s = not s.sent
 
 -- what a round drops: by the fates of its items and the packets whose own send failed, or all items of the outside, where it
 -- was not opened

@@ -1,7 +1,7 @@
 -- A whole run, from the words to the report.
 use Rattle.std.specs.Prelude.{◌≡◌, ℕ, ◌+◌, ◌-◌, ◌^◌, ◌≤◌, ◌<◌, ◌⊎◌, false, List, [], ◌∷◌, ◌++◌, take, length}
 use Rattle.std.specs.List.{list_any}
-use Rattle.bng_base.specs.declared.outside.Role.TheVariants.{Access, Core, Control}
+use Rattle.bng_base.specs.declared.outside.Role.TheVariants.{Access, Auth, Core, Control}
 use Rattle.bng_base.specs.declared.outside.ClockAnswer.TheVariants.{Now, Wall}
 use Rattle.bng_base.specs.declared.outside.Bind.{Bind}
 use Rattle.bng_base.specs.Causes.{Rose}
@@ -16,13 +16,13 @@ use Rattle.bng_desk.specs.Model.{Desk, state_of, all_carried}
 use Rattle.bng_desk.specs.Opening.{IsOpened}
 use Rattle.bng_desk.specs.Report.{report_text, by_number}
 use Rattle.bng_gate.specs.declared.texts.Opening.{Opening}
-use Rattle.bng_gate.specs.declared.texts.Opening.TheVariants.{Configuration, Seed, Control as ControlOpening, Core as CoreOpening, Access as AccessOpening}
+use Rattle.bng_gate.specs.declared.texts.Opening.TheVariants.{Configuration, Seed, Control as ControlOpening, Core as CoreOpening, Access as AccessOpening, Auth as AuthOpening}
 use Rattle.bng_gate.specs.declared.texts.Refusal.{Refusal}
 use Rattle.bng_gate.specs.declared.texts.Refusal.TheVariants.{Usage, Refused, CannotOpen, OutOfMemory, TraceFailed, OutputFailed}
 use Rattle.bng_gate.specs.Words.{Serves as ServesFile}
 use Rattle.bng_gate.specs.Texts.{refusal_text, status_of}
 use Rattle.bng_gate.specs.Saying.{FailsToSay}
-use Rattle.bng_gate.specs.Serving.{Made, MadeEnd, Run, EndRun, run_stretch, ending_stretch, made_stretch, made_end_stretch, took_stop, EndsServing, AreNoted}
+use Rattle.bng_gate.specs.Serving.{Made, MadeEnd, Run, EndRun, endings_most, run_stretch, ending_stretch, made_stretch, made_end_stretch, took_stop, EndsServing, AreNoted}
 
 -- what all objects of a run tell
 pub record World : Type 0 where
@@ -87,6 +87,7 @@ IsUnprepared words old new (CannotOpen Seed) = ⊥
 IsUnprepared words old new (CannotOpen ControlOpening) = ⊥
 IsUnprepared words old new (CannotOpen CoreOpening) = ⊥
 IsUnprepared words old new (CannotOpen (AccessOpening number)) = ⊥
+IsUnprepared words old new (CannotOpen AuthOpening) = ⊥
 IsUnprepared words old new OutOfMemory = WantsToRead words old new
 IsUnprepared words old new TraceFailed = ⊥
 IsUnprepared words old new OutputFailed = ⊥
@@ -101,11 +102,12 @@ port_binds number (port ∷ ports) = record { role = Access number; local = port
 -- the binds of the opening, in order
 abbrev pub binds_of : Config → List Bind
 binds_of config =
-    record { role = Control; local = config.control_local } ∷ record { role = Core; local = config.core_local } ∷ port_binds 1 config.access
+    record { role = Control; local = config.control_local } ∷ record { role = Core; local = config.core_local }
+    ∷ (port_binds 1 config.access ++ record { role = Auth; local = config.auth_local } ∷ [])
 
 -- how many there are
 abbrev pub binds_most : Config → ℕ
-binds_most config = 2 + length config.access
+binds_most config = 3 + length config.access
 
 -- this many of the access ports were bound, and nothing else was asked of the plant
 pub record BindsPorts (number : ℕ) (ports : List AccessPort) (old new : PlantTold) : Type 0 where
@@ -147,6 +149,7 @@ FailsAt config old new Seed = ⊥
 FailsAt config old new ControlOpening = FailsToBind config 0 old new
 FailsAt config old new CoreOpening = FailsToBind config 1 old new
 FailsAt config old new (AccessOpening number) = FailsToBindPort config number old new
+FailsAt config old new AuthOpening = FailsToBind config (2 + length config.access) old new
 
 -- The seed ------------------------------------------------------------------------------------------------------------------
 
@@ -186,7 +189,7 @@ IsUnbegun config plant plant' clock clock' TraceFailed = ⊥
 IsUnbegun config plant plant' clock clock' OutputFailed = ⊥
 
 -- The turns of a run from its opening on: those of serving, and then those of the ending, each from the desk that the one before
--- left. What is told grew by theirs, one after another, and by nothing else.
+-- left, and no more than a run makes. What is told grew by theirs, one after another, and by nothing else.
 pub record Course (config : Config) (seed : List ℕ) (old new : Outside) : Type 0 where
   pub opening_outside : Outside
   pub opening : Desk
@@ -198,6 +201,8 @@ pub record Course (config : Config) (seed : List ℕ) (old new : Outside) : Type
   pub endings : List MadeEnd
   pub last : Desk
   pub ending : EndRun over endings last
+  pub few_turns : length turns ≤ turns_most
+  pub few_endings : length endings ≤ endings_most
   pub told : Extends opening_outside new (joined (run_stretch turns) (ending_stretch endings))
 
 -- The turns came to their end: those of serving to `stop` or to the last of all, those of the ending to a desk with no session
@@ -361,6 +366,7 @@ Fails words old new Seed = IsUnseeded words old new
 Fails words old new ControlOpening = IsUnbound words old new (λ config p p'. FailsToBind config 0 p p')
 Fails words old new CoreOpening = IsUnbound words old new (λ config p p'. FailsToBind config 1 p p')
 Fails words old new (AccessOpening number) = IsUnbound words old new (λ config p p'. FailsToBindPort config number p p')
+Fails words old new AuthOpening = IsUnbound words old new (λ config p p'. FailsToBind config (2 + length config.access) p p')
 
 -- what is named could not be opened, and no receive, send or wait was made
 pub record IsUnopened (words : List (List ℕ)) (old new : World) (what : Opening) : Type 0 where

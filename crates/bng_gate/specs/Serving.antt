@@ -1,5 +1,5 @@
 -- A run as a list of turns: those of serving, and then those of the ending.
-use Rattle.std.specs.Prelude.{◌≡◌, ℕ, ◌-◌, ◌≤◌, ◌<◌, ◌⊎◌, Bool, true, false, List, [], ◌∷◌, ◌++◌, Option, Some, None, length, take}
+use Rattle.std.specs.Prelude.{◌≡◌, ℕ, ◌-◌, ◌^◌, ◌≤◌, ◌<◌, ◌⊎◌, Bool, true, false, List, [], ◌∷◌, ◌++◌, Option, Some, None, length, take}
 use Rattle.std.specs.List.{list_any}
 use Rattle.bng_base.specs.Causes.{Rose}
 use Rattle.bng_base.specs.Stretch.{Outside, Stretch, Extends}
@@ -85,12 +85,17 @@ pub record FailsServing (d d' : Desk) (o o' : Outside) : Type 0 where
   pub none_before : list_any took_stop turns ≡ false
   pub rose : Rose o.trace.faults o'.trace.faults
 
+-- the most turns of the ending that a run makes
+abbrev pub endings_most : ℕ
+endings_most = 2 ^ 37
+
 -- a call of `finish` was these turns of the ending, and the trace took their rounds
 pub record Finishes (d d' : Desk) (o o' : Outside) : Type 0 where
   pub ends : List MadeEnd
   pub run : EndRun d ends d'
   pub told : Extends o o' (ending_stretch ends)
   pub noted : AreNoted (ending_stretch ends)
+  pub within : length ends ≤ endings_most
   pub over : (state_of d' ≡ Ended) ⊎ (state_of d' ≡ Starved)
 
 -- a call of `finish` was these turns and one more, the first whose round the trace did not take
@@ -101,6 +106,7 @@ pub record FailsFinishing (d d' : Desk) (o o' : Outside) : Type 0 where
   pub told : Extends o o' (ending_stretch (ends ++ fault ∷ []))
   pub noted : AreNoted (ending_stretch ends)
   pub unnoted : ¬ AreNoted (made_end_stretch fault)
+  pub within : length ends < endings_most
   pub rose : Rose o.trace.faults o'.trace.faults
 
 -- both calls, one after the other

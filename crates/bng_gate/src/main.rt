@@ -1,6 +1,7 @@
 //! The program: it makes the real objects, calls `run`, and ends with its answer.
 #![tactic(auto)]
 
+mod laws;
 mod real;
 mod saying;
 mod serving;

@@ -1,7 +1,7 @@
 //! Serving and the ending, turn by turn.
-ghost use Rattle.std.specs.Prelude.{◌≡◌, ◌≤◌, ◌⊎◌, false, OnOk, OnErr};
+ghost use Rattle.std.specs.Prelude.{◌≡◌, ◌≤◌, ◌<◌, ◌⊎◌, false, OnOk, OnErr};
 ghost use Rattle.bng_desk.specs.Model.{state_of};
-ghost use Rattle.bng_gate.specs.Serving.{Serves, FailsServing, Finishes, FailsFinishing};
+ghost use Rattle.bng_gate.specs.Serving.{Serves, FailsServing, Finishes, FailsFinishing, endings_most};
 ghost use Rattle.bng_gate.specs.Serving.{is_serving as stands_serving, is_ending as stands_ending, is_starved as stands_starved, is_fault as answers_fault};
 
 use bng_desk::{Desk, DeskState, Turned};
@@ -24,7 +24,8 @@ fn is_serving(desk: &Desk) -> bool
 }
 
 fn is_ending(desk: &Desk) -> bool
-    ensures { result ≡ stands_ending (state_of desk.now) }
+    ensures stands { result ≡ stands_ending (state_of desk.now) }
+    ensures few { desk.now.endings < endings_most }
 {
     match desk.state() {
         DeskState::Ending => true,

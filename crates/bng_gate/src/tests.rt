@@ -10,6 +10,7 @@ use std::process::Abort;
 use std::sync::Wait;
 use std::thread::Threads;
 
+mod authentication;
 mod discovery;
 mod forwarding;
 mod host;
@@ -18,11 +19,16 @@ mod statuses;
 
 const CONFIGURATION: &str = r#"[gateway]
 name = "bng1"
+nas_ip = "192.168.1.16"
 [core]
 local = "127.0.0.1:9000"
 peer = "127.0.0.1:9001"
 [control]
 local = "127.0.0.1:9002"
+[radius]
+auth_local = "127.0.0.1:9003"
+auth_server = "127.0.0.1:1812"
+secret = "xyzzy5461"
 [[access]]
 local = "127.0.0.1:9010"
 peer = "127.0.0.1:9011"
@@ -37,11 +43,16 @@ address = "10.0.0.2"
 /// Two access ports with a circuit each.
 const TWO_PORTS: &str = r#"[gateway]
 name = "bng1"
+nas_ip = "192.168.1.16"
 [core]
 local = "127.0.0.1:9000"
 peer = "127.0.0.1:9001"
 [control]
 local = "127.0.0.1:9002"
+[radius]
+auth_local = "127.0.0.1:9003"
+auth_server = "127.0.0.1:1812"
+secret = "xyzzy5461"
 [[access]]
 local = "127.0.0.1:9010"
 peer = "127.0.0.1:9011"
@@ -120,9 +131,13 @@ fn script_of(alloc: Global, list: &[(Role, u16, &[u8])]) -> Result<Vec<Arrival>,
 
 /// The datagrams that a run sent are these, of these roles and to these ports of 127.0.0.1.
 fn sends(rt: &impl Abort, ended: &Ended, wanted: &[(Role, u16, &[u8])]) {
-    let sent = ended.plant.sent();
-    assert_eq!(rt; sent.len(), wanted.len());
-    for (datagram, (role, port, octets)) in sent.iter().zip(wanted) {
+    assert_eq!(rt; ended.plant.sent().len(), wanted.len());
+    sends_from(rt, ended, 0, wanted);
+}
+
+/// Of these datagrams those that a run sent from this place on are the first ones.
+fn sends_from(rt: &impl Abort, ended: &Ended, place: usize, wanted: &[(Role, u16, &[u8])]) {
+    for (datagram, (role, port, octets)) in ended.plant.sent().iter().skip(place).zip(wanted) {
         assert_eq!(rt; datagram.role, *role);
         assert_eq!(rt; datagram.peer, loopback(*port));
         assert_eq!(rt; datagram.octets.as_slice(), *octets);
@@ -137,12 +152,13 @@ fn seed(alloc: Global, fails: &[u64]) -> Result<MemoryEntropy, AllocError> {
 }
 
 /// A run of these words over one file, `bng.toml`.
-fn run_told<R: Threads + Wait + Sync, T: Trace>(
+fn run_at<R: Threads + Wait + Sync, T: Trace>(
     rt: &R,
     alloc: Global,
     words: &[&str],
     configuration: &str,
     mut plant: MemoryPlant,
+    mut clock: MemoryClock,
     mut entropy: MemoryEntropy,
     trace: &mut T,
     out_fails: &[u64],
@@ -154,7 +170,6 @@ fn run_told<R: Threads + Wait + Sync, T: Trace>(
     let mut files = Vec::new(alloc);
     files.push(MemoryFile::new(alloc, "bng.toml", configuration.as_bytes())?)?;
     let mut files = MemoryFiles::new(alloc, files, Vec::new(alloc), 8)?;
-    let mut clock = MemoryClock::new(alloc, 10, 1_700_000_000, 64)?;
     let mut out = MemorySink::new(alloc, out_fails.to_vec(alloc)?, 1024)?;
     let mut err = MemorySink::new(alloc, Vec::new(alloc), 1024)?;
     let status = run(
@@ -176,6 +191,31 @@ fn run_told<R: Threads + Wait + Sync, T: Trace>(
         out,
         err,
     })
+}
+
+/// The same at moments 10 ms apart.
+fn run_told<R: Threads + Wait + Sync, T: Trace>(
+    rt: &R,
+    alloc: Global,
+    words: &[&str],
+    configuration: &str,
+    plant: MemoryPlant,
+    entropy: MemoryEntropy,
+    trace: &mut T,
+    out_fails: &[u64],
+) -> Result<Ended, AllocError> {
+    let clock = MemoryClock::new(alloc, 10, 1_700_000_000, 64)?;
+    run_at(
+        rt,
+        alloc,
+        words,
+        configuration,
+        plant,
+        clock,
+        entropy,
+        trace,
+        out_fails,
+    )
 }
 
 /// The same with a seed and no trace. The calls of the plant and of the output with these numbers fail.

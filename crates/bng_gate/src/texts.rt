@@ -19,6 +19,7 @@ pub enum Opening {
     Core,
     /// The access port with this number, from 1 on.
     Access(u8),
+    Auth,
 }
 
 /// Why a run did not come to its report.
@@ -107,6 +108,7 @@ fn cannot_open(what: Opening) -> Line
         Opening::Seed => whole("bng: cannot open seed\n"),
         Opening::Control => whole("bng: cannot open control\n"),
         Opening::Core => whole("bng: cannot open core\n"),
+        Opening::Auth => whole("bng: cannot open auth\n"),
         Opening::Access(number) => Line {
             front: "bng: cannot open access ",
             middle: digits(number),

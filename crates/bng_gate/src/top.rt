@@ -100,9 +100,12 @@ fn bind_all<P: Plant>(config: &Config, plant: &mut P) -> Result<(), Opening>
     if let Err(what) = bind_ends(config, plant) {
         return Err(what);
     }
-    match bind_ports(config.access.as_slice(), plant) {
-        Ok(()) => Ok(()),
-        Err(number) => Err(Opening::Access(number)),
+    if let Err(number) = bind_ports(config.access.as_slice(), plant) {
+        return Err(Opening::Access(number));
+    }
+    match plant.bind(Role::Auth, config.auth_local, Some(config.auth_server)) {
+        Bound::Ok => Ok(()),
+        Bound::Failed => Err(Opening::Auth),
     }
 }
 

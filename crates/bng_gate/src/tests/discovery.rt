@@ -66,12 +66,17 @@ const FULL: [u8; 36] = [
 /// One shard and no circuit.
 const ONE_SHARD: &str = r#"[gateway]
 name = "bng1"
+nas_ip = "192.168.1.16"
 shards = 1
 [core]
 local = "127.0.0.1:9000"
 peer = "127.0.0.1:9001"
 [control]
 local = "127.0.0.1:9002"
+[radius]
+auth_local = "127.0.0.1:9003"
+auth_server = "127.0.0.1:1812"
+secret = "xyzzy5461"
 [[access]]
 local = "127.0.0.1:9010"
 peer = "127.0.0.1:9011"

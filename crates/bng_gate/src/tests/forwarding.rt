@@ -52,11 +52,16 @@ const DOWN_THE_OTHER: [u8; 42] = [
 /// Two circuits of one shard, the one with the higher session number first.
 const FALLING_NUMBERS: &str = r#"[gateway]
 name = "bng1"
+nas_ip = "192.168.1.16"
 [core]
 local = "127.0.0.1:9000"
 peer = "127.0.0.1:9001"
 [control]
 local = "127.0.0.1:9002"
+[radius]
+auth_local = "127.0.0.1:9003"
+auth_server = "127.0.0.1:1812"
+secret = "xyzzy5461"
 [[access]]
 local = "127.0.0.1:9010"
 peer = "127.0.0.1:9011"
@@ -116,8 +121,8 @@ fn a_packet_is_forwarded_with_ttl_and_sum_changed(rt: HostRuntime) -> Result<(),
 fn a_packet_that_does_not_go_is_counted_as_a_drop_alone(rt: HostRuntime) -> Result<(), Fail> {
     let alloc = rt.alloc();
     let script = frame_and_stop(alloc, &PACKET)?;
-    // Three binds, the receives of Control, twice of the access port and of the core, and then the send to the core.
-    let failed = run_over(&rt, alloc, &SERVE, CONFIGURATION, script, &[8], &[])?;
+    // Four binds, the receives of Control, of Auth, twice of the access port and of the core, and then the send to the core.
+    let failed = run_over(&rt, alloc, &SERVE, CONFIGURATION, script, &[10], &[])?;
     assert_eq!(rt; failed.status, 0);
     assert_eq!(rt;
         failed.out.text(),
@@ -142,8 +147,8 @@ fn what_comes_after_a_failed_send_is_sent(rt: HostRuntime) -> Result<(), Fail> {
         (Role::Access(1), 9011, &PADDED),
     ];
     let script = script_of(alloc, &list)?;
-    // Three binds, the receives of Control, three times of the access port and of the core, and then the first send.
-    let ended = run_over(&rt, alloc, &SERVE, CONFIGURATION, script, &[9], &[])?;
+    // Four binds, the receives of Control, of Auth, three times of the access port and of the core, and then the first send.
+    let ended = run_over(&rt, alloc, &SERVE, CONFIGURATION, script, &[11], &[])?;
     assert_eq!(rt; ended.status, 0);
     assert_eq!(rt;
         ended.out.text(),

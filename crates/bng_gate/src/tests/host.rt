@@ -1,9 +1,14 @@
 //! A host on access port 1 and what it hears from the gateway.
+use super::loopback;
+use bng_base::Role;
 use bng_digest::hmac_md5_of;
+use bng_plant::Arrival;
+use std::alloc::{AllocError, Global};
 
 /// Four shards, the service inet and no circuit.
 pub(super) const SESSIONS: &str = r#"[gateway]
 name = "bng1"
+nas_ip = "192.168.1.16"
 shards = 4
 services = ["inet"]
 [core]
@@ -11,6 +16,10 @@ local = "127.0.0.1:9000"
 peer = "127.0.0.1:9001"
 [control]
 local = "127.0.0.1:9002"
+[radius]
+auth_local = "127.0.0.1:9003"
+auth_server = "127.0.0.1:1812"
+secret = "xyzzy5461"
 [[access]]
 local = "127.0.0.1:9010"
 peer = "127.0.0.1:9011"
@@ -51,4 +60,63 @@ pub(super) fn request(host: &[u8; 6]) -> [u8; 52] {
     padr[6..12].copy_from_slice(host);
     padr[36..].copy_from_slice(&hmac_md5_of(&KEY, &[&[1], host]));
     padr
+}
+
+/// What stands before the low octet of LENGTH in a frame of the session to the gateway, and in one to the host.
+pub(super) const TO_GATEWAY: [u8; 19] = [
+    0x02, 0x00, 0x00, 0x00, 0x00, 0xfe, 0x02, 0x00, 0x00, 0x00, 0x00, 0x01, 0x88, 0x64, 0x11, 0x00,
+    0x0c, 0x01, 0x00,
+];
+
+pub(super) const TO_HOST: [u8; 19] = [
+    0x02, 0x00, 0x00, 0x00, 0x00, 0x01, 0x02, 0x00, 0x00, 0x00, 0x00, 0xfe, 0x88, 0x64, 0x11, 0x00,
+    0x0c, 0x01, 0x00,
+];
+
+/// A Configure-Request with an MRU and a magic number, and its Configure-Ack.
+pub(super) const REQUEST: [u8; 16] = [
+    0xc0, 0x21, 0x01, 0x02, 0x00, 0x0e, 0x01, 0x04, 0x05, 0xd4, 0x05, 0x06, 0x11, 0x22, 0x33, 0x44,
+];
+
+pub(super) const ACKED: [u8; 16] = [
+    0xc0, 0x21, 0x02, 0x02, 0x00, 0x0e, 0x01, 0x04, 0x05, 0xd4, 0x05, 0x06, 0x11, 0x22, 0x33, 0x44,
+];
+
+/// The gateway's Configure-Request, whose magic number is drawn for the first item, and the host's Configure-Ack.
+pub(super) const ASKED: [u8; 21] = [
+    0xc0, 0x21, 0x01, 0x01, 0x00, 0x13, 0x01, 0x04, 0x05, 0xd4, 0x03, 0x05, 0xc2, 0x23, 0x05, 0x05,
+    0x06, 0xa1, 0xb2, 0xc3, 0xd4,
+];
+
+pub(super) const ACK: [u8; 21] = [
+    0xc0, 0x21, 0x02, 0x01, 0x00, 0x13, 0x01, 0x04, 0x05, 0xd4, 0x03, 0x05, 0xc2, 0x23, 0x05, 0x05,
+    0x06, 0xa1, 0xb2, 0xc3, 0xd4,
+];
+
+pub(super) fn framed(
+    alloc: Global,
+    front: &[u8; 19],
+    payload: &[u8],
+) -> Result<Vec<u8>, AllocError> {
+    let mut frame = Vec::from_slice(alloc, front)?;
+    frame.push(payload.len().min(255) as u8)?;
+    frame.extend_from_slice(payload)?;
+    Ok(frame)
+}
+
+/// A frame of the host's session comes with this payload.
+pub(super) fn from_host(alloc: Global, payload: &[u8]) -> Result<Arrival, AllocError> {
+    let frame = framed(alloc, &TO_GATEWAY, payload)?;
+    Ok(Arrival::new(Role::Access(1), loopback(9011), frame.as_slice()))
+}
+
+/// A PADR, and these frames of the session that it makes.
+pub(super) fn session(alloc: Global, payloads: &[&[u8]]) -> Result<Vec<Arrival>, AllocError> {
+    let mut script = Vec::new(alloc);
+    let padr = request(&HOST);
+    script.push(Arrival::new(Role::Access(1), loopback(9011), &padr))?;
+    for payload in payloads {
+        script.push(from_host(alloc, payload)?)?;
+    }
+    Ok(script)
 }

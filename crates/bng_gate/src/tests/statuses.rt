@@ -8,11 +8,16 @@ use std::test::Fail;
 
 const NO_SESSION: &str = r#"[gateway]
 name = "bng1"
+nas_ip = "192.168.1.16"
 [core]
 local = "127.0.0.1:9000"
 peer = "127.0.0.1:9001"
 [control]
 local = "127.0.0.1:9002"
+[radius]
+auth_local = "127.0.0.1:9003"
+auth_server = "127.0.0.1:1812"
+secret = "xyzzy5461"
 [[access]]
 local = "127.0.0.1:9010"
 peer = "127.0.0.1:9011"
@@ -71,6 +76,17 @@ fn each_status_has_its_line(rt: HostRuntime) -> Result<(), Fail> {
     )?;
     assert_eq!(rt; unbound.status, 3);
     assert_eq!(rt; unbound.err.text(), b"bng: cannot open core\n".as_slice());
+    let unbound = run_over(
+        &rt,
+        alloc,
+        &SERVE,
+        CONFIGURATION,
+        Vec::new(alloc),
+        &[4],
+        &[],
+    )?;
+    assert_eq!(rt; unbound.status, 3);
+    assert_eq!(rt; unbound.err.text(), b"bng: cannot open auth\n".as_slice());
     let script = frame_and_stop(alloc, &PACKET)?;
     let unwritten = run_over(&rt, alloc, &SERVE, CONFIGURATION, script, &[], &[1])?;
     assert_eq!(rt; unwritten.status, 5);

@@ -1,11 +1,12 @@
 -- The turns of the ending so far, and the one that this iteration made.
-use Rattle.std.proofs.Common.{refl, sym, ◌∙◌, [], ◌∷◌, ◌++◌}
+use Rattle.std.proofs.Common.{◌≡◌, false, arith, refl, sym, ◌∙◌, [], ◌∷◌, ◌++◌}
 use Rattle.bng_base.specs.Stretch.{Outside}
 use Rattle.bng_base.proofs.StretchLaws.{extends_none}
 use Rattle.bng_base.proofs.ChainLaws.{chain_more}
-use Rattle.bng_gate.specs.Serving.{MadeEnd, GoesEnding}
-use Rattle.bng_gate.proofs.States.{not_serving, ending, end_fault_of}
-use Rattle.bng_gate.proofs.Turns.{told_end, noted_end, stays_over}
+use Rattle.bng_desk.specs.Model.{state_of}
+use Rattle.bng_gate.specs.Serving.{MadeEnd, GoesEnding, is_ending}
+use Rattle.bng_gate.proofs.States.{not_serving, ending, left, end_fault_of}
+use Rattle.bng_gate.proofs.Turns.{endings_made, told_end, noted_end, stays_over}
 use Rattle.bng_gate.proofs.Faults.{fails_finishing}
 use Rattle.bng_gate.proofs.serving.finish.Goals as goal
 
@@ -26,7 +27,7 @@ ending-preserved g c =
     let last : Outside = record { plant = g.P.Plant.told c.turn-made.new.plant; clock = g.C.Clock.told c.turn-made.new.clock; trace = g.T.Trace.told c.turn-made.new.trace } in
     let so_far = c.ending.invariant in
     let d = c.ending.desk in
-    let ends = ending d (sym c.is_ending.ensures ∙ c.ending-test.true) in
+    let ends = ending d (sym c.is_ending.ensures.stands ∙ c.ending-test.true) in
     let here = c.turn-made.ensures.ending ends.0 in
     let m : MadeEnd = record { desk = d; turn = here.turn } in
     record {
@@ -45,7 +46,22 @@ returns-then-is_fault-clause-failed g c =
     let last : Outside = record { plant = g.P.Plant.told c.turn-made.new.plant; clock = g.C.Clock.told c.turn-made.new.clock; trace = g.T.Trace.told c.turn-made.new.trace } in
     let so_far = c.ending.invariant in
     let d = c.ending.desk in
-    let ends = ending d (sym c.is_ending.ensures ∙ c.ending-test.true) in
+    let ends = ending d (sym c.is_ending.ensures.stands ∙ c.ending-test.true) in
     let here = c.turn-made.ensures.ending ends.0 in
     fails_finishing c.args.desk.now d c.turn-made.new.self first mid last so_far.ends here.turn so_far.run here.step so_far.told here.told so_far.noted
     (end_fault_of d here.turn c.turn-made.result here.answer ∙ sym c.is_fault.ensures ∙ c.if-is_fault.true)
+    (omega (arith, endings_made c.args.desk.now d so_far.ends so_far.run, c.is_ending.ensures.few))
+
+pub returns-clause-finished : goal.returns-clause-finished
+returns-clause-finished g c =
+    let so_far = c.ending.invariant in
+    let d = c.ending.desk in
+    let no_more : is_ending (state_of d) ≡ false = sym c.is_ending.ensures.stands ∙ c.ending-test.false in
+    record {
+      ends = so_far.ends;
+      run = so_far.run;
+      told = so_far.told;
+      noted = so_far.noted;
+      within = omega (arith, endings_made c.args.desk.now d so_far.ends so_far.run, c.is_ending.ensures.few);
+      over = left d so_far.over no_more;
+    }

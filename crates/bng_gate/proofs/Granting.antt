@@ -1,0 +1,100 @@
+-- Who was let in: what shards and the lane say, put together.
+use Rattle.std.proofs.Common.{◌≡◌, inl, inr, ℕ, ◌+◌, ◌≤◌, List, [], ◌∷◌, Some, refl, sym, ap, subst, ◌∙◌, arith}
+use Rattle.std.specs.List.{Contains}
+use Rattle.bng_base.specs.declared.address.Mac.{Mac}
+use Rattle.bng_base.specs.declared.item.OutRecord.{OutRecord}
+use Rattle.bng_base.specs.declared.outside.Datagram.{Datagram}
+use Rattle.bng_config.specs.declared.config.Config.{Config}
+use Rattle.bng_engine.specs.Lists.{AnyOf}
+use Rattle.bng_shard.specs.Granting.{GivesYes, IsYesOn}
+use Rattle.bng_shard.specs.Protocol.{ShardState, Handled}
+use Rattle.bng_shard.specs.Questions.{Asking, asking_from}
+use Rattle.bng_verdict.specs.declared.question.QuestionNo.{QuestionNo}
+use Rattle.bng_desk.specs.Model.{Desk}
+use Rattle.bng_gate.specs.Granted.{Granted, Held, HandledIn, IsLetIn, Login, LetsIn, LetsInOwn, SentBy, held_of, stages_of, stage_at}
+use Rattle.bng_gate.specs.Replied.{AreReplied}
+use Rattle.bng_gate.specs.Serving.{Made, MadeEnd, Run, EndRun}
+use Rattle.bng_gate.proofs.Accepting.{YesCause, yes_has_cause}
+use Rattle.bng_gate.proofs.HeldRuns.{HasCount, HeldRun}
+use Rattle.bng_gate.proofs.Holding.{held_run}
+use Rattle.bng_gate.proofs.Knowing.{known}
+use Rattle.bng_gate.proofs.Logins.{AreLogins, logins}
+use Rattle.bng_gate.proofs.LoginsAt.{IsLoginAt}
+use Rattle.bng_gate.proofs.Reaching.{AreFresh}
+use Rattle.bng_gate.proofs.Sending.{sent_by_handled}
+use Rattle.bng_gate.proofs.Verdicts.{verdicts_are_replies}
+use Rattle.bng_gate.proofs.YesItems.{WasTaken, question_no}
+
+any_of_weaker : {X : Type 0} (P Q : X → Type 0) → ((x : X) → P x → Q x) → (xs : List X) → AnyOf P xs → AnyOf Q xs
+any_of_weaker P Q f [] h = h
+any_of_weaker P Q f (x ∷ xs) (inl h) = inl (f x h)
+any_of_weaker P Q f (x ∷ xs) (inr h) = inr (any_of_weaker P Q f xs h)
+
+same_number : (a : QuestionNo) (session ask : ℕ) → a.session.0 ≡ session → a.ask ≡ ask → a ≡ question_no session ask
+same_number a session ask s e = ap (λ n. question_no n a.ask) s ∙ ap (question_no session) e
+
+module _ (config : Config) (seed : List ℕ) (opening over last : Desk) (turns : List Made) (endings : List MadeEnd) (run : Run opening turns over) (ending : EndRun over endings last) (none_kept : opening.kept ≡ []) (fresh : AreFresh opening.shards)
+    (count : HasCount (held_of turns endings)) (replied : AreReplied config seed turns) where
+  abbrev held : List Held
+  held = held_of turns endings
+
+  abbrev Is : ℕ → ℕ → QuestionNo → Login → Type 0
+  Is = IsLoginAt config seed opening over turns endings run replied
+
+  holds : HeldRun opening held last
+  holds = held_run opening over last turns endings run ending
+
+  -- the login of the cause is the one of the question that the link asked last
+  lets_in : (k : ℕ) (s : ShardState) (h : Handled) (port : ℕ) (mac : Mac) (session : ℕ) → HandledIn held k s h → (c : YesCause held k s h port mac session)
+      → (was : WasTaken turns (c.told.turn + 1) (question_no session c.asking.number.ask) c.told.handled.deed.entry.item.frame.payload)
+      → (g : Login) → Is was.turn was.place (question_no session c.asking.number.ask) g → LetsInOwn s h port mac session k g
+  lets_in k s h port mac session at c was g is =
+      let earlier : was.turn ≤ k = omega (arith, was.before, c.told.before) in
+      let opened : is.turn ≤ k = omega (arith, earlier, is.before) in
+      let answered : g.answered ≤ k = omega (arith, is.answered, earlier) in
+      let number : c.asking.number ≡ g.ask.number = same_number c.asking.number session c.asking.number.ask c.number refl ∙ sym is.number in
+      let same : c.asking ≡ asking_from g.ask = known opening last held holds fresh count is.turn k (asking_from g.ask) c.asking s h session is.was_open opened at c.last number in
+      record {
+        lets_in = record { circuit = sym (ap (λ (a : Asking). a.circuit) same) ∙ c.circuit; answered = answered };
+        own = c.last ∙ ap (λ (a : Asking). Some a) same;
+        by = elim c.how [
+          | inl accepted ↦ inl (accepted ∙ ap (λ (n : QuestionNo). Some n.ask) number)
+          | inr this ↦ inr (record {
+            gives = subst (λ (n : ℕ). GivesYes h.deed.entry session n) (ap (λ (n : QuestionNo). n.ask) number) (subst (λ (x : Handled). GivesYes x.deed.entry session c.asking.number.ask) this c.told.yes);
+            octets = sym (is.reply_is was.is.made was.is.answer was.is.at was.is.here ∙ was.its ∙ ap (λ (x : Handled). x.deed.entry.item.frame.payload) this);
+          })
+        ];
+      }
+
+  own : (gs : List Login) → AreLogins config seed opening over turns endings run replied gs → (k : ℕ) (s : ShardState) (h : Handled) (o : OutRecord) (port : ℕ) (mac : Mac) (session : ℕ) → HandledIn held k s h
+      → Contains h.deed.outs o → IsYesOn port mac session o.role o.frame → AnyOf (LetsInOwn s h port mac session k) gs
+  own gs are k s h o port mac session at out tells =
+      let c = yes_has_cause opening last held holds fresh count k s h o port mac session at out tells in
+      let was = verdicts_are_replies opening over last turns endings run ending none_kept c.told.turn c.told.state c.told.handled c.told.at session c.asking.number.ask c.told.yes in
+      any_of_weaker (Is was.turn was.place (question_no session c.asking.number.ask)) (LetsInOwn s h port mac session k) (λ g. lets_in k s h port mac session at c was g) gs
+      (are.complete was.turn was.place (question_no session c.asking.number.ask) was.is)
+
+  sent_in : (gs : List Login) → AreLogins config seed opening over turns endings run replied gs → (k : ℕ) (d : Datagram) (port : ℕ) (mac : Mac) (session : ℕ) → Contains (stage_at (stages_of turns endings) k).sent d
+      → IsYesOn port mac session d.role d.octets → IsLetIn held gs k d port mac session
+  sent_in gs are k d port mac session sent tells =
+      let by : SentBy held k d = sent_by_handled opening last turns endings holds k d sent in
+      record {
+        by = by;
+        login = own gs are k by.state by.handled by.out port mac session by.at by.among
+            (subst (λ (octets : List ℕ). IsYesOn port mac session by.out.role octets) (sym by.frame) (subst (λ r. IsYesOn port mac session r d.octets) (sym by.role) tells));
+      }
+
+  pub granted_of : Granted config seed turns endings
+  granted_of =
+      let all = logins config seed opening over turns endings run replied in
+      record {
+        logins = all.0;
+        right = all.1.right;
+        once = all.1.once;
+        draws = all.1.draws;
+        granted = λ k d port mac session sent tells.
+            let is = sent_in all.0 all.1 k d port mac session sent tells in
+            any_of_weaker (LetsInOwn is.by.state is.by.handled port mac session k) (LetsIn port mac session k) (λ g x. x.lets_in) all.0 is.login;
+        sent_by = sent_in all.0 all.1;
+        own = own all.0 all.1;
+      }

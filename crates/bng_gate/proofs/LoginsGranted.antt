@@ -1,0 +1,22 @@
+-- Of a run from its opening on, all logins are granted.
+use Rattle.std.proofs.Common.{ℕ, ◌^◌, ◌≤◌, List, length, arith}
+use Rattle.bng_config.specs.declared.config.Config.{Config}
+use Rattle.bng_config.specs.Rules.{KeepsRules}
+use Rattle.bng_desk.specs.Model.{Desk}
+use Rattle.bng_desk.specs.Opening.{IsOpened}
+use Rattle.bng_gate.specs.Granted.{Granted}
+use Rattle.bng_gate.specs.Run.{turns_most}
+use Rattle.bng_gate.specs.Serving.{Made, MadeEnd, Run, EndRun, endings_most}
+use Rattle.bng_gate.proofs.Counts.{has_count}
+use Rattle.bng_gate.proofs.Granting.{granted_of}
+use Rattle.bng_gate.proofs.OpeningFacts.{are_fresh, opening_facts}
+use Rattle.bng_gate.proofs.Replying.{replies_of}
+
+pub logins_granted : (config : Config) (rounds : ℕ) (seed : List ℕ) (now : ℕ) (opening over last : Desk) (turns : List Made) (endings : List MadeEnd) → KeepsRules config → IsOpened config rounds seed now opening
+    → Run opening turns over → EndRun over endings last → length turns ≤ turns_most → length endings ≤ endings_most → Granted config seed turns endings
+logins_granted config rounds seed now opening over last turns endings rules opened run ending few few_ends =
+    let facts = opening_facts config rules rounds seed now opening opened in
+    let fewer : length endings ≤ 2 ^ 37 = omega (arith, few_ends) in
+    granted_of config seed opening over last turns endings run ending facts.kept (are_fresh config opening facts)
+    (has_count config opening over last turns endings facts run ending few fewer)
+    (replies_of config rounds seed now opening over turns opened run)

@@ -1,0 +1,211 @@
+-- Who was let in, and by what: over what was taken from Auth, the questions that were asked and what was sent there, what was sent to
+-- peers, and the states that the shards had.
+use Rattle.std.specs.Prelude.{◌≡◌, ◌⊎◌, ℕ, ◌<◌, ◌≤◌, true, List, [], ◌∷◌, ◌++◌, Option, Some, None, map, slice_get, slice_index_or}
+use Rattle.std.specs.List.{All, AllPairs, Contains, flat_map}
+use Rattle.std.specs.Option.{option_map}
+use Rattle.bng_base.specs.declared.circuit.Circuit.TheVariants.{Pppoe}
+use Rattle.bng_base.specs.declared.address.Mac.{Mac}
+use Rattle.bng_base.specs.declared.item.OutRecord.{OutRecord}
+use Rattle.bng_base.specs.declared.outside.Datagram.{Datagram}
+use Rattle.bng_base.specs.declared.outside.Role.TheVariants.{Auth}
+use Rattle.bng_config.specs.declared.config.Config.{Config}
+use Rattle.bng_engine.specs.Calls.{all_sends}
+use Rattle.bng_engine.specs.Journals.{after}
+use Rattle.bng_engine.specs.Lists.{AnyOf}
+use Rattle.bng_engine.specs.Wire.{went}
+use Rattle.bng_access.specs.Request.{request_of}
+use Rattle.bng_lane.specs.Laws.{but_for_digest}
+use Rattle.bng_lane.specs.Sends.{LaneAsk}
+use Rattle.bng_radius_wire.specs.Codes.{access_request, access_accept}
+use Rattle.bng_radius_wire.specs.Digests.{IsSigned}
+use Rattle.bng_radius_wire.specs.Grammar.{Packet, IsRadius}
+use Rattle.bng_shard.specs.Granting.{GivesYes, IsYesOn, accepted_ask_at}
+use Rattle.bng_shard.specs.Protocol.{ShardState, Handled, pppoe}
+use Rattle.bng_shard.specs.Questions.{asking_from, last_asking_at}
+use Rattle.bng_verdict.specs.declared.question.AuthAsk.{AuthAsk}
+use Rattle.bng_verdict.specs.Verdicts.{Saying, IsVerdict}
+use Rattle.bng_desk.specs.Logins.{lane_datagram, lane_sends}
+use Rattle.bng_desk.specs.Model.{Desk}
+use Rattle.bng_desk.specs.Opening.{lane_rules}
+use Rattle.bng_desk.specs.Random.{draw}
+use Rattle.bng_desk.specs.Reading.{taken_in}
+use Rattle.bng_desk.specs.Round.{Round}
+use Rattle.bng_desk.specs.Turn.{Turn, EndTurn}
+use Rattle.bng_gate.specs.Serving.{Made, MadeEnd}
+
+-- Of a turn, in their order: the datagrams that it took from Auth, the datagrams of its round that were sent, the questions that it
+-- asked after them, each with the octets of its Access-Request, and the requests that were sent: those that were sent again, and then
+-- those of these questions.
+pub record Stage : Type 0 where
+  pub heard : List Datagram
+  pub sent : List Datagram
+  pub asked : List LaneAsk
+  pub requests : List Datagram
+
+abbrev pub nothing : Stage
+nothing = record { heard = []; sent = []; asked = []; requests = [] }
+
+-- what a round sent
+abbrev pub sent_by : Option Round → List Datagram
+sent_by None = []
+sent_by (Some round) = went (all_sends round.shards)
+
+abbrev pub stage_in : Desk → Option Turn → Stage
+stage_in d None = nothing
+stage_in d (Some t) = record {
+  heard = taken_in Auth (map (λ a. a.arrival) t.answers);
+  sent = sent_by t.round;
+  asked = t.requests.asked;
+  requests = flat_map (lane_datagram d.lane.client.auth_server) (lane_sends t.requests);
+}
+
+abbrev pub end_stage_in : Desk → Option EndTurn → Stage
+end_stage_in d None = nothing
+end_stage_in d (Some t) = record {
+  heard = [];
+  sent = sent_by t.round;
+  asked = t.requests.asked;
+  requests = flat_map (lane_datagram d.lane.client.auth_server) (lane_sends t.requests);
+}
+
+-- all turns of a run: those of serving, and then those of the ending
+abbrev pub stages_of : List Made → List MadeEnd → List Stage
+stages_of turns endings = map (λ m. stage_in m.desk m.turn) turns ++ map (λ m. end_stage_in m.desk m.turn) endings
+
+abbrev pub stage_at : List Stage → ℕ → Stage
+stage_at stages k = slice_index_or stages k nothing
+
+-- A login: the question of a session; in which turn it was asked, and as which of its questions, counted from 0; which of the draws from
+-- the seed is the authenticator of its Access-Request, with the octets of that; in which turn the request was sent; and in which turn,
+-- and as which datagram of Auth, counted from 0, the reply was taken, with its octets.
+pub record Login : Type 0 where
+  pub ask : AuthAsk
+  pub asked : ℕ
+  pub number : ℕ
+  pub draw : ℕ
+  pub request : List ℕ
+  pub sent : ℕ
+  pub answered : ℕ
+  pub place : ℕ
+  pub reply : List ℕ
+
+-- It is right. In a turn the question was asked, and the request is the one that was made for it then. In that turn or a later one the
+-- request was sent to the configured server, and in a still later one the reply was taken from that server. The request is an
+-- Access-Request whose authenticator is that draw, and says the question, with the name and the proof of the question. The reply is
+-- one packet, an Access-Accept that is taken as a yes and is signed for this very request.
+pub record IsLogin (config : Config) (seed : List ℕ) (stages : List Stage) (g : Login) : Type 0 where
+  pub put : LaneAsk
+  pub at : slice_get (stage_at stages g.asked).asked g.number ≡ Some put
+  pub asks : put.ask ≡ g.ask
+  pub octets : put.send.octets ≡ g.request
+  pub since : g.asked ≤ g.sent
+  pub sent : Contains (stage_at stages g.sent).requests (record { role = Auth; peer = config.auth_server; octets = g.request })
+  pub before : g.sent < g.answered
+  pub packet : Packet
+  pub is_request : IsRadius packet g.request
+  pub code : packet.code ≡ access_request
+  pub authenticator : packet.authenticator ≡ draw seed g.draw
+  pub says : map but_for_digest packet.attributes ≡ map but_for_digest (request_of (lane_rules config).nas config.secret.items g.ask packet.authenticator).attributes
+  pub taken : slice_get (stage_at stages g.answered).heard g.place ≡ Some (record { role = Auth; peer = config.auth_server; octets = g.reply })
+  pub accept : Packet
+  pub is_reply : IsRadius accept g.reply
+  pub one : (p : Packet) → IsRadius p g.reply → p ≡ accept
+  pub accepts : accept.code ≡ access_accept
+  pub verdict : Saying
+  pub is_verdict : IsVerdict g.reply (Some verdict)
+  pub yes : verdict.yes ≡ true
+  pub same : accept.id ≡ packet.id
+  pub signed : IsSigned accept packet.authenticator config.secret.items
+
+-- these are two datagrams
+abbrev pub AreApart : Login → Login → Type 0
+AreApart a b = ¬ ((a.answered ≡ b.answered) × (a.place ≡ b.place))
+
+-- they are of one question, which was asked once
+pub record AreOneAsk (a b : Login) : Type 0 where
+  pub asked : a.asked ≡ b.asked
+  pub number : a.number ≡ b.number
+  pub ask : a.ask ≡ b.ask
+  pub request : a.request ≡ b.request
+
+-- so it is where their requests have one draw as their authenticator
+abbrev pub HaveOwnDraws : Login → Login → Type 0
+HaveOwnDraws a b = a.draw ≡ b.draw → AreOneAsk a b
+
+-- the login is that of this circuit, and was answered in this turn or before it
+pub record LetsIn (port : ℕ) (mac : Mac) (session k : ℕ) (g : Login) : Type 0 where
+  pub circuit : g.ask.circuit ≡ Pppoe port mac (record { 0 = session })
+  pub answered : g.answered ≤ k
+
+-- the entry is the reply of the login, as the yes to its question
+pub record IsItsReply (h : Handled) (session : ℕ) (g : Login) : Type 0 where
+  pub gives : GivesYes h.deed.entry session g.ask.number.ask
+  pub octets : h.deed.entry.item.frame.payload ≡ g.reply
+
+-- And it is the very question that the link of the session asked last, in the state of its shard in which this entry is handled; the
+-- link was accepted on this question before, or the entry is the login's reply.
+pub record LetsInOwn (s : ShardState) (h : Handled) (port : ℕ) (mac : Mac) (session k : ℕ) (g : Login) : Type 0 where
+  pub lets_in : LetsIn port mac session k g
+  pub own : last_asking_at s.slots session ≡ Some (asking_from g.ask)
+  pub by : (accepted_ask_at s.slots session ≡ Some g.ask.number.ask) ⊎ IsItsReply h session g
+
+-- the rounds of the turns, with the desks that they were made from
+pub record Held : Type 0 where
+  pub desk : Desk
+  pub round : Option Round
+
+abbrev pub round_of_turn : Option Turn → Option Round
+round_of_turn None = None
+round_of_turn (Some t) = t.round
+
+abbrev pub round_of_end : Option EndTurn → Option Round
+round_of_end None = None
+round_of_end (Some t) = t.round
+
+abbrev pub held_of : List Made → List MadeEnd → List Held
+held_of turns endings = map (λ m. record { desk = m.desk; round = round_of_turn m.turn }) turns ++ map (λ m. record { desk = m.desk; round = round_of_end m.turn }) endings
+
+-- In the turn of this number a shard handled this entry, after those before it in its journal, from this state.
+pub record HandledIn (held : List Held) (k : ℕ) (s : ShardState) (h : Handled) : Type 0 where
+  pub turn : Held
+  pub at : slice_get held k ≡ Some turn
+  pub round : Round
+  pub opened : turn.round ≡ Some round
+  pub place : ℕ
+  pub before : ShardState
+  pub was : option_map (λ v. v.state) (slice_get turn.desk.shards place) ≡ Some before
+  pub earlier : List Handled
+  pub later : List Handled
+  pub journal : option_map (λ v. v.journal) (slice_get round.shards place) ≡ Some (earlier ++ h ∷ later)
+  pub state : s ≡ after pppoe before earlier
+
+-- in the turn with this number a shard handled an entry, and the datagram is one that it had to send for it
+pub record SentBy (held : List Held) (k : ℕ) (d : Datagram) : Type 0 where
+  pub state : ShardState
+  pub handled : Handled
+  pub out : OutRecord
+  pub at : HandledIn held k state handled
+  pub among : Contains handled.deed.outs out
+  pub role : out.role ≡ d.role
+  pub frame : out.frame ≡ d.octets
+
+-- and one of the logins lets the peer in there
+pub record IsLetIn (held : List Held) (logins : List Login) (k : ℕ) (d : Datagram) (port : ℕ) (mac : Mac) (session : ℕ) : Type 0 where
+  pub by : SentBy held k d
+  pub login : AnyOf (LetsInOwn by.state by.handled port mac session k) logins
+
+-- There are logins, each of them right, no two with the same datagram of the server, and no two of different questions with the same
+-- draw as the authenticator of their requests, such that each yes that was sent to a peer is that of a login: whoever reads what was
+-- sent finds one of the same circuit (`granted`); each such datagram comes from an entry of a shard, and a login of that entry is the
+-- one of the question that the link asked last (`sent_by`); and so it is of each yes that a shard had to send, sent or not (`own`).
+pub record Granted (config : Config) (seed : List ℕ) (turns : List Made) (endings : List MadeEnd) : Type 0 where
+  pub logins : List Login
+  pub right : All (IsLogin config seed (stages_of turns endings)) logins
+  pub once : AllPairs AreApart logins
+  pub draws : AllPairs HaveOwnDraws logins
+  pub granted : (k : ℕ) (d : Datagram) (port : ℕ) (mac : Mac) (session : ℕ) → Contains (stage_at (stages_of turns endings) k).sent d
+      → IsYesOn port mac session d.role d.octets → AnyOf (LetsIn port mac session k) logins
+  pub sent_by : (k : ℕ) (d : Datagram) (port : ℕ) (mac : Mac) (session : ℕ) → Contains (stage_at (stages_of turns endings) k).sent d
+      → IsYesOn port mac session d.role d.octets → IsLetIn (held_of turns endings) logins k d port mac session
+  pub own : (k : ℕ) (s : ShardState) (h : Handled) (o : OutRecord) (port : ℕ) (mac : Mac) (session : ℕ) → HandledIn (held_of turns endings) k s h
+      → Contains h.deed.outs o → IsYesOn port mac session o.role o.frame → AnyOf (LetsInOwn s h port mac session k) logins
