@@ -1,15 +1,18 @@
-"""Many PPPoE subscribers at once, each with its link at LCP Opened, for measuring beside them."""
+"""Many PPPoE subscribers at once, each of which logs in by CHAP at a RADIUS server that accepts them all, for measuring."""
 
 import select
 
+import radius
 from gateway import LOOPBACK
-from pppoe import AC_COOKIE, BROADCAST, CONFIGURE_ACK, CONFIGURE_REQUEST, DATA, DISCOVERY, LCP, MAGIC, PADI, PADO, PADR, PADS
-from pppoe import SERVICE_NAME, SESSION, Frame, Packet, frame_octets, options_octets, packet_octets, read_frame, read_packet
-from pppoe import read_tags, tags_octets
+from pppoe import AC_COOKIE, BROADCAST, CHALLENGE, CHAP, CONFIGURE_ACK, CONFIGURE_REQUEST, DATA, DISCOVERY, LCP, MAGIC
+from pppoe import PADI, PADO, PADR, PADS, RESPONSE, SERVICE_NAME, SESSION, SUCCESS
+from pppoe import Frame, Packet, frame_octets, options_octets, packet_octets, read_frame, read_packet, read_tags, tags_octets
 from subscriber import PORT
 
 # So many hosts ask at once: what they are sent fits a socket's buffer.
 AT_ONCE = 32
+
+PASSWORD = b"arctangent"
 
 
 def mac_of(number):
@@ -22,12 +25,11 @@ def request(mac):
 
 
 class Crowd:
-    """The hosts, and how far each has come."""
+    """The hosts, and which of them were let in."""
 
     def __init__(self, lab):
         self.lab = lab
-        self.acked = {}
-        self.opened = set()
+        self.accepted = set()
 
     def send(self, frame):
         self.lab.access.sendto(frame_octets(frame), (LOOPBACK, self.lab.ports["access"]))
@@ -47,43 +49,50 @@ class Crowd:
         elif frame.code == PADS:
             if frame.session == 0:
                 raise RuntimeError(f"the host {mac.hex()} was refused")
-            self.acked[mac] = set()
             self.say(mac, frame.session, request(mac))
         elif frame.code == DATA:
-            self.hear_lcp(mac, frame.session, read_packet(frame.payload))
+            self.hear_packet(mac, frame.session, read_packet(frame.payload))
 
-    def hear_lcp(self, mac, session, packet):
-        if packet is None or packet.protocol != LCP:
+    def hear_packet(self, mac, session, packet):
+        if packet is None:
             return
-        if packet.code == CONFIGURE_REQUEST:
+        if (packet.protocol, packet.code) == (LCP, CONFIGURE_REQUEST):
             self.say(mac, session, packet._replace(code=CONFIGURE_ACK))
-        if packet.code in (CONFIGURE_REQUEST, CONFIGURE_ACK):
-            self.acked[mac].add(packet.code)
-            if len(self.acked[mac]) == 2:
-                self.opened.add(mac)
+        elif (packet.protocol, packet.code) == (CHAP, CHALLENGE):
+            value = radius.chap_value(packet.identifier, PASSWORD, packet.data[1:17])
+            self.say(mac, session, Packet(CHAP, RESPONSE, packet.identifier, b"\x10" + value + mac.hex().encode()))
+        elif (packet.protocol, packet.code) == (CHAP, SUCCESS):
+            self.accepted.add(mac)
+
+    def accept(self, octets):
+        """Accepts the user of an Access-Request."""
+        reply = radius.answer(radius.read(octets), radius.ACCESS_ACCEPT, radius.FRAMED)
+        self.lab.radius.sendto(reply, (LOOPBACK, self.lab.ports["auth"]))
 
     def take(self, patience):
-        """Takes one frame, and says whether one came in so many seconds."""
-        ready, _, _ = select.select([self.lab.access], [], [], patience)
-        if ready:
+        """Takes what came for a host or for the RADIUS server, and says whether something came in so many seconds."""
+        ready, _, _ = select.select([self.lab.access, self.lab.radius], [], [], patience)
+        if self.lab.radius in ready:
+            self.accept(self.lab.radius.recv(65535))
+        if self.lab.access in ready:
             frame = read_frame(self.lab.access.recv(65535))
             if frame is not None:
                 self.hear(frame)
         return bool(ready)
 
     def open(self, macs):
-        """Brings these hosts to LCP Opened."""
+        """Lets these hosts log in."""
         for mac in macs:
             self.begin(mac)
-        while not self.opened.issuperset(macs):
+        while not self.accepted.issuperset(macs):
             if not self.take(5):
-                raise RuntimeError(f"{len(set(macs) - self.opened)} of {len(macs)} hosts heard nothing for five seconds")
+                raise RuntimeError(f"{len(set(macs) - self.accepted)} of {len(macs)} hosts heard nothing for five seconds")
 
 
-def open_sessions(lab, count):
-    """Brings so many hosts on the lab's access port to LCP Opened."""
+def open_sessions(lab, count, first=0):
+    """Lets so many hosts on the lab's access port log in, from this number on."""
     crowd = Crowd(lab)
-    macs = [mac_of(number) for number in range(count)]
+    macs = [mac_of(number) for number in range(first, first + count)]
     for at in range(0, count, AT_ONCE):
         crowd.open(macs[at:at + AT_ONCE])
     while crowd.take(0.2):

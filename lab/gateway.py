@@ -17,12 +17,17 @@ LOOPBACK = "127.0.0.1"
 CONFIGURATION = """\
 [gateway]
 name = "bng1"
+nas_ip = "192.168.1.16"
 services = ["inet"]
 [core]
 local = "127.0.0.1:{core}"
 peer = "127.0.0.1:{core_peer}"
 [control]
 local = "127.0.0.1:{control}"
+[radius]
+auth_local = "127.0.0.1:{auth}"
+auth_server = "127.0.0.1:{auth_server}"
+secret = "xyzzy5461"
 [[access]]
 local = "127.0.0.1:{access}"
 peer = "127.0.0.1:{access_peer}"
@@ -116,17 +121,19 @@ def bound_ports():
 
 
 class Lab:
-    """A folder and the sockets of all parties. `access`, `core`, `control` and `stranger` are ours; `ports` has the
-    gateway's ends. Leaving it ends what it started. `keys` are lines more of the configuration's table `gateway`,
-    and `session` is the SESSION_ID of the circuit."""
+    """A folder and the sockets of all parties. `access`, `core`, `control`, `radius` and `stranger` are ours; `ports`
+    has the gateway's ends. Leaving it ends what it started. `keys` are lines more of the configuration's table
+    `gateway`, `radius_keys` of its table `radius`, and `session` is the SESSION_ID of the circuit. Where `server` is a
+    port of the loopback, it is that of another RADIUS server than ours."""
 
-    def __init__(self, keys="", session=1025):
+    def __init__(self, keys="", session=1025, radius_keys="", server=None):
         self.keys, self.session = keys, session
+        self.radius_keys, self.server = radius_keys, server
 
     def __enter__(self):
         self.folder = tempfile.mkdtemp(prefix="bng-lab-")
-        self.access, self.core, self.control, self.stranger = (udp() for _ in range(4))
-        held = {name: udp() for name in ("access", "core", "control")}
+        self.access, self.core, self.control, self.radius, self.stranger = (udp() for _ in range(5))
+        held = {name: udp() for name in ("access", "core", "control", "auth")}
         self.ports = {name: end.getsockname()[1] for name, end in held.items()}
         for end in held.values():
             end.close()
@@ -137,15 +144,17 @@ class Lab:
                 **self.ports,
                 core_peer=self.core.getsockname()[1],
                 access_peer=self.access.getsockname()[1],
+                auth_server=self.server or self.radius.getsockname()[1],
             )
             .replace("[core]", self.keys + "[core]")
+            .replace("[[access]]", self.radius_keys + "[[access]]")
             .replace("session = 1025", f"session = {self.session}"),
         )
         return self
 
     def __exit__(self, *_):
         self.end_early()
-        for end in (self.access, self.core, self.control, self.stranger):
+        for end in (self.access, self.core, self.control, self.radius, self.stranger):
             end.close()
         shutil.rmtree(self.folder, ignore_errors=True)
 

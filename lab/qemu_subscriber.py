@@ -1,5 +1,6 @@
 """Lets a real pppd, in an emulated machine on the access port, ask the real program for a PPPoE session."""
 
+import contextlib
 import os
 import select
 import shutil
@@ -7,19 +8,26 @@ import signal
 import sys
 import time
 
+import freeradius
 import machine
 import pppoe
+import radius
 from gateway import CRATE, LOOPBACK, PROGRAM, Lab, is_built, tried, udp
 
 MAC = "02:00:00:00:00:02"
 PATIENCE = 120
 STARTING = 300
 
+# What the machine's pppd is told to log in with.
+USER, PASSWORD = b"subscriber", b"secret"
+
 # What the gateway has to say to come so far.
 STEPS = {
     "PADO": (pppoe.DISCOVERY, pppoe.PADO),
     "PADS": (pppoe.DISCOVERY, pppoe.PADS),
     "Configure-Ack": (pppoe.SESSION, pppoe.CONFIGURE_ACK),
+    "Challenge": (pppoe.CHAP, pppoe.CHALLENGE),
+    "Success": (pppoe.CHAP, pppoe.SUCCESS),
     "Echo-Reply": (pppoe.SESSION, pppoe.ECHO_REPLY),
     "Terminate-Ack": (pppoe.SESSION, pppoe.TERMINATE_ACK),
     "PADT": (pppoe.DISCOVERY, pppoe.PADT),
@@ -52,12 +60,22 @@ class Cable:
             self.far.sendto(octets, (LOOPBACK, self.near))
 
     def keep(self, frame, is_up):
-        """Keeps which discovery frames and LCP packets were seen."""
+        """Keeps which discovery frames and which packets of LCP and CHAP were seen."""
         packet = pppoe.read_packet(frame.payload)
         if frame.ethertype == pppoe.DISCOVERY:
             self.seen.add((is_up, pppoe.DISCOVERY, frame.code))
         elif packet is not None and packet.protocol == pppoe.LCP:
             self.seen.add((is_up, pppoe.SESSION, packet.code))
+        elif packet is not None and packet.protocol == pppoe.CHAP:
+            self.seen.add((is_up, pppoe.CHAP, packet.code))
+
+    def answer(self):
+        """Answers an Access-Request as a RADIUS server with this one user."""
+        request = radius.read(self.lab.radius.recv(65535))
+        is_right = dict(request.attributes)[radius.USER_NAME] == USER and radius.proves(request, PASSWORD)
+        code = radius.ACCESS_ACCEPT if is_right else radius.ACCESS_REJECT
+        self.show("server", "lets the subscriber in" if is_right else "refuses the subscriber")
+        self.lab.radius.sendto(radius.answer(request, code, (radius.REPLY_MESSAGE, b"welcome")), (LOOPBACK, self.lab.ports["auth"]))
 
     def came(self, is_up, kind, code):
         """Whether the subscriber (`is_up`) or the gateway sent this."""
@@ -67,17 +85,23 @@ class Cable:
         """Whether each side took the other's Configure-Request (RFC 1661 section 4.1)."""
         return all(self.came(is_up, pppoe.SESSION, pppoe.CONFIGURE_ACK) for is_up in (True, False))
 
+    def has_all(self):
+        """Whether the subscriber was let in and an echo was answered."""
+        return self.is_opened() and all(self.came(False, *STEPS[name]) for name in ("Success", "Echo-Reply"))
+
 
 def converse(cable, computer):
-    """Carries frames until the machine ends. Once the link is Opened and an echo was answered, pppd is told to end."""
+    """Carries frames until the machine ends. Once the subscriber was let in and an echo was answered, pppd is told to end."""
     end = cable.began + PATIENCE
     console, told = b"", False
     while (left := end - time.monotonic()) > 0:
-        ready, _, _ = select.select([cable.lab.access, cable.far, computer.stdout], [], [], left)
+        ready, _, _ = select.select([cable.lab.access, cable.lab.radius, cable.far, computer.stdout], [], [], left)
         if cable.far in ready:
             cable.carry(cable.far.recv(65535), True)
         if cable.lab.access in ready:
             cable.carry(cable.lab.access.recv(65535), False)
+        if cable.lab.radius in ready:
+            cable.answer()
         if computer.stdout in ready:
             octets = os.read(computer.stdout.fileno(), 65536)
             if not octets:
@@ -85,8 +109,8 @@ def converse(cable, computer):
             *lines, console = (console + octets).split(b"\n")
             for line in filter(bytes.strip, lines):
                 cable.show("console", line.decode(errors="replace").strip())
-        if not told and cable.is_opened() and cable.came(False, pppoe.SESSION, pppoe.ECHO_REPLY):
-            cable.show("lab", "LCP is Opened and an echo was answered: pppd is told to end")
+        if not told and cable.has_all():
+            cable.show("lab", "the subscriber was let in and an echo was answered: pppd is told to end")
             computer.stdin.write(b"\n")
             computer.stdin.flush()
             told = True
@@ -99,13 +123,24 @@ def conclude(cable):
         print(f"{name + ' of the gateway:':30}{'came' if cable.came(False, *step) else 'did not come'}")
     print(f"{'LCP:':30}{'Opened on both sides' if cable.is_opened() else 'not Opened'}")
     if cable.is_opened():
-        print("That is as far as the gateway goes: it asks for CHAP, and serves no authentication yet.")
+        print("That is as far as the gateway goes: it lets the subscriber in, and gives no address yet.")
     return cable.is_opened() and all(cable.came(False, *step) for step in STEPS.values())
+
+
+def serve_radius(parties):
+    """A FreeRADIUS that lets the subscriber in, or None where there is none: then the script answers for it."""
+    if freeradius.server_program() is None:
+        return None
+    return parties.enter_context(freeradius.Server(parties.enter_context(Lab()).folder))
 
 
 def attempt(command):
     """Whether a subscriber at the gateway that this starts comes as far as the gateway goes."""
-    with Lab() as lab, udp() as far:
+    with contextlib.ExitStack() as parties:
+        server = serve_radius(parties)
+        lab = parties.enter_context(Lab(server=server and server.port))
+        far = parties.enter_context(udp())
+        print(f"The RADIUS server is {'a FreeRADIUS' if server else 'this script'}")
         print("Starts the gateway:", *command(lab.configuration), flush=True)
         lab.start(command(lab.configuration), STARTING)
         cable = Cable(lab, far)
@@ -119,7 +154,9 @@ def attempt(command):
         lab.stop()
         status, out, _ = lab.end()
         print(f"\nThe gateway's report, and then status {status}:\n{out}")
-        return conclude(cable) and status == 0
+    if server:
+        server.show()
+    return conclude(cable) and status == 0
 
 
 def main():

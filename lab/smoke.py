@@ -7,6 +7,7 @@ import sys
 import time
 
 from gateway import CRATE, PROGRAM, USAGE, Lab, delivery, frame, is_built, packet, report, run, tried, udp
+from logins import authenticates, gives_up_on_a_silent_server
 from sessions import serves_sessions
 
 PACKET = packet()
@@ -114,7 +115,7 @@ def goes_on_after_memory_was_refused(checks):
     The program is started with too little for the one or for the other, and gets more after a packet came."""
     first, second = packet(ttl=63), packet(ttl=63, number=2)
     whole, part = report(168), report(84, WantOfMemory=1)
-    for what, megabytes, comes, wanted in (("lists", 64, [first, second], whole), ("its round", 256, [second], part)):
+    for what, megabytes, comes, wanted in (("lists", 128, [first, second], whole), ("its round", 256, [second], part)):
         with Lab(keys="shards = 64\n") as lab:
             limit = lambda: resource.setrlimit(resource.RLIMIT_AS, (megabytes << 20, resource.RLIM_INFINITY))
             lab.start([PROGRAM, "serve", lab.configuration], preexec_fn=limit)
@@ -140,6 +141,9 @@ def refuses_bad_configurations(checks):
             "access.1.mac": ("02:00:00:00:00:fe", "02:00:00:00:00:FE"),
             "static.1.port": ("port = 1", "port = 2"),
             "static.1.address": ("10.0.0.2", "10.0.0.256"),
+            "gateway.nas_ip": ("192.168.1.16", "192.168.1"),
+            "radius.auth_local": (f":{lab.ports['auth']}\"", f":{lab.ports['core']}\""),
+            "radius.secret": ('"xyzzy5461"', '""'),
         }
         for key, (right, wrong) in faults.items():
             bad = lab.write("bad.toml", good.replace(right, wrong))
@@ -185,6 +189,8 @@ def try_all(checks):
         drops_and_counts_bad_input(checks, built, 10)
         forwards_bursts_in_order(checks, built, 10)
         serves_sessions(checks, built, 10)
+        authenticates(checks, built, 10)
+        gives_up_on_a_silent_server(checks, built, 10)
         goes_on_after_memory_was_refused(checks)
         refuses_bad_beginnings(checks)
         refuses_bad_configurations(checks)

@@ -4,18 +4,26 @@ import collections
 import select
 import time
 
-from pppoe import DATA, DISCOVERY, LCP, SESSION, Frame, Packet, frame_octets, frame_words, packet_octets
+from pppoe import CHALLENGE, CHAP, DATA, DISCOVERY, LCP, SESSION, Frame, Packet, frame_octets, frame_words, packet_octets
 from pppoe import read_frame, read_packet, tags_octets
 
 PORT = bytes.fromhex("0200000000fe")
 
 
+def challenge_in(frame):
+    """The Challenge of a frame (RFC 1994 section 4.1), or None."""
+    packet = read_packet(frame.payload) if frame.ethertype == SESSION else None
+    return packet if packet and (packet.protocol, packet.code) == (CHAP, CHALLENGE) else None
+
+
 class Line:
-    """Our end of the access port, which brings each frame of the gateway to its subscriber."""
+    """Our end of the access port, which brings each frame of the gateway to its subscriber. Challenges, which come again
+    every 3 s, are kept apart, the last one of each subscriber."""
 
     def __init__(self, lab):
         self.lab = lab
         self.waiting = collections.defaultdict(collections.deque)
+        self.challenges = {}
 
     def take(self, patience):
         """Takes one frame of the gateway, and says whether one came in so many seconds."""
@@ -25,8 +33,19 @@ class Line:
             frame = read_frame(octets)
             if frame is None or frame_octets(frame) != octets:
                 raise RuntimeError(f"the gateway sent what is no PPPoE frame, or one with padding: {octets.hex()}")
-            self.waiting[frame.destination].append((frame, time.monotonic()))
+            challenge = challenge_in(frame)
+            if challenge:
+                self.challenges[frame.destination] = challenge
+            else:
+                self.waiting[frame.destination].append((frame, time.monotonic()))
         return bool(ready)
+
+    def challenge(self, mac):
+        """The last Challenge to this MAC, or None where none comes in five seconds."""
+        end = time.monotonic() + 5
+        while mac not in self.challenges and self.take(max(0, end - time.monotonic())):
+            pass
+        return self.challenges.get(mac)
 
     def receive(self, mac):
         """The next frame to this MAC and the moment at which it came, or None where none comes in five seconds."""
@@ -74,10 +93,24 @@ class Subscriber:
         frame, self.heard_at = came
         return frame
 
-    def hear_lcp(self):
-        """The next frame from the gateway, an LCP packet of the session."""
+    def hear_packet(self):
+        """The next frame from the gateway, a control packet of the session."""
         frame = self.hear()
         packet = read_packet(frame.payload)
-        if frame[1:5] != (PORT, SESSION, DATA, self.session) or packet is None or packet.protocol != LCP:
-            raise RuntimeError(f"the host {self.mac.hex()} heard no LCP packet of its session, but {frame_words(frame)}")
+        if frame[1:5] != (PORT, SESSION, DATA, self.session) or packet is None:
+            raise RuntimeError(f"the host {self.mac.hex()} heard no packet of its session, but {frame_words(frame)}")
+        return packet
+
+    def hear_challenge(self):
+        """The gateway's Challenge."""
+        challenge = self.line.challenge(self.mac)
+        if challenge is None:
+            raise RuntimeError(f"the host {self.mac.hex()} heard no Challenge for five seconds")
+        return challenge
+
+    def hear_lcp(self):
+        """The next frame from the gateway, an LCP packet of the session."""
+        packet = self.hear_packet()
+        if packet.protocol != LCP:
+            raise RuntimeError(f"the host {self.mac.hex()} heard no LCP packet, but protocol {packet.protocol:04x}")
         return packet
