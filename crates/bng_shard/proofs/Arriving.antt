@@ -1,5 +1,5 @@
 -- What was done with a frame of an access port and with a packet of the core, of what is known of their parts.
-use Rattle.std.proofs.Common.{◌≡◌, ℕ, ◌≤◌, true, false, List, Some, inl, inr, refl, arith}
+use Rattle.std.proofs.Common.{ℕ, ◌≤◌, List, inl, inr, arith}
 use Rattle.bng_base.specs.declared.fate.Fate.{Fate}
 use Rattle.bng_base.specs.declared.item.Entry.{Entry}
 use Rattle.bng_base.specs.declared.item.Item.{Item}
@@ -7,11 +7,11 @@ use Rattle.bng_base.specs.declared.item.OutRecord.{OutRecord}
 use Rattle.bng_base.specs.declared.settings.AccessPort.{AccessPort}
 use Rattle.bng_base.specs.FateOf.{arrival_of}
 use Rattle.bng_base.specs.PppoeGrammar.{PppoeFrame}
-use Rattle.bng_forward.specs.Fates.{NamesSession, Carries, IsFrame, IsPort}
+use Rattle.bng_forward.specs.Fates.{NamesSession, Carries, IsFrame}
 use Rattle.bng_forward.specs.Framed.{IsFrameWith}
 use Rattle.bng_shard.specs.declared.rules.Rules.{Rules}
 use Rattle.bng_shard.specs.declared.sending.At.{At}
-use Rattle.bng_shard.specs.State.{State, port_at, session_of}
+use Rattle.bng_shard.specs.State.{State, session_of}
 use Rattle.bng_shard.specs.Deed.{Deed}
 use Rattle.bng_shard.specs.Discovery.{Discovers}
 use Rattle.bng_shard.specs.Doing.{DoesWith}

@@ -1,8 +1,8 @@
 -- A packet that is entered in a book, or taken off it, by what is counted.
-use Rattle.std.proofs.Common.{◌≡◌, ℕ, ◌+◌, ◌-◌, ◌^◌, ◌<◌, ◌≤◌, Bool, true, false, cond, refl, sym, ap, subst, ◌∙◌, arith}
+use Rattle.std.proofs.Common.{◌≡◌, ℕ, ◌+◌, ◌^◌, ◌<◌, ◌≤◌, Bool, true, false, cond, sym, subst, arith}
 use Rattle.bng_base.specs.Books.{entered, octets_in, packets_in, taken_off}
 use Rattle.bng_base.specs.declared.book.Book.{Book}
-use Rattle.bng_engine.specs.Quantities.{Quantity, Octets, Packets, amount, in_book}
+use Rattle.bng_engine.specs.Quantities.{Quantity, Octets, Packets, amount}
 use Rattle.bng_engine.specs.Sums.{same}
 use Rattle.bng_shard.specs.Sums.{Has, IsLow, IsMore}
 

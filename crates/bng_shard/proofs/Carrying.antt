@@ -1,7 +1,6 @@
 -- What was done with a packet of a term, of what is known of its parts.
 use Rattle.std.proofs.Common.{◌≡◌, ℕ, true, false, List, [], ◌∷◌, ◌++◌, Option, Some, None, length, inl, inr, refl, sym, ap, subst, ◌∙◌, arith}
-use Rattle.std.specs.Prelude.{◌≢◌, ◌==◌, find, option_map}
-use Rattle.std.specs.Option.{option_and_then, option_flatten}
+use Rattle.std.specs.Prelude.{◌≢◌, ◌==◌, option_map}
 use Rattle.std.proofs.lemmas.Bool.Decides.{nat_tests}
 use Rattle.std.proofs.lemmas.List.{append-nil}
 use Rattle.bng_base.specs.declared.address.Ip4.{Ip4}
@@ -25,7 +24,7 @@ use Rattle.bng_shard.specs.declared.session.Lease.{Lease}
 use Rattle.bng_shard.specs.declared.session.Service.{Service}
 use Rattle.bng_shard.specs.declared.session.Service.TheVariants.{Provisioned, Discovered}
 use Rattle.bng_shard.specs.declared.session.Session.{Session}
-use Rattle.bng_shard.specs.State.{State, port_at, session_of, holder_of, lease_in, lease_of, view_in, view_of, leases, leases_in}
+use Rattle.bng_shard.specs.State.{State, port_at, session_of, holder_of, lease_in, lease_of, live_lease, view_from, view_of, leases, leases_in}
 use Rattle.bng_shard.specs.Deed.{Deed, at_of, out, only}
 use Rattle.bng_shard.specs.Doing.{DoesWith}
 use Rattle.bng_shard.specs.Frames.{HearsData, HearsPacket, charge_of, forwarded, found_up, found_down}
@@ -36,28 +35,23 @@ use Rattle.bng_shard.proofs.Values.{same_some, none_some, found_is}
 pub its_place : (s : State) (a : At) (moment : ℕ) (item : Item) → a.shard ≡ s.sessions.shard → a ≡ at_of s (entry_of a.seat a.place moment item)
 its_place s a moment item e = let make : ℕ → At = λ n. record { shard = n; seat = a.seat; place = a.place } in ap make e
 
--- the service of a session with a lease
-pub service_with : (v : Service) (l : Lease) → lease_in v ≡ Some l → v ≡ Provisioned l
-service_with (Provisioned k) l e = ap (λ (x : Lease). Provisioned x) (same_some k l e)
-service_with (Discovered m) l e = absurd (none_some l e)
-
--- the view of the session that was found, if one was found
-pub flat_view : (o : Option Session) → option_flatten (option_map view_of o) ≡ option_and_then view_of o
-flat_view None = refl
-flat_view (Some x) = refl
-
 same_address : (a b : Ip4) → a.0 ≡ b.0 → a ≡ b
 same_address a b e = let make : ℕ → Ip4 = λ n. record { 0 = n } in ap make e
 
 equal_numbers : (a b : ℕ) → (a == b) ≡ true → a ≡ b
 equal_numbers a b e = grind (arith, nat_tests)
 
+leased_address : (v : Service) (a : Ip4) (l : Lease) → leases_in v a ≡ true → lease_in v ≡ Some l → a ≡ l.address
+leased_address (Provisioned p) a l passes is =
+    elim p.cause as (λ o. live_lease o p.lease ≡ Some l → a ≡ l.address) [
+      | None ↦ λ e. sym (same_address p.lease.address a (equal_numbers p.lease.address.0 a.0 passes)) ∙ ap (λ (k : Lease). k.address) (same_some p.lease l e)
+      | Some c ↦ λ e. absurd (none_some l e)
+    ] is
+leased_address (Discovered m) a l passes is = absurd (none_some l is)
+
 -- the holder of an address leases it
-held_address : (s : State) (a : Ip4) (x : Session) (l : Lease) → holder_of s a ≡ Some x → x.service ≡ Provisioned l → a ≡ l.address
-held_address s a x l at service =
-    let passes : leases_in x.service a ≡ true = (found_is (leases a) (values s.sessions) x at).1 in
-    let is : (l.address.0 == a.0) ≡ true = ap (λ (v : Service). leases_in v a) (sym service) ∙ passes in
-    same_address a l.address (sym (equal_numbers l.address.0 a.0 is))
+held_address : (s : State) (a : Ip4) (x : Session) (l : Lease) → holder_of s a ≡ Some x → lease_of x ≡ Some l → a ≡ l.address
+held_address s a x l at leased = leased_address x.service a l (found_is (leases a) (values s.sessions) x at).1 leased
 
 module _ (r : Rules) (s : State) (a : At) (item : Item) (outs : List OutRecord) (here : a.shard ≡ s.sessions.shard) where
   -- nothing was sent, and the state is as before
@@ -90,11 +84,10 @@ module _ (r : Rules) (s : State) (a : At) (item : Item) (outs : List OutRecord) 
   goes_up number p info packet found x l octets outs' is at leased up (v, may, passed) count pushed moment =
       let e : Entry = entry_of a.seat a.place moment item in
       let sent : At → ℕ → OutRecord = λ b n. out b Core r.core_peer packet (Some (charge_of x l true n)) in
-      let service : x.service ≡ Provisioned l = service_with x.service l leased in
       let total : octets ≡ v.total = sym count ∙ passed.whole in
       let its_view : TermView = record { lease = l.address; opened = true } in
       let view : Some (Some may.view) ≡ Some (Some its_view) =
-      sym may.term ∙ is ∙ ap (λ (o : Option Session). option_map view_of o) at ∙ ap (λ (y : Service). Some (view_in y)) service in
+      sym may.term ∙ is ∙ ap (λ (o : Option Session). option_map view_of o) at ∙ ap (λ (o : Option Lease). Some (option_map view_from o)) leased in
       let same : may.view ≡ its_view = same_some may.view its_view (same_some (Some may.view) (Some its_view) view) in
       record {
         deed = forwarded s e (sent (at_of s e) v.total);
@@ -104,7 +97,7 @@ module _ (r : Rules) (s : State) (a : At) (item : Item) (outs : List OutRecord) 
         says = (
           Forwarded,
           subst (λ (f : Option (Option TermView)). UpFate f info Forwarded) is up,
-          inl (refl, record { x = x; found = at; lease = l; service = service; header = v; packet = packet; source = may.source ∙ ap (λ (t : TermView). t.lease) same; passed = passed; done = refl }),
+          inl (refl, record { x = x; found = at; lease = l; live = leased; header = v; packet = packet; source = may.source ∙ ap (λ (t : TermView). t.lease) same; passed = passed; done = refl }),
         );
         outs_are = pushed ∙ ap (λ (n : ℕ). outs ++ sent a n ∷ []) total ∙ ap (λ (b : At). outs ++ sent b v.total ∷ []) (its_place s a moment item here);
         few = omega arith;
@@ -125,7 +118,6 @@ module _ (r : Rules) (s : State) (a : At) (item : Item) (outs : List OutRecord) 
   goes_down v packet octets x l port outs' at leased its_port down passed framed again pushed moment =
       let e : Entry = entry_of a.seat a.place moment item in
       let sent : At → List ℕ → OutRecord = λ b f. out b (Access x.port) port.peer f (Some (charge_of x l false v.total)) in
-      let service : x.service ≡ Provisioned l = service_with x.service l leased in
       record {
         deed = forwarded s e (sent (at_of s e) (circuit_frame port x.mac x.number.0 packet));
         entry = refl;
@@ -140,8 +132,8 @@ module _ (r : Rules) (s : State) (a : At) (item : Item) (outs : List OutRecord) 
               x = x;
               found = at;
               lease = l;
-              service = service;
-              address = held_address s v.dst x l at service;
+              live = leased;
+              address = held_address s v.dst x l at leased;
               port = port;
               its_port = its_port;
               packet = packet;

@@ -8,7 +8,7 @@ use Rattle.std.specs.Cmp.{nat_cmp_is, nat_cmp_total}
 use Rattle.std.specs.FinMap.{empty, entries, put, get-entries, entries-insert, len-entries, len-empty}
 use Rattle.std.specs.FinMap.{find as find_at}
 use Rattle.std.specs.FinMap.Entries.{by_order}
-use Rattle.std.proofs.lemmas.Bool.{cases_lt, eqb-true, false≢true}
+use Rattle.std.proofs.lemmas.Bool.{cases_eq, cases_lt, eqb-true, false≢true}
 use Rattle.std.proofs.lemmas.List.{append-nil}
 use Rattle.std.proofs.lemmas.List.Concat.{flat_map-append}
 use Rattle.std.proofs.lemmas.List.Elements.{All-contains, All-contains_itself, All-filter, Contains-append_cases, at_from_Contains, filter_passes, recursion_from_All}
@@ -23,11 +23,10 @@ use Rattle.bng_shard.specs.declared.session.Session.{Session}
 use Rattle.bng_shard.specs.Indexed.{address_of, term_of}
 use Rattle.bng_shard.specs.Listing.{AreListed, does_pass, passing_in}
 use Rattle.bng_shard.specs.Opening.{circuit_at, in_order, numbered_after, opened_slots, provisioned}
-use Rattle.bng_shard.specs.Serving.{AreOwn, AreOfShard, AreLeaving, ended_in}
-use Rattle.bng_shard.specs.State.{State, circuit_of, leaves, made_one}
+use Rattle.bng_shard.specs.Serving.{AreApart, AreOwn, AreOfShard}
+use Rattle.bng_shard.specs.State.{State, circuit_of}
 use Rattle.bng_shard.proofs.Earliest.{read_there}
 use Rattle.bng_shard.proofs.InOrder.{Apart, AtMostOne, apart_of, at_most_one, sum_in_order}
-use Rattle.bng_shard.proofs.Serves.{leaves_there}
 use Rattle.bng_shard.proofs.Values.{from_entries_of, none_some, number_same, numbered, same_some, sum_nothing}
 
 -- Lists ----------------------------------------------------------------------------------------------------------------
@@ -354,6 +353,20 @@ module _ (number : ℕ) (circuits : List Static) (sessions : Sessions Session) (
   pub opened_own : AreOwn sessions
   opened_own m x e = let there = stands_for number circuits 1022 sessions begun h m x e in ap (λ (y : Session). y.number.0) there.is ∙ there.session
 
+  -- the circuits' addresses differ
+  pub opened_apart : AllPairs (λ a b. a.address ≢ b.address) circuits → AreApart sessions
+  opened_apart apart m n address em en =
+      let x = read_there address_of (value_at sessions m) address em in
+      let y = read_there address_of (value_at sessions n) address en in
+      let one = stands_for number circuits 1022 sessions begun h m x.0 x.1 in
+      let two = stands_for number circuits 1022 sessions begun h n y.0 y.1 in
+      let first : one.c.address ≡ address = same_some one.c.address address (ap address_of (sym one.is) ∙ x.2) in
+      let second : two.c.address ≡ address = same_some two.c.address address (ap address_of (sym two.is) ∙ y.2) in
+      elim (cases_eq m n) [
+        | inl same ↦ same
+        | inr differ ↦ absurd (apart_addresses circuits apart one.c two.c one.of two.of (λ e. differ (sym one.session ∙ e ∙ two.session)) (first ∙ sym second))
+      ]
+
   pub opened_of_shard : AreOfShard sessions
   opened_of_shard m some =
       elim (value_at sessions m) as (λ o. value_at sessions m ≡ o → is_some o ≡ true → IsNumberOf sessions.shard m) [
@@ -365,21 +378,6 @@ module _ (number : ℕ) (circuits : List Static) (sessions : Sessions Session) (
             let high = there.high in
             (omega (arith, shard, low), omega (arith, shard, high))
       ] refl some
-
-  pub opened_made : sum_by (λ (x : Session). made_one x.service) (values sessions) ≡ 0
-  opened_made = sum_nothing (λ (x : Session). made_one x.service) (values sessions) (λ x c. let n = numbered sessions x c in ap (λ (y : Session). made_one y.service) (stands_for number circuits 1022 sessions begun h n.0 x n.1).is)
-
-  opened_stay : (n : ℕ) (x : Session) → value_at sessions n ≡ Some x → leaves x ≡ false
-  opened_stay n x e = ap leaves (stands_for number circuits 1022 sessions begun h n x e).is
-
-  pub opened_leaving : AreLeaving sessions []
-  opened_leaving n = (
-    λ c. let l = c.1 in absurd (omega (arith, l)),
-    λ d. let x = leaves_there (value_at sessions n.0) d in absurd (false≢true (sym (opened_stay n.0 x.0 x.1) ∙ x.2)),
-  )
-
-  pub opened_ended : ended_in sessions ≡ 0
-  opened_ended = sum_nothing (λ (x : Session). cond (leaves x) 1 0) (values sessions) (λ x c. let n = numbered sessions x c in ap (λ (b : Bool). cond b 1 0) (opened_stay n.0 x n.1))
 
   -- none passes a test that each provisioned circuit fails, so none is listed
   opened_fails : (test : Session → Bool) → ((c : Static) (serial : ℕ) → test (provisioned c serial) ≡ false) → (n : ℕ) (o : Option Session) → value_at sessions n ≡ o → does_pass test o ≡ false

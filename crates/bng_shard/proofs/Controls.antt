@@ -1,9 +1,8 @@
 -- What was done with a frame that names a session and carries no IPv4 packet, of what is known of its parts.
-use Rattle.std.proofs.Common.{◌≡◌, ℕ, ◌+◌, ◌≤◌, Bool, true, false, not, List, [], ◌++◌, Option, Some, None, length, inl, inr, refl, sym, ap, subst, ◌∙◌, arith}
+use Rattle.std.proofs.Common.{◌≡◌, ℕ, ◌+◌, ◌≤◌, Bool, true, false, not, List, [], Option, Some, None, length, inl, inr, refl, sym, ap, subst, ◌∙◌, arith}
 use Rattle.std.specs.Prelude.{if◌then◌else◌}
 use Rattle.std.proofs.lemmas.List.{append-nil}
 use Rattle.bng_base.specs.declared.address.Mac.{Mac}
-use Rattle.bng_base.specs.declared.fate.Fate.{Fate}
 use Rattle.bng_base.specs.declared.fate.Fate.TheVariants.{Consumed, Dropped}
 use Rattle.bng_base.specs.declared.fate.DropCause.TheVariants.{NoSession}
 use Rattle.bng_base.specs.declared.item.Entry.{Entry}
@@ -22,7 +21,7 @@ use Rattle.bng_shard.specs.declared.session.Service.TheVariants.{Provisioned, Di
 use Rattle.bng_shard.specs.declared.session.Session.{Session}
 use Rattle.bng_shard.specs.State.{State, is_on, session_of, where_on, with_driven, with_session}
 use Rattle.bng_shard.specs.Controlling.{IsControl}
-use Rattle.bng_shard.specs.Deed.{Deed, at_of, dropped, handled, ignored}
+use Rattle.bng_shard.specs.Deed.{at_of, dropped, handled, ignored}
 use Rattle.bng_shard.specs.Doing.{DoesWith}
 use Rattle.bng_shard.specs.Driven.{Driven}
 use Rattle.bng_shard.specs.Frames.{HearsControl, HearsIn}

@@ -16,7 +16,6 @@ use Rattle.bng_pppoe_wire.proofs.TagLaws.{one_tags}
 use Rattle.bng_pppoe_wire.specs.declared.code.TheConstants.{PADR}
 use Rattle.bng_ppp.specs.declared.whole_input.WholeInput.TheVariants.{Start}
 use Rattle.bng_ppp.specs.PppRelation.{PppSteps}
-use Rattle.bng_slots.specs.Sessions.{IsLowestVacant}
 use Rattle.bng_shard.specs.declared.rules.Rules.{Rules}
 use Rattle.bng_shard.specs.declared.sending.At.{At}
 use Rattle.bng_shard.specs.declared.session.Session.{Session}

@@ -49,7 +49,7 @@ use Rattle.bng_shard.specs.Link.{LinkStep, Drives, EndsWith, asked_after, ended,
 use Rattle.bng_shard.specs.Opening.{opened_slots, provisioned}
 use Rattle.bng_shard.specs.Questions.{Asking, asking_of, last_asking, last_asking_at, last_in, open_in, open_of}
 use Rattle.bng_shard.specs.Step.{Hears, Step}
-use Rattle.bng_shard.specs.Timers.{Ticks, Ends, HearsTick, HearsEnd, at_once}
+use Rattle.bng_shard.specs.Timers.{Ticks, Ends, HearsTick, HearsEnd, at_once, TellsEnd}
 use Rattle.bng_shard.specs.Verdicts.{HearsVerdict}
 use Rattle.bng_shard.proofs.Circuits.{Opens, circuit_found, circuit_none, opened_is, opened_of_shard, opened_own, opens_more, opens_none, opens_other, stands_for}
 use Rattle.bng_shard.proofs.Granted.{NoYes, both_no_yes, core_no_yes, discovery_no_yes, none_yes, packet_no_yes, padt_no_yes, said_yes}
@@ -453,11 +453,15 @@ module _ (r : Rules) (e : Entry) where
   ends_no_yes : (a : At) (x : Session) (outs : List OutRecord) → EndsWith r a x outs → NoYes outs
   ends_no_yes a x outs h = subst (λ (os : List OutRecord). NoYes os) (sym h.outs_are) (padt_no_yes a x h.port h.offers)
 
+  tells_no_yes : (v : Service) (a : At) (x : Session) (outs : List OutRecord) → TellsEnd v r a x outs → NoYes outs
+  tells_no_yes (Provisioned p) a x outs h = empty_no_yes outs h
+  tells_no_yes (Discovered m) a x outs h = ends_no_yes a x outs h
+
   ends_still : (k : ℕ) (s : State) (outs : List OutRecord) (s' : State) → Ends k r e s outs s' → Still s outs s'
   ends_still zero s outs s' h = same_still s s' outs h.1 (empty_no_yes outs h.0)
   ends_still (suc k) s outs s' (inl h) = same_still s s' outs h.2 (empty_no_yes outs h.1)
   ends_still (suc k) s outs s' (inr (n, lowest, x, at, padt, rest, with_padt, more, are)) =
-      equal_still s (padt ++ rest) outs s' are (chain_still s (with_session s n (ended x)) s' padt rest (over_still s n x padt at (ends_no_yes (at_of s e) x padt with_padt)) (ends_still k (with_session s n (ended x)) rest s' more))
+      equal_still s (padt ++ rest) outs s' are (chain_still s (with_session s n (ended x)) s' padt rest (over_still s n x padt at (tells_no_yes x.service (at_of s e) x padt with_padt)) (ends_still k (with_session s n (ended x)) rest s' more))
 
 -- Entries -----------------------------------------------------------------------------------------------------------------
 

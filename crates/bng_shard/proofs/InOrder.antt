@@ -1,13 +1,12 @@
 -- The circuits of a shard by rising session number: each is there once, and their terms are those of the opening.
-use Rattle.std.proofs.Common.{◌≡◌, ◌⊎◌, inl, inr, ℕ, zero, suc, ◌+◌, ◌*◌, ◌<◌, ◌≤◌, Bool, true, false, ◌&&◌, cond, T, List, [], ◌∷◌, ◌++◌, length, map, refl, sym, ap, subst, ◌∙◌, arith, eqb}
-use Rattle.std.specs.Prelude.{filter}
+use Rattle.std.proofs.Common.{◌≡◌, ◌⊎◌, inl, inr, ℕ, zero, suc, ◌+◌, ◌*◌, ◌<◌, ◌≤◌, Bool, true, false, ◌&&◌, cond, T, List, [], ◌∷◌, ◌++◌, None, map, refl, sym, ap, subst, ◌∙◌, arith, eqb}
 use Rattle.std.specs.List.{AllPairs, AllByRecursion, flat_map, sum_by, range_with_len}
 use Rattle.std.specs.declared.cmp.Ordering.TheVariants.{Less}
 use Rattle.std.specs.Ordering.{nat_cmp, is_lt}
 use Rattle.std.specs.Cmp.{nat_cmp_is}
-use Rattle.std.specs.FinMap.{entries, entries-from_sorted, from_sorted, is_sorted}
+use Rattle.std.specs.FinMap.{entries, entries-from_sorted, is_sorted}
 use Rattle.std.specs.FinMap.Entries.{below_all}
-use Rattle.std.proofs.lemmas.Bool.{cases_eq, eqb-true, eq-eqb, ne_eqb}
+use Rattle.std.proofs.lemmas.Bool.{cases_eq, eq-eqb, ne_eqb}
 use Rattle.std.proofs.lemmas.List.Concat.{flat_map-cons}
 use Rattle.std.proofs.lemmas.List.Elements.{recursion_from_All}
 use Rattle.std.proofs.lemmas.List.Sums.{sum_by-cons, sum_by-append}
@@ -15,11 +14,10 @@ use Rattle.bng_base.specs.declared.address.SessionNo.{SessionNo}
 use Rattle.bng_base.specs.declared.settings.Static.{Static}
 use Rattle.bng_engine.specs.Terms.{Term}
 use Rattle.bng_slots.specs.Sessions.{IsNumberOf}
-use Rattle.bng_slots.specs.Listed.{values}
 use Rattle.bng_shard.specs.declared.rules.Rules.{Rules}
 use Rattle.bng_shard.specs.declared.session.Session.{Session}
 use Rattle.bng_shard.specs.Opening.{circuit_at, in_order, lease_from, numbered_after, opened_slots, provisioned}
-use Rattle.bng_shard.specs.Protocol.{ShardState, terms_after, terms_at, terms_of, terms_of_circuits, term_of}
+use Rattle.bng_shard.specs.Protocol.{terms_after, terms_at, terms_of, terms_of_circuits, term_of}
 
 abbrev pub number : Static → ℕ
 number c = c.session.0
@@ -188,7 +186,7 @@ terms_numbered : (k : ℕ) (cs : List Static) → flat_map terms_at (map (λ e. 
 terms_numbered k [] = refl
 terms_numbered k (c ∷ cs) =
     flat_map-cons terms_at (provisioned c (k + 1)) (map (λ e. e.1) (numbered_after (k + 1) cs))
-    ∙ ap (λ (ts : List Term). term_of (provisioned c (k + 1)) (lease_from c (k + 1)) ∷ ts) (terms_numbered (k + 1) cs)
+    ∙ ap (λ (ts : List Term). term_of (provisioned c (k + 1)) (lease_from c (k + 1)) None ∷ ts) (terms_numbered (k + 1) cs)
 
 -- the terms of a shard at its opening are those of its circuits
 pub opened_terms : (r : Rules) (shard : ℕ) (cs : List Static) → Apart cs → terms_of (record { rules = r; slots = opened_slots shard cs }) ≡ terms_of_circuits shard cs

@@ -1,5 +1,5 @@
 -- The rows of a shard's terms by the session numbers of the shard.
-use Rattle.std.proofs.Common.{◌≡◌, ℕ, zero, suc, ◌+◌, ◌-◌, ◌*◌, ◌<◌, ◌≤◌, Bool, true, false, cond, T, List, [], ◌∷◌, ◌++◌, map, length, Option, Some, None, is_some, inl, inr, refl, sym, ap, ◌∙◌, arith, append_assoc, append-nil}
+use Rattle.std.proofs.Common.{◌≡◌, ℕ, zero, suc, ◌+◌, ◌*◌, ◌<◌, ◌≤◌, cond, T, List, [], ◌∷◌, ◌++◌, map, Option, Some, None, is_some, inl, inr, refl, sym, ap, ◌∙◌, arith, append_assoc, append-nil}
 use Rattle.std.specs.Prelude.{IsSome}
 use Rattle.std.specs.List.{flat_map, range_with_len}
 use Rattle.std.specs.Ordering.{nat_cmp}
@@ -9,7 +9,7 @@ use Rattle.std.specs.FinMap.Entries.{below_all}
 use Rattle.std.proofs.lemmas.Bool.{cases_eq}
 use Rattle.std.proofs.lemmas.List.{map-append}
 use Rattle.std.proofs.lemmas.List.Concat.{flat_map-append}
-use Rattle.bng_engine.specs.Terms.{Term, Key, keys}
+use Rattle.bng_engine.specs.Terms.{Term, keys}
 use Rattle.bng_engine.specs.Views.{Row, new_row}
 use Rattle.bng_slots.specs.Sessions.{Sessions, IsNumberOf, value_at}
 use Rattle.bng_slots.specs.Listed.{values}
@@ -17,7 +17,7 @@ use Rattle.bng_slots.proofs.Numbered.{same_number, other_number}
 use Rattle.bng_shard.specs.declared.session.Session.{Session}
 use Rattle.bng_shard.specs.Protocol.{terms_at}
 use Rattle.bng_shard.specs.Running.{rows_at}
-use Rattle.bng_shard.proofs.Values.{above, behind, first, first_found, none_some, second}
+use Rattle.bng_shard.proofs.Values.{above, behind, first, first_found, second}
 
 module _ {V : Type 0} where
   abbrev found_list : Option V → List V

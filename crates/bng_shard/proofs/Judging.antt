@@ -1,6 +1,5 @@
 -- What a discovery frame is answered, of what is known of its parts.
 use Rattle.std.proofs.Common.{◌≡◌, ◌⊎◌, ℕ, Bool, true, false, List, Option, Some, None, inl, inr, is_some, option_map, refl, sym, ap, subst, ◌∙◌}
-use Rattle.bng_base.specs.declared.address.Mac.{Mac}
 use Rattle.bng_base.specs.declared.address.SessionNo.{SessionNo}
 use Rattle.bng_base.specs.PppoeGrammar.{PppoeTag, PppoeFrame}
 use Rattle.bng_discovery.specs.declared.answers.Answer.{Answer}

@@ -30,6 +30,8 @@ pub mod InOrder
 pub mod OneEffect
 pub mod Serves
 pub mod Settling
+pub mod Done
+pub mod Reaping
 pub mod Earliest
 pub mod Opened
 pub mod Replacing

@@ -14,7 +14,7 @@ use Rattle.bng_shard.specs.declared.session.Service.TheVariants.{Provisioned, Di
 use Rattle.bng_shard.specs.declared.session.Session.{Session}
 use Rattle.bng_shard.specs.Listing.{AreListed, IsLowestPassing, does_pass, passing_in, with_listed, without_listed}
 use Rattle.bng_shard.specs.Questions.{open_in}
-use Rattle.bng_shard.specs.Serving.{AreOfShard, asks, does_leave, is_young, is_young_in}
+use Rattle.bng_shard.specs.Serving.{AreOfShard, asks, is_young, is_young_in}
 use Rattle.bng_shard.specs.State.{leaves, leaves_in}
 use Rattle.bng_shard.proofs.Values.{find_first, find_none, kept, sum_most, sum_nothing, values-kept}
 
@@ -85,6 +85,14 @@ taken_length : (b : Bool) (n : ℕ) (numbers : List SessionNo) → times n numbe
 taken_length true n numbers one = let all = fewer n numbers in omega (arith, all, one)
 taken_length false n numbers none = omega arith
 
+-- the list stays as it is where one goes that fails
+pub taken_none : (test : Session → Bool) (x : Session) (numbers : List SessionNo) → test x ≡ false → without_listed test x numbers ≡ numbers
+taken_none test x numbers fails = ap {B = List SessionNo} (λ (b : Bool). cond b (filter (λ (m : SessionNo). not (m.0 == x.number.0)) numbers) numbers) fails
+
+-- and loses its number where one goes that passes
+pub taken_all : (test : Session → Bool) (x : Session) (numbers : List SessionNo) → test x ≡ true → without_listed test x numbers ≡ filter (λ (m : SessionNo). not (m.0 == x.number.0)) numbers
+taken_all test x numbers passes = ap {B = List SessionNo} (λ (b : Bool). cond b (filter (λ (m : SessionNo). not (m.0 == x.number.0)) numbers) numbers) passes
+
 bit_few : (b : Bool) → cond b 1 0 ≤ 1
 bit_few true = omega arith
 bit_few false = omega arith
@@ -150,7 +158,7 @@ module _ (test : Session → Bool) (s : Sessions Session) (x : Session) (numbers
 
 -- a session that has ended asks nothing
 ended_asks : (v : Service) → leaves_in v ≡ true → is_some (open_in v) ≡ false
-ended_asks (Provisioned l) h = absurd (false≢true h)
+ended_asks (Provisioned p) h = refl
 ended_asks (Discovered m) h = ap (λ (b : Bool). is_some (cond (not b && is_open m.link.auth) m.question None)) h
 
 pub leaves_asks : (x : Session) → leaves x ≡ true → asks x ≡ false
@@ -158,19 +166,19 @@ leaves_asks x h = ended_asks x.service h
 
 -- and is not young
 ended_young : (v : Service) → leaves_in v ≡ true → is_young_in v ≡ false
-ended_young (Provisioned l) h = refl
+ended_young (Provisioned p) h = refl
 ended_young (Discovered m) h = ap (λ (b : Bool). not b && not m.link.lcp.kept.was_opened) h
 
 pub leaves_young : (x : Session) → leaves x ≡ true → is_young x ≡ false
 leaves_young x h = ended_young x.service h
 
 module _ (test : Session → Bool) (ended : (x : Session) → leaves x ≡ true → test x ≡ false) where
-  gone_fails : (o : Option Session) → does_leave o ≡ true → does_pass test o ≡ false
+  gone_fails : (o : Option Session) → does_pass leaves o ≡ true → does_pass test o ≡ false
   gone_fails None h = refl
   gone_fails (Some x) h = ended x h
 
   -- some sessions that have ended are gone
-  pub listed_left : (s0 s : Sessions Session) (numbers : List SessionNo) → ((n : ℕ) → (value_at s n ≡ value_at s0 n) ⊎ ((value_at s n ≡ None) × (does_leave (value_at s0 n) ≡ true))) → AreListed test s0 numbers → AreListed test s numbers
+  pub listed_left : (s0 s : Sessions Session) (numbers : List SessionNo) → ((n : ℕ) → (value_at s n ≡ value_at s0 n) ⊎ ((value_at s n ≡ None) × (does_pass leaves (value_at s0 n) ≡ true))) → AreListed test s0 numbers → AreListed test s numbers
   listed_left s0 s numbers left h k = elim (left k) [
     | inl same ↦ h k ∙ ap {B = ℕ} (λ (b : Bool). cond b 1 0) (sym (ap (does_pass test) same))
     | inr gone ↦ h k ∙ ap {B = ℕ} (λ (b : Bool). cond b 1 0) (gone_fails (value_at s0 k) gone.1 ∙ sym (ap (does_pass test) gone.0))
@@ -195,7 +203,7 @@ fails false h = refl
 
 -- those are listed that pass a test, and each that passes a finer one passes it
 module _ (test finer : Session → Bool) (passes : (x : Session) → finer x ≡ true → test x ≡ true) (s : Sessions Session) (numbers : List SessionNo) (h : AreListed test s numbers) where
-  listed_at : (n : ℕ) (x : Session) → value_at s n ≡ Some x → finer x ≡ true → (k : SessionNo) × (Contains numbers k) × (k.0 ≡ n) × (does_pass finer (value_at s k.0) ≡ true)
+  pub listed_at : (n : ℕ) (x : Session) → value_at s n ≡ Some x → finer x ≡ true → (k : SessionNo) × (Contains numbers k) × (k.0 ≡ n) × (does_pass finer (value_at s k.0) ≡ true)
   listed_at n x is fine =
       let one : cond (does_pass test (value_at s n)) 1 0 ≡ 1 = ap {B = ℕ} (λ (b : Bool). cond b 1 0) (ap (does_pass test) is ∙ passes x fine) in
       let k = listed_there n numbers (h n ∙ one) in

@@ -1,5 +1,5 @@
 -- A shard with one circuit: what holds of the circuit holds of all, and its term has the one row.
-use Rattle.std.proofs.Common.{◌≡◌, ℕ, zero, suc, ◌+◌, ◌*◌, ◌^◌, ◌<◌, ◌≤◌, Bool, true, false, cond, List, [], ◌∷◌, ◌++◌, map, Option, Some, IfSome, inl, inr, refl, sym, ap, subst, ◌∙◌, arith, eqb}
+use Rattle.std.proofs.Common.{◌≡◌, ℕ, zero, suc, ◌+◌, ◌*◌, ◌<◌, ◌≤◌, Bool, true, false, cond, List, [], ◌∷◌, ◌++◌, map, Option, Some, None, IfSome, inl, inr, refl, sym, ap, subst, ◌∙◌, arith}
 use Rattle.std.specs.List.{All, AllPairs, flat_map, range_with_len}
 use Rattle.std.proofs.lemmas.Bool.{cases_eq, eq-eqb, ne_eqb}
 use Rattle.std.proofs.lemmas.List.Concat.{flat_map-cons}
@@ -66,7 +66,7 @@ module _ (c : Static) where
   -- Its row ---------------------------------------------------------------------------------------------------------------
 
   abbrev row : Row
-  row = new_row (term_of (provisioned c 1) (lease_from c 1)).key
+  row = new_row (term_of (provisioned c 1) (lease_from c 1) None).key
 
   pub one_row : (r : Rules) (shard : ℕ) → IsNumberOf shard c.session.0 → (opened shard r (c ∷ [])).rows ≡ row ∷ []
   one_row r shard of =

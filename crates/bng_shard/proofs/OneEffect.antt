@@ -44,14 +44,14 @@ use Rattle.bng_shard.specs.declared.session.Lease.{Lease}
 use Rattle.bng_shard.specs.declared.session.Service.{Service}
 use Rattle.bng_shard.specs.declared.session.Service.TheVariants.{Provisioned, Discovered}
 use Rattle.bng_shard.specs.declared.session.Session.{Session}
-use Rattle.bng_shard.specs.State.{State, port_at, session_of, with_session, with_driven}
+use Rattle.bng_shard.specs.State.{State, lease_of, port_at, session_of, with_session, with_driven}
 use Rattle.bng_shard.specs.Deed.{Deed, at_of, out, frame_outs, only, handled, arrival_in}
 use Rattle.bng_shard.specs.Discovery.{Answers, Discovers, IsNewLink, IsVacancy, Makes, Repeats, host_uniq_of, new_session, repeated}
 use Rattle.bng_shard.specs.Frames.{charge_of, forwarded, found_up, found_down, GoesUp, GoesDown, HearsData, HearsPpp, HearsControl, HearsIn, HearsFrame, HearsAccess, HearsPacket, HearsCore}
 use Rattle.bng_shard.specs.Link.{LinkStep, Drives, EndsWith, padt_outs, said_outs, asked_after, with_link, told, hears, settles, ended}
 use Rattle.bng_shard.specs.Protocol.{pppoe}
 use Rattle.bng_shard.specs.Step.{Hears, Step}
-use Rattle.bng_shard.specs.Timers.{Ticks, Ends, HearsTick, HearsEnd, at_once, IsFirstDue, NoneIsDue, ComesFirst, IsLowest, NoneLives}
+use Rattle.bng_shard.specs.Timers.{Ticks, Ends, HearsTick, HearsEnd, at_once, IsFirstDue, NoneIsDue, ComesFirst, IsLowest, NoneStays, TellsEnd}
 use Rattle.bng_shard.specs.Verdicts.{HearsVerdict, Judges}
 use Rattle.bng_shard.proofs.LinkSteps.{frame_of, verdict_of, frame_steps, verdict_steps}
 
@@ -66,14 +66,6 @@ made_or m (Discovered n) = n
 pub same_made : (v : Service) (m n : Made) → v ≡ Discovered m → v ≡ Discovered n → m ≡ n
 unfolding made_or
 same_made v m n e f = ap (made_or m) (sym e ∙ f)
-
-lease_or : Lease → Service → Lease
-lease_or l (Provisioned k) = k
-lease_or l (Discovered m) = l
-
-same_lease : (v : Service) (k l : Lease) → v ≡ Provisioned k → v ≡ Provisioned l → k ≡ l
-unfolding lease_or
-same_lease v k l e f = ap (lease_or k) (sym e ∙ f)
 
 -- Links -----------------------------------------------------------------------------------------------------------------
 
@@ -116,6 +108,10 @@ ends_with_one r a x outs outs' h k =
     let offers = same_found _ h.offers k.offers h.at.offers_are k.at.offers_are in
     h.outs_are ∙ ap (λ (q : AccessPort). padt_outs a x q h.offers) port ∙ ap (λ (o : PortRules). padt_outs a x k.port o) offers ∙ sym k.outs_are
 
+tells_one : (v : Service) (r : Rules) (a : At) (x : Session) (outs outs' : List OutRecord) → TellsEnd v r a x outs → TellsEnd v r a x outs' → outs ≡ outs'
+tells_one (Provisioned p) r a x outs outs' h k = h ∙ sym k
+tells_one (Discovered m) r a x outs outs' h k = ends_with_one r a x outs outs' h k
+
 -- Ticks and Ends --------------------------------------------------------------------------------------------------------
 
 first_of_two : (d k d' k' : ℕ) → ComesFirst d k d' k' → ComesFirst d' k' d k → k ≡ k'
@@ -131,10 +127,10 @@ none_due : (s : State) (now k : ℕ) → NoneIsDue s now → IsFirstDue s now k 
 none_due s now k none is = omega (arith, none k is.deadline is.is, is.due)
 
 lowest_one : (s : State) (k k' : ℕ) → IsLowest s k → IsLowest s k' → k ≡ k'
-lowest_one s k k' a b = omega (arith, a.lowest k' b.live, b.lowest k a.live)
+lowest_one s k k' a b = omega (arith, a.lowest k' b.stays, b.lowest k a.stays)
 
-none_lives : (s : State) (k : ℕ) → NoneLives s → IsLowest s k → ⊥
-none_lives s k none is = false≢true (sym (none k) ∙ is.live)
+none_stays : (s : State) (k : ℕ) → NoneStays s → IsLowest s k → ⊥
+none_stays s k none is = false≢true (sym (none k) ∙ is.stays)
 
 abbrev Alone : (State → List OutRecord → State → Type 0) → Type 0
 Alone Says = (s : State) (outs outs' : List OutRecord) (s' s'' : State) → Says s outs s' → Says s outs' s'' → (outs ≡ outs') × (s' ≡ s'')
@@ -147,7 +143,7 @@ TicksAt k n r e s outs s' =
 
 abbrev EndsAt : ℕ → ℕ → Rules → Entry → State → List OutRecord → State → Type 0
 EndsAt k n r e s outs s' =
-    (x : Session) × (value_at s.sessions n ≡ Some x) × (padt rest : List OutRecord) × EndsWith r (at_of s e) x padt
+    (x : Session) × (value_at s.sessions n ≡ Some x) × (padt rest : List OutRecord) × TellsEnd x.service r (at_of s e) x padt
     × Ends k r e (with_session s n (ended x)) rest s' × (outs ≡ padt ++ rest)
 
 module _ (r : Rules) (e : Entry) where
@@ -173,7 +169,7 @@ module _ (r : Rules) (e : Entry) where
   end_one : (k n : ℕ) → Alone (Ends k r e) → Alone (EndsAt k n r e)
   end_one k n alone s outs outs' s' s'' (x, at, padt, rest, with_padt, more, are) (y, at', padt', rest', with_padt', more', are') =
       let same = same_found _ x y at at' in
-      let one = ends_with_one r (at_of s e) x padt padt' with_padt (subst (λ (z : Session). EndsWith r (at_of s e) z padt') (sym same) with_padt') in
+      let one = tells_one x.service r (at_of s e) x padt padt' with_padt (subst (λ (z : Session). TellsEnd z.service r (at_of s e) z padt') (sym same) with_padt') in
       let later : Ends k r e (with_session s n (ended x)) rest' s'' = subst (λ (z : Session). Ends k r e (with_session s n (ended z)) rest' s'') (sym same) more' in
       let last = alone (with_session s n (ended x)) rest rest' s' s'' more later in
       (are ∙ ap (λ (os : List OutRecord). os ++ rest) one ∙ ap (λ (os : List OutRecord). padt' ++ os) last.0 ∙ sym are', last.1)
@@ -181,8 +177,8 @@ module _ (r : Rules) (e : Entry) where
   ends_one : (k : ℕ) → Alone (Ends k r e)
   ends_one zero s outs outs' s' s'' h i = (h.0 ∙ sym i.0, h.1 ∙ sym i.1)
   ends_one (suc k) s outs outs' s' s'' (inl h) (inl i) = (h.1 ∙ sym i.1, h.2 ∙ sym i.2)
-  ends_one (suc k) s outs outs' s' s'' (inl h) (inr (n, lowest, x, at, padt, rest, with_padt, more, are)) = absurd (none_lives s n h.0 lowest)
-  ends_one (suc k) s outs outs' s' s'' (inr (n, lowest, x, at, padt, rest, with_padt, more, are)) (inl i) = absurd (none_lives s n i.0 lowest)
+  ends_one (suc k) s outs outs' s' s'' (inl h) (inr (n, lowest, x, at, padt, rest, with_padt, more, are)) = absurd (none_stays s n h.0 lowest)
+  ends_one (suc k) s outs outs' s' s'' (inr (n, lowest, x, at, padt, rest, with_padt, more, are)) (inl i) = absurd (none_stays s n i.0 lowest)
   ends_one (suc k) s outs outs' s' s'' (inr (n, lowest, x, at, padt, rest, with_padt, more, are)) (inr (n', lowest', y, at', padt', rest', with_padt', more', are')) =
       let moved : EndsAt k n r e s outs' s'' = subst (λ (m : ℕ). EndsAt k m r e s outs' s'') (sym (lowest_one s n n' lowest lowest')) (y, at', padt', rest', with_padt', more', are') in
       end_one k n (ends_one k) s outs outs' s' s'' (x, at, padt, rest, with_padt, more, are) moved
@@ -260,7 +256,7 @@ module _ (r : Rules) (s : State) (e : Entry) where
   unfolding sent_up
   up_one number p info d d' h k =
       let x = same_found _ h.x k.x h.found k.found in
-      let lease = same_lease k.x.service h.lease k.lease (ap (λ (y : Session). y.service) (sym x) ∙ h.service) k.service in
+      let lease = same_found (lease_of k.x) h.lease k.lease (ap lease_of (sym x) ∙ h.live) k.live in
       let packet = passed_one h.header k.header info h.packet k.packet h.passed k.passed in
       h.done ∙ up_equal h.x k.x h.lease k.lease h.header k.header h.packet k.packet x lease packet.0 packet.1 ∙ sym k.done
 
@@ -274,7 +270,7 @@ module _ (r : Rules) (s : State) (e : Entry) where
   unfolding sent_down
   down_one v d d' h k =
       let x = same_found _ h.x k.x h.found k.found in
-      let lease = same_lease k.x.service h.lease k.lease (ap (λ (y : Session). y.service) (sym x) ∙ h.service) k.service in
+      let lease = same_found (lease_of k.x) h.lease k.lease (ap lease_of (sym x) ∙ h.live) k.live in
       let its_port = same_found _ h.port k.port (ap (λ (y : Session). port_at r.access y.port) (sym x) ∙ h.its_port) k.its_port in
       let packet = passed_one v v e.item.frame.payload h.packet k.packet h.passed k.passed in
       h.done ∙ down_equal v h.x k.x h.lease k.lease h.port k.port h.packet k.packet x lease its_port packet.1 ∙ sym k.done

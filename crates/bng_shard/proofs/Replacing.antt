@@ -1,19 +1,21 @@
 -- A session that is taken out and put back under its number.
-use Rattle.std.proofs.Common.{◌≡◌, ℕ, true, false, not, Option, Some, None, inl, inr, refl, sym, ap, subst, ◌∙◌}
-use Rattle.std.specs.Ordering.{nat_cmp}
+use Rattle.std.proofs.Common.{◌≡◌, ℕ, true, Option, Some, None, option_map, inl, inr, refl, sym, ap, subst, ◌∙◌}
 use Rattle.std.specs.Cmp.{nat_cmp_total}
 use Rattle.std.specs.FinMap.{get, same_map, nat_cmp-IsAntisymmetric}
 use Rattle.std.proofs.lemmas.Bool.{cases_eq}
+use Rattle.bng_base.specs.declared.address.Ip4.{Ip4}
 use Rattle.bng_base.specs.declared.settings.AccessPort.{AccessPort}
 use Rattle.bng_slots.specs.Sessions.{Sessions, IsNumberOf, value_at, with_value, without}
 use Rattle.bng_slots.proofs.SessionLaws.{value_at-with_value, value_at-with_other, value_at-without, with_value-without}
 use Rattle.bng_shard.specs.declared.rules.Rules.{Rules}
+use Rattle.bng_shard.specs.declared.session.Lease.{Lease}
 use Rattle.bng_shard.specs.declared.session.Service.{Service}
 use Rattle.bng_shard.specs.declared.session.Service.TheVariants.{Provisioned, Discovered}
 use Rattle.bng_shard.specs.declared.session.Session.{Session}
-use Rattle.bng_shard.specs.State.{State, made_one, port_at, with_session}
+use Rattle.bng_shard.specs.State.{State, held_in, made_one, port_at, with_session}
 use Rattle.bng_shard.specs.Fits.{ArePlaced}
-use Rattle.bng_shard.specs.Link.{ended_service}
+use Rattle.bng_shard.specs.Indexed.{address_of}
+use Rattle.bng_shard.specs.Link.{ended, ended_service}
 use Rattle.bng_shard.specs.Timers.{lives_at, lives_in, does_live}
 use Rattle.bng_shard.proofs.Values.{same_some}
 
@@ -43,13 +45,20 @@ module _ (s s₁ : State) (n m : ℕ) (taken : s₁ ≡ record s { sessions = wi
       ∙ ap (λ (k : ℕ). with_session (record s { sessions = without s.sessions n }) k x) same
       ∙ ap (λ (ss : Sessions Session). let t : State = record s { sessions = ss } in t) (with_value-without s.sessions n x)
 
+abbrev address_by : Service → Option Ip4
+address_by v = option_map (λ (l : Lease). l.address) (held_in v)
+
 pub made_of_live : (v : Service) → lives_in v ≡ true → made_one v ≡ 1
 made_of_live (Provisioned l) e = absurd (let never : ⊥ = cc in never)
 made_of_live (Discovered m) e = refl
 
-pub made_of_ended : (v : Service) → lives_in v ≡ true → made_one (ended_service v) ≡ 1
-made_of_ended (Provisioned l) e = absurd (let never : ⊥ = cc in never)
-made_of_ended (Discovered m) e = refl
+-- a session that ends keeps its address
+address_in : (v : Service) (x y : Session) → x.service ≡ v → y.service ≡ ended_service v → address_of y ≡ address_of x
+address_in (Provisioned p) x y is after = ap address_by after ∙ sym (ap address_by is)
+address_in (Discovered m) x y is after = ap address_by after ∙ sym (ap address_by is)
+
+pub ended_address : (x : Session) → address_of (ended x) ≡ address_of x
+ended_address x = address_in x.service x (ended x) refl refl
 
 -- the session that lives at a number
 pub live_there : (s : State) (n : ℕ) (x : Session) → lives_at s n ≡ true → Some x ≡ value_at s.sessions n → lives_in x.service ≡ true

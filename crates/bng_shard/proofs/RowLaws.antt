@@ -11,27 +11,27 @@ use Rattle.bng_shard.specs.declared.session.Service.TheVariants.{Provisioned, Di
 use Rattle.bng_shard.specs.declared.session.Session.{Session}
 use Rattle.bng_shard.specs.Protocol.{row_at, terms_in}
 use Rattle.bng_shard.specs.Running.{begun, row_from, rows_at, rows_in}
-use Rattle.bng_shard.specs.State.{lease_in, lease_of}
+use Rattle.bng_shard.specs.State.{held_in}
 use Rattle.bng_shard.specs.Sums.{traffic_in}
 use Rattle.bng_shard.proofs.Values.{none_some, same_some}
 
-no_row_in : (x : Session) (v : Service) → lease_in v ≡ None → map new_row (keys (terms_in x v)) ≡ []
-no_row_in x (Provisioned l) e = absurd (none_some l (sym e))
+no_row_in : (x : Session) (v : Service) → held_in v ≡ None → map new_row (keys (terms_in x v)) ≡ []
+no_row_in x (Provisioned p) e = absurd (none_some p.lease (sym e))
 no_row_in x (Discovered m) e = refl
 
-one_row_in : (x : Session) (v : Service) (l : Lease) → lease_in v ≡ Some l → map new_row (keys (terms_in x v)) ≡ row_from (begun x l) ∷ []
-one_row_in x (Provisioned k) l e = ap (λ (y : Lease). row_from (begun x y) ∷ []) (same_some k l e)
+one_row_in : (x : Session) (v : Service) (l : Lease) → held_in v ≡ Some l → map new_row (keys (terms_in x v)) ≡ row_from (begun x l) ∷ []
+one_row_in x (Provisioned p) l e = ap (λ (y : Lease). row_from (begun x y) ∷ []) (same_some p.lease l e)
 one_row_in x (Discovered m) l e = absurd (none_some l e)
 
 -- no session has no row, and one without a lease neither
 pub no_row : (rs : List Running) (o : Option Session) → o ≡ None → rows_in rs ≡ rows_in rs ++ rows_at o
 no_row rs o e = sym (ap (λ (p : Option Session). rows_in rs ++ rows_at p) e ∙ append-nil (rows_in rs))
 
-pub no_lease : (rs : List Running) (o : Option Session) (x : Session) → o ≡ Some x → lease_of x ≡ None → rows_in rs ≡ rows_in rs ++ rows_at o
+pub no_lease : (rs : List Running) (o : Option Session) (x : Session) → o ≡ Some x → held_in x.service ≡ None → rows_in rs ≡ rows_in rs ++ rows_at o
 no_lease rs o x e none = sym (ap (λ (p : Option Session). rows_in rs ++ rows_at p) e ∙ ap (λ (rows : List Row). rows_in rs ++ rows) (no_row_in x x.service none) ∙ append-nil (rows_in rs))
 
 -- the row of a term that begins
-pub one_row_more : (rs : List Running) (o : Option Session) (x : Session) (l : Lease) → o ≡ Some x → lease_of x ≡ Some l → rows_in (rs ++ begun x l ∷ []) ≡ rows_in rs ++ rows_at o
+pub one_row_more : (rs : List Running) (o : Option Session) (x : Session) (l : Lease) → o ≡ Some x → held_in x.service ≡ Some l → rows_in (rs ++ begun x l ∷ []) ≡ rows_in rs ++ rows_at o
 one_row_more rs o x l e leased =
     map-append row_from rs (begun x l ∷ [])
     ∙ ap (λ (rows : List Row). rows_in rs ++ rows) (sym (one_row_in x x.service l leased))

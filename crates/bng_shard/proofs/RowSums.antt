@@ -1,6 +1,13 @@
--- The rows of a shard's terms stand by their numbers, and a send adds to the row of its term.
-use Rattle.std.proofs.Common.{◌≡◌, ⊎_elim, ℕ, zero, suc, ◌+◌, ◌-◌, ◌<◌, ◌≤◌, Bool, true, cond, List, [], ◌∷◌, length, Some, refl, ap, sym, ◌∙◌, subst, arith}
+-- The rows of a shard's terms stand by rising numbers, and a send adds to the row of its term.
+use Rattle.std.proofs.Common.{◌≡◌, inl, inr, ℕ, zero, suc, ◌+◌, ◌<◌, ◌≤◌, Bool, true, false, cond, List, [], ◌∷◌, filter, length, Some, Result, Ok, Err, MatchResult, refl, ap, sym, ◌∙◌, subst, arith}
 use Rattle.std.proofs.Math.ListN.{get_or, set}
+use Rattle.std.specs.List.{AllByRecursion}
+use Rattle.std.specs.List.Sorted.{IsSearchInRange, IsBinarySearchResult, IsNonDecreasingBy}
+use Rattle.std.specs.Ordering.{nat_cmp, ordering_index}
+use Rattle.std.proofs.lemmas.Bool.{cases_lt}
+use Rattle.std.proofs.lemmas.Bool.Decides.{nat_tests}
+use Rattle.std.proofs.lemmas.Cmp.{ranked}
+use Rattle.std.proofs.lemmas.List.Sorted.{IsNonDecreasingBy-from_default}
 use Rattle.std.proofs.lemmas.List.Sums.{sum_by-cons}
 use Rattle.bng_base.specs.declared.book.Book.{Book}
 use Rattle.bng_base.specs.declared.circuit.Circuit.TheVariants.{Pppoe}
@@ -9,7 +16,7 @@ use Rattle.bng_base.specs.declared.item.OutRecord.{OutRecord}
 use Rattle.bng_base.specs.declared.settings.Static.{Static}
 use Rattle.bng_engine.specs.Calls.{SayMore}
 use Rattle.bng_engine.specs.Lists.{AnyOf}
-use Rattle.bng_engine.specs.Protocol.{AreNumbered, HasKey}
+use Rattle.bng_engine.specs.Protocol.{HasKey}
 use Rattle.bng_engine.specs.Quantities.{Quantity, amount, in_book, empty_book}
 use Rattle.bng_engine.specs.Sums.{same, is_any}
 use Rattle.bng_engine.specs.Terms.{Key, keys, key_in}
@@ -17,60 +24,147 @@ use Rattle.bng_engine.specs.Views.{Row, row_keys, rows_where}
 use Rattle.bng_engine.proofs.Charging.{charge_row}
 use Rattle.bng_shard.specs.declared.running.Running.{Running}
 use Rattle.bng_shard.specs.Protocol.{terms_after}
-use Rattle.bng_shard.specs.Running.{row_from, rows_in}
+use Rattle.bng_shard.specs.Running.{AreRising, HasSerial, IsPlaceOf, row_from, rows_in}
 use Rattle.bng_shard.specs.Sums.{IsMore, RowsAreLow}
 
-terms_numbered : (n : ℕ) (cs : List Static) → AreNumbered n (keys (terms_after n cs)) (n + length cs)
-terms_numbered n [] = omega arith
-terms_numbered n (c ∷ cs) =
-    let more : n + 1 + length cs ≡ n + length (c ∷ cs) = omega arith in
-    (refl, subst (λ (m : ℕ). AreNumbered (n + 1) (keys (terms_after (n + 1) cs)) m) more (terms_numbered (n + 1) cs))
+-- Rows by rising numbers ----------------------------------------------------------------------------------------------------
 
-terms_count : (n : ℕ) (cs : List Static) → length (keys (terms_after n cs)) ≡ length cs
-terms_count n [] = refl
-terms_count n (c ∷ cs) = ap suc (terms_count (n + 1) cs)
+-- each has a number above those before it
+abbrev KeysRise : List Key → Type 0
+KeysRise [] = Unit {0}
+KeysRise (k ∷ ks) = AllByRecursion (λ (j : Key). k.term.serial < j.term.serial) ks × KeysRise ks
 
-keys_count : (rs : List Running) → length (row_keys (rows_in rs)) ≡ length rs
-keys_count [] = refl
-keys_count (r ∷ rs) = ap suc (keys_count rs)
+terms_above : (n m : ℕ) (cs : List Static) → n ≤ m → AllByRecursion (λ (k : Key). n < k.term.serial) (keys (terms_after m cs))
+terms_above n m [] le = tt
+terms_above n m (c ∷ cs) le = (omega (arith, le), terms_above n (m + 1) cs (omega (arith, le)))
 
--- the rows stand by the numbers of their terms
-pub rows_numbered : (cs : List Static) (rs : List Running) → row_keys (rows_in rs) ≡ keys (terms_after 0 cs) → AreNumbered 0 (row_keys (rows_in rs)) (length rs)
-rows_numbered cs rs e =
-    let count : 0 + length cs ≡ length rs = omega (arith, keys_count rs, ap length e, terms_count 0 cs) in
-    subst (λ (m : ℕ). AreNumbered 0 (row_keys (rows_in rs)) m) count (subst (λ (ks : List Key). AreNumbered 0 ks (0 + length cs)) (sym e) (terms_numbered 0 cs))
+terms_rise : (n : ℕ) (cs : List Static) → KeysRise (keys (terms_after n cs))
+terms_rise n [] = tt
+terms_rise n (c ∷ cs) = (terms_above (n + 1) (n + 1) cs (omega arith), terms_rise (n + 1) cs)
 
--- Where a term's row stands: at the number before its own.
-pub record StandsAt (n : ℕ) (c : Charge) (rs : List Running) : Type 0 where
-  pub low : n < c.term.serial
-  pub high : c.term.serial ≤ n + length rs
-  pub key : (d : Row) → (get_or (rows_in rs) (c.term.serial - n - 1) d).key ≡ key_in c
+above_rows : (n : ℕ) (rs : List Running) → AllByRecursion (λ (k : Key). n < k.term.serial) (row_keys (rows_in rs)) → AllByRecursion (λ (p : Running). n < p.term.serial) rs
+above_rows n [] h = tt
+above_rows n (r ∷ rs) h = (h.0, above_rows n rs h.1)
 
-stands_here : (n : ℕ) (c : Charge) (r : Running) (rs : List Running) → (row_from r).key.term.serial ≡ n + 1 → HasKey c (row_from r).key → StandsAt n c (r ∷ rs)
-stands_here n c r rs number is =
-    let serial : c.term.serial ≡ n + 1 = omega (arith, number, ap (λ (k : Key). k.term.serial) is) in
-    let at : 0 ≡ c.term.serial - n - 1 = omega (arith, serial) in
-    record {
-      low = omega (arith, serial);
-      high = omega (arith, serial);
-      key = λ d. ap (λ (i : ℕ). (get_or (rows_in (r ∷ rs)) i d).key) (sym at) ∙ is;
-    }
+above_keys : (n : ℕ) (rs : List Running) → AllByRecursion (λ (p : Running). n < p.term.serial) rs → AllByRecursion (λ (k : Key). n < k.term.serial) (row_keys (rows_in rs))
+above_keys n [] h = tt
+above_keys n (r ∷ rs) h = (h.0, above_keys n rs h.1)
 
-stands_later : (n : ℕ) (c : Charge) (r : Running) (rs : List Running) → StandsAt (n + 1) c rs → StandsAt n c (r ∷ rs)
-stands_later n c r rs h =
-    let at : suc (c.term.serial - (n + 1) - 1) ≡ c.term.serial - n - 1 = omega (arith, h.low) in
-    record {
-      low = omega (arith, h.low);
-      high = omega (arith, h.high);
-      key = λ d. ap (λ (i : ℕ). (get_or (rows_in (r ∷ rs)) i d).key) (sym at) ∙ h.key d;
-    }
+rows_rise : (rs : List Running) → KeysRise (row_keys (rows_in rs)) → AreRising rs
+rows_rise [] h = tt
+rows_rise (r ∷ rs) h = (above_rows r.term.serial rs h.0, rows_rise rs h.1)
 
-pub stands_at : (n m : ℕ) (c : Charge) (rs : List Running) → AreNumbered n (row_keys (rows_in rs)) m → AnyOf (HasKey c) (row_keys (rows_in rs)) → StandsAt n c rs
-stands_at n m c [] numbered own = absurd own
-stands_at n m c (r ∷ rs) numbered own =
-    ⊎_elim (λ (is : HasKey c (row_from r).key). stands_here n c r rs numbered.0 is)
-    (λ (later : AnyOf (HasKey c) (row_keys (rows_in rs))). stands_later n c r rs (stands_at (n + 1) m c rs numbered.1 later))
-    own
+keys_rise : (rs : List Running) → AreRising rs → KeysRise (row_keys (rows_in rs))
+keys_rise [] h = tt
+keys_rise (r ∷ rs) h = (above_keys r.term.serial rs h.0, keys_rise rs h.1)
+
+-- so they do at the opening
+pub opened_rising : (cs : List Static) (rs : List Running) → row_keys (rows_in rs) ≡ keys (terms_after 0 cs) → AreRising rs
+opened_rising cs rs e = rows_rise rs (subst KeysRise (sym e) (terms_rise 0 cs))
+
+-- and as long as the keys stay
+pub same_rising : (rs rs' : List Running) → row_keys (rows_in rs') ≡ row_keys (rows_in rs) → AreRising rs → AreRising rs'
+same_rising rs rs' e h = rows_rise rs' (subst KeysRise (sym e) (keys_rise rs h))
+
+above_kept : (n : ℕ) (p : Running → Bool) (rs : List Running) → AllByRecursion (λ (r : Running). n < r.term.serial) rs → AllByRecursion (λ (r : Running). n < r.term.serial) (filter p rs)
+above_kept n p [] h = tt
+above_kept n p (r ∷ rs) h =
+    elim (p r) as (λ b. AllByRecursion (λ (q : Running). n < q.term.serial) (cond b (r ∷ filter p rs) (filter p rs))) [
+      | true ↦ (h.0, above_kept n p rs h.1)
+      | false ↦ above_kept n p rs h.1
+    ]
+
+-- and where some are taken off
+pub rising_kept : (p : Running → Bool) (rs : List Running) → AreRising rs → AreRising (filter p rs)
+rising_kept p [] h = tt
+rising_kept p (r ∷ rs) h =
+    elim (p r) as (λ b. AreRising (cond b (r ∷ filter p rs) (filter p rs))) [
+      | true ↦ (above_kept r.term.serial p rs h.0, rising_kept p rs h.1)
+      | false ↦ rising_kept p rs h.1
+    ]
+
+-- Where a row stands ---------------------------------------------------------------------------------------------------------
+
+all_at : (n : ℕ) (rs : List Running) (j : ℕ) (d : Running) → AllByRecursion (λ (r : Running). n < r.term.serial) rs → j < length rs → n < (get_or rs j d).term.serial
+all_at n [] j d h within = absurd (omega (arith, within))
+all_at n (r ∷ rs) zero d h within = h.0
+all_at n (r ∷ rs) (suc j) d h within = all_at n rs j d h.1 (omega (arith, within))
+
+rises : (rs : List Running) (i j : ℕ) (d : Running) → AreRising rs → i < j → j < length rs → (get_or rs i d).term.serial < (get_or rs j d).term.serial
+rises [] i j d h lt within = absurd (omega (arith, within))
+rises (r ∷ rs) i zero d h lt within = absurd (omega (arith, lt))
+rises (r ∷ rs) zero (suc j) d h lt within = all_at r.term.serial rs j d h.0 (omega (arith, within))
+rises (r ∷ rs) (suc i) (suc j) d h lt within = rises rs i j d h.1 (omega (arith, lt)) (omega (arith, within))
+
+-- no two rows have the same number
+one_place : (rs : List Running) (i j : ℕ) (d : Running) → AreRising rs → i < length rs → j < length rs → (get_or rs i d).term.serial ≡ (get_or rs j d).term.serial → i ≡ j
+one_place rs i j d h within_i within_j same =
+    elim (cases_lt i j) [
+      | inl lt ↦ let less = rises rs i j d h lt within_j in absurd (omega (arith, less, same))
+      | inr ge ↦ elim (cases_lt j i) [
+        | inl lt ↦ let less = rises rs j i d h lt within_i in absurd (omega (arith, less, same))
+        | inr le ↦ omega (arith, ge, le)
+      ]
+    ]
+
+-- a row of nothing
+abbrev pub blank : Running
+blank = record { term = record { session = record { 0 = 0 }; serial = 0 }; circuit = Pppoe 0 (record { 0 = [] }) (record { 0 = 0 }); lease = record { 0 = 0 }; carried = empty_book }
+
+module _ (serial : ℕ) (rs : List Running) (rising : AreRising rs) where
+  comparisons_rise : IsNonDecreasingBy (λ (r : Running). ordering_index (nat_cmp r.term.serial serial)) rs
+  comparisons_rise = IsNonDecreasingBy-from_default (λ (r : Running). ordering_index (nat_cmp r.term.serial serial)) rs blank (λ i j le within.
+      let up : (get_or rs i blank).term.serial ≤ (get_or rs j blank).term.serial = not_above i j le within in
+      higher (get_or rs i blank).term.serial (get_or rs j blank).term.serial up)
+    where
+      not_above : (i j : ℕ) → i ≤ j → j < length rs → (get_or rs i blank).term.serial ≤ (get_or rs j blank).term.serial
+      not_above i j le within =
+          elim (cases_lt i j) [
+            | inl lt ↦ let less = rises rs i j blank rising lt within in omega (arith, less)
+            | inr ge ↦
+                let at : i ≡ j = omega (arith, le, ge) in
+                let same = ap (λ (k : ℕ). (get_or rs k blank).term.serial) at in
+                omega (arith, same)
+          ]
+
+      higher : (a b : ℕ) → a ≤ b → ordering_index (nat_cmp a serial) ≤ ordering_index (nat_cmp b serial)
+      higher a b le = grind (arith, nat_tests)
+
+  stands_somewhere : (qs : List Running) → AnyOf (HasSerial serial) qs → (j : ℕ) × (j < length qs) × ((get_or qs j blank).term.serial ≡ serial)
+  stands_somewhere [] any = absurd any
+  stands_somewhere (q ∷ qs) (inl is) = (0, omega arith, is)
+  stands_somewhere (q ∷ qs) (inr later) = let rest = stands_somewhere qs later in (suc rest.0, omega (arith, rest.1), rest.2)
+
+  -- a binary search by number ends at the row that has it, or none has it
+  pub searched : (result : Result ℕ ℕ) → IsSearchInRange result (length rs) → IsBinarySearchResult (λ (r : Running). nat_cmp r.term.serial serial) rs result
+      → MatchResult result (λ place. IsPlaceOf serial rs place) (λ place. AnyOf (HasSerial serial) rs → ⊥)
+  searched (Ok place) within equal = (within, λ d. ranked (get_or rs place d).term.serial serial _ (sym (equal d)))
+  searched (Err place) within parted = λ any.
+      let there = stands_somewhere rs any in
+      elim (cases_lt there.0 place) [
+        | inl lt ↦ let less : (get_or rs there.0 blank).term.serial < serial = ranked (get_or rs there.0 blank).term.serial serial _ (sym ((parted comparisons_rise).0 there.0 blank (omega arith) lt)) in
+            let same = there.2 in absurd (omega (arith, less, same))
+        | inr ge ↦ let more : serial < (get_or rs there.0 blank).term.serial = ranked (get_or rs there.0 blank).term.serial serial _ (sym ((parted comparisons_rise).1 there.0 blank ge there.1)) in
+            let same = there.2 in absurd (omega (arith, more, same))
+      ]
+
+-- the row of a term is among those that have its number
+pub owned_serial : (c : Charge) (rs : List Running) → AnyOf (HasKey c) (row_keys (rows_in rs)) → AnyOf (HasSerial c.term.serial) rs
+owned_serial c [] own = absurd own
+owned_serial c (r ∷ rs) (inl is) = inl (ap (λ (k : Key). k.term.serial) is)
+owned_serial c (r ∷ rs) (inr later) = inr (owned_serial c rs later)
+
+owned_there : (c : Charge) (rs : List Running) → AnyOf (HasKey c) (row_keys (rows_in rs)) → (j : ℕ) × (j < length rs) × ((row_from (get_or rs j blank)).key ≡ key_in c)
+owned_there c [] own = absurd own
+owned_there c (r ∷ rs) (inl is) = (0, omega arith, is)
+owned_there c (r ∷ rs) (inr later) = let rest = owned_there c rs later in (suc rest.0, omega (arith, rest.1), rest.2)
+
+-- and is the one that stands at its place
+pub key_at_place : (c : Charge) (rs : List Running) (place : ℕ) → AreRising rs → AnyOf (HasKey c) (row_keys (rows_in rs)) → IsPlaceOf c.term.serial rs place → (row_from (get_or rs place blank)).key ≡ key_in c
+key_at_place c rs place rising own is =
+    let there = owned_there c rs own in
+    let same : place ≡ there.0 = one_place rs place there.0 blank rising is.0 there.1 (is.1 blank ∙ sym (ap (λ (k : Key). k.term.serial) there.2)) in
+    ap (λ (i : ℕ). (row_from (get_or rs i blank)).key) same ∙ there.2
 
 -- a row says no more than all together
 part_low : (q : Quantity) (input : Bool) (rs : List Running) (i : ℕ) (d : Running) → i < length rs → in_book q input (get_or rs i d).carried ≤ rows_where q is_any input (rows_in rs)
@@ -81,7 +175,7 @@ part_low q input (r ∷ rs) (suc i) d lt = omega (arith, sum_by-cons (λ (x : Ro
 pub row_low : (most : ℕ) (q : Quantity) (input : Bool) (rs : List Running) (i : ℕ) (d : Running) → i < length rs → RowsAreLow most (rows_in rs) → in_book q input (get_or rs i d).carried ≤ most
 row_low most q input rs i d lt low = omega (arith, part_low q input rs i d lt, low q input)
 
-rows_get : (rs : List Running) (i : ℕ) (d : Running) → get_or (rows_in rs) i (row_from d) ≡ row_from (get_or rs i d)
+pub rows_get : (rs : List Running) (i : ℕ) (d : Running) → get_or (rows_in rs) i (row_from d) ≡ row_from (get_or rs i d)
 rows_get [] i d = refl
 rows_get (r ∷ rs) zero d = refl
 rows_get (r ∷ rs) (suc i) d = rows_get rs i d
@@ -94,10 +188,6 @@ rows_set (x ∷ rs) (suc i) r = ap (λ (ys : List Row). row_from x ∷ ys) (rows
 rows_count : (rs : List Running) → length (rows_in rs) ≡ length rs
 rows_count [] = refl
 rows_count (r ∷ rs) = ap suc (rows_count rs)
-
--- a row of nothing
-abbrev pub blank : Running
-blank = record { term = record { session = record { 0 = 0 }; serial = 0 }; circuit = Pppoe 0 (record { 0 = [] }) (record { 0 = 0 }); lease = record { 0 = 0 }; carried = empty_book }
 
 -- with one packet more in a row
 abbrev pub with_book : Running → Book → Running

@@ -14,7 +14,7 @@ use Rattle.bng_shard.specs.Discovery.{is_repeated, is_repeated_in, same_option}
 use Rattle.bng_shard.specs.Indexed.{address_of}
 use Rattle.bng_shard.specs.Listing.{IsLowestPassing, does_pass}
 use Rattle.bng_shard.specs.Serving.{AreOwn, AreYoung, is_young, is_young_in}
-use Rattle.bng_shard.specs.State.{State, holder_of, is_on, leases, leases_in, lease_in}
+use Rattle.bng_shard.specs.State.{State, holder_of, is_on, leases, leases_in, held_in}
 use Rattle.bng_shard.proofs.Earliest.{read_there}
 use Rattle.bng_shard.proofs.Listing.{lowest_is, none_is}
 use Rattle.bng_shard.proofs.Values.{find_none, find_only, none_some, same_some}
@@ -50,12 +50,12 @@ repeated_number s young port mac host_uniq own listed lowest is =
 same_address : (a b : Ip4) → a.0 ≡ b.0 → a ≡ b
 same_address a b e = λ i. record { 0 = e i }
 
-leases_is : (v : Service) (a : Ip4) → leases_in v a ≡ true → option_map (λ (l : Lease). l.address) (lease_in v) ≡ Some a
-leases_is (Provisioned l) a e = ap (λ (b : Ip4). Some b) (same_address l.address a (eqb-true l.address.0 a.0 e))
+leases_is : (v : Service) (a : Ip4) → leases_in v a ≡ true → option_map (λ (l : Lease). l.address) (held_in v) ≡ Some a
+leases_is (Provisioned p) a e = ap (λ (b : Ip4). Some b) (same_address p.lease.address a (eqb-true p.lease.address.0 a.0 e))
 leases_is (Discovered m) a e = absurd (false≢true e)
 
-is_leased : (v : Service) (a : Ip4) → option_map (λ (l : Lease). l.address) (lease_in v) ≡ Some a → leases_in v a ≡ true
-is_leased (Provisioned l) a e = eq-eqb l.address.0 a.0 (ap (λ (b : Ip4). b.0) (same_some l.address a e))
+is_leased : (v : Service) (a : Ip4) → option_map (λ (l : Lease). l.address) (held_in v) ≡ Some a → leases_in v a ≡ true
+is_leased (Provisioned p) a e = eq-eqb p.lease.address.0 a.0 (ap (λ (b : Ip4). b.0) (same_some p.lease.address a e))
 is_leased (Discovered m) a e = absurd (none_some a e)
 
 module _ (s : State) (a : Ip4) where

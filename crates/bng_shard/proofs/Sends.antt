@@ -40,7 +40,7 @@ use Rattle.bng_shard.specs.Link.{Drives, EndsWith, told, hears, settles, ended}
 use Rattle.bng_shard.specs.Protocol.{term_of}
 use Rattle.bng_shard.specs.Reader.{IsInDirection}
 use Rattle.bng_shard.specs.Step.{Hears, Step}
-use Rattle.bng_shard.specs.Timers.{Ticks, Ends, at_once, HearsTick, HearsEnd}
+use Rattle.bng_shard.specs.Timers.{Ticks, Ends, TellsEnd, at_once, HearsTick, HearsEnd}
 use Rattle.bng_shard.specs.Verdicts.{HearsVerdict}
 use Rattle.bng_shard.proofs.LinkSteps.{frame_of, verdict_of, frame_steps, verdict_steps}
 use Rattle.bng_shard.proofs.Packets.{spelled_up, short_up, spelled_down}
@@ -56,7 +56,7 @@ pub record SendsNone (e : Entry) (d : Deed) : Type 0 where
 pub record SendsOne (s : State) (e : Entry) (d : Deed) : Type 0 where
   pub session : Session
   pub lease : Lease
-  pub there : AnyOf (λ (t : Term). t ≡ term_of session lease) (terms_there s)
+  pub there : AnyOf (λ (t : Term). t ≡ term_of session lease None) (terms_there s)
   pub octets : ℕ
   pub input : Bool
   pub way : Role
@@ -99,12 +99,16 @@ ticks_control (suc n) r e s outs s' (inr (k, due, x, x', at, first, asked', driv
 ends_with_control : (r : Rules) (a : At) (x : Session) (outs : List OutRecord) → EndsWith r a x outs → AreControl a.seat outs
 ends_with_control r a x outs h = subst (λ (os : List OutRecord). AreControl a.seat os) (sym h.outs_are) (padt_control a x h.port h.offers)
 
+tells_control : (v : Service) (r : Rules) (a : At) (x : Session) (outs : List OutRecord) → TellsEnd v r a x outs → AreControl a.seat outs
+tells_control (Provisioned p) r a x outs h = subst (λ (os : List OutRecord). AreControl a.seat os) (sym h) tt
+tells_control (Discovered m) r a x outs h = ends_with_control r a x outs h
+
 ends_control : (n : ℕ) (r : Rules) (e : Entry) (s : State) (outs : List OutRecord) (s' : State) → Ends n r e s outs s' → AreControl e.seat outs
 ends_control zero r e s outs s' h = subst (λ (os : List OutRecord). AreControl e.seat os) (sym h.0) tt
 ends_control (suc n) r e s outs s' (inl h) = subst (λ (os : List OutRecord). AreControl e.seat os) (sym h.1) tt
 ends_control (suc n) r e s outs s' (inr (k, lowest, x, at, padt, rest, with_padt, more, are)) =
     subst (λ (os : List OutRecord). AreControl e.seat os) (sym are)
-    (all_append (IsControl e.seat) padt rest (ends_with_control r (at_of s e) x padt with_padt) (ends_control n r e (with_session s k (ended x)) rest s' more))
+    (all_append (IsControl e.seat) padt rest (tells_control x.service r (at_of s e) x padt with_padt) (ends_control n r e (with_session s k (ended x)) rest s' more))
 
 -- Entries ---------------------------------------------------------------------------------------------------------------
 
@@ -138,7 +142,7 @@ module _ (r : Rules) (s : State) (e : Entry) (d : Deed) where
       one s e d _ h.done (record {
         session = h.x;
         lease = h.lease;
-        there = term_at_number s p.session h.x h.lease (at_number number p.src (value_at s.sessions p.session) h.x h.found) h.service;
+        there = term_at_number s p.session h.x h.lease (at_number number p.src (value_at s.sessions p.session) h.x h.found) h.live;
         octets = h.header.total;
         input = true;
         way = role.Core;
@@ -179,7 +183,7 @@ module _ (r : Rules) (s : State) (e : Entry) (d : Deed) where
       one s e d _ h.done (record {
         session = h.x;
         lease = h.lease;
-        there = term_passing s (leases v.dst) h.x h.lease h.found h.service;
+        there = term_passing s (leases v.dst) h.x h.lease h.found h.live;
         octets = v.total;
         input = false;
         way = role.Access h.x.port;

@@ -1,69 +1,84 @@
 -- What a shard keeps beside its sessions, when a session comes and when one goes.
-use Rattle.std.proofs.Common.{◌≡◌, ◌≢◌, ℕ, ◌+◌, ◌-◌, ◌<◌, ◌≤◌, Bool, true, false, not, cond, List, [], ◌∷◌, ◌++◌, Option, Some, None, is_some, Contains, sum_by, inl, inr, refl, sym, ap, subst, ◌∙◌, arith}
+use Rattle.std.proofs.Common.{◌≡◌, ◌≢◌, ℕ, Bool, true, false, not, Option, Some, None, is_some, option_and_then, inl, inr, refl, sym, ap, subst, ◌∙◌}
 use Rattle.std.proofs.lemmas.Bool.{cases_eq, false≢true}
-use Rattle.std.proofs.lemmas.List.Elements.{Contains-push, Contains-push_cases, Contains-append_left}
+use Rattle.bng_base.specs.declared.address.Ip4.{Ip4}
 use Rattle.bng_base.specs.declared.address.SessionNo.{SessionNo}
-use Rattle.bng_slots.specs.Sessions.{Sessions, IsNumberOf, value_at, with_value, without}
-use Rattle.bng_slots.specs.Listed.{values}
-use Rattle.bng_slots.proofs.SessionLaws.{value_at-with_value, value_at-with_other, value_at-without, value_at-without_other, sum-with_value, sum-without}
-use Rattle.bng_shard.specs.declared.session.Lease.{Lease}
+use Rattle.bng_base.specs.declared.circuit.Circuit.{Circuit}
+use Rattle.bng_base.specs.declared.circuit.Circuit.TheVariants.{Pppoe, L2tp}
+use Rattle.bng_base.specs.declared.circuit.TermId.{TermId}
+use Rattle.bng_slots.specs.Sessions.{Sessions, IsNumberOf, NoneShares, read_at, value_at, with_value, without}
+use Rattle.bng_slots.proofs.SessionLaws.{value_at-with_value, value_at-with_other, value_at-without, value_at-without_other}
 use Rattle.bng_shard.specs.declared.session.Service.{Service}
 use Rattle.bng_shard.specs.declared.session.Service.TheVariants.{Provisioned, Discovered}
 use Rattle.bng_shard.specs.declared.session.Session.{Session}
-use Rattle.bng_shard.specs.Serving.{AreOwn, AreOfShard, AreLeaving, does_leave, ended_in}
-use Rattle.bng_shard.specs.State.{leaves, leaves_in, lease_in, made_one}
-use Rattle.bng_shard.specs.Timers.{does_live, lives_in}
-use Rattle.bng_shard.proofs.Values.{same_some, none_some, stands, sum_holds, sum_most}
+use Rattle.bng_shard.specs.Indexed.{address_of, term_of}
+use Rattle.bng_shard.specs.Listing.{does_pass}
+use Rattle.bng_shard.specs.Serving.{AreApart, AreOwn, AreOfShard}
+use Rattle.bng_shard.specs.State.{circuit_of, leaves, leaves_in}
+use Rattle.bng_shard.specs.Timers.{does_live, does_stay, lives_in}
+use Rattle.bng_shard.proofs.Earliest.{read_there}
+use Rattle.bng_shard.proofs.Values.{same_some, none_some}
 
 not_ended : (b : Bool) → not b ≡ true → b ≡ false
 not_ended true h = absurd (false≢true h)
 not_ended false h = refl
 
--- a session that lives has not ended, and discovery made it
-pub lives_is : (v : Service) → lives_in v ≡ true → (leaves_in v ≡ false) × (made_one v ≡ 1)
-lives_is (Provisioned l) h = absurd (false≢true h)
-lives_is (Discovered m) h = (not_ended m.ended h, refl)
-
-pub leaves_is : (v : Service) → leaves_in v ≡ true → made_one v ≡ 1
-leaves_is (Provisioned l) h = absurd (false≢true h)
-leaves_is (Discovered m) h = refl
-
--- what discovery made leases nothing
-pub made_leases : (v : Service) → made_one v ≡ 1 → lease_in v ≡ None
-made_leases (Provisioned l) h = absurd (omega arith)
-made_leases (Discovered m) h = refl
-
-pub made_few : (v : Service) → made_one v ≤ 1
-made_few (Provisioned l) = omega arith
-made_few (Discovered m) = omega arith
-
-ended_few : (b : Bool) → cond b 1 0 ≤ 1
-ended_few true = omega arith
-ended_few false = omega arith
-
 pub live_there : (o : Option Session) → does_live o ≡ true → (x : Session) × (o ≡ Some x) × (lives_in x.service ≡ true)
 live_there None h = absurd (false≢true h)
 live_there (Some x) h = (x, refl, h)
 
-pub leaves_there : (o : Option Session) → does_leave o ≡ true → (x : Session) × (o ≡ Some x) × (leaves x ≡ true)
-leaves_there None h = absurd (false≢true h)
-leaves_there (Some x) h = (x, refl, h)
+pub stay_there : (o : Option Session) → does_stay o ≡ true → (x : Session) × (o ≡ Some x) × (leaves x ≡ false)
+stay_there None h = absurd (false≢true h)
+stay_there (Some x) h = (x, refl, not_ended (leaves x) h)
 
--- one of the sessions that discovery made counts among them
-pub made_there : (s : Sessions Session) (n : ℕ) (x : Session) → value_at s n ≡ Some x → made_one x.service ≡ 1 → 1 ≤ sum_by (λ (y : Session). made_one y.service) (values s)
-made_there s n x is made =
-    let one = sum_holds (λ (y : Session). made_one y.service) (values s) x (stands s n x is) in
-    omega (arith, one, made)
+pub passes_there : (test : Session → Bool) (o : Option Session) → does_pass test o ≡ true → (x : Session) × (o ≡ Some x) × (test x ≡ true)
+passes_there test None h = absurd (false≢true h)
+passes_there test (Some x) h = (x, refl, h)
 
--- there are no more of them than the shard has numbers
-pub made_most : (s : Sessions Session) → AreOfShard s → sum_by (λ (y : Session). made_one y.service) (values s) ≤ 1022
-made_most s own = sum_most (λ (y : Session). made_one y.service) s (λ y. made_few y.service) own
+-- a session that lives stays
+stays_in : (v : Service) (x : Session) → x.service ≡ v → lives_in v ≡ true → not (leaves x) ≡ true
+stays_in (Provisioned p) x is h = absurd (false≢true h)
+stays_in (Discovered m) x is h = ap (λ (v : Service). not (leaves_in v)) is ∙ h
 
-pub ended_most : (s : Sessions Session) → AreOfShard s → ended_in s ≤ 1022
-ended_most s own = sum_most (λ (y : Session). cond (leaves y) 1 0) s (λ y. ended_few (leaves y)) own
+pub live_stays : (o : Option Session) → does_live o ≡ true → does_stay o ≡ true
+live_stays None h = h
+live_stays (Some x) h = stays_in x.service x refl h
 
-same_session_number : (a b : SessionNo) → a.0 ≡ b.0 → a ≡ b
-same_session_number a b e = λ i. record { 0 = e i }
+abbrev session_in : Circuit → ℕ
+session_in (Pppoe port mac session) = session.0
+session_in (L2tp peer tunnel session) = session.0
+
+abbrev session_of_term : Option TermId → ℕ
+session_of_term None = 0
+session_of_term (Some t) = t.session.0
+
+term_session : (v : Service) (x : Session) (t : TermId) → x.service ≡ v → term_of x ≡ Some t → t.session ≡ x.number
+term_session (Provisioned p) x t is e = sym (ap (λ (k : TermId). k.session) (same_some (record { session = x.number; serial = p.lease.serial }) t (sym (ap (λ (w : Service). term_of (record x { service = w })) is) ∙ e)))
+term_session (Discovered m) x t is e = absurd (none_some t (sym (ap (λ (w : Service). term_of (record x { service = w })) is) ∙ e))
+
+-- What a session that comes has that none has, as each stands under its own number.
+module _ (s : Sessions Session) (x : Session) (own : AreOwn s) (vacant : value_at s x.number.0 ≡ None) where
+  -- one that is there has another number
+  other_there : (n : ℕ) (y : Session) → value_at s n ≡ Some y → y.number.0 ≡ x.number.0 → ⊥
+  other_there n y is same = none_some y (sym vacant ∙ ap (λ (k : ℕ). value_at s k) (sym same ∙ own n y is) ∙ is)
+
+  pub circuit_alone : NoneShares (λ (y : Session). Some (circuit_of y)) s x
+  circuit_alone n c mine has =
+      let y = read_there (λ (z : Session). Some (circuit_of z)) (value_at s n) c has in
+      other_there n y.0 y.1 (ap session_in (same_some (circuit_of y.0) c y.2 ∙ sym (same_some (circuit_of x) c mine)))
+
+  pub term_alone : NoneShares term_of s x
+  term_alone n t mine has =
+      let y = read_there term_of (value_at s n) t has in
+      other_there n y.0 y.1 (ap (λ (k : SessionNo). k.0) (sym (term_session y.0.service y.0 t refl y.2) ∙ term_session x.service x t refl mine))
+
+-- a session that has no address shares none
+pub nothing_shared : (s : Sessions Session) (x : Session) → address_of x ≡ None → NoneShares address_of s x
+nothing_shared s x none n a mine has = none_some a (sym none ∙ mine)
+
+-- one has the address of another
+pub shares_as : (s : Sessions Session) (x y : Session) → address_of y ≡ address_of x → NoneShares address_of s x → NoneShares address_of s y
+shares_as s x y same alone n a mine = alone n a (sym same ∙ mine)
 
 module _ (s : Sessions Session) (n : ℕ) where
   there : (x : Session) (m : ℕ) → m ≡ n → value_at (with_value s n x) m ≡ Some x
@@ -96,75 +111,37 @@ module _ (s : Sessions Session) (n : ℕ) where
     | inr differ ↦ own m (sym (ap is_some (value_at-without_other s n m differ)) ∙ some)
   ]
 
-  -- a session comes that has not ended
-  pub leaving_put : (x : Session) (numbers : List SessionNo) → value_at s n ≡ None → leaves x ≡ false → AreLeaving s numbers → AreLeaving (with_value s n x) numbers
-  leaving_put x numbers vacant stays h q = elim (cases_eq q.0 n) [
-    | inl same ↦
-        let before : does_leave (value_at s q.0) ≡ false = ap (λ (k : ℕ). does_leave (value_at s k)) same ∙ ap does_leave vacant in
-        let after : does_leave (value_at (with_value s n x) q.0) ≡ false = ap does_leave (there x q.0 same) ∙ stays in
-        (λ c. absurd (false≢true (sym before ∙ (h q).0 c)), λ d. absurd (false≢true (sym after ∙ d)))
-    | inr differ ↦
-        let other = ap does_leave (value_at-with_other s n x q.0 differ) in
-        (λ c. other ∙ (h q).0 c, λ d. (h q).1 (sym other ∙ d))
+  -- Addresses ---------------------------------------------------------------------------------------------------------
+
+  read_here : (x : Session) (m : ℕ) → m ≡ n → read_at address_of (with_value s n x) m ≡ address_of x
+  read_here x m same = ap (option_and_then address_of) (there x m same)
+
+  read_other : (x : Session) (m : ℕ) → m ≢ n → read_at address_of (with_value s n x) m ≡ read_at address_of s m
+  read_other x m differ = ap (option_and_then address_of) (value_at-with_other s n x m differ)
+
+  read_before : (m : ℕ) (a : Ip4) → read_at address_of (without s n) m ≡ Some a → read_at address_of s m ≡ Some a
+  read_before m a e = elim (cases_eq m n) [
+    | inl same ↦ absurd (none_some a (sym (ap (option_and_then address_of) (gone m same)) ∙ e))
+    | inr differ ↦ sym (ap (option_and_then address_of) (value_at-without_other s n m differ)) ∙ e
   ]
 
-  -- a session comes that has ended
-  pub leaving_more : (x : Session) (numbers : List SessionNo) → x.number.0 ≡ n → leaves x ≡ true → AreLeaving s numbers → AreLeaving (with_value s n x) (numbers ++ x.number ∷ [])
-  leaving_more x numbers is left h q = elim (cases_eq q.0 n) [
-    | inl same ↦
-        let after : does_leave (value_at (with_value s n x) q.0) ≡ true = ap does_leave (there x q.0 same) ∙ left in
-        let one : x.number ≡ q = same_session_number x.number q (is ∙ sym same) in
-        (λ c. after, λ d. subst (Contains (numbers ++ x.number ∷ [])) one (Contains-push numbers x.number))
-    | inr differ ↦
-        let other = ap does_leave (value_at-with_other s n x q.0 differ) in (
-          λ c. elim (Contains-push_cases numbers x.number q c) [
-            | inl old ↦ other ∙ (h q).0 old
-            | inr e ↦ absurd (differ (sym (ap (λ (k : SessionNo). k.0) e) ∙ is))
-          ],
-          λ d. Contains-append_left numbers (x.number ∷ []) q ((h q).1 (sym other ∙ d)),
-        )
+  pub apart_put : (x : Session) → AreApart s → NoneShares address_of s x → AreApart (with_value s n x)
+  apart_put x apart alone m k a em ek = elim (cases_eq m n) [
+    | inl m_is ↦ elim (cases_eq k n) [
+      | inl k_is ↦ m_is ∙ sym k_is
+      | inr differ ↦ absurd (alone k a (sym (read_here x m m_is) ∙ em) (sym (read_other x k differ) ∙ ek))
+    ]
+    | inr m_not ↦ elim (cases_eq k n) [
+      | inl k_is ↦ absurd (alone m a (sym (read_here x k k_is) ∙ ek) (sym (read_other x m m_not) ∙ em))
+      | inr k_not ↦ apart m k a (sym (read_other x m m_not) ∙ em) (sym (read_other x k k_not) ∙ ek)
+    ]
   ]
 
-  -- a session goes that has not ended
-  pub leaving_take : (x : Session) (numbers : List SessionNo) → value_at s n ≡ Some x → leaves x ≡ false → AreLeaving s numbers → AreLeaving (without s n) numbers
-  leaving_take x numbers here stays h q = elim (cases_eq q.0 n) [
-    | inl same ↦
-        let before : does_leave (value_at s q.0) ≡ false = ap (λ (k : ℕ). does_leave (value_at s k)) same ∙ ap does_leave here ∙ stays in
-        let after : does_leave (value_at (without s n) q.0) ≡ false = ap does_leave (gone q.0 same) in
-        (λ c. absurd (false≢true (sym before ∙ (h q).0 c)), λ d. absurd (false≢true (sym after ∙ d)))
-    | inr differ ↦
-        let other = ap does_leave (value_at-without_other s n q.0 differ) in
-        (λ c. other ∙ (h q).0 c, λ d. (h q).1 (sym other ∙ d))
-  ]
+  pub apart_take : AreApart s → AreApart (without s n)
+  apart_take apart m k a em ek = apart m k a (read_before m a em) (read_before k a ek)
 
-  pub made_put : (x : Session) → value_at s n ≡ None → made_one x.service ≡ 1 → sum_by (λ (y : Session). made_one y.service) (values (with_value s n x)) ≡ sum_by (λ (y : Session). made_one y.service) (values s) + 1
-  made_put x vacant made =
-      let sums = sum-with_value s n (λ (y : Session). made_one y.service) x vacant in
-      omega (arith, sums, made)
-
-  pub made_take : (x : Session) → value_at s n ≡ Some x → made_one x.service ≡ 1 → sum_by (λ (y : Session). made_one y.service) (values (without s n)) + 1 ≡ sum_by (λ (y : Session). made_one y.service) (values s)
-  made_take x here made =
-      let sums = sum-without s n (λ (y : Session). made_one y.service) x here in
-      omega (arith, sums, made)
-
-  pub ended_put : (x : Session) → value_at s n ≡ None → ended_in (with_value s n x) ≡ ended_in s + cond (leaves x) 1 0
-  ended_put x vacant = sum-with_value s n (λ (y : Session). cond (leaves y) 1 0) x vacant
-
-  pub ended_take : (x : Session) → value_at s n ≡ Some x → leaves x ≡ false → ended_in (without s n) ≡ ended_in s
-  ended_take x here stays =
-      let sums = sum-without s n (λ (y : Session). cond (leaves y) 1 0) x here in
-      let none = ap {B = ℕ} (λ (b : Bool). cond b 1 0) stays in
-      omega (arith, sums, none)
-
-  -- how many sessions discovery made, when one of them goes
-  pub made_less : (after : Sessions Session) (made : ℕ) (x : Session) → value_at s n ≡ Some x → made_one x.service ≡ 1 → made ≡ sum_by (λ (y : Session). made_one y.service) (values s) → after ≡ without s n → made - 1 ≡ sum_by (λ (y : Session). made_one y.service) (values after)
-  made_less after made x here one is left =
-      let sums = made_take x here one in
-      let same = ap (λ (t : Sessions Session). sum_by (λ (y : Session). made_one y.service) (values t)) left in
-      omega (arith, sums, is, same)
-
-  pub made_more : (after : Sessions Session) (made : ℕ) (x : Session) → value_at s n ≡ None → made_one x.service ≡ 1 → made ≡ sum_by (λ (y : Session). made_one y.service) (values s) → after ≡ with_value s n x → made + 1 ≡ sum_by (λ (y : Session). made_one y.service) (values after)
-  made_more after made x vacant one is put =
-      let sums = made_put x vacant one in
-      let same = ap (λ (t : Sessions Session). sum_by (λ (y : Session). made_one y.service) (values t)) put in
-      omega (arith, sums, is, same)
+  -- a session that goes shares no address with those that stay
+  pub alone_take : (x : Session) → AreApart s → value_at s n ≡ Some x → NoneShares address_of (without s n) x
+  alone_take x apart here m a mine has =
+      let same : m ≡ n = apart m n a (read_before m a has) (ap (option_and_then address_of) here ∙ mine) in
+      none_some a (sym (ap (option_and_then address_of) (gone m same)) ∙ has)

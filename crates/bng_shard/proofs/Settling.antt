@@ -1,59 +1,60 @@
 -- The sessions that have ended leave one after another.
-use Rattle.std.proofs.Common.{◌≡◌, ◌≢◌, ◌⊎◌, ℕ, ◌+◌, ◌-◌, ◌<◌, ◌≤◌, Bool, true, false, not, cond, List, [], ◌∷◌, ◌++◌, Option, Some, None, is_some, Contains, sum_by, inl, inr, refl, sym, ap, subst, ◌∙◌, arith, length}
-use Rattle.std.proofs.lemmas.Bool.{cases_eq, false≢true}
+use Rattle.std.proofs.Common.{◌≡◌, ◌⊎◌, ℕ, ◌==◌, Bool, true, false, not, cond, List, [], ◌∷◌, ◌++◌, Option, Some, None, is_some, option_and_then, Contains, inl, inr, refl, sym, ap, subst, ◌∙◌, arith}
+use Rattle.std.proofs.lemmas.Bool.{cases_eq, eq-eqb, false≢true}
 use Rattle.std.proofs.lemmas.List.Elements.{Contains-push, Contains-push_cases, Contains-append_left}
+use Rattle.bng_base.specs.declared.address.Ip4.{Ip4}
 use Rattle.bng_base.specs.declared.address.SessionNo.{SessionNo}
-use Rattle.bng_slots.specs.Sessions.{Sessions, value_at, without}
+use Rattle.bng_slots.specs.Sessions.{Sessions, read_at, value_at, without}
 use Rattle.bng_slots.specs.Listed.{values}
 use Rattle.bng_slots.proofs.SessionLaws.{value_at-without, value_at-without_other}
-use Rattle.bng_slots.proofs.SlotLaws.{remove_absent}
 use Rattle.bng_shard.specs.declared.session.Session.{Session}
-use Rattle.bng_shard.specs.Serving.{AreOwn, AreOfShard, AreLeaving, does_leave, ended_in}
-use Rattle.bng_shard.specs.State.{leaves, made_one}
-use Rattle.bng_shard.proofs.Serves.{leaves_is, leaves_there, made_take, made_there, own_take, of_shard_take}
-use Rattle.bng_shard.proofs.Values.{kept, none_kept, none_some, numbered, same_sessions, same_some, sum_nothing, value_at-kept}
+use Rattle.bng_shard.specs.Indexed.{address_of}
+use Rattle.bng_shard.specs.Listing.{does_pass, passing_in}
+use Rattle.bng_shard.specs.Serving.{AreApart, AreOwn, AreOfShard, AreLeaving}
+use Rattle.bng_shard.specs.State.{leaves}
+use Rattle.bng_shard.proofs.Earliest.{read_there}
+use Rattle.bng_shard.proofs.Listing.{listed_there}
+use Rattle.bng_shard.proofs.Values.{kept, none_kept, none_some, numbered, same_sessions, sum_holds, sum_nothing, value_at-kept}
 
--- Of the sessions s0 those are left that have not ended, and some that have, whose numbers are in the list; discovery made so
--- many of those that are left.
-pub record Settles (s0 s : Sessions Session) (numbers : List SessionNo) (made : ℕ) : Type 0 where
+abbrev does_leave : Option Session → Bool
+does_leave o = does_pass leaves o
+
+-- Of the sessions s0 those are left that have not ended, and some that have, whose numbers are in the list.
+pub record Settles (s0 s : Sessions Session) (numbers : List SessionNo) : Type 0 where
   pub shard : s.shard ≡ s0.shard
-  pub left : (n : ℕ) → (value_at s n ≡ value_at s0 n) ⊎ ((value_at s n ≡ None) × (does_leave (value_at s0 n) ≡ true))
-  pub listed : (n : SessionNo) → Contains numbers n → does_leave (value_at s0 n.0) ≡ true
-  pub all : (n : SessionNo) → does_leave (value_at s n.0) ≡ true → Contains numbers n
-  pub own : AreOwn s
-  pub of_shard : AreOfShard s
-  pub made_is : made ≡ sum_by (λ (x : Session). made_one x.service) (values s)
+  pub left : (n : ℕ) → (value_at s n ≡ value_at s0 n) ⊎ ((value_at s n ≡ None) × (does_pass leaves (value_at s0 n) ≡ true))
+  pub listed : (n : SessionNo) → Contains numbers n → does_pass leaves (value_at s0 n.0) ≡ true
+  pub all : (n : SessionNo) → does_pass leaves (value_at s n.0) ≡ true → Contains numbers n
 
-pub settles_none : (s : Sessions Session) (numbers : List SessionNo) (made : ℕ) → AreLeaving s numbers → AreOwn s → AreOfShard s → made ≡ sum_by (λ (x : Session). made_one x.service) (values s) → Settles s s numbers made
-settles_none s numbers made h own of is = record {
+some_there : {A : Type 0} (o : Option A) → is_some o ≡ true → (a : A) × (o ≡ Some a)
+some_there None h = absurd (false≢true h)
+some_there (Some a) h = (a, refl)
+
+same_session_number : (a b : SessionNo) → a.0 ≡ b.0 → a ≡ b
+same_session_number a b e = λ i. record { 0 = e i }
+
+-- a number that stands in the list is that of a session that has ended
+listed_leaves : (s : Sessions Session) (numbers : List SessionNo) → AreLeaving s numbers → (n : SessionNo) → Contains numbers n → does_leave (value_at s n.0) ≡ true
+listed_leaves s numbers h n c =
+    let one = sum_holds (λ (m : SessionNo). cond (m.0 == n.0) 1 0) numbers n c in
+    let here = ap {B = ℕ} (λ (b : Bool). cond b 1 0) (eq-eqb n.0 n.0 refl) in
+    let is = h n.0 in
+    elim (does_leave (value_at s n.0)) as (λ b. does_leave (value_at s n.0) ≡ b → b ≡ true) [
+      | true ↦ λ e. refl
+      | false ↦ λ e. let none = ap {B = ℕ} (λ (b : Bool). cond b 1 0) e in absurd (omega (arith, one, here, is, none))
+    ] refl
+
+pub settles_none : (s : Sessions Session) (numbers : List SessionNo) → AreLeaving s numbers → Settles s s numbers
+settles_none s numbers h = record {
   shard = refl;
   left = λ n. inl refl;
-  listed = λ n c. (h n).0 c;
-  all = λ n d. (h n).1 d;
-  own = own;
-  of_shard = of;
-  made_is = is;
+  listed = listed_leaves s numbers h;
+  all = λ n d.
+      let k = listed_there n.0 numbers (h n.0 ∙ ap {B = ℕ} (λ (b : Bool). cond b 1 0) d) in
+      subst (Contains numbers) (same_session_number k.0 n k.2) k.1;
 }
 
-module _ (s0 s : Sessions Session) (numbers : List SessionNo) (q : SessionNo) (made : ℕ) (h : Settles s0 s (numbers ++ q ∷ []) made) where
-  -- the one that is taken out has ended, if it is still there
-  pub ended_there : (x : Session) → value_at s q.0 ≡ Some x → made_one x.service ≡ 1
-  ended_there x here =
-      let ends = h.listed q (Contains-push numbers q) in
-      elim (h.left q.0) [
-        | inl same ↦
-            let y = leaves_there (value_at s0 q.0) ends in
-            let one : x ≡ y.0 = same_some x y.0 (sym here ∙ same ∙ y.1) in
-            leaves_is x.service (ap leaves one ∙ y.2)
-        | inr none ↦ absurd (none_some x (sym none.0 ∙ here))
-      ]
-
-  pub some_made : (x : Session) → value_at s q.0 ≡ Some x → 1 ≤ made
-  some_made x here =
-      let one = made_there s q.0 x here (ended_there x here) in
-      let is = h.made_is in
-      omega (arith, one, is)
-
+module _ (s0 s : Sessions Session) (numbers : List SessionNo) (q : SessionNo) (h : Settles s0 s (numbers ++ q ∷ [])) where
   without_left : (n : ℕ) → (value_at (without s q.0) n ≡ value_at s0 n) ⊎ ((value_at (without s q.0) n ≡ None) × (does_leave (value_at s0 n) ≡ true))
   without_left n = elim (cases_eq n q.0) [
     | inl same ↦
@@ -77,34 +78,16 @@ module _ (s0 s : Sessions Session) (numbers : List SessionNo) (q : SessionNo) (m
     ]
   ]
 
-  pub settles_more : (x : Session) (made' : ℕ) → value_at s q.0 ≡ Some x → made' ≡ made - 1 → Settles s0 (without s q.0) numbers made'
-  settles_more x made' here less =
-      let sums = made_take s q.0 x here (ended_there x here) in
-      let is = h.made_is in
-      record {
-        shard = h.shard;
-        left = without_left;
-        listed = λ n c. h.listed n (Contains-append_left numbers (q ∷ []) n c);
-        all = without_all;
-        own = own_take s q.0 h.own;
-        of_shard = of_shard_take s q.0 h.of_shard;
-        made_is = omega (arith, sums, is, less);
-      }
+  -- one more has left
+  pub settles_more : Settles s0 (without s q.0) numbers
+  settles_more = record {
+    shard = h.shard;
+    left = without_left;
+    listed = λ n c. h.listed n (Contains-append_left numbers (q ∷ []) n c);
+    all = without_all;
+  }
 
-  pub settles_absent : value_at s q.0 ≡ None → Settles s0 (without s q.0) numbers made
-  settles_absent none =
-      let same : without s q.0 ≡ s = ap (λ m. let t : Sessions Session = record { shard = s.shard; by_number = m } in t) (remove_absent s.by_number q.0 none) in
-      record {
-        shard = h.shard;
-        left = without_left;
-        listed = λ n c. h.listed n (Contains-append_left numbers (q ∷ []) n c);
-        all = without_all;
-        own = own_take s q.0 h.own;
-        of_shard = of_shard_take s q.0 h.of_shard;
-        made_is = h.made_is ∙ sym (ap (λ (t : Sessions Session). sum_by (λ (x : Session). made_one x.service) (values t)) same);
-      }
-
-module _ (s0 s : Sessions Session) (made : ℕ) (h : Settles s0 s [] made) where
+module _ (s0 s : Sessions Session) (h : Settles s0 s []) where
   none_listed : (n : SessionNo) → Contains {X = SessionNo} [] n → ⊥
   none_listed n (k, l, is) = omega arith
 
@@ -132,16 +115,37 @@ module _ (s0 s : Sessions Session) (made : ℕ) (h : Settles s0 s [] made) where
   pub settles_all : s ≡ kept (λ (x : Session). not (leaves x)) s0
   settles_all = same_sessions s (kept (λ (x : Session). not (leaves x)) s0) h.shard each
 
+  -- what is left was there before
+  left_was : (n : ℕ) (x : Session) → value_at s n ≡ Some x → value_at s0 n ≡ Some x
+  left_was n x is = elim (h.left n) [
+    | inl same ↦ sym same ∙ is
+    | inr none ↦ absurd (none_some x (sym none.0 ∙ is))
+  ]
+
+  pub own_left : AreOwn s0 → AreOwn s
+  own_left own n x is = own n x (left_was n x is)
+
+  pub of_shard_left : AreOfShard s0 → AreOfShard s
+  of_shard_left own n some =
+      let x = some_there (value_at s n) some in
+      let is = own n (ap is_some (left_was n x.0 x.1)) in
+      let shard = h.shard in
+      (omega (arith, is.0, shard), omega (arith, is.1, shard))
+
+  pub apart_left : AreApart s0 → AreApart s
+  apart_left apart m n a em en = apart m n a (was m a em) (was n a en)
+    where
+      was : (k : ℕ) (b : Ip4) → read_at address_of s k ≡ Some b → read_at address_of s0 k ≡ Some b
+      was k b e =
+          let x = read_there address_of (value_at s k) b e in
+          ap (option_and_then address_of) (left_was k x.0 x.1) ∙ x.2
+
   pub leaving_none : AreLeaving s []
-  leaving_none n = (λ c. absurd (none_listed n c), λ d. absurd (none_leaves n.0 d))
+  leaving_none n =
+      elim (does_leave (value_at s n)) as (λ b. does_leave (value_at s n) ≡ b → ◌≡◌ {A = ℕ} 0 (cond b 1 0)) [
+        | true ↦ λ e. absurd (none_leaves n e)
+        | false ↦ λ e. refl
+      ] refl
 
-  pub ended_none : ended_in s ≡ 0
-  ended_none = sum_nothing (λ (x : Session). cond (leaves x) 1 0) (values s) (λ x c. let n = numbered s x c in ap (λ (b : Bool). cond b 1 0) (stays n.0 x n.1))
-
-pub some_there : {A : Type 0} (o : Option A) → is_some o ≡ true → (a : A) × (o ≡ Some a)
-some_there None h = absurd (false≢true h)
-some_there (Some a) h = (a, refl)
-
-pub none_there : {A : Type 0} (o : Option A) → is_some o ≡ false → o ≡ None
-none_there None h = refl
-none_there (Some a) h = absurd (false≢true (sym h))
+  pub ended_none : passing_in leaves s ≡ 0
+  ended_none = sum_nothing (λ (x : Session). cond (leaves x) 1 0) (values s) (λ x c. let n = numbered s x c in ap {B = ℕ} (λ (b : Bool). cond b 1 0) (stays n.0 x n.1))

@@ -1,28 +1,30 @@
 -- The protocol of a shard meets the laws of a step.
-use Rattle.std.proofs.Common.{◌≡◌, ◌⊎◌, inl, inr, ℕ, ◌+◌, ◌≤◌, Bool, List, [], ◌∷◌, Option, Some, IfSome, MatchOption, length, is_some, count_by, sum_by, if◌then◌else◌, refl, sym, ap, subst, ◌∙◌, arith, append-nil}
-use Rattle.std.specs.List.{AllByRecursion}
+use Rattle.std.proofs.Common.{◌≡◌, ◌⊎◌, inl, inr, ℕ, ◌+◌, ◌≤◌, Bool, List, [], ◌∷◌, Option, Some, None, IfSome, MatchOption, true, false, length, is_some, count_by, sum_by, if◌then◌else◌, refl, sym, ap, subst, ◌∙◌, arith, append-nil}
+use Rattle.std.specs.List.{AllByRecursion, AllZip}
 use Rattle.std.proofs.lemmas.List.Sums.{sum_by-cons}
 use Rattle.bng_base.specs.declared.item.Charge.{Charge}
+use Rattle.bng_base.specs.declared.item.ItemKind.TheVariants.{End}
 use Rattle.bng_base.specs.declared.item.OutRecord.{OutRecord}
+use Rattle.bng_base.specs.declared.settings.Static.{Static}
 use Rattle.bng_engine.specs.Lists.{AnyOf, one_if}
-use Rattle.bng_engine.specs.Protocol.{StepLaws, StillLaws, Begins, IsFor, IsAddressed, IsUnsent, IsOfSeat, IsSpelled, HaveProfiles}
+use Rattle.bng_engine.specs.Protocol.{StepLaws, Begins, IsFor, IsAddressed, IsUnsent, IsOfSeat, IsSpelled}
 use Rattle.bng_engine.specs.Sums.{part_of_charge}
 use Rattle.bng_engine.specs.Terms.{Term, keys}
 use Rattle.bng_engine.proofs.Everywhere.{all_weaker}
-use Rattle.bng_slots.specs.Listed.{values}
 use Rattle.bng_shard.specs.declared.rules.Rules.{Rules}
 use Rattle.bng_shard.specs.declared.session.Lease.{Lease}
 use Rattle.bng_shard.specs.declared.session.Session.{Session}
 use Rattle.bng_shard.specs.State.{State}
 use Rattle.bng_shard.specs.Deed.{Deed, at_of, out, is_forwarded}
 use Rattle.bng_shard.specs.Frames.{charge_of}
-use Rattle.bng_shard.specs.Protocol.{term_of, terms_of, claimed_by, refused_by, pppoe, packet_octets, profiles_there}
+use Rattle.bng_shard.specs.Link.{nas_request}
+use Rattle.bng_shard.specs.Protocol.{Handled, ShardState, StaysOrEnds, term_of, terms_after, terms_of, claimed_by, refused_by, pppoe, packet_octets, profiles_there}
 use Rattle.bng_shard.specs.Reader.{IsWhole, IsNoPacket, IsInDirection}
 use Rattle.bng_shard.specs.Step.{Step}
 use Rattle.bng_shard.proofs.Reading.{whole_read}
 use Rattle.bng_shard.proofs.Sends.{SendsNone, SendsOne, step_sends}
 use Rattle.bng_shard.proofs.Spelling.{IsControl, AreControl}
-use Rattle.bng_shard.proofs.Terms.{terms_there, step_remains, settled_terms, none_ended, all_live}
+use Rattle.bng_shard.proofs.Terms.{terms_there, step_remains, step_unchanged, settled_terms, zip_keys, zip_profiles}
 
 -- Terms -----------------------------------------------------------------------------------------------------------------
 
@@ -31,7 +33,7 @@ begins r s d h =
     let remains = step_remains r s d h in
     record {
       began = [];
-      keys = λ f. ap (sum_by f) (ap keys remains.terms ∙ sym (append-nil (keys (terms_there s))));
+      keys = λ f. ap (sum_by f) (zip_keys (terms_there s) (terms_there d.next) remains.terms ∙ sym (append-nil (keys (terms_there s))));
       leases = sym (ap claimed_by h.claim);
       numbered = remains.begun;
     }
@@ -42,12 +44,12 @@ any_weaker P Q f (x ∷ xs) (inl h) = inl (f x h)
 any_weaker P Q f (x ∷ xs) (inr h) = inr (any_weaker P Q f xs h)
 
 -- a charge is for the session's term
-charged_term : (x : Session) (l : Lease) (input : Bool) (octets : ℕ) (t : Term) → t ≡ term_of x l → IsFor (charge_of x l input octets) t
+charged_term : (x : Session) (l : Lease) (input : Bool) (octets : ℕ) (t : Term) → t ≡ term_of x l None → IsFor (charge_of x l input octets) t
 charged_term x l input octets t e =
     subst (λ (u : Term). IsFor (charge_of x l input octets) u) (sym e) (record { live = refl; term = refl; circuit = refl; address = refl; profile = refl })
 
-charged_one : (s : State) (x : Session) (l : Lease) (input : Bool) (octets : ℕ) → AnyOf (λ (t : Term). t ≡ term_of x l) (terms_there s) → AnyOf (IsFor (charge_of x l input octets)) (terms_there s)
-charged_one s x l input octets there = any_weaker (λ (t : Term). t ≡ term_of x l) (IsFor (charge_of x l input octets)) (charged_term x l input octets) (terms_there s) there
+charged_one : (s : State) (x : Session) (l : Lease) (input : Bool) (octets : ℕ) → AnyOf (λ (t : Term). t ≡ term_of x l None) (terms_there s) → AnyOf (IsFor (charge_of x l input octets)) (terms_there s)
+charged_one s x l input octets there = any_weaker (λ (t : Term). t ≡ term_of x l None) (IsFor (charge_of x l input octets)) (charged_term x l input octets) (terms_there s) there
 
 -- Laws of outs ----------------------------------------------------------------------------------------------------------
 
@@ -91,22 +93,53 @@ pppoe_laws = record {
   spelled = λ s h is. spelled s.rules s.slots h.deed is;
   unsent = λ s h is. unsent s.rules s.slots h.deed is;
   seated = λ s h is. seated s.rules s.slots h.deed is;
-  profiled = λ s h is have. subst (λ (ts : List Term). HaveProfiles profiles_there ts) (sym (step_remains s.rules s.slots h.deed is).terms) have;
-  settles = λ s f. ap (sum_by f) (settled_terms s.slots ∙ sym (all_live (terms_there s.slots) (none_ended (values s.slots.sessions))));
+  profiled = λ s h is have. zip_profiles profiles_there (terms_there s.slots) (terms_there h.deed.next) (step_remains s.rules s.slots h.deed is).terms have;
+  settles = λ s f. ap (sum_by f) (settled_terms s.slots);
   settles_begun = λ s. refl;
 }
 
--- no term begins, and none ends
-pub pppoe_still : StillLaws pppoe
-pppoe_still = record { claims = λ s h is. ap claimed_by is.claim; refusals = λ s h is. ap refused_by is.claim; live = λ s. none_ended (values s.slots.sessions) }
+-- no step claims an address, and none is told that one is held
+pub step_claims : (s : ShardState) (h : Handled) → pppoe.is_step s h → (pppoe.claimed h ≡ []) × (pppoe.refused h ≡ [])
+step_claims s h is = (ap claimed_by is.claim, ap refused_by is.claim)
 
--- a step changes no term
-pub step_terms : (r : Rules) (s : State) (d : Deed) → Step r s d → terms_of (record { rules = r; slots = d.next }) ≡ terms_of (record { rules = r; slots = s })
-step_terms r s d h = (step_remains r s d h).terms
+-- no term begins
+pub step_begins_none : (r : Rules) (s : State) (d : Deed) → Step r s d → d.next.begun ≡ s.begun
+step_begins_none r s d h = (step_remains r s d h).begun
 
--- and begins none
-pub step_begins_none : (r : Rules) (s : State) (d : Deed) → Step r s d → (d.next.begun ≡ s.begun) × (terms_of (record { rules = r; slots = d.next }) ≡ terms_of (record { rules = r; slots = s }))
-step_begins_none r s d h = ((step_remains r s d h).begun, step_terms r s d h)
+-- only an End changes a term
+pub step_terms : (r : Rules) (s : State) (d : Deed) → Step r s d → ¬ (d.entry.item.kind ≡ End) → terms_of (record { rules = r; slots = d.next }) ≡ terms_of (record { rules = r; slots = s })
+step_terms r s d h other = (step_unchanged r s d h other).terms
+
+-- each term is as it was, or was live and has ended by the gateway's own stop
+pub step_ends : (r : Rules) (s : State) (d : Deed) → Step r s d → AllZip StaysOrEnds (terms_of (record { rules = r; slots = s })) (terms_of (record { rules = r; slots = d.next }))
+step_ends r s d h = (step_remains r s d h).terms
+
+-- the terms keep their keys
+pub step_keys : (r : Rules) (s : State) (d : Deed) → Step r s d → keys (terms_of (record { rules = r; slots = d.next })) ≡ keys (terms_of (record { rules = r; slots = s }))
+step_keys r s d h = zip_keys (terms_there s) (terms_there d.next) (step_remains r s d h).terms
+
+-- the cause of a term that has ended is the gateway's own stop
+abbrev pub EndsByStop : Term → Type 0
+EndsByStop t = t.ended ≡ true → t.cause ≡ nas_request
+
+by_stop : (t u : Term) → StaysOrEnds t u → EndsByStop t → EndsByStop u
+by_stop t u (inl e) h = subst EndsByStop (sym e) h
+by_stop t u (inr (live, e)) h = λ over. ap (λ (w : Term). w.cause) e
+
+all_by_stop : (ts us : List Term) → AllZip StaysOrEnds ts us → AllByRecursion EndsByStop ts → AllByRecursion EndsByStop us
+all_by_stop [] [] h all = tt
+all_by_stop [] (u ∷ us) h all = absurd h
+all_by_stop (t ∷ ts) [] h all = absurd h
+all_by_stop (t ∷ ts) (u ∷ us) h all = (by_stop t u h.0 all.0, all_by_stop ts us h.1 all.1)
+
+-- where that is so of each, it is so after a step
+pub step_causes : (r : Rules) (s : State) (d : Deed) → Step r s d → AllByRecursion EndsByStop (terms_of (record { rules = r; slots = s })) → AllByRecursion EndsByStop (terms_of (record { rules = r; slots = d.next }))
+step_causes r s d h = all_by_stop (terms_there s) (terms_there d.next) (step_remains r s d h).terms
+
+-- and at the opening, as no term has ended there
+pub opened_live : (n : ℕ) (cs : List Static) → AllByRecursion (λ (t : Term). t.ended ≡ false) (terms_after n cs)
+opened_live n [] = tt
+opened_live n (c ∷ cs) = (refl, opened_live (n + 1) cs)
 
 -- Octets and fates ------------------------------------------------------------------------------------------------------
 

@@ -24,7 +24,7 @@ use Rattle.bng_shard.specs.Fits.{ArePlaced, owed}
 use Rattle.bng_shard.specs.State.{State}
 use Rattle.bng_shard.specs.Step.{Step}
 use Rattle.bng_shard.specs.Sums.{Rises}
-use Rattle.bng_shard.proofs.Terms.{Remains, step_remains}
+use Rattle.bng_shard.proofs.Terms.{Remains, step_remains, terms_there, zip_keys}
 use Rattle.bng_shard.proofs.StepLaws.{light}
 
 -- the outs that a round may still have -------------------------------------------------------------------------------------
@@ -104,7 +104,7 @@ module _ (r : Rules) (s s' : State) (rows : List Row) (passed passed' : Book) (a
 
   -- the rows fit as before
   pub still_fit : row_keys rows ≡ keys (terms_of (record { rules = r; slots = s' }))
-  still_fit = fit ∙ sym (ap keys remains.terms)
+  still_fit = fit ∙ sym (zip_keys (terms_there s) (terms_there s') remains.terms)
 
   pub still_placed : ArePlaced r s.sessions → ArePlaced r s'.sessions
   still_placed = remains.placed

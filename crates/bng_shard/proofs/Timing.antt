@@ -1,18 +1,17 @@
 -- What a Tick and an End did so far, and what follows on it.
-use Rattle.std.proofs.Common.{◌≡◌, ◌<◌, ◌≤◌, ◌+◌, ◌-◌, ℕ, suc, true, false, Some, List, [], ◌++◌, length, refl, inl, inr, sym, ap, subst, ◌∙◌, arith, append_assoc, append-nil, length-append, add-zero, zero-add}
+use Rattle.std.proofs.Common.{◌≡◌, ◌<◌, ◌≤◌, ◌+◌, ◌-◌, ℕ, suc, true, false, List, [], ◌++◌, length, refl, inl, inr, sym, ap, subst, ◌∙◌, arith, append_assoc, append-nil, length-append, add-zero, zero-add}
 use Rattle.bng_base.specs.declared.item.Entry.{Entry}
 use Rattle.bng_base.specs.declared.item.OutRecord.{OutRecord}
 use Rattle.bng_ppp.specs.declared.whole_input.WholeInput.TheVariants.{Timer}
 use Rattle.bng_ppp.specs.PppRelation.{PppSteps}
-use Rattle.bng_slots.specs.Sessions.{value_at}
 use Rattle.bng_shard.specs.declared.rules.Rules.{Rules}
 use Rattle.bng_shard.specs.declared.sending.At.{At}
 use Rattle.bng_shard.specs.declared.session.Session.{Session}
 use Rattle.bng_shard.specs.State.{State}
 use Rattle.bng_shard.specs.Deed.{at_of}
-use Rattle.bng_shard.specs.Link.{Drives, EndsWith, told}
+use Rattle.bng_shard.specs.Link.{Drives, told}
 use Rattle.bng_shard.specs.Driven.{Driven}
-use Rattle.bng_shard.specs.Timers.{Ticks, Ends, IsFirstDue, NoneIsDue, IsLowest}
+use Rattle.bng_shard.specs.Timers.{Ticks, Ends, TellsEnd, IsFirstDue, NoneIsDue}
 use Rattle.bng_shard.specs.Timed.{TickedOnce, EndedOnce, Ticked, Ended}
 
 -- whose outs they are stays while the shard's number stays
@@ -109,7 +108,7 @@ module _ (r : Rules) (a : At) (s₀ s : State) (outs₀ outs : List OutRecord) w
         outs_are = more_sent outs₀ on.sent outs padt outs₁ on.outs_are sent;
         number = ap (λ (t : State). t.sessions.shard) next ∙ on.number;
         go_on = λ e at m more s' h.
-            let told_so : EndsWith r (at_of s e) x padt = subst (λ (c : At). EndsWith r c x padt) (sym (same_at s s₀ e on.number ∙ at)) ends in
+            let told_so : TellsEnd x.service r (at_of s e) x padt = subst (λ (c : At). TellsEnd x.service r c x padt) (sym (same_at s s₀ e on.number ∙ at)) ends in
             let once : Ends (suc m) r e s (padt ++ more) s' = inr (m₀, low, x, at_n, padt, more, told_so, subst (λ (t : State). Ends m r e t more s') next h, refl) in
             let all = on.go_on e at (suc m) (padt ++ more) s' once in
             let count : n + suc m ≡ n + 1 + m = omega arith in

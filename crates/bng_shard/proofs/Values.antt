@@ -1,16 +1,16 @@
 -- The values of a finite map by number: which of them stands under which number, and what a list, a sum and a search over them become.
-use Rattle.std.proofs.Common.{◌≡◌, ◌≢◌, ℕ, zero, suc, ◌+◌, ◌-◌, ◌*◌, ◌<◌, ◌≤◌, Bool, true, false, true≢false, not, cond, T, ◌&&◌, List, [], ◌∷◌, ◌++◌, map, length, get_or, Option, Some, None, is_some, find, filter, flat_map, fold, sum_by, Contains, All, inl, inr, refl, sym, ap, subst, ◌∙◌, arith, append_assoc}
+use Rattle.std.proofs.Common.{◌≡◌, ◌≢◌, ℕ, zero, suc, ◌+◌, ◌-◌, ◌*◌, ◌<◌, ◌≤◌, Bool, true, false, cond, T, ◌&&◌, List, [], ◌∷◌, ◌++◌, map, length, Some, None, is_some, find, filter, flat_map, sum_by, Contains, inl, inr, refl, sym, ap, subst, ◌∙◌, arith}
 use Rattle.std.specs.declared.cmp.Ordering.TheVariants.{Less, Equal, Greater}
 use Rattle.std.specs.Ordering.{nat_cmp, eq_by_cmp, is_eq, is_lt}
 use Rattle.std.specs.Cmp.{nat_cmp_total}
-use Rattle.std.specs.FinMap.{FinMap, get, put, entries, entries_sorted, is_sorted, from_sorted, len, nat_cmp-IsAntisymmetric, same_map, same_entries_map, get-entries, get-from_sorted, entries-insert, entries-from_sorted, len-entries}
+use Rattle.std.specs.FinMap.{FinMap, put, entries, entries_sorted, is_sorted, from_sorted, nat_cmp-IsAntisymmetric, same_map, same_entries_map, get-entries, get-from_sorted, entries-insert, entries-from_sorted, len-entries}
 use Rattle.std.specs.FinMap.{find as find_at}
 use Rattle.std.specs.FinMap.Entries.{below_all, by_order}
 use Rattle.std.proofs.lemmas.Bool.{cases_lt, cases_eq, false≢true}
 use Rattle.std.proofs.lemmas.Bool.Decides.{nat_tests}
 use Rattle.std.proofs.lemmas.List.Concat.{flat_map-append}
 use Rattle.std.proofs.lemmas.List.Sums.{sum_by-cons, sum_by-append}
-use Rattle.bng_slots.specs.Sessions.{Sessions, IsNumberOf, value_at, used, with_value, without}
+use Rattle.bng_slots.specs.Sessions.{Sessions, IsNumberOf, value_at, used, with_value}
 use Rattle.bng_slots.specs.Listed.{values}
 use Rattle.bng_slots.proofs.Numbered.{same_number, other_number}
 

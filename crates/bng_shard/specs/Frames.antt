@@ -22,7 +22,7 @@ use Rattle.bng_shard.specs.declared.session.Lease.{Lease}
 use Rattle.bng_shard.specs.declared.session.Service.TheVariants.{Provisioned, Discovered}
 use Rattle.bng_shard.specs.declared.session.Service.{Service}
 use Rattle.bng_shard.specs.declared.session.Session.{Session}
-use Rattle.bng_shard.specs.State.{State, circuit_of, session_of, holder_of, view_of, with_session, with_driven, port_at}
+use Rattle.bng_shard.specs.State.{State, address_view, circuit_of, session_of, holder_of, lease_of, view_of, with_session, with_driven, port_at}
 use Rattle.bng_shard.specs.Deed.{Deed, at_of, out, only, ignored, dropped, handled, arrival_in}
 use Rattle.bng_shard.specs.Link.{Drives, ended, hears}
 use Rattle.bng_shard.specs.Discovery.{Discovers}
@@ -45,16 +45,16 @@ forwarded s e o = record { entry = e; fate = Forwarded; outs = o ∷ []; next = 
 abbrev pub found_up : State → ℕ → PppoeFrame → Option (Option TermView)
 found_up s number p = option_map view_of (session_of s number p.src p.session)
 
--- the view of the term whose address this is
+-- the view of the term whose address this is, whether it has ended or not
 abbrev pub found_down : State → Ip4 → Option TermView
-found_down s a = option_and_then view_of (holder_of s a)
+found_down s a = option_and_then address_view (holder_of s a)
 
 -- the packet of a session's frame goes to the core
 pub record GoesUp (r : Rules) (s : State) (e : Entry) (number : ℕ) (p : PppoeFrame) (info : List ℕ) (d : Deed) : Type 0 where
   pub x : Session
   pub found : session_of s number p.src p.session ≡ Some x
   pub lease : Lease
-  pub service : x.service ≡ Provisioned lease
+  pub live : lease_of x ≡ Some lease
   pub header : Ipv4
   pub packet : List ℕ
   pub source : header.src ≡ lease.address
@@ -75,7 +75,7 @@ HearsPpp r s e x made p d =
 
 -- A PADT ends a session that discovery made, which gets none back. A provisioned circuit ignores all but data.
 abbrev pub HearsControl : Service → Rules → State → Entry → Session → PppoeFrame → Deed → Type 0
-HearsControl (Provisioned l) r s e x p d = d ≡ ignored s e
+HearsControl (Provisioned v) r s e x p d = d ≡ ignored s e
 HearsControl (Discovered made) r s e x p d =
     ((p.discovery ≡ true) × (d ≡ handled s e [] (with_session s p.session (ended x))))
     ⊎ ((p.discovery ≡ false) × HearsPpp r s e x made p d)
@@ -104,7 +104,7 @@ pub record GoesDown (r : Rules) (s : State) (e : Entry) (v : Ipv4) (d : Deed) : 
   pub x : Session
   pub found : holder_of s v.dst ≡ Some x
   pub lease : Lease
-  pub service : x.service ≡ Provisioned lease
+  pub live : lease_of x ≡ Some lease
   pub address : v.dst ≡ lease.address
   pub port : AccessPort
   pub its_port : port_at r.access x.port ≡ Some port

@@ -4,11 +4,11 @@ use Rattle.std.specs.Option.{option_map}
 use Rattle.bng_base.specs.declared.address.Ip4.{Ip4}
 use Rattle.bng_base.specs.declared.circuit.TermId.{TermId}
 use Rattle.bng_shard.specs.declared.session.Session.{Session}
-use Rattle.bng_shard.specs.State.{lease_of}
+use Rattle.bng_shard.specs.State.{held_in}
 
--- its address and its term, where one is live
+-- the address that it holds, and its term
 abbrev pub address_of : Session → Option Ip4
-address_of x = option_map (λ l. l.address) (lease_of x)
+address_of x = option_map (λ l. l.address) (held_in x.service)
 
 abbrev pub term_of : Session → Option TermId
-term_of x = option_map (λ l. record { session = x.number; serial = l.serial }) (lease_of x)
+term_of x = option_map (λ l. record { session = x.number; serial = l.serial }) (held_in x.service)

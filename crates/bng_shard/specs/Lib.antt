@@ -4,6 +4,7 @@ pub mod Codes
 pub mod Indexed
 pub mod Listing
 pub mod Serving
+pub mod Ending
 pub mod Opening
 pub mod Controlling
 pub mod Deed

@@ -71,11 +71,15 @@ with_link x made asked says link = record x {
   service = Discovered (record made { link = link; question = question_after asked says.asked (is_begun link.auth) made.question; ended = says.finished });
 }
 
+-- the cause of an end by the gateway's own stop (RFC 2866 section 5.10, NAS Request)
+abbrev pub nas_request : ℕ
+nas_request = 10
+
 abbrev pub ended_service : Service → Service
-ended_service (Provisioned l) = Provisioned l
+ended_service (Provisioned p) = Provisioned (record p { cause = Some nas_request })
 ended_service (Discovered made) = Discovered (record made { ended = true })
 
--- a session that discovery made, once it has ended
+-- a session once it has ended; the term of a provisioned circuit ends by the gateway's own stop alone
 abbrev pub ended : Session → Session
 ended x = record x { service = ended_service x.service }
 

@@ -1,5 +1,5 @@
 -- A shard at its opening: the sessions of its provisioned circuits.
-use Rattle.std.specs.Prelude.{ℕ, ◌+◌, ◌*◌, ◌==◌, List, [], ◌∷◌, length, filter}
+use Rattle.std.specs.Prelude.{ℕ, ◌+◌, ◌*◌, ◌==◌, List, [], ◌∷◌, None, length, filter}
 use Rattle.std.specs.List.{flat_map, range_with_len}
 use Rattle.std.specs.FinMap.{from_sorted}
 use Rattle.bng_base.specs.declared.settings.Static.{Static}
@@ -18,7 +18,7 @@ provisioned c serial = record {
   number = c.session;
   port = c.port;
   mac = c.mac;
-  service = Provisioned (lease_from c serial);
+  service = Provisioned (record { lease = lease_from c serial; cause = None });
 }
 
 -- these, by their session numbers, with their terms numbered on after n

@@ -1,6 +1,6 @@
 -- The protocol of a shard, as the engine reads it.
-use Rattle.std.specs.Prelude.{◌≡◌, ℕ, ◌+◌, ◌≤◌, ◌==◌, Bool, false, List, [], ◌∷◌, Option, length, map, find}
-use Rattle.std.specs.List.{flat_map}
+use Rattle.std.specs.Prelude.{◌≡◌, ◌⊎◌, ℕ, ◌+◌, ◌≤◌, ◌==◌, Bool, true, false, List, [], ◌∷◌, Option, Some, None, filter, is_some, length, map, find, sum_by}
+use Rattle.std.specs.List.{flat_map, AllByRecursion}
 use Rattle.bng_base.specs.declared.book.Book.{Book}
 use Rattle.bng_base.specs.declared.fate.Fate.{Fate}
 use Rattle.bng_base.specs.declared.item.Claim.{Claim}
@@ -10,21 +10,23 @@ use Rattle.bng_base.specs.declared.item.Item.{Item}
 use Rattle.bng_base.specs.declared.item.OutRecord.{OutRecord}
 use Rattle.bng_base.specs.declared.settings.Static.{Static}
 use Rattle.bng_engine.specs.Protocol.{Protocol}
-use Rattle.bng_engine.specs.Quantities.{empty_book}
+use Rattle.bng_engine.specs.Quantities.{Quantity, empty_book}
 use Rattle.bng_engine.specs.Showing.{HandlesEntry}
-use Rattle.bng_engine.specs.Sums.{passed_sum}
-use Rattle.bng_engine.specs.Terms.{Term, keys}
-use Rattle.bng_engine.specs.Views.{ShardView, Row, new_row}
+use Rattle.bng_engine.specs.Sums.{passed_sum, stopped_where}
+use Rattle.bng_engine.specs.Terms.{Key, Stop, Term, ComesBefore, is_ended, keys}
+use Rattle.bng_engine.specs.Views.{ShardView, Row, new_row, row_keys, rows_where}
 use Rattle.bng_shard.specs.declared.rules.Rules.{Rules}
 use Rattle.bng_slots.specs.Listed.{values}
 use Rattle.bng_shard.specs.declared.session.Lease.{Lease}
 use Rattle.bng_shard.specs.declared.session.Service.{Service}
 use Rattle.bng_shard.specs.declared.session.Service.TheVariants.{Provisioned, Discovered}
 use Rattle.bng_shard.specs.declared.session.Session.{Session}
-use Rattle.bng_shard.specs.State.{State, circuit_of, made_in, settled}
+use Rattle.bng_shard.specs.declared.term.EndedTerm.{EndedTerm}
+use Rattle.bng_shard.specs.State.{State, circuit_of, count_in, settled}
 use Rattle.bng_shard.specs.Deed.{Deed}
 use Rattle.bng_shard.specs.Due.{due_of}
 use Rattle.bng_shard.specs.Hearing.{outs_most}
+use Rattle.bng_shard.specs.Link.{nas_request}
 use Rattle.bng_shard.specs.Opening.{in_order, lease_from, opened_slots, provisioned}
 use Rattle.bng_shard.specs.Reader.{pppoe_reader, tells_pppoe}
 use Rattle.bng_shard.specs.Step.{Step}
@@ -40,23 +42,28 @@ pub record Handled : Type 0 where
   pub deed : Deed
   pub limited : Bool
 
--- the term of a session with this lease
-abbrev pub term_of : Session → Lease → Term
-term_of x l = record {
+-- the cause of its end, 0 as long as it is live
+abbrev pub cause_in : Option ℕ → ℕ
+cause_in None = 0
+cause_in (Some cause) = cause
+
+-- the term of a session with this lease, which has ended where it has a cause
+abbrev pub term_of : Session → Lease → Option ℕ → Term
+term_of x l cause = record {
   key = record { term = record { session = x.number; serial = l.serial }; circuit = circuit_of x; lease = l.address };
   profile = l.profile;
-  ended = false;
-  cause = 0;
+  ended = is_some cause;
+  cause = cause_in cause;
 }
 
 abbrev pub terms_in : Session → Service → List Term
-terms_in x (Provisioned l) = term_of x l ∷ []
+terms_in x (Provisioned p) = term_of x p.lease p.cause ∷ []
 terms_in x (Discovered m) = []
 
 abbrev pub terms_at : Session → List Term
 terms_at x = terms_in x x.service
 
--- The terms of a shard, by rising session number. Each provisioned circuit has one from the opening on, which does not end. No
+-- The terms of a shard, by rising session number. Each provisioned circuit has one from the opening on, until it has its Stop. No
 -- session that discovery made has one.
 abbrev pub terms_of : ShardState → List Term
 terms_of s = flat_map terms_at (values s.slots.sessions)
@@ -64,18 +71,18 @@ terms_of s = flat_map terms_at (values s.slots.sessions)
 -- the terms of these circuits, numbered on after n
 abbrev pub terms_after : ℕ → List Static → List Term
 terms_after n [] = []
-terms_after n (c ∷ cs) = term_of (provisioned c (n + 1)) (lease_from c (n + 1)) ∷ terms_after (n + 1) cs
+terms_after n (c ∷ cs) = term_of (provisioned c (n + 1)) (lease_from c (n + 1)) None ∷ terms_after (n + 1) cs
 
 -- the terms of a shard's circuits at its opening: numbered from 1 on, by rising session number
 abbrev pub terms_of_circuits : ℕ → List Static → List Term
 terms_of_circuits shard circuits = terms_after 0 (in_order shard circuits)
 
--- the earliest deadline of its sessions, if one has a deadline, and how many sessions discovery made that are still there
+-- the earliest deadline of its sessions, if one has a deadline, and how many sessions there are, provisioned circuits among them
 abbrev pub deadline_of : ShardState → Option ℕ
 deadline_of s = due_of s.slots
 
 abbrev pub sessions_of : ShardState → ℕ
-sessions_of s = made_in s.slots
+sessions_of s = count_in s.slots
 
 abbrev pub claimed_by : Claim → List ℕ
 claimed_by NoClaim = []
@@ -147,3 +154,30 @@ opened number rules circuits = record {
 -- the row of a session's term
 abbrev pub row_at : List Row → ℕ → Option Row
 row_at rows session = find (λ (r : Row). r.key.term.session.0 == session) rows
+
+-- what is reported of a term that ended
+abbrev pub stop_of : EndedTerm → Stop
+stop_of e = record { key = record { term = e.term; circuit = e.circuit; lease = e.address }; cause = e.cause; carried = e.carried }
+
+-- the terms that have ended and are still there
+abbrev pub ended_terms : ShardState → List Term
+ended_terms s = filter is_ended (terms_of s)
+
+-- One of the terms that have ended has left, the first in order: this Stop is formed of it, with what its row said. What the shard is
+-- once all of them have left is the same.
+pub record Leaves (v v' : ShardView ShardState Entry) (s : Stop) : Type 0 where
+  pub one : (f : Key → ℕ → ℕ) → f s.key s.cause + sum_by (λ t. f t.key t.cause) (ended_terms v'.state) ≡ sum_by (λ t. f t.key t.cause) (ended_terms v.state)
+  pub least : AllByRecursion (λ t. ComesBefore s.key t.key) (ended_terms v'.state)
+  pub rows : (q : Quantity) (pick : Key → Bool) (input : Bool) → stopped_where q pick input (s ∷ []) + rows_where q pick input v'.rows ≡ rows_where q pick input v.rows
+  pub fit : row_keys v'.rows ≡ keys (terms_of v'.state)
+  pub rules : v'.state.rules ≡ v.state.rules
+  pub slots : settled v'.state.slots ≡ settled v.state.slots
+  pub number : v'.number ≡ v.number
+  pub books : v'.books ≡ v.books
+  pub allowance : v'.allowance ≡ v.allowance
+  pub journal : v'.journal ≡ v.journal
+  pub outs : v'.outs ≡ v.outs
+
+-- A term before a step and after it: it is as it was, or it was live and has ended by the gateway's own stop.
+abbrev pub StaysOrEnds : Term → Term → Type 0
+StaysOrEnds t t' = (t' ≡ t) ⊎ ((t.ended ≡ false) × (t' ≡ record t { ended = true; cause = nas_request }))

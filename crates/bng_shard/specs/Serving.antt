@@ -1,16 +1,16 @@
 -- What a shard keeps of its sessions, beside them.
-use Rattle.std.specs.Prelude.{◌≡◌, is_some, not, ℕ, ◌<◌, ◌&&◌, ◌↔◌, Bool, true, false, List, Option, Some, None, IsSome, length, sum_by, cond, vec_capacity}
-use Rattle.std.specs.List.{Contains}
+use Rattle.std.specs.Prelude.{◌≡◌, is_some, not, ℕ, ◌<◌, ◌&&◌, Bool, false, List, Some, IsSome, length, vec_capacity}
+use Rattle.bng_base.specs.declared.address.Ip4.{Ip4}
 use Rattle.bng_base.specs.declared.address.SessionNo.{SessionNo}
-use Rattle.bng_slots.specs.Sessions.{Sessions, IsNumberOf, value_at}
-use Rattle.bng_slots.specs.Listed.{values}
+use Rattle.bng_slots.specs.Sessions.{Sessions, IsNumberOf, read_at, value_at}
 use Rattle.bng_shard.specs.declared.session.Service.{Service}
 use Rattle.bng_shard.specs.declared.session.Service.TheVariants.{Provisioned, Discovered}
 use Rattle.bng_shard.specs.declared.session.Session.{Session}
 use Rattle.bng_shard.specs.declared.served.Served.TheInside.{Inside}
 use Rattle.bng_shard.specs.Listing.{AreListed, passing_in}
 use Rattle.bng_shard.specs.Questions.{open_of}
-use Rattle.bng_shard.specs.State.{leaves, made_one}
+use Rattle.bng_shard.specs.Indexed.{address_of}
+use Rattle.bng_shard.specs.State.{leaves}
 
 -- each session has the number under which it stands
 abbrev pub AreOwn : Sessions Session → Type 0
@@ -20,17 +20,13 @@ AreOwn sessions = (n : ℕ) (x : Session) → value_at sessions n ≡ Some x →
 abbrev pub AreOfShard : Sessions Session → Type 0
 AreOfShard sessions = (n : ℕ) → IsSome (value_at sessions n) → IsNumberOf sessions.shard n
 
-abbrev pub does_leave : Option Session → Bool
-does_leave None = false
-does_leave (Some x) = leaves x
-
--- how many sessions have ended
-abbrev pub ended_in : Sessions Session → ℕ
-ended_in sessions = sum_by (λ x. cond (leaves x) 1 0) (values sessions)
+-- no two sessions have the same address
+abbrev pub AreApart : Sessions Session → Type 0
+AreApart sessions = (m n : ℕ) (a : Ip4) → read_at address_of sessions m ≡ Some a → read_at address_of sessions n ≡ Some a → m ≡ n
 
 -- the numbers of the sessions that have ended
 abbrev pub AreLeaving : Sessions Session → List SessionNo → Type 0
-AreLeaving sessions numbers = (n : SessionNo) → Contains numbers n ↔ (does_leave (value_at sessions n.0) ≡ true)
+AreLeaving sessions numbers = AreListed leaves sessions numbers
 
 -- the session has an open question
 abbrev pub asks : Session → Bool
@@ -52,14 +48,13 @@ is_young x = is_young_in x.service
 abbrev pub AreYoung : Sessions Session → List SessionNo → Type 0
 AreYoung sessions numbers = AreListed is_young sessions numbers
 
--- How many sessions discovery made, the numbers of those that have ended, of those that have an open question, and of the young
--- ones, for which there is room.
+-- The numbers of the sessions that have ended, of those that have an open question, and of the young ones, for which there is room.
 pub record Keeps (a : Inside) : Type 0 where
   pub own : AreOwn a.sessions
   pub of_shard : AreOfShard a.sessions
-  pub made : a.made ≡ sum_by (λ (x : Session). made_one x.service) (values a.sessions)
+  pub apart : AreApart a.sessions
   pub leaving : AreLeaving a.sessions a.leaving.items
-  pub counted : ended_in a.sessions ≡ length a.leaving.items
+  pub counted : passing_in leaves a.sessions ≡ length a.leaving.items
   pub room : 1022 < vec_capacity a.leaving
   pub asking : AreAsking a.sessions a.asking.items
   pub asking_counted : passing_in asks a.sessions ≡ length a.asking.items

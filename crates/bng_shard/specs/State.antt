@@ -1,7 +1,6 @@
 -- What a shard serves: its sessions by number, each on a provisioned circuit or made by discovery.
-use Rattle.std.specs.Prelude.{◌≡◌, ◌≢◌, ℕ, ◌-◌, ◌≤◌, ◌==◌, Bool, true, false, not, ◌&&◌, List, [], ◌∷◌, Option, Some, None, filter, find, slice_get, sum_by, cond, if◌then◌else◌}
-use Rattle.std.specs.List.{flat_map}
-use Rattle.std.specs.Ordering.{nat_cmp}
+use Rattle.std.specs.Prelude.{ℕ, ◌-◌, ◌==◌, Bool, true, false, not, ◌&&◌, List, Option, Some, None, filter, find, is_some, length, slice_get, if◌then◌else◌}
+use Rattle.std.specs.Option.{option_map}
 use Rattle.std.specs.FinMap as map
 use Rattle.std.specs.Str.{bytes_eq}
 use Rattle.bng_base.specs.declared.address.Ip4.{Ip4}
@@ -10,11 +9,9 @@ use Rattle.bng_base.specs.declared.circuit.Circuit.{Circuit}
 use Rattle.bng_base.specs.declared.circuit.Circuit.TheVariants.{Pppoe}
 use Rattle.bng_base.specs.declared.settings.AccessPort.{AccessPort}
 use Rattle.bng_discovery.specs.declared.port.PortRules.{PortRules}
-use Rattle.bng_engine.specs.Terms.{Term}
 use Rattle.bng_forward.specs.declared.view.TermView.{TermView}
 use Rattle.bng_slots.specs.Sessions.{Sessions, value_at, with_value}
 use Rattle.bng_slots.specs.Listed.{values}
-use Rattle.bng_shard.specs.Made.{Made}
 use Rattle.bng_shard.specs.declared.session.Lease.{Lease}
 use Rattle.bng_shard.specs.declared.session.Service.{Service}
 use Rattle.bng_shard.specs.declared.session.Service.TheVariants.{Provisioned, Discovered}
@@ -49,25 +46,42 @@ where_on port mac (Some x) = if is_on port mac x then Some x else None
 abbrev pub session_of : State → ℕ → Mac → ℕ → Option Session
 session_of s port mac n = where_on port mac (value_at s.sessions n)
 
--- what a session's lease is, where its term is live: a provisioned circuit has one from the opening on
+-- A provisioned circuit has a term from the opening on, which is live until it has a cause of its end.
+abbrev pub live_lease : Option ℕ → Lease → Option Lease
+live_lease None l = Some l
+live_lease (Some cause) l = None
+
+-- what a session's lease is, where its term is live
 abbrev pub lease_in : Service → Option Lease
-lease_in (Provisioned l) = Some l
+lease_in (Provisioned p) = live_lease p.cause p.lease
 lease_in (Discovered m) = None
 
 abbrev pub lease_of : Session → Option Lease
 lease_of x = lease_in x.service
 
--- what forwarding looks at of a session's term; a provisioned circuit has no LCP and counts as Opened
-abbrev pub view_in : Service → Option TermView
-view_in (Provisioned l) = Some (record { lease = l.address; opened = true })
-view_in (Discovered m) = None
+-- the lease whose address it holds: that of its term, until that has its Stop
+abbrev pub held_in : Service → Option Lease
+held_in (Provisioned p) = Some p.lease
+held_in (Discovered m) = None
+
+-- what forwarding looks at of a session's live term; a provisioned circuit has no LCP and counts as Opened
+abbrev pub view_from : Lease → TermView
+view_from l = record { lease = l.address; opened = true }
 
 abbrev pub view_of : Session → Option TermView
-view_of x = view_in x.service
+view_of x = option_map view_from (lease_of x)
 
--- the session has this address
+-- what forwarding looks at of the address that a session holds, which is open as long as the session's term is live
+abbrev pub address_view_in : Service → Option TermView
+address_view_in (Provisioned p) = Some (record { lease = p.lease.address; opened = not (is_some p.cause) })
+address_view_in (Discovered m) = None
+
+abbrev pub address_view : Session → Option TermView
+address_view x = address_view_in x.service
+
+-- the session holds this address
 abbrev pub leases_in : Service → Ip4 → Bool
-leases_in (Provisioned l) a = l.address.0 == a.0
+leases_in (Provisioned p) a = p.lease.address.0 == a.0
 leases_in (Discovered m) a = false
 
 abbrev pub leases : Ip4 → Session → Bool
@@ -85,17 +99,18 @@ with_session s n x = record s { sessions = with_value s.sessions n x }
 abbrev pub with_driven : State → ℕ → Session → ℕ → State
 with_driven s n x asked = record (with_session s n x) { asked = asked }
 
+-- discovery made the session
 abbrev pub made_one : Service → ℕ
-made_one (Provisioned l) = 0
+made_one (Provisioned p) = 0
 made_one (Discovered m) = 1
 
--- how many sessions discovery made that are still there
-abbrev pub made_in : State → ℕ
-made_in s = sum_by (λ x. made_one x.service) (values s.sessions)
+-- how many sessions there are, provisioned circuits among them
+abbrev pub count_in : State → ℕ
+count_in s = length (values s.sessions)
 
 -- the session has ended, and leaves when the round is settled
 abbrev pub leaves_in : Service → Bool
-leaves_in (Provisioned l) = false
+leaves_in (Provisioned p) = is_some p.cause
 leaves_in (Discovered m) = m.ended
 
 abbrev pub leaves : Session → Bool

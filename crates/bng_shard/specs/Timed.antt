@@ -10,9 +10,9 @@ use Rattle.bng_shard.specs.declared.sending.At.{At}
 use Rattle.bng_shard.specs.declared.session.Session.{Session}
 use Rattle.bng_shard.specs.State.{State, with_session, with_driven}
 use Rattle.bng_shard.specs.Deed.{at_of}
-use Rattle.bng_shard.specs.Link.{EndsWith, ended}
+use Rattle.bng_shard.specs.Link.{ended}
 use Rattle.bng_shard.specs.Driven.{Driven}
-use Rattle.bng_shard.specs.Timers.{Ticks, Ends, IsFirstDue, NoneIsDue, IsLowest, NoneLives}
+use Rattle.bng_shard.specs.Timers.{Ticks, Ends, IsFirstDue, NoneIsDue, IsLowest, NoneStays, TellsEnd}
 
 -- The due deadline that comes first was handled; or none is due, and all is as before.
 abbrev pub TickedOnce : Bool → Rules → At → ℕ → List ℕ → State → State → List OutRecord → List OutRecord → Type 0
@@ -23,10 +23,10 @@ TickedOnce true r a now random s s' outs outs' =
 
 -- The session with the lowest number ended; or all had ended, and all is as before.
 abbrev pub EndedOnce : Bool → Rules → At → State → State → List OutRecord → List OutRecord → Type 0
-EndedOnce false r a s s' outs outs' = NoneLives s × (s' ≡ s) × (outs' ≡ outs)
+EndedOnce false r a s s' outs outs' = NoneStays s × (s' ≡ s) × (outs' ≡ outs)
 EndedOnce true r a s s' outs outs' =
     (n : ℕ) × IsLowest s n × (x : Session) × (value_at s.sessions n ≡ Some x)
-    × (padt : List OutRecord) × EndsWith r a x padt × (s' ≡ with_session s n (ended x)) × (outs' ≡ outs ++ padt)
+    × (padt : List OutRecord) × TellsEnd x.service r a x padt × (s' ≡ with_session s n (ended x)) × (outs' ≡ outs ++ padt)
 
 -- So many due deadlines at most were handled: what that sends stands after what was to be sent.
 pub record Ticked (most : ℕ) (r : Rules) (a : At) (now : ℕ) (random : List ℕ) (s s' : State) (outs outs' : List OutRecord) : Type 0 where

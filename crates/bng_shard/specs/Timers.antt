@@ -11,7 +11,8 @@ use Rattle.bng_shard.specs.declared.rules.Rules.{Rules}
 use Rattle.bng_shard.specs.declared.session.Service.{Service}
 use Rattle.bng_shard.specs.declared.session.Service.TheVariants.{Provisioned, Discovered}
 use Rattle.bng_shard.specs.declared.session.Session.{Session}
-use Rattle.bng_shard.specs.State.{State, with_session, with_driven}
+use Rattle.bng_shard.specs.declared.sending.At.{At}
+use Rattle.bng_shard.specs.State.{State, leaves, with_session, with_driven}
 use Rattle.bng_shard.specs.Deed.{Deed, at_of, handled}
 use Rattle.bng_shard.specs.Link.{Drives, EndsWith, ended, told}
 
@@ -27,7 +28,7 @@ abbrev pub made_deadline : Made → Option ℕ
 made_deadline m = deadline_unless m.ended (link_deadline m.link)
 
 abbrev pub deadline_in : Service → Option ℕ
-deadline_in (Provisioned l) = None
+deadline_in (Provisioned p) = None
 deadline_in (Discovered m) = made_deadline m
 
 -- the deadline of a session; a provisioned circuit has none, and one that has ended has none
@@ -70,7 +71,7 @@ HearsTick r s e d = (outs : List OutRecord) × (s' : State) × Ticks at_once r e
 
 -- discovery made the session, and it has not ended
 abbrev pub lives_in : Service → Bool
-lives_in (Provisioned l) = false
+lives_in (Provisioned p) = false
 lives_in (Discovered m) = not m.ended
 
 abbrev pub does_live : Option Session → Bool
@@ -80,21 +81,34 @@ does_live (Some x) = lives_in x.service
 abbrev pub lives_at : State → ℕ → Bool
 lives_at s n = does_live (value_at s.sessions n)
 
--- of the sessions that discovery made and that have not ended, this one has the lowest number
+-- there is a session with this number, a provisioned circuit or one that discovery made, and it has not ended
+abbrev pub does_stay : Option Session → Bool
+does_stay None = false
+does_stay (Some x) = not (leaves x)
+
+abbrev pub stays_at : State → ℕ → Bool
+stays_at s n = does_stay (value_at s.sessions n)
+
+-- of the sessions that have not ended, this one has the lowest number
 pub record IsLowest (s : State) (n : ℕ) : Type 0 where
-  pub live : IsTrue (lives_at s n)
-  pub lowest : (m : ℕ) → IsTrue (lives_at s m) → n ≤ m
+  pub stays : IsTrue (stays_at s n)
+  pub lowest : (m : ℕ) → IsTrue (stays_at s m) → n ≤ m
 
-abbrev pub NoneLives : State → Type 0
-NoneLives s = (n : ℕ) → IsFalse (lives_at s n)
+abbrev pub NoneStays : State → Type 0
+NoneStays s = (n : ℕ) → IsFalse (stays_at s n)
 
--- So many sessions at most end, by rising number, each with a PADT.
+-- A session that discovery made is told by a PADT that it ends; a provisioned circuit is told nothing.
+abbrev pub TellsEnd : Service → Rules → At → Session → List OutRecord → Type 0
+TellsEnd (Provisioned p) r a x outs = outs ≡ []
+TellsEnd (Discovered m) r a x outs = EndsWith r a x outs
+
+-- So many sessions at most end, by rising number.
 abbrev pub Ends : ℕ → Rules → Entry → State → List OutRecord → State → Type 0
 Ends zero r e s outs s' = (outs ≡ []) × (s' ≡ s)
 Ends (suc k) r e s outs s' =
-    (NoneLives s × (outs ≡ []) × (s' ≡ s))
+    (NoneStays s × (outs ≡ []) × (s' ≡ s))
     ⊎ ((n : ℕ) × IsLowest s n × (x : Session) × (value_at s.sessions n ≡ Some x)
-    × (padt rest : List OutRecord) × EndsWith r (at_of s e) x padt
+    × (padt rest : List OutRecord) × TellsEnd x.service r (at_of s e) x padt
     × Ends k r e (with_session s n (ended x)) rest s' × (outs ≡ padt ++ rest))
 
 abbrev pub HearsEnd : Rules → State → Entry → Deed → Type 0

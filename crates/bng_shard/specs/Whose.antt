@@ -1,5 +1,5 @@
 -- Which shard an item is for.
-use Rattle.std.specs.Prelude.{◌≡◌, ◌⊎◌, ℕ, ◌/◌, ◌%◌, ◌<◌, ◌≤◌, ◌==◌, List, Option, Some, None, sum, find}
+use Rattle.std.specs.Prelude.{◌≡◌, ◌⊎◌, ℕ, ◌/◌, ◌%◌, ◌<◌, ◌≤◌, ◌==◌, not, List, Option, Some, None, filter, sum, find}
 use Rattle.bng_base.specs.declared.address.Ip4.{Ip4}
 use Rattle.bng_base.specs.declared.address.Mac.{Mac}
 use Rattle.bng_base.specs.declared.fate.DropCause.TheVariants.{Malformed, NoSession}
@@ -33,6 +33,10 @@ shard_in (Some h) = Some h.shard
 -- the shard that holds an address
 abbrev pub holder_of : List Holder → Ip4 → Option ℕ
 holder_of holders address = shard_in (find (λ h. h.address.0 == address.0) holders)
+
+-- these once an address was given back
+abbrev pub without_holder : Ip4 → List Holder → List Holder
+without_holder address holders = filter (λ (h : Holder). not (h.address.0 == address.0)) holders
 
 -- A frame that names a session is for the shard of that number; another one for the shard of its SOURCE_ADDR.
 abbrev pub IsForFrame : Rules → PppoeFrame → Whose → Type 0

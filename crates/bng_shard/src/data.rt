@@ -1,13 +1,13 @@
 //! Packets of the sessions' terms: from a circuit to the core, and from the core to a circuit.
 ghost use Rattle.std.specs.Prelude.{◌≡◌, ◌<◌, ℕ, List, length, vec_capacity, option_map};
-ghost use Rattle.std.specs.Option.{option_copied};
+ghost use Rattle.std.specs.Option.{option_and_then, option_copied};
 ghost use Rattle.bng_base.specs.FateOf.{arrival_of};
 ghost use Rattle.bng_pppoe_wire.specs.View.{frame_of};
 ghost use Rattle.bng_forward.specs.Fates.{Carries, IsCorePacket, IsFrame};
 ghost use Rattle.bng_shard.specs.Doing.{DoesWith};
 ghost use Rattle.bng_shard.specs.Fits.{ArePlaced};
 ghost use Rattle.bng_shard.specs.Frames.{charge_of as charged_to, HearsCore, HearsData, HearsPacket};
-ghost use Rattle.bng_shard.specs.State.{view_of as viewed};
+ghost use Rattle.bng_shard.specs.State.{address_view as address_viewed, view_of as viewed};
 
 use crate::drive::port_of;
 use crate::rules::Rules;
@@ -60,6 +60,13 @@ fn view_of(session: Option<&Session>) -> Option<Option<TermView>>
         Some(session) => Some(session.view()),
         None => None,
     }
+}
+
+// The view of the address that a session holds, if there is a session that holds one.
+fn address_view(session: Option<&Session>) -> Option<TermView>
+    ensures { result ≡ option_and_then address_viewed (option_copied session.entry) }
+{
+    session?.address_view()
 }
 
 /// Handles a frame that came to the port with this number and carries an IPv4 packet of so many octets.
@@ -119,7 +126,7 @@ fn hear_packet(
 {
     let holder = served.holder_of(header.dst);
     let mut packet = copied(&item.frame);
-    let fate = down(view_of(holder).flatten(), header, &mut packet);
+    let fate = down(address_view(holder), header, &mut packet);
     let Fate::Forwarded = fate else {
         return fate;
     };

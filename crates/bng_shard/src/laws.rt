@@ -1,15 +1,15 @@
 //! The laws that the steps of a shard meet.
-ghost use Rattle.std.specs.Prelude.{◌≡◌, ◌≢◌, ◌⊎◌, ◌+◌, ◌-◌, ◌^◌, ◌<◌, ◌≤◌, ℕ, List, Some, count_by, is_some, length, if◌then◌else◌};
+ghost use Rattle.std.specs.Prelude.{◌≡◌, ◌≢◌, ◌⊎◌, ◌+◌, ◌-◌, ◌^◌, ◌<◌, ◌≤◌, ℕ, List, [], Some, count_by, is_some, length, if◌then◌else◌};
 ghost use Rattle.bng_base.specs.declared.item.ItemKind.TheVariants.{End};
-ghost use Rattle.bng_engine.specs.Protocol.{Alike, StepLaws, StillLaws};
-ghost use Rattle.std.specs.List.{All, AllByRecursion, AllPairs, Contains};
+ghost use Rattle.bng_engine.specs.Protocol.{Alike, StepLaws};
+ghost use Rattle.std.specs.List.{All, AllByRecursion, AllPairs, AllZip, Contains};
 ghost use Rattle.bng_base.specs.declared.address.Mac.{Mac};
 ghost use Rattle.bng_base.specs.declared.item.OutRecord.{OutRecord};
 ghost use Rattle.bng_base.specs.declared.settings.Static.{Static};
 ghost use Rattle.bng_slots.specs.Sessions.{IsNumberOf};
 ghost use Rattle.bng_shard.specs.declared.rules.Rules.{Rules};
 ghost use Rattle.bng_shard.specs.Deed.{Deed, is_forwarded};
-ghost use Rattle.bng_shard.specs.Protocol.{ShardState, Handled, pppoe, packet_octets, sessions_of, terms_of};
+ghost use Rattle.bng_shard.specs.Protocol.{ShardState, Handled, StaysOrEnds, pppoe, packet_octets, sessions_of, terms_of};
 ghost use Rattle.bng_shard.specs.Claiming.{IsAskedBy};
 ghost use Rattle.bng_shard.specs.Granting.{IsGranted, IsGrantedOn, IsSound, IsYesOn, accepted_ask_at};
 ghost use Rattle.bng_shard.specs.Opening.{opened_slots};
@@ -18,19 +18,20 @@ ghost use Rattle.bng_shard.specs.Reader.{IsWhole};
 ghost use Rattle.bng_shard.specs.State.{State, settled};
 ghost use Rattle.bng_shard.specs.Step.{Step};
 
-/// The steps of a shard meet the laws on which the accounts of a run rest: no term ends while its circuit is there, each packet
-/// that is charged is of a live term, on its circuit and with its address, and the octets of each datagram are read as its charge
-/// says. No step claims an address, and no term ends. Each datagram is a whole IPv4 packet as its charge says, or no packet of a
-/// subscriber. A step changes no term. An End leaves no session, or 64 fewer. Of a datagram of at most 4,096 octets it sends at most
+/// The steps of a shard meet the laws on which the accounts of a run rest: each packet that is charged is of a live term, on its
+/// circuit and with its address, and the octets of each datagram are read as its charge says. No step claims an address, and none is
+/// told that one is held; no term begins. Each datagram is a whole IPv4 packet as its charge says, or no packet of a
+/// subscriber. Only an End changes a term: it ends some, by the gateway's own stop. An End leaves no session, or 64 fewer. Of a datagram of at most 4,096 octets it sends at most
 /// 4,160 octets of packets. It sends one packet where the fate is Forwarded, and else none. From one state and one entry there is
 /// one effect. The count of questions does not fall; until it has come to its end, each question that is open after a step was open
 /// before it, or has a number that the step gave.
 pub fn steps_meet_laws()
     ensures laws { StepLaws pppoe }
-    ensures still { StillLaws pppoe }
+    ensures claims { (s : ShardState) (h : Handled) → (pppoe).is_step s h → ((pppoe).claimed h ≡ []) × ((pppoe).refused h ≡ []) }
     ensures whole { (r : Rules) (s : State) (d : Deed) → Step r s d → AllByRecursion IsWhole d.outs }
-    ensures terms { (r : Rules) (s : State) (d : Deed) → Step r s d → (d.next.begun ≡ s.begun)
-        × (terms_of (record { rules = r; slots = d.next }) ≡ terms_of (record { rules = r; slots = s })) }
+    ensures begun { (r : Rules) (s : State) (d : Deed) → Step r s d → d.next.begun ≡ s.begun }
+    ensures terms { (r : Rules) (s : State) (d : Deed) → Step r s d → ¬ (d.entry.item.kind ≡ End) → terms_of (record { rules = r; slots = d.next }) ≡ terms_of (record { rules = r; slots = s }) }
+    ensures ends { (r : Rules) (s : State) (d : Deed) → Step r s d → AllZip StaysOrEnds (terms_of (record { rules = r; slots = s })) (terms_of (record { rules = r; slots = d.next })) }
     ensures fewer { (s : ShardState) (h : Handled) → (pppoe).is_step s h → h.deed.entry.item.kind ≡ End
         → (sessions_of ((pppoe).settled ((pppoe).next s h)) ≡ 0) ⊎ (sessions_of ((pppoe).settled ((pppoe).next s h)) + 64 ≤ sessions_of s) }
     ensures light { (r : Rules) (s : State) (d : Deed) → Step r s d → length d.entry.item.frame.payload ≤ 4096 → packet_octets d.outs ≤ 4160 }

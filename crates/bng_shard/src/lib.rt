@@ -12,6 +12,7 @@ mod frames;
 mod hear;
 mod host_uniq;
 mod laws;
+mod leaving;
 mod pool;
 mod questions;
 mod replies;
@@ -22,6 +23,7 @@ mod served;
 mod session;
 mod shard;
 mod sums;
+mod term;
 mod timers;
 mod verdicts;
 mod whose;
@@ -33,6 +35,7 @@ pub use crate::questions::Handed;
 pub use crate::rules::Rules;
 pub use crate::shard::{Shard, ShardError};
 pub use crate::sums::{Charged, Traffic};
+pub use crate::term::EndedTerm;
 pub use crate::whose::{Whose, whose_is};
 
 #[cfg(test)]

@@ -1,6 +1,6 @@
 //! Which shard holds an address.
 ghost use Rattle.std.specs.Prelude.{◌≡◌, ◌==◌, find};
-ghost use Rattle.bng_shard.specs.Whose.{holder_of, shard_in};
+ghost use Rattle.bng_shard.specs.Whose.{holder_of, shard_in, without_holder};
 
 use bng_base::Ip4;
 use std::marker::Model;
@@ -49,6 +49,13 @@ impl PlainPool {
         ensures { result ≡ holders.items }
     {
         PlainPool { holders }
+    }
+
+    /// The address becomes free.
+    pub fn give_back(&mut self, address: Ip4)
+        ensures { self.new ≡ without_holder address self.old }
+    {
+        self.holders.retain(|h| h.address.0 != address.0);
     }
 
     /// The shard that holds an address; none exactly where it is free.

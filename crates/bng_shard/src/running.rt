@@ -1,15 +1,15 @@
 // The sums that a shard keeps for its terms.
-ghost use Rattle.std.specs.Prelude.{◌≡◌, ◌+◌, ◌==◌, ◌^◌, ◌<◌, ◌≤◌, ◌++◌, ◌∷◌, [], ℕ, Some, true, find, length, vec_capacity, map, option_map, IfOk};
+ghost use Rattle.std.specs.Prelude.{◌≡◌, ◌+◌, ◌==◌, ◌^◌, ◌<◌, ◌≤◌, ◌++◌, ◌∷◌, [], ℕ, Some, true, not, filter, find, length, vec_capacity, map, option_map, IfOk, IfSome, IfNone};
 ghost use Rattle.bng_base.specs.declared.item.OutRecord.{OutRecord as Out};
 ghost use Rattle.bng_engine.specs.Books.{BooksFall, BooksRise};
 ghost use Rattle.bng_engine.specs.Calls.{SayMore};
 ghost use Rattle.bng_engine.specs.Lists.{AnyOf};
-ghost use Rattle.bng_engine.specs.Protocol.{AreNumbered, HasKey, IsOwned};
+ghost use Rattle.bng_engine.specs.Protocol.{HasKey, IsOwned};
 ghost use Rattle.bng_engine.specs.Terms.{keys};
 ghost use Rattle.bng_engine.specs.Views.{new_row, row_keys};
 ghost use Rattle.bng_shard.specs.Protocol.{row_at, terms_of};
 ghost use Rattle.bng_shard.specs.declared.rules.Rules.{Rules as Ways};
-ghost use Rattle.bng_shard.specs.Running.{begun, row_from, rows_at, rows_in};
+ghost use Rattle.bng_shard.specs.Running.{begun, row_from, rows_at, rows_in, AreRising, HasSerial, IsPlaceOf};
 ghost use Rattle.std.specs.Option.{option_copied};
 ghost use Rattle.bng_shard.specs.Sums.{charged_as, traffic_in, AreCovered, Has, IsLow, IsMore, RowsAreLow, Rises};
 
@@ -57,7 +57,7 @@ fn add_row(rows: &mut Vec<Running>, session: Option<&Session>)
     let Some(session) = session else {
         return;
     };
-    let Some(lease) = session.lease() else {
+    let Some(lease) = session.held() else {
         return;
     };
     rows.push_reserved(begun(session, lease));
@@ -187,16 +187,29 @@ fn carry_in(row: &mut Running, charge: Charge)
     enter(&mut row.carried, charge.input, charge.octets);
 }
 
-// Adds a packet that was sent to the row of its term, which stands at the number before its serial.
+// Where the row of the term with this number stands.
+fn place_of(rows: &[Running], serial: u64) -> Option<usize>
+    requires rising { AreRising rows.now }
+    ensures there { IfSome result (IsPlaceOf serial rows.now) }
+    ensures none { IfNone result (AnyOf (HasSerial serial) rows.now → ⊥) }
+{
+    match rows.binary_search_by_key(&serial, |r| r.term.serial) {
+        Ok(place) => Some(place),
+        Err(_) => None,
+    }
+}
+
+// Adds a packet that was sent to the row of its term.
 fn carry(rows: &mut [Running], charge: Charge)
     requires low { RowsAreLow (2 ^ 63) (rows_in rows.old) }
-    requires numbered { AreNumbered 0 (row_keys (rows_in rows.old)) (length rows.old) }
+    requires rising { AreRising rows.old }
     requires own { AnyOf (HasKey charge) (row_keys (rows_in rows.old)) }
     ensures rows { (out : Out) → out.charge ≡ Some charge → out.sent ≡ true → SayMore (rows_in rows.old) (out ∷ []) (rows_in rows.new) }
     ensures keys { row_keys (rows_in rows.new) ≡ row_keys (rows_in rows.old) }
 {
-    let place = (charge.term.serial - 1) as usize;
-    prove!(place < rows.len());
+    let Some(place) = place_of(rows, charge.term.serial) else {
+        unreachable!();
+    };
     carry_in(&mut rows[place], charge);
 }
 
@@ -204,7 +217,7 @@ fn carry(rows: &mut [Running], charge: Charge)
 /// the first profile, if it has that.
 pub(crate) fn settle(rows: &mut Vec<Running>, book: &mut Book, out: &OutRecord)
     requires low { RowsAreLow (2 ^ 63) (rows_in rows.old.items) }
-    requires numbered { AreNumbered 0 (row_keys (rows_in rows.old.items)) (length rows.old.items) }
+    requires rising { AreRising rows.old.items }
     requires own { IsOwned (row_keys (rows_in rows.old.items)) out.now }
     requires covered { AreCovered (book.old ∷ []) out.now }
     ensures rows { SayMore (rows_in rows.old.items) (out.now ∷ []) (rows_in rows.new.items) }
@@ -219,4 +232,14 @@ pub(crate) fn settle(rows: &mut Vec<Running>, book: &mut Book, out: &OutRecord)
     } else if charge.profile == 0 {
         take_off(book, charge.input, charge.octets);
     }
+}
+
+/// Takes the row of this session's term off, and answers what the term carried; none exactly where no term has it.
+pub(crate) fn leave(rows: &mut Vec<Running>, session: SessionNo) -> Option<Book>
+    ensures carried { result ≡ option_map (λ r. r.carried) (find (λ r. r.term.session.0 == session.0) rows.old.items) }
+    ensures rows { rows.new.items ≡ filter (λ r. not (r.term.session.0 == session.0)) rows.old.items }
+{
+    let row = row_at(rows, session);
+    rows.retain(|r| r.term.session.0 != session.0);
+    Some(row?.carried)
 }

@@ -8,11 +8,16 @@ ghost use Rattle.bng_shard.specs.Due.{due_of};
 ghost use Rattle.bng_shard.specs.Opening.{circuit_at, opened_slots, provisioned as provisioned_at};
 ghost use Rattle.std.specs.Prelude.{drop, slice_get};
 ghost use Rattle.bng_shard.specs.Questions.{asking_from, handed_after, open_ask_at, place_of, waiting};
-ghost use Rattle.bng_shard.specs.State.{holder_of, made_in, made_one, session_of, settled, with_session};
-ghost use Rattle.bng_shard.specs.Timers.{IsFirstDue, IsLowest, NoneIsDue, NoneLives, lives_at};
+ghost use Rattle.bng_shard.specs.Ending.{IsFirstDone, NoneIsDone};
+ghost use Rattle.bng_shard.specs.Indexed.{address_of};
+ghost use Rattle.bng_slots.specs.Sessions.{NoneShares};
+ghost use Rattle.bng_shard.specs.Serving.{AreOwn};
+ghost use Rattle.bng_shard.specs.State.{count_in, holder_of, session_of, settled, with_session};
+ghost use Rattle.bng_shard.specs.Timers.{IsFirstDue, IsLowest, NoneIsDue, NoneStays, stays_at};
 
-use crate::questions::{Handed, copied, list, lowest_waiting, unlist};
-use crate::session::{Lease, Service, Session};
+use crate::leaving::{list_leaving, lowest_done};
+use crate::questions::{Handed, copied, list, lowest_waiting, take_off, unlist};
+use crate::session::{Done, Lease, Provision, Service, Session};
 use crate::young::{list_young, lowest_repeated, unlist_young};
 use bng_base::{Ip4, Mac, SessionNo, Static};
 use bng_slots::Slots;
@@ -20,15 +25,14 @@ use bng_verdict::{AuthAsk, QuestionNo};
 use std::alloc::{AllocError, Global};
 use std::marker::Model;
 
-/// The sessions of a shard by number, provisioned circuits among them; how many terms began, how many questions were asked, how many
-/// sessions discovery made, the numbers of those that have ended and leave at the settlement, of those whose question has no verdict
-/// yet, and of those for which a request may come again.
+/// The sessions of a shard by number, provisioned circuits among them; how many terms began, how many questions were asked, the
+/// numbers of the sessions that have ended and leave at the settlement, of those whose question has no verdict yet, and of those for
+/// which a request may come again.
 #[derive(Drop)]
 pub struct Served {
     pub(crate) sessions: Slots<Session>,
     pub(crate) begun: u64,
     pub(crate) asked: u64,
-    pub(crate) made: u32,
     pub(crate) leaving: Vec<SessionNo>,
     pub(crate) asking: Vec<SessionNo>,
     pub(crate) young: Vec<SessionNo>,
@@ -68,10 +72,13 @@ fn provisioned(circuit: &Static, serial: u64) -> Session
         number: circuit.session,
         port: circuit.port,
         mac: circuit.mac,
-        service: Service::Provisioned(Lease {
-            serial,
-            address: circuit.address,
-            profile: circuit.profile,
+        service: Service::Provisioned(Provision {
+            lease: Lease {
+                serial,
+                address: circuit.address,
+                profile: circuit.profile,
+            },
+            cause: None,
         }),
     }
 }
@@ -88,7 +95,6 @@ impl Served {
         requires sessions { AllPairs (λ a b. a.session ≢ b.session) circuits.now }
         requires addresses { AllPairs (λ a b. a.address ≢ b.address) circuits.now }
         ensures opened { IfOk result (λ s. s ≡ opened_slots number circuits.now) }
-        ensures none { IfOk result (λ s. made_in s ≡ 0) }
     {
         let Ok(mut sessions) = Slots::open(alloc, number) else {
             return Err(AllocError);
@@ -108,7 +114,6 @@ impl Served {
             sessions,
             begun,
             asked: 0,
-            made: 0,
             leaving,
             asking,
             young,
@@ -123,12 +128,12 @@ impl Served {
         self.sessions.shard()
     }
 
-    /// How many sessions discovery made that are still there.
-    pub(crate) fn made(&self) -> u32
-        ensures made { result ≡ made_in self.now }
+    /// How many sessions there are, provisioned circuits among them.
+    pub(crate) fn count(&self) -> u32
+        ensures count { result ≡ count_in self.now }
         ensures few { result ≤ 1022 }
     {
-        self.made
+        self.sessions.count()
     }
 
     /// How many questions were asked.
@@ -232,16 +237,16 @@ impl Served {
         lowest_repeated(self.young.as_slice(), &self.sessions, port, mac, asked)
     }
 
-    /// The lowest number of the sessions that discovery made and that have not ended; none exactly where there is no such session.
-    pub(crate) fn lowest_live(&self) -> Option<SessionNo>
+    /// The lowest session number of those that have not ended; none exactly where all have.
+    pub(crate) fn lowest_staying(&self) -> Option<SessionNo>
         ensures found { IfSome result (λ n. IsLowest self.now n.0) }
-        ensures none { IfNone result (NoneLives self.now) }
+        ensures none { IfNone result (NoneStays self.now) }
     {
         let first = self.sessions.shard() * 1024 + 1;
         for n in first..first + NUMBERS {
             let number = SessionNo(n);
             if let Some(session) = self.sessions.get(number) {
-                if session.lives() {
+                if !session.has_ended() {
                     return Some(number);
                 }
             }
@@ -249,38 +254,53 @@ impl Served {
         None
     }
 
-    /// Takes a session that lives out.
+    /// Takes a session out that has not ended. No other has its address.
     pub(crate) fn take(&mut self, number: SessionNo) -> Session
-        requires { lives_at self.old number.0 ≡ true }
+        requires { stays_at self.old number.0 ≡ true }
         ensures value { Some result ≡ value_at self.old.sessions number.0 }
         ensures number { result.number ≡ number }
         ensures of_shard { IsNumberOf self.old.sessions.shard number.0 }
         ensures after { self.new ≡ record self.old { sessions = without self.old.sessions number.0 } }
+        ensures apart { NoneShares address_of self.new.sessions result }
     {
         let Some(session) = self.sessions.remove(number) else {
             unreachable!()
         };
-        self.made -= 1;
         unlist(&mut self.asking, &session);
         unlist_young(&mut self.young, &session);
         session
     }
 
-    /// Puts a session that discovery made at its number, which is the shard's and not used.
+    /// Puts a session at its number, which is the shard's and not used. No other has its address.
     pub(crate) fn put(&mut self, session: Session)
         requires number { IsNumberOf self.old.sessions.shard session.number.0 }
         requires vacant { value_at self.old.sessions session.number.0 ≡ Nothing }
-        requires made { made_one session.service ≡ 1 }
+        requires apart { NoneShares address_of self.old.sessions session }
         ensures { self.new ≡ with_session self.old session.number.0 session }
     {
         let number = session.number;
-        if session.has_ended() {
-            self.leaving.push_reserved(number);
-        }
+        list_leaving(&mut self.leaving, &session);
         list(&mut self.asking, &session);
         list_young(&mut self.young, &session);
         self.sessions.put(number, session);
-        self.made += 1;
+    }
+
+    /// Takes the session out that has the lowest number of those whose term has ended, and says what the term was; none exactly where
+    /// no term has ended that is still there.
+    pub(crate) fn take_done(&mut self) -> Option<(Session, Done)>
+        ensures own { AreOwn self.old.sessions }
+        ensures found { IfSome result (λ d. IsFirstDone self.old d.0 d.1 × (self.new ≡ record self.old { sessions = without self.old.sessions d.0.number.0 })) }
+        ensures none { IfNone result (NoneIsDone self.old × (self.new ≡ self.old)) }
+    {
+        let number = lowest_done(self.leaving.as_slice(), &self.sessions)?;
+        let Some(session) = self.sessions.remove(number) else {
+            unreachable!()
+        };
+        let Some(done) = session.done() else {
+            unreachable!()
+        };
+        take_off(&mut self.leaving, number);
+        Some((session, done))
     }
 
     /// Lets the sessions that ended leave.
@@ -288,9 +308,7 @@ impl Served {
         ensures { self.new ≡ settled self.old }
     {
         while let Some(number) = self.leaving.pop() {
-            if self.sessions.remove(number).is_some() {
-                self.made -= 1;
-            }
+            self.sessions.remove(number);
         }
     }
 }

@@ -9,7 +9,8 @@ ghost use Rattle.std.specs.Option.{option_copied};
 ghost use Rattle.bng_shard.specs.Questions.{open_of};
 ghost use Rattle.bng_shard.specs.Made.{Made as DiscoveredMade};
 ghost use Rattle.bng_shard.specs.Serving.{is_young};
-ghost use Rattle.bng_shard.specs.State.{circuit_of, is_on, leaves, lease_of, made_one, view_of};
+ghost use Rattle.bng_shard.specs.Ending.{done_from, done_of};
+ghost use Rattle.bng_shard.specs.State.{address_view, circuit_of, held_in, is_on, leaves, lease_of, live_lease, made_one, view_of};
 ghost use Rattle.bng_shard.specs.Timers.{deadline_of, lives_in};
 ghost use Rattle.bng_shard.specs.Indexed.{address_of, term_of};
 
@@ -65,11 +66,21 @@ impl Model for Made {
     ghost view = { λ m. record { host_uniq = option_map (λ h. h.items) m.host_uniq; link = m.link; question = m.question; ended = m.ended } };
 }
 
+/// The cause of an end by the gateway's own stop (RFC 2866 section 5.10, NAS Request).
+const NAS_REQUEST: u8 = 10;
+
+/// What a provisioned circuit has from the opening on: a term with this lease, and the cause with which it ended, once it has.
+#[derive(Clone, Copy, PartialEq, Eq, Debug)]
+pub struct Provision {
+    pub(crate) lease: Lease,
+    pub(crate) cause: Option<u8>,
+}
+
 /// What serves a session: a provisioned circuit has a term from the opening on and no link; a session that discovery made has a
 /// link.
 #[derive(Drop)]
 pub enum Service {
-    Provisioned(Lease),
+    Provisioned(Provision),
     Discovered(Made),
 }
 
@@ -97,16 +108,16 @@ impl Slotted for Session {
 
     fn address(&self) -> Option<Ip4> {
         match &self.service {
-            Service::Provisioned(lease) => Some(lease.address),
+            Service::Provisioned(provision) => Some(provision.lease.address),
             Service::Discovered(_) => None,
         }
     }
 
     fn term(&self) -> Option<TermId> {
         match &self.service {
-            Service::Provisioned(lease) => Some(TermId {
+            Service::Provisioned(provision) => Some(TermId {
                 session: self.number,
-                serial: lease.serial,
+                serial: provision.lease.serial,
             }),
             Service::Discovered(_) => None,
         }
@@ -117,6 +128,36 @@ impl Slotted for Session {
             Service::Provisioned(_) => None,
             Service::Discovered(made) => made.deadline(),
         }
+    }
+}
+
+/// A lease whose term has ended, and the cause.
+#[derive(Clone, Copy, PartialEq, Eq, Debug)]
+pub(crate) struct Done {
+    pub(crate) lease: Lease,
+    pub(crate) cause: u8,
+}
+
+impl Provision {
+    // The lease, as long as its term is live.
+    fn live_lease(&self) -> Option<Lease>
+        ensures { result ≡ live_lease self.now.cause self.now.lease }
+    {
+        match self.cause {
+            Some(_) => None,
+            None => Some(self.lease),
+        }
+    }
+
+    // The lease with the cause, once its term has ended.
+    fn done(&self) -> Option<Done>
+        ensures { result ≡ done_from self.now.lease self.now.cause }
+    {
+        let cause = self.cause?;
+        Some(Done {
+            lease: self.lease,
+            cause,
+        })
     }
 }
 
@@ -224,17 +265,28 @@ impl Session {
         ensures { result ≡ leaves self.now }
     {
         match &self.service {
-            Service::Provisioned(_) => false,
+            Service::Provisioned(provision) => provision.cause.is_some(),
             Service::Discovered(made) => made.ended,
         }
     }
 
-    /// Ends it, where discovery made it.
+    /// Ends it. The term of a provisioned circuit ends by the gateway's own stop.
     pub(crate) fn end(&mut self)
         ensures { self.new ≡ ended self.old }
     {
-        if let Service::Discovered(made) = &mut self.service {
-            made.ended = true;
+        match &mut self.service {
+            Service::Provisioned(provision) => provision.cause = Some(NAS_REQUEST),
+            Service::Discovered(made) => made.ended = true,
+        }
+    }
+
+    /// Its term, where that has ended.
+    pub(crate) fn done(&self) -> Option<Done>
+        ensures { result ≡ done_of self.now }
+    {
+        match &self.service {
+            Service::Provisioned(provision) => provision.done(),
+            Service::Discovered(_) => None,
         }
     }
 
@@ -284,12 +336,35 @@ impl Session {
         }
     }
 
+    /// The lease whose address it holds, whether its term has ended or not.
+    pub(crate) fn held(&self) -> Option<Lease>
+        ensures { result ≡ held_in self.now.service }
+    {
+        match &self.service {
+            Service::Provisioned(provision) => Some(provision.lease),
+            Service::Discovered(_) => None,
+        }
+    }
+
     /// What its lease is, where its term is live.
     pub(crate) fn lease(&self) -> Option<Lease>
         ensures { result ≡ lease_of self.now }
     {
         match &self.service {
-            Service::Provisioned(lease) => Some(*lease),
+            Service::Provisioned(provision) => provision.live_lease(),
+            Service::Discovered(_) => None,
+        }
+    }
+
+    /// What forwarding looks at of the address that it holds, which is open as long as its term is live.
+    pub(crate) fn address_view(&self) -> Option<TermView>
+        ensures { result ≡ address_view self.now }
+    {
+        match &self.service {
+            Service::Provisioned(provision) => Some(TermView {
+                lease: provision.lease.address,
+                opened: provision.cause.is_none(),
+            }),
             Service::Discovered(_) => None,
         }
     }
@@ -298,12 +373,10 @@ impl Session {
     pub(crate) fn view(&self) -> Option<TermView>
         ensures { result ≡ view_of self.now }
     {
-        match &self.service {
-            Service::Provisioned(lease) => Some(TermView {
-                lease: lease.address,
-                opened: true,
-            }),
-            Service::Discovered(_) => None,
-        }
+        let lease = self.lease()?;
+        Some(TermView {
+            lease: lease.address,
+            opened: true,
+        })
     }
 }

@@ -6,22 +6,25 @@ ghost use Rattle.bng_engine.specs.Protocol.{IsOwned};
 ghost use Rattle.bng_engine.specs.Showing.{ChargesShown};
 ghost use Rattle.bng_engine.specs.Terms.{keys};
 ghost use Rattle.bng_engine.specs.Views.{row_keys};
-ghost use Rattle.bng_shard.specs.Protocol.{Handles, deadline_of, entry_of, opened, pppoe, profiles_there, row_at, sessions_of, terms_of};
+ghost use Rattle.bng_shard.specs.Protocol.{Handles, Leaves, deadline_of, ended_terms, entry_of, opened, pppoe, profiles_there, row_at, sessions_of, stop_of, terms_of};
 ghost use Rattle.bng_shard.specs.Questions.{asking_from, handed_after, waiting};
 ghost use Rattle.bng_shard.specs.Room.{Admits};
 ghost use Rattle.bng_slots.specs.Sessions.{IsNumberOf};
 ghost use Rattle.std.specs.List.{All, AllPairs};
 ghost use Rattle.bng_shard.specs.State.{settled};
+ghost use Rattle.bng_shard.specs.Whose.{without_holder};
 ghost use Rattle.bng_shard.specs.Sums.{charged_as, traffic_in, AreCovered, AreLow, IsLow, RowsAreLow};
 
 use crate::hear::hear;
+use crate::pool::PlainPool;
 use crate::questions::Handed;
 use crate::rules::Rules;
-use crate::running::{Running, book, carried_by, charged_as, rows_of, settle, tally};
+use crate::running::{Running, book, carried_by, charged_as, leave, rows_of, settle, tally};
 use crate::sending::At;
 use crate::served::Served;
 use crate::sums::{Charged, Traffic};
-use bng_base::{Book, Claim, Entry, Fate, Item, LONGEST, OutRecord, SessionNo, Static};
+use crate::term::EndedTerm;
+use bng_base::{Book, Claim, Entry, Fate, Item, LONGEST, OutRecord, SessionNo, Static, TermId};
 use bng_verdict::AuthAsk;
 use std::alloc::{AllocError, Global};
 use std::marker::Model;
@@ -125,11 +128,12 @@ impl Shard {
         requires ports { All (λ c. (1 ≤ c.port) × (c.port ≤ length rules.access)) circuits.now }
         requires profiles { All (λ c. c.profile < profiles_there) circuits.now }
         ensures opened { IfOk result (λ s. s ≡ opened number rules circuits.now) }
-        ensures none { IfOk result (λ s. sessions_of s.state ≡ 0) }
+        ensures few { IfOk result (λ s. sessions_of s.state ≤ 1022) }
     {
         let Ok(served) = Served::open(alloc, number, circuits) else {
             return Err(ShardError::OutOfMemory);
         };
+        prove!(served.count() <= 1022);
         let Ok(rows) = rows_of(alloc, &served) else {
             return Err(ShardError::OutOfMemory);
         };
@@ -159,7 +163,7 @@ impl Shard {
         let items = usize::from(items);
         self.room = 0;
         self.allowance = allowance;
-        prove!(self.served.made() <= 1022);
+        prove!(self.served.count() <= 1022);
         if !reserve_amply(&mut self.journal, &mut self.outs, items) {
             return Err(ShardError::OutOfMemory);
         }
@@ -221,14 +225,36 @@ impl Shard {
         (journal, outs)
     }
 
-    /// Ends a round: lets the sessions that ended leave. It is called once its outs were sent and charged.
-    pub fn settle(&mut self)
+    /// Hands out the term that ended and has the lowest session number: its address is given back to the pool, and its session
+    /// leaves. None exactly where no ended term is left; then every session that ended has left. It is called once the outs of the
+    /// round were sent and charged.
+    pub fn reap(&mut self, pool: &mut PlainPool) -> Option<EndedTerm>
+        ensures one { IfSome result (λ e. Leaves self.old self.new (stop_of e) × (pool.new ≡ without_holder e.address pool.old)) }
+        ensures none { IfNone result ((ended_terms self.old.state ≡ []) × (pool.new ≡ pool.old)
+            × (self.new ≡ record self.old { state = record self.old.state { slots = settled self.old.state.slots }; room = 0 })) }
         ensures few { sessions_of self.new.state ≤ 1022 }
-        ensures after { self.new ≡ record self.old { state = record self.old.state { slots = settled self.old.state.slots }; room = 0 } }
     {
         self.room = 0;
-        self.served.settle();
-        prove!(self.served.made() <= 1022);
+        let Some((session, done)) = self.served.take_done() else {
+            self.served.settle();
+            prove!(self.served.count() <= 1022);
+            return None;
+        };
+        prove!(self.served.count() <= 1022);
+        let Some(carried) = leave(&mut self.rows, session.number) else {
+            unreachable!()
+        };
+        pool.give_back(done.lease.address);
+        Some(EndedTerm {
+            term: TermId {
+                session: session.number,
+                serial: done.lease.serial,
+            },
+            circuit: session.pppoe_circuit(),
+            address: done.lease.address,
+            cause: done.cause,
+            carried,
+        })
     }
 
     /// Keeps an empty list for the journals of the rounds to come, as one that `drain` handed out: its room serves again. No round
@@ -286,11 +312,11 @@ impl Shard {
         Some(ask)
     }
 
-    /// How many sessions discovery made that are still there.
+    /// How many sessions there are, provisioned circuits among them.
     pub fn sessions(&self) -> u32
         ensures { result ≡ sessions_of self.now.state }
     {
-        self.served.made()
+        self.served.count()
     }
 
     /// What passed under this profile, from 0, and was not taken off. There is one profile.

@@ -6,11 +6,11 @@ ghost use Rattle.bng_shard.specs.Protocol.{opened};
 ghost use Rattle.bng_shard.specs.Sums.{AreLow, IsLow};
 ghost use Rattle.bng_slots.specs.Sessions.{IsNumberOf};
 
-use crate::{Charged, Handed, Rules, Shard, Traffic};
+use crate::{Charged, EndedTerm, Handed, Holder, PlainPool, Rules, Shard, Traffic};
 use arrayvec::ArrayVec;
 use bng_base::{
-    AccessPort, AuthKind, Book, Charge, Circuit, Frame, Ip4, Item, ItemKind, Listed, Mac, Octets,
-    OutRecord, Peer, Role, SessionNo, Static, TermId,
+    AccessPort, AuthKind, Book, Charge, Circuit, DropCause, Fate, Frame, Ip4, Item, ItemKind,
+    Listed, Mac, Octets, OutRecord, Peer, Role, SessionNo, Static, TermId,
 };
 use bng_discovery::PortRules;
 use bng_ppp::LinkRules;
@@ -178,7 +178,30 @@ fn has_low_book(shard: &Shard) -> bool
     is_low(&passed)
 }
 
-// The outs of a round of one item at this moment, with its packets in a seat's tally.
+// The fate and the outs of one item at this moment, with its packets in a seat's tally. The round is not settled.
+fn handled(
+    rt: &impl Abort,
+    alloc: Global,
+    shard: &mut Shard,
+    tally: &mut Book,
+    now: u64,
+    item: Item,
+) -> (Fate, Vec<OutRecord>)
+    requires moment { now < 2 ^ 60 }
+    requires whole { item.frame.headroom ≡ 64 }
+{
+    // No round is going on now, which `prepare` asks.
+    let _none = shard.drain();
+    assert!(rt; shard.prepare(alloc, 1, 0).is_ok());
+    assert!(rt; has_low_book(shard));
+    assert!(rt; is_low(tally));
+    let fate = shard.step(0, 0, now, item, tally);
+    let (journal, outs) = shard.drain();
+    assert_eq!(rt; journal.len(), 1);
+    (fate, outs)
+}
+
+// The outs of a round of one item at this moment, in which no term ends.
 fn round(
     rt: &impl Abort,
     alloc: Global,
@@ -190,15 +213,9 @@ fn round(
     requires moment { now < 2 ^ 60 }
     requires whole { item.frame.headroom ≡ 64 }
 {
-    // No round is going on now, which `prepare` asks.
-    let _none = shard.drain();
-    assert!(rt; shard.prepare(alloc, 1, 0).is_ok());
-    assert!(rt; has_low_book(shard));
-    assert!(rt; is_low(tally));
-    let _fate = shard.step(0, 0, now, item, tally);
-    let (journal, outs) = shard.drain();
-    shard.settle();
-    assert_eq!(rt; journal.len(), 1);
+    let (_fate, outs) = handled(rt, alloc, shard, tally, now, item);
+    let mut pool = PlainPool::of(Vec::new(alloc));
+    assert_eq!(rt; shard.reap(&mut pool), None);
     outs
 }
 
@@ -494,5 +511,135 @@ fn a_packet_counts_for_its_term(rt: HostRuntime) -> Result<(), Fail> {
     });
     assert_eq!(rt; shard.carried(SessionNo(1025)), carried);
     assert_eq!(rt; shard.carried(SessionNo(1026)), None);
+    Ok(())
+}
+
+// A circuit of the shard 1 on the port 1.
+fn circuit_of(host: u8, session: u16, address: u32) -> Static
+    ensures session { result.session.0 ≡ session }
+    ensures address { result.address.0 ≡ address }
+    ensures port { result.port ≡ 1 }
+    ensures profile { result.profile ≡ 0 }
+{
+    let mut user = ArrayVec::new();
+    user.push(b'f');
+    Static {
+        port: 1,
+        mac: Mac([2, 0, 0, 0, 0, host]),
+        session: SessionNo(session),
+        address: Ip4(address),
+        user,
+        profile: 0,
+    }
+}
+
+// The shard 1 with two circuits, the one with the higher session number first.
+fn open_two(alloc: Global) -> Result<Shard, Fail> {
+    let rules = rules(alloc)?;
+    let circuits = [
+        circuit_of(2, 1026, 0x0a000003),
+        circuit_of(1, 1025, 0x0a000002),
+    ];
+    let shard = Shard::open(alloc, 1, rules, circuits.as_slice())?;
+    Ok(shard)
+}
+
+// What its address is, and its term, once that has ended without a packet.
+fn ended(host: u8, session: u16, serial: u64, address: u32) -> EndedTerm {
+    EndedTerm {
+        term: TermId {
+            session: SessionNo(session),
+            serial,
+        },
+        circuit: Circuit::Pppoe {
+            port: 1,
+            mac: Mac([2, 0, 0, 0, 0, host]),
+            session: SessionNo(session),
+        },
+        address: Ip4(address),
+        cause: 10,
+        carried: NOTHING,
+    }
+}
+
+// A packet of the first circuit, in a frame of its session, and one towards it.
+const FROM_IT: [u8; 50] = [
+    2, 0, 0, 0, 0, 0xfe, 2, 0, 0, 0, 0, 1, 0x88, 0x64, 0x11, 0, 4, 1, 0, 30, 0, 0x21, 0x45, 0, 0,
+    28, 0, 0, 0, 0, 64, 17, 0xae, 0xce, 10, 0, 0, 2, 192, 0, 2, 1, 0x30, 0x39, 0x30, 0x39, 0, 8, 0,
+    0,
+];
+
+const TO_IT: [u8; 28] = [
+    0x45, 0, 0, 28, 0, 0, 0, 0, 64, 17, 0xae, 0xce, 192, 0, 2, 1, 10, 0, 0, 2, 0x30, 0x39, 0x30,
+    0x39, 0, 8, 0, 0,
+];
+
+// The fates of both at moment 0.
+fn fates(rt: &impl Abort, alloc: Global, shard: &mut Shard) -> [Fate; 2] {
+    let mut tally = NOTHING;
+    let mut from_core = item(ItemKind::Core, &TO_IT);
+    from_core.from = peer(9001);
+    let access = item(ItemKind::Access(1), &FROM_IT);
+    let (up, _sent_up) = handled(rt, alloc, shard, &mut tally, 0, access);
+    let (down, _sent_down) = handled(rt, alloc, shard, &mut tally, 0, from_core);
+    [up, down]
+}
+
+#[test]
+fn an_end_ends_circuits_too_and_each_leaves_by_a_stop(rt: HostRuntime) -> Result<(), Fail> {
+    let alloc = rt.alloc();
+    let mut shard = open_two(alloc)?;
+    let _made = request(&rt, alloc, &mut shard, 3);
+    assert_eq!(rt; shard.sessions(), 3);
+    assert_eq!(rt;
+        fates(&rt, alloc, &mut shard),
+        [Fate::Forwarded, Fate::Forwarded]
+    );
+    let mut tally = NOTHING;
+    let mut end = item(ItemKind::End, &[]);
+    end.target = 1;
+    let (_consumed, outs) = handled(&rt, alloc, &mut shard, &mut tally, 0, end);
+    // the session that discovery made is told by a PADT, and the circuits are not
+    assert_eq!(rt; outs.len(), 1);
+    assert_eq!(rt; span(&outs, 0, 15, 18), b"\xa7\x04\x03".as_slice());
+    let closed = Fate::Dropped(DropCause::NotOpen);
+    assert_eq!(rt; fates(&rt, alloc, &mut shard), [closed, closed]);
+    assert_eq!(rt; shard.sessions(), 3);
+    let first = Holder {
+        address: Ip4(0x0a000002),
+        shard: 1,
+    };
+    let second = Holder {
+        address: Ip4(0x0a000003),
+        shard: 1,
+    };
+    let mut pool = PlainPool::of(Vec::from_array(alloc, [first, second])?);
+    assert_eq!(rt; shard.reap(&mut pool), Some(ended(1, 1025, 1, 0x0a000002)));
+    assert_eq!(rt; pool.look(first.address), None);
+    assert_eq!(rt; pool.look(second.address), Some(1));
+    assert_eq!(rt; shard.reap(&mut pool), Some(ended(2, 1026, 2, 0x0a000003)));
+    assert_eq!(rt; pool.look(second.address), None);
+    assert_eq!(rt; shard.reap(&mut pool), None);
+    assert_eq!(rt; shard.sessions(), 0);
+    Ok(())
+}
+
+#[test]
+fn a_stop_says_what_its_term_carried(rt: HostRuntime) -> Result<(), Fail> {
+    let alloc = rt.alloc();
+    let circuit = circuit();
+    let packet = sent(&circuit, 84);
+    let mut shard = open_with(alloc, &circuit)?;
+    let _charged = charge_first(&mut shard, &circuit, &packet);
+    let mut tally = NOTHING;
+    let mut end = item(ItemKind::End, &[]);
+    end.target = 1;
+    let _handled = handled(&rt, alloc, &mut shard, &mut tally, 0, end);
+    let mut stop = ended(1, 1025, 1, 0x0a000002);
+    stop.carried.input = 84;
+    stop.carried.input_packets = 1;
+    let mut pool = PlainPool::of(Vec::new(alloc));
+    assert_eq!(rt; shard.reap(&mut pool), Some(stop));
+    assert_eq!(rt; shard.carried(SessionNo(1025)), None);
     Ok(())
 }

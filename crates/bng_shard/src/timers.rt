@@ -1,14 +1,18 @@
 //! Ticks and Ends.
-ghost use Rattle.std.specs.Prelude.{◌≡◌, ◌+◌, ◌<◌, ◌≤◌, ◌^◌, ◌++◌, length, vec_capacity};
+ghost use Rattle.std.specs.Prelude.{◌≡◌, ◌+◌, ◌<◌, ◌≤◌, ◌^◌, ◌++◌, List, Some, length, vec_capacity};
+ghost use Rattle.bng_base.specs.declared.item.OutRecord.{OutRecord as Out};
+ghost use Rattle.bng_base.specs.declared.settings.AccessPort.{AccessPort as Port};
 ghost use Rattle.bng_shard.specs.Fits.{ArePlaced};
 ghost use Rattle.bng_shard.specs.Timed.{TickedOnce, EndedOnce, Ticked, Ended};
-ghost use Rattle.bng_shard.specs.Timers.{at_once};
+ghost use Rattle.bng_shard.specs.State.{port_at};
+ghost use Rattle.bng_shard.specs.Timers.{TellsEnd, at_once};
 
 use crate::drive::send_padt;
 use crate::frames::drive_at;
 use crate::rules::Rules;
 use crate::sending::At;
 use crate::served::Served;
+use crate::session::{Service, Session};
 use bng_base::OutRecord;
 use bng_ppp::WholeInput;
 
@@ -50,6 +54,21 @@ fn tick_once(
     true
 }
 
+// Tells a session that it ends: one that discovery made by a PADT; a provisioned circuit is told nothing.
+fn tell_end(rules: &Rules, at: At, session: &Session, outs: &mut Vec<OutRecord>)
+    requires offers { length rules.now.offers ≡ length rules.now.access }
+    requires placed { (port : Port) × (port_at rules.now.access session.now.port ≡ Some port) }
+    requires room { length outs.old.items < vec_capacity outs.old }
+    ensures told { (padt : List Out) × TellsEnd session.now.service rules.now at session.now padt × (outs.new.items ≡ outs.old.items ++ padt) }
+    ensures capacity { vec_capacity outs.new ≡ vec_capacity outs.old }
+    ensures few { length outs.new.items ≤ length outs.old.items + 1 }
+{
+    match &session.service {
+        Service::Provisioned(_) => {}
+        Service::Discovered(_) => send_padt(rules, at, session, outs),
+    }
+}
+
 // Ends the session with the lowest number, and says whether one has not ended.
 fn end_once(served: &mut Served, rules: &Rules, at: At, outs: &mut Vec<OutRecord>) -> bool
     requires offers { length rules.now.offers ≡ length rules.now.access }
@@ -60,11 +79,11 @@ fn end_once(served: &mut Served, rules: &Rules, at: At, outs: &mut Vec<OutRecord
     ensures capacity { vec_capacity outs.new ≡ vec_capacity outs.old }
     ensures few { length outs.new.items ≤ length outs.old.items + 1 }
 {
-    let Some(number) = served.lowest_live() else {
+    let Some(number) = served.lowest_staying() else {
         return false;
     };
     let mut session = served.take(number);
-    send_padt(rules, at, &session, outs);
+    tell_end(rules, at, &session, outs);
     session.end();
     served.put(session);
     true
@@ -95,7 +114,7 @@ pub(crate) fn tick(
     }
 }
 
-/// Ends the sessions with the lowest numbers, by rising number, each with a PADT: at most 64.
+/// Ends the sessions with the lowest numbers, by rising number: at most 64. Those that discovery made are told so by a PADT.
 pub(crate) fn end(served: &mut Served, rules: &Rules, at: At, outs: &mut Vec<OutRecord>)
     requires offers { length rules.now.offers ≡ length rules.now.access }
     requires placed { ArePlaced rules.now served.old.sessions }

@@ -1,4 +1,4 @@
-use Rattle.std.proofs.Common.{◌≡◌, ℕ, List, inl, inr, refl, subst, sym, arith}
+use Rattle.std.proofs.Common.{ℕ, List, inl, inr, refl, subst, arith}
 use Rattle.bng_base.specs.declared.fate.Fate.TheVariants.{Dropped}
 use Rattle.bng_base.specs.declared.fate.DropCause.TheVariants.{Malformed}
 use Rattle.bng_base.specs.declared.ipv4.Ipv4.{Ipv4}

@@ -1,28 +1,22 @@
-use Rattle.std.proofs.Common.{◌≡◌, ℕ, false, List, [], ◌∷◌, ◌++◌, Option, Some, option_map, ap, subst, sym, ◌∙◌}
-use Rattle.std.specs.Option.{option_flatten}
+use Rattle.std.proofs.Common.{◌≡◌, ℕ, List, [], ◌∷◌, ◌++◌, Some, ap, subst, sym, ◌∙◌}
+use Rattle.std.specs.Option.{option_and_then}
 use Rattle.bng_base.specs.declared.fate.Fate.{Fate}
 use Rattle.bng_base.specs.declared.fate.Fate.TheVariants.{Forwarded}
 use Rattle.bng_base.specs.declared.item.Charge.{Charge}
 use Rattle.bng_base.specs.declared.outside.Role.TheVariants.{Access}
-use Rattle.bng_forward.specs.declared.view.TermView.{TermView}
 use Rattle.bng_forward.specs.Fates.{DownFate}
-use Rattle.bng_forward.specs.Framed.{IsFrameTo}
 use Rattle.bng_forward.specs.Packets.{IsPassedOn}
-use Rattle.bng_shard.specs.declared.session.Session.{Session}
 use Rattle.bng_shard.specs.Deed.{out}
-use Rattle.bng_shard.specs.Frames.{charge_of, found_down}
-use Rattle.bng_shard.specs.State.{holder_of, leases, view_of}
-use Rattle.bng_shard.proofs.Carrying.{drops_down, flat_view, goes_down}
+use Rattle.bng_shard.specs.Frames.{found_down}
+use Rattle.bng_shard.specs.State.{address_view, leases}
+use Rattle.bng_shard.proofs.Carrying.{drops_down, goes_down}
 use Rattle.bng_shard.proofs.Values.{found_at, none_some}
 use Rattle.bng_shard.proofs.data.hear_packet.Goals as goal
 use Rattle.bng_shard.proofs.data.hear_packet.Goals.{After-down-fate}
 
 -- the view of the holder
-found : (c : After-down-fate) → c.flatten.result ≡ found_down c.args.served.now c.args.header.dst
-found c =
-    c.flatten.ensures
-    ∙ ap (λ (o : Option (Option TermView)). option_flatten o) (c.view_of.ensures ∙ ap (λ (o : Option Session). option_map view_of o) c.holder_of-holder.ensures)
-    ∙ flat_view (holder_of c.args.served.now c.args.header.dst)
+found : (c : After-down-fate) → c.address_view.result ≡ found_down c.args.served.now c.args.header.dst
+found c = c.address_view.ensures ∙ ap (option_and_then address_view) c.holder_of-holder.ensures
 
 fated : (c : After-down-fate) → DownFate (found_down c.args.served.now) c.args.item.now.frame.payload c.down-fate.result
 fated c =

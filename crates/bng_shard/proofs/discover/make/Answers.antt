@@ -1,12 +1,13 @@
-use Rattle.std.proofs.Common.{◌≡◌, ℕ, List, Option, ap, subst, sym, ◌∙◌}
-use Rattle.bng_base.specs.declared.address.SessionNo.{SessionNo}
+use Rattle.std.proofs.Common.{ℕ, List, Option, ap, subst, sym, ◌∙◌}
 use Rattle.bng_shard.specs.declared.session.Session.{Session}
 use Rattle.bng_slots.specs.Sessions.{IsNumberOf, value_at}
 use Rattle.bng_ppp.specs.declared.whole_input.WholeInput.TheVariants.{Start}
 use Rattle.bng_ppp.specs.PppRelation.{PppSteps}
 use Rattle.bng_shard.specs.Driven.{Driven}
 use Rattle.bng_shard.specs.Making.{IsNewSession}
+use Rattle.bng_shard.specs.Indexed.{address_of}
 use Rattle.bng_shard.specs.State.{State, made_one, port_at, with_driven}
+use Rattle.bng_shard.proofs.Serves.{nothing_shared}
 use Rattle.bng_shard.proofs.Driving.{number_of}
 use Rattle.bng_shard.proofs.discover.make.Goals as goal
 
@@ -28,8 +29,8 @@ put-requires-clause-vacant c =
     let its = number_of c.drive-asked.ensures.driven (ap (λ (y : Session). y.number) c.new_session-made.ensures.2) in
     ap (λ (n : ℕ). value_at c.args.served.now.sessions n) its ∙ c.requires.vacant.vacant
 
-pub put-requires-clause-made : goal.put-requires-clause-made
-put-requires-clause-made c = ap (λ (y : Session). made_one y.service) c.drive-asked.ensures.driven.drives.session
+pub put-requires-clause-apart : goal.put-requires-clause-apart
+put-requires-clause-apart c = nothing_shared c.args.served.now.sessions c.drive-asked.new.session (ap address_of c.drive-asked.ensures.driven.drives.session)
 
 pub returns-clause-made : goal.returns-clause-made
 returns-clause-made c ts are =

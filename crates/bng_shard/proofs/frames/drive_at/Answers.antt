@@ -1,12 +1,18 @@
-use Rattle.std.proofs.Common.{◌≡◌, ◌∙◌, ℕ, ap, subst, sym}
+use Rattle.std.proofs.Common.{◌∙◌, ℕ, ap, subst, sym}
 use Rattle.bng_shard.specs.declared.session.Session.{Session}
 use Rattle.bng_ppp.specs.PppRelation.{PppSteps}
 use Rattle.bng_shard.specs.Driven.{Driven}
-use Rattle.bng_shard.specs.State.{State, made_one}
+use Rattle.bng_slots.specs.Sessions.{value_at}
+use Rattle.bng_shard.specs.Indexed.{address_of}
+use Rattle.bng_shard.specs.State.{State}
+use Rattle.bng_shard.proofs.Serves.{live_stays, nothing_shared}
 use Rattle.bng_shard.proofs.Driving.{number_of}
 use Rattle.bng_shard.proofs.Replacing.{live_there, made_of_live, number_back, put_back, vacant_back}
 use Rattle.bng_shard.proofs.Values.{same_some}
 use Rattle.bng_shard.proofs.frames.drive_at.Goals as goal
+
+pub take-session-requires : goal.take-session-requires
+take-session-requires c = live_stays (value_at c.args.served.now.sessions c.args.number.0) c.requires.lives
 
 pub drive-asked-requires-clause-placed : goal.drive-asked-requires-clause-placed
 drive-asked-requires-clause-placed c = c.requires.placed c.args.number.0 c.take-session.result (sym c.take-session.ensures.value)
@@ -25,8 +31,8 @@ put-requires-clause-vacant c =
     let same = number_of c.drive-asked.ensures.driven c.take-session.ensures.number in
     vacant_back c.args.served.now c.take-session.new.self c.args.number.0 c.drive-asked.new.session.number.0 c.take-session.ensures.after same
 
-pub put-requires-clause-made : goal.put-requires-clause-made
-put-requires-clause-made c = ap (λ (y : Session). made_one y.service) c.drive-asked.ensures.driven.drives.session
+pub put-requires-clause-apart : goal.put-requires-clause-apart
+put-requires-clause-apart c = nothing_shared c.take-session.new.self.sessions c.drive-asked.new.session (ap address_of c.drive-asked.ensures.driven.drives.session)
 
 pub returns-clause-driven : goal.returns-clause-driven
 returns-clause-driven c x is =

@@ -2,11 +2,17 @@ use Rattle.std.proofs.Common.{◌≡◌, ◌∙◌, ap}
 use Rattle.bng_base.specs.declared.address.SessionNo.{SessionNo}
 use Rattle.bng_shard.specs.declared.session.Session.{Session}
 use Rattle.bng_shard.specs.Link.{ended}
-use Rattle.bng_shard.specs.State.{made_one, with_session}
-use Rattle.bng_shard.proofs.Replacing.{live_there, made_of_ended, number_back, put_back, vacant_back}
+use Rattle.bng_slots.specs.Sessions.{value_at}
+use Rattle.bng_shard.specs.Indexed.{address_of}
+use Rattle.bng_shard.specs.State.{with_session}
+use Rattle.bng_shard.proofs.Replacing.{ended_address, number_back, put_back, vacant_back}
+use Rattle.bng_shard.proofs.Serves.{live_stays, shares_as}
 use Rattle.bng_shard.proofs.Values.{same_some}
 use Rattle.bng_shard.proofs.frames.end_session.Goals as goal
 use Rattle.bng_shard.proofs.frames.end_session.Goals.{After-end}
+
+pub take-session-requires : goal.take-session-requires
+take-session-requires c = live_stays (value_at c.args.served.now.sessions c.args.number.0) c.requires.lives
 
 -- it keeps its number
 same_number : (c : After-end) → c.end.new.self.number.0 ≡ c.args.number.0
@@ -22,10 +28,9 @@ put-requires-clause-vacant c =
     let d = (goal.at.put-requires-clause-vacant c).After-end in
     vacant_back c.args.served.now c.take-session.new.self c.args.number.0 c.end.new.self.number.0 c.take-session.ensures.after (same_number d)
 
-pub put-requires-clause-made : goal.put-requires-clause-made
-put-requires-clause-made c =
-    ap (λ (y : Session). made_one y.service) c.end.ensures
-    ∙ made_of_ended c.take-session.result.service (live_there c.args.served.now c.args.number.0 c.take-session.result c.requires.lives c.take-session.ensures.value)
+pub put-requires-clause-apart : goal.put-requires-clause-apart
+put-requires-clause-apart c =
+    shares_as c.take-session.new.self.sessions c.take-session.result c.end.new.self (ap address_of c.end.ensures ∙ ended_address c.take-session.result) c.take-session.ensures.apart
 
 pub returns : goal.returns
 returns c x is =

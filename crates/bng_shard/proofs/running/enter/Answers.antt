@@ -1,4 +1,4 @@
-use Rattle.std.proofs.Common.{◌<◌, ◌^◌, arith}
+use Rattle.std.proofs.Common.{arith}
 use Rattle.bng_shard.proofs.BookLaws.{little_more, more_entered, room_for_octets, room_for_packet}
 use Rattle.bng_shard.proofs.running.enter.Goals as goal
 

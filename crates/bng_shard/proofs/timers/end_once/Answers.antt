@@ -1,10 +1,11 @@
-use Rattle.std.proofs.Common.{◌≡◌, ◌∙◌, refl, ap, subst, sym}
+use Rattle.std.proofs.Common.{◌≡◌, ◌∙◌, ap, subst, sym}
 use Rattle.bng_base.specs.declared.address.SessionNo.{SessionNo}
 use Rattle.bng_shard.specs.declared.session.Session.{Session}
 use Rattle.bng_shard.specs.Fits.{ArePlaced}
-use Rattle.bng_shard.specs.Link.{ended}
-use Rattle.bng_shard.specs.State.{State, made_one, with_session}
-use Rattle.bng_shard.proofs.Replacing.{live_there, made_of_ended, number_back, placed_with, put_back, vacant_back}
+use Rattle.bng_shard.specs.Indexed.{address_of}
+use Rattle.bng_shard.specs.State.{State, with_session}
+use Rattle.bng_shard.proofs.Replacing.{ended_address, number_back, placed_with, put_back, vacant_back}
+use Rattle.bng_shard.proofs.Serves.{shares_as}
 use Rattle.bng_shard.proofs.timers.end_once.Goals as goal
 use Rattle.bng_shard.proofs.timers.end_once.Goals.{After-end}
 
@@ -12,8 +13,8 @@ use Rattle.bng_shard.proofs.timers.end_once.Goals.{After-end}
 same_number : (c : After-end) → c.end.new.self.number.0 ≡ c.in-Some.number.0
 same_number c = ap (λ (y : Session). y.number.0) c.end.ensures ∙ ap (λ (n : SessionNo). n.0) c.take-session.ensures.number
 
-pub send_padt-requires-clause-placed : goal.send_padt-requires-clause-placed
-send_padt-requires-clause-placed c = c.requires.placed c.in-Some.number.0 c.take-session.result (sym c.take-session.ensures.value)
+pub tell_end-requires-clause-placed : goal.tell_end-requires-clause-placed
+tell_end-requires-clause-placed c = c.requires.placed c.in-Some.number.0 c.take-session.result (sym c.take-session.ensures.value)
 
 pub put-requires-clause-number : goal.put-requires-clause-number
 put-requires-clause-number c =
@@ -25,15 +26,14 @@ put-requires-clause-vacant c =
     let d = (goal.at.put-requires-clause-vacant c).After-end in
     vacant_back c.args.served.now c.take-session.new.self c.in-Some.number.0 c.end.new.self.number.0 c.take-session.ensures.after (same_number d)
 
-pub put-requires-clause-made : goal.put-requires-clause-made
-put-requires-clause-made c =
-    ap (λ (y : Session). made_one y.service) c.end.ensures
-    ∙ made_of_ended c.take-session.result.service (live_there c.args.served.now c.in-Some.number.0 c.take-session.result c.in-Some.ensures.found.live c.take-session.ensures.value)
+pub put-requires-clause-apart : goal.put-requires-clause-apart
+put-requires-clause-apart c =
+    shares_as c.take-session.new.self.sessions c.take-session.result c.end.new.self (ap address_of c.end.ensures ∙ ended_address c.take-session.result) c.take-session.ensures.apart
 
 pub returns-clause-ended : goal.returns-clause-ended
 returns-clause-ended c =
     let d = (goal.at.returns-clause-ended c).After-end in
-    let (padt, ends, sent) = c.send_padt.ensures.items in
+    let (padt, ends, sent) = c.tell_end.ensures.told in
     let next = put_back c.args.served.now c.take-session.new.self c.in-Some.number.0 c.end.new.self.number.0 c.take-session.ensures.after (same_number d) c.put.new.self c.end.new.self c.put.ensures in (
       c.in-Some.number.0,
       c.in-Some.ensures.found,

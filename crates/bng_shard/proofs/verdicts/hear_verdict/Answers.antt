@@ -1,4 +1,4 @@
-use Rattle.std.proofs.Common.{◌≡◌, ◌∙◌, ℕ, List, None, Some, subst, sym}
+use Rattle.std.proofs.Common.{◌∙◌, ℕ, List, None, Some, subst, sym}
 use Rattle.bng_ppp.specs.declared.whole_input.WholeInput.TheVariants.{Verdict}
 use Rattle.bng_ppp.specs.PppRelation.{PppSteps}
 use Rattle.bng_verdict.specs.Verdicts.{IsVerdict, said}

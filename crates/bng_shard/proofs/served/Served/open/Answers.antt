@@ -4,8 +4,8 @@ use Rattle.bng_slots.specs.Sessions.{NoneShares, with_value}
 use Rattle.bng_shard.specs.declared.session.Session.{Session}
 use Rattle.bng_shard.specs.Indexed.{address_of, term_of}
 use Rattle.bng_shard.specs.Serving.{AreAsking, AreLeaving, AreYoung, asks, is_young}
-use Rattle.bng_shard.specs.State.{circuit_of}
-use Rattle.bng_shard.proofs.Circuits.{Opens, at, few_begun, opened_ended, opened_is, opened_leaving, opened_listed, opened_made, opened_none, opened_of_shard, opened_own, opens_none, opens_pass, opens_put, shares_address, shares_circuit, shares_term, vacant_there}
+use Rattle.bng_shard.specs.State.{circuit_of, leaves}
+use Rattle.bng_shard.proofs.Circuits.{Opens, at, few_begun, opened_apart, opened_is, opened_listed, opened_none, opened_of_shard, opened_own, opens_none, opens_pass, opens_put, shares_address, shares_circuit, shares_term, vacant_there}
 use Rattle.bng_shard.proofs.served.Served.open.Goals as goal
 use Rattle.bng_shard.proofs.served.Served.open.Goals.{in-Some, in_default-circuit_with}
 
@@ -75,9 +75,9 @@ invariant_of-result c =
     record {
       own = opened_own c.args.number c.args.circuits.now c.loop-n.sessions c.loop-n.begun opens;
       of_shard = opened_of_shard c.args.number c.args.circuits.now c.loop-n.sessions c.loop-n.begun opens;
-      made = sym (opened_made c.args.number c.args.circuits.now c.loop-n.sessions c.loop-n.begun opens);
-      leaving = subst (λ (ns : List SessionNo). AreLeaving c.loop-n.sessions ns) (sym none) (opened_leaving c.args.number c.args.circuits.now c.loop-n.sessions c.loop-n.begun opens);
-      counted = opened_ended c.args.number c.args.circuits.now c.loop-n.sessions c.loop-n.begun opens ∙ sym (ap (λ (ns : List SessionNo). length ns) none);
+      apart = opened_apart c.args.number c.args.circuits.now c.loop-n.sessions c.loop-n.begun opens c.requires.addresses;
+      leaving = subst (λ (ns : List SessionNo). AreLeaving c.loop-n.sessions ns) (sym none) (opened_listed c.args.number c.args.circuits.now c.loop-n.sessions c.loop-n.begun opens leaves (λ k serial. refl));
+      counted = opened_none c.args.number c.args.circuits.now c.loop-n.sessions c.loop-n.begun opens leaves (λ k serial. refl) ∙ sym (ap (λ (ns : List SessionNo). length ns) none);
       room = omega (arith, room);
       asking = subst (λ (ns : List SessionNo). AreAsking c.loop-n.sessions ns) (sym none_ask) (opened_listed c.args.number c.args.circuits.now c.loop-n.sessions c.loop-n.begun opens asks (λ k serial. refl));
       asking_counted = opened_none c.args.number c.args.circuits.now c.loop-n.sessions c.loop-n.begun opens asks (λ k serial. refl) ∙ sym (ap (λ (ns : List SessionNo). length ns) none_ask);
@@ -87,14 +87,8 @@ invariant_of-result c =
       young_room = omega (arith, young_room);
     }
 
-pub returns-clause-opened : goal.returns-clause-opened
-returns-clause-opened c =
+pub returns : goal.returns
+returns c =
     let all : c.loop-n.n - (c.args.number * 1024 + 1) ≡ 1022 = search rules in
     let opens = subst (λ (k : ℕ). Opens c.args.number c.args.circuits.now k c.loop-n.sessions c.loop-n.begun) all c.loop-n.invariant in
-    opened_is c.args.number c.args.circuits.now c.loop-n.sessions c.loop-n.begun opens c.requires.own
-
-pub returns-clause-none : goal.returns-clause-none
-returns-clause-none c =
-    let all : c.loop-n.n - (c.args.number * 1024 + 1) ≡ 1022 = search rules in
-    let opens = subst (λ (k : ℕ). Opens c.args.number c.args.circuits.now k c.loop-n.sessions c.loop-n.begun) all c.loop-n.invariant in
-    opened_made c.args.number c.args.circuits.now c.loop-n.sessions c.loop-n.begun opens
+    record { opened = opened_is c.args.number c.args.circuits.now c.loop-n.sessions c.loop-n.begun opens c.requires.own }

@@ -7,7 +7,7 @@ invariant_of-self c =
     let was = c.self.invariant in
     record {
       rows = was.rows;
-      numbered = was.numbered;
+      rising = was.rising;
       placed = was.placed;
       auth = was.auth;
       offers = was.offers;

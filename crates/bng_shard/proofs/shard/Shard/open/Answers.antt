@@ -6,7 +6,7 @@ use Rattle.bng_shard.specs.Protocol.{terms_of}
 use Rattle.bng_shard.specs.Running.{rows_in}
 use Rattle.bng_shard.proofs.Opened.{opened_keys, opened_placed, opened_view}
 use Rattle.bng_shard.proofs.RowLaws.{new_keys}
-use Rattle.bng_shard.proofs.RowSums.{rows_numbered}
+use Rattle.bng_shard.proofs.RowSums.{opened_rising}
 use Rattle.bng_shard.proofs.shard.Shard.open.Goals as goal
 
 pub invariant_of-result : goal.invariant_of-result
@@ -18,7 +18,7 @@ invariant_of-result c =
     let rows = ap row_keys (c.in-Ok-rows_of.ensures r) ∙ new_keys (keys (terms_of (record { rules = r; slots = served }))) in
     record {
       rows = rows;
-      numbered = rows_numbered (in_order c.args.number cs) c.in-Ok-rows_of.rows.items (rows ∙ opened_keys r c.args.number cs served opened c.requires.sessions);
+      rising = opened_rising (in_order c.args.number cs) c.in-Ok-rows_of.rows.items (rows ∙ opened_keys r c.args.number cs served opened c.requires.sessions);
       placed = opened_placed r c.args.number cs served opened c.requires.sessions c.requires.ports;
       auth = c.requires.auth;
       offers = c.requires.offers;

@@ -1,4 +1,4 @@
-use Rattle.std.proofs.Common.{◌≡◌, ◌≤◌, ◌-◌, ◌^◌, ◌∷◌, [], ap, sym, subst, ◌∙◌, arith, length, length-append, refl, true, false, List}
+use Rattle.std.proofs.Common.{◌≡◌, ◌≤◌, ◌-◌, ◌^◌, ◌∷◌, [], ap, sym, subst, ◌∙◌, arith, length, length-append, true, false, List}
 use Rattle.bng_base.specs.declared.item.Entry.{Entry}
 use Rattle.bng_base.specs.declared.item.OutRecord.{OutRecord}
 use Rattle.bng_engine.specs.Books.{BooksRise}
@@ -23,7 +23,7 @@ invariant_of-self c =
     let spent = owed_more a.journal.items e once.0 once.1 in
     record {
       rows = still_fit a.rules a.served c.hear-fate.new.served (rows_in a.rows.items) a.passed c.book.new.book a.allowance a.journal.items c.push_reserved.new.self.items a.outs.items c.hear-fate.new.outs.items a.room e c.hear-fate.result does was.rows;
-      numbered = was.numbered;
+      rising = was.rising;
       placed = still_placed a.rules a.served c.hear-fate.new.served (rows_in a.rows.items) a.passed c.book.new.book a.allowance a.journal.items c.push_reserved.new.self.items a.outs.items c.hear-fate.new.outs.items a.room e c.hear-fate.result does was.rows was.placed;
       auth = was.auth;
       offers = was.offers;

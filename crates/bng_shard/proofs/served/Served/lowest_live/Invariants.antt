@@ -1,8 +1,0 @@
-use Rattle.std.proofs.Common.{◌≡◌, ℕ, ◌<◌, ◌≤◌, Some, false}
-use Rattle.bng_slots.specs.Sessions.{value_at}
-use Rattle.bng_shard.specs.declared.session.Session.{Session}
-use Rattle.bng_shard.specs.Timers.{lives_in}
-use Rattle.bng_shard.proofs.served.Served.lowest_live.Given as goal
-
-abbrev pub invariant-loop-n : goal.invariant-loop-n
-invariant-loop-n l = (m : ℕ) (x : Session) → l.first ≤ m → m < l.n → value_at l.self-inside.sessions m ≡ Some x → lives_in x.service ≡ false
