@@ -15,6 +15,7 @@ use Rattle.bng_shard.specs.declared.rules.Rules.{Rules}
 use Rattle.bng_shard.specs.Protocol.{ShardState}
 use Rattle.bng_desk.specs.declared.drops.Drops.{Drops}
 use Rattle.bng_desk.specs.declared.holding.Named.{Named}
+use Rattle.bng_desk.specs.declared.line.Line.{Line}
 use Rattle.bng_desk.specs.Control.{control_stretch}
 use Rattle.bng_desk.specs.Items.{kept_of}
 use Rattle.bng_desk.specs.Kept.{rested}
@@ -29,10 +30,12 @@ abbrev Shards : Type 0
 Shards = List (ShardView ShardState Entry)
 
 -- what a turn has of its round
-pub record RoundDone (d : Desk) (moment wall : ℕ) (items : List Item) (old new : PlantTold) (shards : Shards) (drops : Drops) (tally : Book) (told_is : RoundRecord) (opened : Bool) (kept : List Item) : Type 0 where
+pub record RoundDone (d : Desk) (moment wall : ℕ) (items : List Item) (old new : PlantTold) (shards : Shards) (holders : List Holder) (lines : List Line) (drops : Drops) (tally : Book) (told_is : RoundRecord) (opened : Bool) (kept : List Item) : Type 0 where
   pub round : Option Round
   pub is : RoundOf d moment items round
   pub shards_are : shards ≡ (after_round d items round).shards
+  pub holders_are : holders ≡ (after_round d items round).holders
+  pub lines_are : lines ≡ (after_round d items round).lines
   pub drops_are : drops ≡ (after_round d items round).drops
   pub tallies_are : tally ∷ [] ≡ (after_round d items round).tallies
   pub told : ExtendsPlant old new (round_stretch round)
@@ -40,9 +43,9 @@ pub record RoundDone (d : Desk) (moment wall : ℕ) (items : List Item) (old new
   pub opened_is : opened ≡ is_opened round
   pub kept_is : kept ≡ (after_round d items round).kept
 
-pub round_done : (d : Desk) (named : Named) (items : List Item) (p p' : PlantTold) (vs ws : Shards) (drops' : Drops) (tally tally' : Book) (told_is : RoundRecord) (opened : Bool) (kept : List Item) → Holds d.rules d.holders named items p p' vs ws d.drops drops' tally tally' told_is opened kept
-    → d.shards ≡ map rested vs → d.tallies ≡ tally ∷ [] → named.number ≡ d.told + 1 → RoundDone d named.moment named.wall items p p' (map rested ws) drops' tally' told_is opened kept
-round_done d named items p p' vs ws drops' tally tally' told_is opened kept (inl (opened_is, kept_is, h)) shards tallies number =
+pub round_done : (d : Desk) (named : Named) (items : List Item) (p p' : PlantTold) (vs ws : Shards) (holders' : List Holder) (lines' : List Line) (drops' : Drops) (tally tally' : Book) (told_is : RoundRecord) (opened : Bool) (kept : List Item) → Holds d.rules d.holders holders' d.lines lines' named items p p' vs ws d.drops drops' tally tally' told_is opened kept
+    → d.shards ≡ map rested vs → d.tallies ≡ tally ∷ [] → named.number ≡ d.told + 1 → RoundDone d named.moment named.wall items p p' (map rested ws) holders' lines' drops' tally' told_is opened kept
+round_done d named items p p' vs ws holders' lines' drops' tally tally' told_is opened kept (inl (opened_is, kept_is, h)) shards tallies number =
     let same : map rested h.ready ≡ d.shards = kept_rested vs h.ready h.kept ∙ sym shards in
     let lists : List (List Item) = items ∷ [] in
     record {
@@ -50,6 +53,8 @@ round_done d named items p p' vs ws drops' tally tally' told_is opened kept (inl
       is = subst (λ (bs : List Book). IsRound d.rules d.shards d.holders bs named.moment lists h.held.round) (sym tallies)
           (subst (λ (xs : Shards). IsRound d.rules xs d.holders (tally ∷ []) named.moment lists h.held.round) same (round_rested d.rules h.ready d.holders (tally ∷ []) named.moment lists h.held.round h.held.is));
       shards_are = left_rested ws h.held.round.shards h.held.shards_are;
+      holders_are = h.held.holders_are;
+      lines_are = h.held.lines_are;
       drops_are = h.held.drops_are;
       tallies_are = sym h.held.tallies_are;
       told = h.held.told;
@@ -57,12 +62,14 @@ round_done d named items p p' vs ws drops' tally tally' told_is opened kept (inl
       opened_is = opened_is;
       kept_is = kept_is;
     }
-round_done d named items p p' vs ws drops' tally tally' told_is opened kept (inr (opened_is, kept_is, h)) shards tallies number =
+round_done d named items p p' vs ws holders' lines' drops' tally tally' told_is opened kept (inr (opened_is, kept_is, h)) shards tallies number =
     let count : length vs ≡ length d.shards = sym (length-map vs rested) ∙ ap (λ (xs : Shards). length xs) (sym shards) in
     record {
       round = None;
       is = tt;
       shards_are = kept_rested vs ws h.kept ∙ sym shards;
+      holders_are = h.holders_are;
+      lines_are = h.lines_are;
       drops_are = h.drops_are;
       tallies_are = ap (λ (b : Book). let bs : List Book = b ∷ [] in bs) h.tally_is ∙ sym tallies;
       told = subst (λ (q : PlantTold). ExtendsPlant p q plant_none) (sym h.told) (plant_stays p);
@@ -71,28 +78,42 @@ round_done d named items p p' vs ws drops' tally tally' told_is opened kept (inr
       kept_is = kept_is;
     }
 
--- a round changes no more than the shards, the drops, the tallies and what stays
-pub after_parts : (d : Desk) (items : List Item) (round : Option Round) → record d { shards = (after_round d items round).shards; drops = (after_round d items round).drops; tallies = (after_round d items round).tallies; kept = (after_round d items round).kept } ≡ after_round d items round
+-- a round changes no more than the shards, who holds an address, the lines, the drops, the tallies and what stays
+pub after_parts : (d : Desk) (items : List Item) (round : Option Round)
+    → record d {
+      shards = (after_round d items round).shards;
+      holders = (after_round d items round).holders;
+      lines = (after_round d items round).lines;
+      drops = (after_round d items round).drops;
+      tallies = (after_round d items round).tallies;
+      kept = (after_round d items round).kept;
+    }
+    ≡ after_round d items round
 after_parts d items None = refl
 after_parts d items (Some round) = refl
 
+abbrev with_round : Desk → Shards → List Holder → List Line → Drops → List Book → List Item → Desk
+with_round d shards holders lines drops tallies kept = record d { shards = shards; holders = holders; lines = lines; drops = drops; tallies = tallies; kept = kept }
+
 -- the desk after its round, from its parts
-module _ (d : Desk) (items : List Item) (round : Option Round) (shards : Shards) (drops : Drops) (tallies : List Book) (kept : List Item) where
-  pub is_after_round : shards ≡ (after_round d items round).shards → drops ≡ (after_round d items round).drops → tallies ≡ (after_round d items round).tallies → kept ≡ (after_round d items round).kept
-      → record d { shards = shards; drops = drops; tallies = tallies; kept = kept } ≡ after_round d items round
-  is_after_round shards_are drops_are tallies_are kept_is =
+module _ (d : Desk) (items : List Item) (round : Option Round) (shards : Shards) (holders : List Holder) (lines : List Line) (drops : Drops) (tallies : List Book) (kept : List Item) where
+  pub is_after_round : shards ≡ (after_round d items round).shards → holders ≡ (after_round d items round).holders → lines ≡ (after_round d items round).lines → drops ≡ (after_round d items round).drops → tallies ≡ (after_round d items round).tallies → kept ≡ (after_round d items round).kept
+      → record d { shards = shards; holders = holders; lines = lines; drops = drops; tallies = tallies; kept = kept } ≡ after_round d items round
+  is_after_round shards_are holders_are lines_are drops_are tallies_are kept_is =
       let r = after_round d items round in
-      ap (λ (xs : Shards). let x : Desk = record d { shards = xs; drops = drops; tallies = tallies; kept = kept } in x) shards_are
-      ∙ ap (λ (y : Drops). let x : Desk = record d { shards = r.shards; drops = y; tallies = tallies; kept = kept } in x) drops_are
-      ∙ ap (λ (bs : List Book). let x : Desk = record d { shards = r.shards; drops = r.drops; tallies = bs; kept = kept } in x) tallies_are
-      ∙ ap (λ (is : List Item). let x : Desk = record d { shards = r.shards; drops = r.drops; tallies = r.tallies; kept = is } in x) kept_is
+      ap (λ (xs : Shards). with_round d xs holders lines drops tallies kept) shards_are
+      ∙ ap (λ (hs : List Holder). with_round d r.shards hs lines drops tallies kept) holders_are
+      ∙ ap (λ (ls : List Line). with_round d r.shards r.holders ls drops tallies kept) lines_are
+      ∙ ap (λ (y : Drops). with_round d r.shards r.holders r.lines y tallies kept) drops_are
+      ∙ ap (λ (bs : List Book). with_round d r.shards r.holders r.lines r.drops bs kept) tallies_are
+      ∙ ap (λ (is : List Item). with_round d r.shards r.holders r.lines r.drops r.tallies is) kept_is
       ∙ after_parts d items round
 
 -- what stays is nothing, or what the items keep
-pub kept_as : (P : List Item → Type 0) (r : Rules) (holders : List Holder) (named : Named) (items : List Item) (p p' : PlantTold) (vs ws : Shards) (drops drops' : Drops) (tally tally' : Book) (told_is : RoundRecord) (opened : Bool) (kept : List Item)
-    → Holds r holders named items p p' vs ws drops drops' tally tally' told_is opened kept → P [] → P (kept_of items) → P kept
-kept_as P r holders named items p p' vs ws drops drops' tally tally' told_is opened kept (inl h) none some = subst P (sym h.1) none
-kept_as P r holders named items p p' vs ws drops drops' tally tally' told_is opened kept (inr h) none some = subst P (sym h.1) some
+pub kept_as : (P : List Item → Type 0) (r : Rules) (holders holders' : List Holder) (lines lines' : List Line) (named : Named) (items : List Item) (p p' : PlantTold) (vs ws : Shards) (drops drops' : Drops) (tally tally' : Book) (told_is : RoundRecord) (opened : Bool) (kept : List Item)
+    → Holds r holders holders' lines lines' named items p p' vs ws drops drops' tally tally' told_is opened kept → P [] → P (kept_of items) → P kept
+kept_as P r holders holders' lines lines' named items p p' vs ws drops drops' tally tally' told_is opened kept (inl h) none some = subst P (sym h.1) none
+kept_as P r holders holders' lines lines' named items p p' vs ws drops drops' tally tally' told_is opened kept (inr h) none some = subst P (sym h.1) some
 
 -- the phases of a turn, one after the other
 pub phases : (d : Desk) (t : Turn) (p₀ p₁ p₂ p₃ p₄ p₅ : PlantTold) → ExtendsPlant p₀ p₁ (control_stretch t.control t.control_end) → ExtendsPlant p₁ p₂ (plant_joined (auth_stretch t.answers t.auth_end) (data_stretch t.readings)) → ExtendsPlant p₂ p₃ (round_stretch t.round)

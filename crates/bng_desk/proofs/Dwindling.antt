@@ -1,6 +1,6 @@
 -- A round leaves the shards' rules as they are, and a round of Ends leaves fewer sessions, or none.
 use Rattle.std.proofs.Common.{◌≡◌, ◌≢◌, ◌⊎◌, inl, inr, ⊎_elim, ℕ, zero, suc, ◌+◌, ◌-◌, ◌*◌, ◌<◌, ◌≤◌, Bool, true, false, ◌||◌, cond, List, [], ◌∷◌, ◌++◌, map, length, if◌then◌else◌, eqb, refl, sym, ap, subst, ◌∙◌, arith}
-use Rattle.std.specs.List.{All, AllByRecursion, AllZip, range_with_len}
+use Rattle.std.specs.List.{All, AllByRecursion, AllZip, range_with_len, sum_by}
 use Rattle.std.proofs.lemmas.Bool.Decides.{nat_tests}
 use Rattle.std.proofs.lemmas.List.Elements.{All-nil, All-cons, All-head, All-tail, All-map, All-from_recursion, recursion_from_All}
 use Rattle.std.proofs.lemmas.List.Sums.{sum_by-cons}
@@ -15,6 +15,8 @@ use Rattle.bng_engine.specs.Calls.{Kept, Moves}
 use Rattle.bng_engine.specs.Journals.{after, AreSteps}
 use Rattle.bng_engine.specs.Views.{ShardView}
 use Rattle.bng_engine.proofs.Everywhere.{all_weaker}
+use Rattle.bng_slots.specs.Listed.{values}
+use Rattle.bng_slots.specs.Sessions.{with_value}
 use Rattle.bng_shard.specs.declared.pool.Holder.{Holder}
 use Rattle.bng_shard.specs.declared.rules.Rules.{Rules}
 use Rattle.bng_shard.specs.declared.whose.Whose.{Whose}
@@ -22,7 +24,7 @@ use Rattle.bng_shard.specs.declared.whose.Whose.TheVariants.{Stands}
 use Rattle.bng_shard.specs.declared.session.Session.{Session}
 use Rattle.bng_shard.specs.Deed.{Deed}
 use Rattle.bng_shard.specs.Protocol.{ShardState, Handled, pppoe, entry_of, sessions_of}
-use Rattle.bng_shard.specs.State.{State, made_in, made_one}
+use Rattle.bng_shard.specs.State.{State, count_in}
 use Rattle.bng_shard.specs.Step.{Hears}
 use Rattle.bng_shard.specs.Verdicts.{HearsVerdict, Judges}
 use Rattle.bng_shard.specs.Whose.{IsWhose, IsForKind, IsForTarget}
@@ -31,6 +33,7 @@ use Rattle.bng_shard.proofs.Values.{sum_by-replaced}
 use Rattle.bng_verdict.specs.Verdicts.{Saying}
 use Rattle.bng_desk.specs.declared.drops.Drops.{Drops}
 use Rattle.bng_desk.specs.declared.holding.Named.{Named}
+use Rattle.bng_desk.specs.declared.line.Line.{Line}
 use Rattle.bng_desk.specs.Items.{entries_in, for_shard, stands_in}
 use Rattle.bng_desk.specs.Kept.{rested, undrawn, AreEndsOf, is_verdict}
 use Rattle.bng_desk.specs.Model.{sessions_in, unopened_most}
@@ -194,21 +197,22 @@ one_step s (h ∷ []) e is kind steps =
     less_by (sessions_of s) (sessions_of (pppoe.settled (pppoe.next s h))) (end_leaves_fewer s h steps.0 (ap (λ (x : Entry). x.item.kind) of ∙ kind))
 one_step s (h ∷ g ∷ es) e is kind steps = let no : ⊥ = cc in absurd no
 
+ones : (xs : List Session) → sum_by (λ (x : Session). 1) xs ≡ length xs
+ones [] = refl
+ones (x ∷ xs) = omega (arith, sum_by-cons (λ (x : Session). 1) x xs, ones xs)
+
 -- a verdict leaves as many
-judged : (s : State) (e : Entry) (d : Deed) (r : Rules) (v : Saying) → Judges r s e v d → made_in d.next ≡ made_in s
+judged : (s : State) (e : Entry) (d : Deed) (r : Rules) (v : Saying) → Judges r s e v d → count_in d.next ≡ count_in s
 judged s e d r v j =
-    let one = λ (x : Session). made_one x.service in
-    let was : one j.x ≡ 1 = ap made_one j.drives.is_made in
-    let now : one j.after ≡ 1 = ap one j.drives.session in
-    let both = sum_by-replaced one s.sessions e.item.target j.x j.after j.found in
-    omega (arith, was, now, both, ap (λ (x : Deed). made_in x.next) j.done)
+    let both = sum_by-replaced (λ (x : Session). 1) s.sessions e.item.target j.x j.after j.found in
+    omega (arith, both, ones (values s.sessions), ones (values (with_value s.sessions e.item.target j.after)), ap (λ (x : Deed). count_in x.next) j.done)
 
 verdict_leaves_all : (s : ShardState) (h : Handled) → pppoe.is_step s h → h.deed.entry.item.kind ≡ Verdict → sessions_of (pppoe.next s h) ≡ sessions_of s
 verdict_leaves_all s h is kind =
     let d = h.deed in
     let hears : HearsVerdict s.rules s.slots d.entry d = subst (λ (k : ItemKind). Hears k s.rules s.slots d.entry d) kind is.hears in
     ⊎_elim (λ told. judged s.slots d.entry d s.rules told.1 told.3)
-    (λ none. ⊎_elim (λ silent. ap (λ (x : Deed). made_in x.next) silent.2) (λ other. ap (λ (x : Deed). made_in x.next) other.1) none) hears
+    (λ none. ⊎_elim (λ silent. ap (λ (x : Deed). count_in x.next) silent.2) (λ other. ap (λ (x : Deed). count_in x.next) other.1) none) hears
 
 last_step : (front : List Entry) (s : ShardState) (es : List Handled) (e : Entry) → map (λ (h : Handled). h.deed.entry) es ≡ front ++ e ∷ [] → All IsVerdict front → e.item.kind ≡ End → AreSteps pppoe s es → Less (sessions_of s) (sessions_of (pppoe.settled (after pppoe s es)))
 last_step [] s es e is all kind steps = one_step s es e is kind steps
@@ -250,15 +254,15 @@ abbrev pub Nears : Bool → ℕ → ℕ → Type 0
 Nears true was now = Less was now
 Nears false was now = now ≡ was
 
-module _ (r : Rules) (holders : List Holder) (named : Named) (items : List Item) (old new : PlantTold) (vs ws : Shards) (drops drops' : Drops) (tally tally' : Book) (record_is : RoundRecord) where
+module _ (r : Rules) (holders holders' : List Holder) (lines lines' : List Line) (named : Named) (items : List Item) (old new : PlantTold) (vs ws : Shards) (drops drops' : Drops) (tally tally' : Book) (record_is : RoundRecord) where
   kept_works : (by : Rules) (ready : Shards) → AllZip Kept vs ready → All (WorksBy by) vs → All (WorksBy by) ready
   kept_works by ready kept works = all_onward Kept (WorksBy by) (λ x y k here. ap (λ (s : ShardState). s.rules) k.state ∙ here) vs ready kept works
 
-  held_works : (by : Rules) → IsHeld r holders named items old new vs ws drops drops' tally tally' record_is → All (WorksBy by) vs → All (WorksBy by) ws
+  held_works : (by : Rules) → IsHeld r holders holders' lines lines' named items old new vs ws drops drops' tally tally' record_is → All (WorksBy by) vs → All (WorksBy by) ws
   held_works by h works =
       All-from_recursion (WorksBy by) ws (moved_rules by h.ready ws h.held.round.shards h.held.is.turn.shards h.held.shards_are (recursion_from_All (WorksBy by) h.ready (kept_works by h.ready h.kept works)))
 
-  pub all_work : (by : Rules) (opened : Bool) (kept : List Item) → Holds r holders named items old new vs ws drops drops' tally tally' record_is opened kept → All (WorksBy by) vs → All (WorksBy by) ws
+  pub all_work : (by : Rules) (opened : Bool) (kept : List Item) → Holds r holders holders' lines lines' named items old new vs ws drops drops' tally tally' record_is opened kept → All (WorksBy by) vs → All (WorksBy by) ws
   all_work by opened kept (inl h) works = held_works by h.2 works
   all_work by opened kept (inr h) works = kept_works by ws h.2.kept works
 
@@ -273,14 +277,14 @@ module _ (r : Rules) (holders : List Holder) (named : Named) (items : List Item)
       (subst (λ (is : List Item). AreParts (is ∷ []) (w ∷ []) 0 named.moment xs) e.are parts) moves left
   dwindled (w ∷ x ∷ more) xs ready n few e within are parts moves left = absurd are.1
 
-  held_dwindles : IsHeld r holders named items old new vs ws drops drops' tally tally' record_is → length vs ≡ r.shards → AreEnds (length vs) items → Less (sessions_in vs) (sessions_in ws)
+  held_dwindles : IsHeld r holders holders' lines lines' named items old new vs ws drops drops' tally tally' record_is → length vs ≡ r.shards → AreEnds (length vs) items → Less (sessions_in vs) (sessions_in ws)
   held_dwindles h count ends =
       let is = h.held.is in
       let same : length vs ≡ length h.ready = zip_length Kept vs h.ready h.kept in
       subst (λ (n : ℕ). Less n (sessions_in ws)) (same_sessions h.ready h.kept)
       (dwindled h.held.round.whose h.held.round.shards h.ready (length vs) (omega (arith, count)) ends (omega (arith, same)) is.dealt.whose is.dealt.parts is.turn.shards h.held.shards_are)
 
-  pub nears : (opened : Bool) (kept : List Item) → Holds r holders named items old new vs ws drops drops' tally tally' record_is opened kept → length vs ≡ r.shards → AreEnds (length vs) items → Nears opened (sessions_in vs) (sessions_in ws)
+  pub nears : (opened : Bool) (kept : List Item) → Holds r holders holders' lines lines' named items old new vs ws drops drops' tally tally' record_is opened kept → length vs ≡ r.shards → AreEnds (length vs) items → Nears opened (sessions_in vs) (sessions_in ws)
   nears opened kept (inl h) count ends = subst (λ (b : Bool). Nears b (sessions_in vs) (sessions_in ws)) (sym h.0) (held_dwindles h.2 count ends)
   nears opened kept (inr h) count ends = subst (λ (b : Bool). Nears b (sessions_in vs) (sessions_in ws)) (sym h.0) (same_sessions ws h.2.kept)
 

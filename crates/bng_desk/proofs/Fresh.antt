@@ -1,26 +1,30 @@
 -- The shards of a desk that was just opened.
 use Rattle.std.proofs.Common.{◌≡◌, ℕ, ◌*◌, ◌<◌, ◌≤◌, ◌^◌, Bool, true, false, cond, List, [], ◌∷◌, map, length, get_or, refl, sym, ap, subst, ◌∙◌, arith}
-use Rattle.std.specs.List.{All, range_with_len}
+use Rattle.std.specs.List.{All, range_with_len, sum_by}
+use Rattle.std.proofs.lemmas.List.Elements.{All-map}
 use Rattle.std.proofs.lemmas.List.Sums.{sum_by-cons}
 use Rattle.std.proofs.lemmas.List.FromFn.{get_or-map-range_with_len, length-map-range_with_len}
 use Rattle.bng_base.specs.declared.item.Entry.{Entry}
 use Rattle.bng_base.specs.declared.settings.Static.{Static}
 use Rattle.bng_base.specs.declared.book.Book.{Book}
+use Rattle.bng_engine.specs.Books.{book_at}
 use Rattle.bng_engine.specs.Quantities.{Quantity, Octets, Packets, in_book, empty_book}
 use Rattle.bng_engine.specs.Sums.{is_any}
 use Rattle.bng_engine.specs.Views.{ShardView, Row, new_row, rows_where}
 use Rattle.bng_engine.specs.Terms.{Key, keys}
-use Rattle.bng_shard.specs.Protocol.{ShardState, opened, sessions_of, terms_of}
+use Rattle.bng_shard.specs.Protocol.{ShardState, opened, terms_of}
 use Rattle.bng_shard.specs.Questions.{none_handed}
 use Rattle.bng_shard.specs.Sums.{IsLow, AreLow, RowsAreLow}
 use Rattle.bng_shard.specs.declared.pool.Holder.{Holder}
 use Rattle.bng_shard.specs.declared.rules.Rules.{Rules}
 use Rattle.bng_base.specs.declared.item.Item.{Item}
 use Rattle.bng_desk.specs.declared.drops.Drops.{Drops}
+use Rattle.bng_desk.specs.declared.line.Line.{Line}
 use Rattle.bng_desk.specs.Counting.{Within, no_drops}
 use Rattle.bng_desk.specs.Kept.{IsKept, IsUnended, is_verdict, all_turns, rested, octets_most, drops_most}
-use Rattle.bng_desk.specs.Model.{Desk}
-use Rattle.bng_desk.specs.Taking.{IsEmpty, HasFewSessions, AreInOrder}
+use Rattle.bng_desk.specs.Model.{Desk, is_of}
+use Rattle.bng_desk.specs.Opening.{line_of}
+use Rattle.bng_desk.specs.Taking.{IsEmpty, HasFewSessions, AreInOrder, AreTallied, CarriesWithin, kept_in, stopped_in}
 use Rattle.bng_desk.proofs.Dwindling.{WorksBy}
 use Rattle.bng_desk.proofs.Keeping.{AreKept, none_kept, one_low, unended_left}
 
@@ -32,10 +36,14 @@ nothing_in Octets false = refl
 nothing_in Packets true = refl
 nothing_in Packets false = refl
 
-none_carried : (q : Quantity) (input : Bool) (ks : List Key) → rows_where q is_any input (map new_row ks) ≡ 0
-none_carried q input [] = refl
-none_carried q input (k ∷ ks) =
-    omega (arith, sum_by-cons (λ (r : Row). cond (is_any r.key) (in_book q input r.carried) 0) (new_row k) (map new_row ks), nothing_in q input, none_carried q input ks)
+nothing_by : (q : Quantity) (b input : Bool) → cond b (in_book q input empty_book) 0 ≡ 0
+nothing_by q true input = nothing_in q input
+nothing_by q false input = refl
+
+none_carried : (q : Quantity) (pick : Key → Bool) (input : Bool) (ks : List Key) → rows_where q pick input (map new_row ks) ≡ 0
+none_carried q pick input [] = refl
+none_carried q pick input (k ∷ ks) =
+    omega (arith, sum_by-cons (λ (r : Row). cond (pick r.key) (in_book q input r.carried) 0) (new_row k) (map new_row ks), nothing_by q (pick k) input, none_carried q pick input ks)
 
 pub empty_low : (most : ℕ) → IsLow most empty_book
 empty_low most q input = omega (arith, nothing_in q input)
@@ -43,7 +51,7 @@ empty_low most q input = omega (arith, nothing_in q input)
 -- Shards ----------------------------------------------------------------------------------------------------------------
 
 module _ (rules : Rules) (statics : ℕ → List Static) where
-  abbrev fresh : ℕ → ShardView ShardState Entry
+  abbrev pub fresh : ℕ → ShardView ShardState Entry
   fresh n = opened n rules (statics n)
 
   pub fresh_rested : (ns : List ℕ) → map rested (map fresh ns) ≡ map fresh ns
@@ -64,21 +72,29 @@ module _ (rules : Rules) (statics : ℕ → List Static) where
 
   pub fresh_low : (most n : ℕ) → All (λ v. RowsAreLow most v.rows) (map fresh (range_with_len 0 n))
   fresh_low most n k d lt =
-      subst (λ (v : ShardView ShardState Entry). RowsAreLow most v.rows) (sym (fresh_at n k d lt)) (λ q input. omega (arith, none_carried q input (keys (terms_of (fresh k).state))))
+      subst (λ (v : ShardView ShardState Entry). RowsAreLow most v.rows) (sym (fresh_at n k d lt)) (λ q input. omega (arith, none_carried q is_any input (keys (terms_of (fresh k).state))))
 
   pub fresh_books : (most n : ℕ) → All (λ v. AreLow most v.books) (map fresh (range_with_len 0 n))
   fresh_books most n k d lt = subst (λ (v : ShardView ShardState Entry). AreLow most v.books) (sym (fresh_at n k d lt)) (one_low most empty_book (empty_low most))
 
--- no shard has a session that discovery made
-none_in : (vs : List (ShardView ShardState Entry)) → All (λ v. sessions_of v.state ≡ 0) vs → All HasFewSessions vs
-none_in vs none k d lt = omega (arith, none k d lt)
+  -- and no circuit has carried anything
+  kept_none : (input : Bool) (l : Line) (ns : List ℕ) → sum_by (kept_in input l) (map fresh ns) ≡ 0
+  kept_none input l [] = refl
+  kept_none input l (n ∷ ns) = omega (arith, sum_by-cons (kept_in input l) (fresh n) (map fresh ns), none_carried Octets (is_of l.session.0) input (keys (terms_of (fresh n).state)), kept_none input l ns)
+
+none_stopped : (input : Bool) (c : Static) → stopped_in input (line_of c) ≡ 0
+none_stopped true c = refl
+none_stopped false c = refl
+
+pub fresh_tallied : (rules : Rules) (statics : ℕ → List Static) (tally : Book) (ns : List ℕ) (cs : List Static) → AreTallied tally (map (fresh rules statics) ns) (map line_of cs)
+fresh_tallied rules statics tally ns cs =
+    All-map (CarriesWithin (λ input. in_book Octets input tally) (map (fresh rules statics) ns)) line_of cs (λ k d lt input. omega (arith, none_stopped input (get_or cs k d), kept_none rules statics input (line_of (get_or cs k d)) ns))
 
 -- a desk with such shards, in which nothing has happened
-pub kept_fresh : (d : Desk) (statics : ℕ → List Static) → d.shards ≡ map (λ n. opened n d.rules (statics n)) (range_with_len 0 d.rules.shards) → All (λ v. sessions_of v.state ≡ 0) d.shards → 1 ≤ length d.rules.access → length d.rules.access ≤ 16 → 1 ≤ d.rules.shards → d.rules.shards ≤ 64
+pub kept_fresh : (d : Desk) (statics : ℕ → List Static) (cs : List Static) → d.shards ≡ map (λ n. opened n d.rules (statics n)) (range_with_len 0 d.rules.shards) → All HasFewSessions d.shards → d.lines ≡ map line_of cs → 1 ≤ length d.rules.access → length d.rules.access ≤ 16 → 1 ≤ d.rules.shards → d.rules.shards ≤ 64
     → All (λ (h : Holder). h.shard < d.rules.shards) d.holders → d.rounds ≤ 2 ^ 40 → d.turns ≡ 0 → d.endings ≡ 0 → d.unopened ≡ 0 → d.closed ≡ false → d.told ≡ 0 → d.drawn ≡ 1 → d.drops ≡ no_drops → d.tallies ≡ empty_book ∷ [] → d.kept ≡ [] → d.handed ≡ map (λ n. none_handed) (range_with_len 0 d.rules.shards) → IsKept d
-kept_fresh d statics shards none some_port few_ports some_shard few_shards holders most turns endings unopened closed told drawn drops tallies kept handed =
+kept_fresh d statics cs shards few lines some_port few_ports some_shard few_shards holders most turns endings unopened closed told drawn drops tallies kept handed =
     let staying = subst (λ (is : List Item). AreKept d is) (sym kept) (none_kept d) in
-    let few = none_in d.shards none in
     let unended : IsUnended d = record { endings = endings; unopened = unopened; closed = closed } in
     let count = ap (λ (xs : List (ShardView ShardState Entry)). length xs) shards ∙ length-map-range_with_len (λ (n : ℕ). opened n d.rules (statics n)) 0 d.rules.shards in
     record {
@@ -104,6 +120,8 @@ kept_fresh d statics shards none some_port few_ports some_shard few_shards holde
       books = subst (λ (xs : List (ShardView ShardState Entry)). All (λ v. AreLow (octets_most * all_turns d) v.books) xs) (sym shards) (fresh_books d.rules statics (octets_most * all_turns d) d.rules.shards);
       one_seat = ap (λ (bs : List Book). length bs) tallies;
       tallies = subst (λ (bs : List Book). AreLow (octets_most * all_turns d) bs) (sym tallies) (one_low (octets_most * all_turns d) empty_book (empty_low (octets_most * all_turns d)));
+      tallied = subst (λ (ls : List Line). AreTallied (book_at 0 d.tallies) d.shards ls) (sym lines)
+          (subst (λ (xs : List (ShardView ShardState Entry)). AreTallied (book_at 0 d.tallies) xs (map line_of cs)) (sym shards) (fresh_tallied d.rules statics (book_at 0 d.tallies) (range_with_len 0 d.rules.shards) cs));
       counts = subst (λ (x : Drops). Within (drops_most * all_turns d) x) (sym drops) (record { malformed = omega arith; no_session = omega arith; not_open = omega arith; expired = omega arith; spoofed = omega arith; too_big = omega arith; exceeded = omega arith; link_failed = omega arith; want_of_memory = omega arith });
       kept = staying.items;
       stays = staying.stays;

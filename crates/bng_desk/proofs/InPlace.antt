@@ -1,5 +1,5 @@
 -- A shard's outs are sent where they stand, one after the other.
-use Rattle.std.proofs.Common.{◌≡◌, ℕ, ◌+◌, ◌<◌, Bool, List, [], ◌∷◌, ◌++◌, map, length, take, drop, get_or, set, refl, sym, subst, arith}
+use Rattle.std.proofs.Common.{◌≡◌, ℕ, ◌+◌, ◌<◌, Bool, List, [], ◌∷◌, length, take, drop, get_or, set, refl, sym, subst, arith}
 use Rattle.std.proofs.lemmas.List.{take_more_set, drop_more, drop-set-lt}
 use Rattle.bng_base.specs.declared.book.Book.{Book}
 use Rattle.bng_base.specs.declared.item.Entry.{Entry}

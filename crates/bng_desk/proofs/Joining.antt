@@ -1,9 +1,8 @@
 -- A round that was dealt and settled, and what the trace is to be told of it.
-use Rattle.std.proofs.Common.{◌≡◌, ℕ, zero, suc, eqb, ◌+◌, ◌<◌, ◌≤◌, Bool, true, false, cond, List, [], ◌∷◌, ◌++◌, map, filter, length, get_or, replicate, refl, sym, ap, subst, ◌∙◌, arith, append-nil}
+use Rattle.std.proofs.Common.{◌≡◌, ℕ, zero, suc, eqb, ◌+◌, ◌<◌, ◌≤◌, Bool, true, false, cond, List, [], ◌∷◌, ◌++◌, map, length, get_or, replicate, refl, sym, ap, subst, ◌∙◌, arith, append-nil}
 use Rattle.std.specs.List.{All, AllByRecursion, AllZip, count_by, flat_map, sum_by}
-use Rattle.std.proofs.lemmas.List.Elements.{All-from_recursion, recursion_from_All, filter-append}
+use Rattle.std.proofs.lemmas.List.Elements.{All-from_recursion, recursion_from_All}
 use Rattle.std.proofs.lemmas.List.Sums.{sum_by-append, sum_by-cons}
-use Rattle.bng_base.specs.declared.address.Ip4.{Ip4}
 use Rattle.bng_base.specs.declared.book.Book.{Book}
 use Rattle.bng_base.specs.declared.fate.Fate.{Fate}
 use Rattle.bng_base.specs.declared.item.Charge.{Charge}
@@ -12,35 +11,40 @@ use Rattle.bng_base.specs.declared.item.Item.{Item}
 use Rattle.bng_base.specs.declared.item.Loose.{Loose}
 use Rattle.bng_base.specs.declared.item.OutRecord.{OutRecord}
 use Rattle.bng_base.specs.declared.round.RoundRecord.{RoundRecord}
+use Rattle.bng_base.specs.Stretch.{ExtendsPlant}
 use Rattle.bng_base.specs.Told.{PlantTold}
 use Rattle.bng_engine.specs.Books.{book_at, passed_by, failed_by, TalliesSoFar}
 use Rattle.bng_engine.specs.Calls.{Kept, InTurn, IsSettled, all_outs, all_sends}
-use Rattle.bng_engine.specs.Journals.{unsent, outs_of}
+use Rattle.bng_engine.specs.Journals.{unsent}
 use Rattle.bng_engine.specs.Lists.{Zip3}
 use Rattle.bng_engine.specs.Quantities.{Quantity, in_book}
-use Rattle.bng_engine.specs.Showing.{Shows, with_journal}
+use Rattle.bng_engine.specs.Showing.{Shows}
 use Rattle.bng_engine.specs.Sums.{part_of_charge, charge_if, is_directed, passed_sum, failed_sum}
+use Rattle.bng_engine.specs.Terms.{Stop}
 use Rattle.bng_engine.specs.Turns.{HasSeat}
 use Rattle.bng_engine.specs.Views.{Row, ShardView}
 use Rattle.bng_engine.proofs.Everywhere.{all_append, all_mapped}
-use Rattle.bng_engine.proofs.Joining.{turn_made, still_gives}
+use Rattle.bng_engine.proofs.Joining.{turn_made}
 use Rattle.bng_engine.proofs.Journals.{run_seated}
 use Rattle.bng_shard.specs.declared.pool.Holder.{Holder}
 use Rattle.bng_shard.specs.declared.rules.Rules.{Rules}
 use Rattle.bng_shard.specs.declared.whose.Whose.{Whose}
 use Rattle.bng_shard.specs.Protocol.{ShardState, Handled, pppoe, entry_of, sessions_of}
 use Rattle.bng_shard.specs.Sums.{AreLow, RowsAreLow}
-use Rattle.bng_shard.proofs.StepLaws.{pppoe_laws, pppoe_still}
+use Rattle.bng_shard.proofs.StepLaws.{pppoe_laws}
 use Rattle.bng_desk.specs.declared.drops.Drops.{Drops}
 use Rattle.bng_desk.specs.declared.holding.Named.{Named}
+use Rattle.bng_desk.specs.declared.line.Line.{Line}
 use Rattle.bng_desk.specs.Counting.{plus, drops_of}
 use Rattle.bng_desk.specs.Items.{entries_in, loose_in, all_loose, stands_in}
-use Rattle.bng_desk.specs.Round.{Round, AreParts, StandsWithin, views_of, held_by, entries_of, of_seat, is_failed, with_failed, fates_in}
-use Rattle.bng_desk.specs.Taking.{HasFewSessions, AreDealt, Deals, IsPlain, IsTurning, AllTurn, SettlesAll, RoundHeld}
+use Rattle.bng_desk.specs.Model.{line_after}
+use Rattle.bng_desk.specs.Round.{Round, AreParts, StandsWithin, views_of, held_by, stops_of, holders_after, entries_of, of_seat, is_failed, with_failed, fates_in, sends_stretch}
+use Rattle.bng_desk.specs.Taking.{HasFewSessions, AreDealt, Deals, Falls, IsPlain, IsTurning, AllTurn, SendsAll, ReapsAll, RoundHeld}
 use Rattle.bng_desk.proofs.Dealing.{Seens}
 use Rattle.bng_desk.proofs.DropLaws.{same}
 use Rattle.bng_desk.proofs.OneMore.{dealt_count}
 use Rattle.bng_desk.proofs.Readying.{Shards, all_onward}
+use Rattle.bng_desk.proofs.Reaping.{as_seen, gives_back}
 use Rattle.bng_desk.proofs.Zips.{zip_length}
 
 pub plus_assoc : (a b c : Drops) → plus (plus a b) c ≡ plus a (plus b c)
@@ -71,18 +75,17 @@ books_kept most vs ws kept low = all_onward Kept (HasLowBooks most) (λ x y k he
 
 -- Each shard within its turn ----------------------------------------------------------------------------------------------
 
-turning : (ws : Shards) (was now : Seens) → AllZip (InTurn pppoe) was now → AllZip (Shows pppoe) ws now → AllByRecursion (λ v. v.sends ≡ []) now → AllByRecursion IsPlain now → Zip3 IsTurning ws was now
-turning [] [] [] turns shown sends plain = tt
-turning [] (b ∷ was) [] turns shown sends plain = absurd turns
-turning [] was (x ∷ now) turns shown sends plain = absurd shown
-turning (w ∷ ws) was [] turns shown sends plain = absurd shown
-turning (w ∷ ws) [] (x ∷ now) turns shown sends plain = absurd turns
-turning (w ∷ ws) (b ∷ was) (x ∷ now) turns shown sends plain =
-    (record { turn = turns.0; shows = shown.0; sends = sends.0; stops = plain.0.stops; starts = plain.0.starts }, turning ws was now turns.1 shown.1 sends.1 plain.1)
+turning : (ws : Shards) (was now : Seens) → AllZip (InTurn pppoe) was now → AllZip (Shows pppoe) ws now → AllByRecursion (λ v. v.sends ≡ []) now → Zip3 IsTurning ws was now
+turning [] [] [] turns shown sends = tt
+turning [] (b ∷ was) [] turns shown sends = absurd turns
+turning [] was (x ∷ now) turns shown sends = absurd shown
+turning (w ∷ ws) was [] turns shown sends = absurd shown
+turning (w ∷ ws) [] (x ∷ now) turns shown sends = absurd turns
+turning (w ∷ ws) (b ∷ was) (x ∷ now) turns shown sends = (record { turn = turns.0; shows = shown.0; sends = sends.0 }, turning ws was now turns.1 shown.1 sends.1)
 
 module _ (r : Rules) (holders : List Holder) (moment : ℕ) (items : List Item) (vs ws : Shards) (loose : List Loose) (d d' : Drops) (t t' : Book) (deals : Deals r holders moment items vs ws loose d d' t t') where
   pub all_turning : Zip3 IsTurning ws (views_of vs) deals.seen
-  all_turning = turning ws (views_of vs) deals.seen deals.round.shards deals.shown deals.round.unsent (recursion_from_All IsPlain deals.seen deals.plain)
+  all_turning = turning ws (views_of vs) deals.seen deals.round.shards deals.shown deals.round.unsent
 
   pub all_turn : AllTurn ws
   all_turn = record { was = views_of vs; now = deals.seen; turning = all_turning }
@@ -90,13 +93,13 @@ module _ (r : Rules) (holders : List Holder) (moment : ℕ) (items : List Item) 
 -- Seats -----------------------------------------------------------------------------------------------------------------
 
 -- the only seat there is
-abbrev OfFirst : OutRecord → Type 0
+abbrev pub OfFirst : OutRecord → Type 0
 OfFirst o = o.seat < 1
 
 first_is : (n x : ℕ) → n < 1 → cond (eqb n 0) x 0 ≡ x
 first_is n x lt = let e : n ≡ 0 = omega (arith, lt) in ap (λ (m : ℕ). cond (eqb m 0) x 0) e
 
-passed_first : (q : Quantity) (input : Bool) (outs : List OutRecord) → AllByRecursion OfFirst outs → passed_by q 0 input outs ≡ passed_sum (charge_if q (is_directed input)) outs
+pub passed_first : (q : Quantity) (input : Bool) (outs : List OutRecord) → AllByRecursion OfFirst outs → passed_by q 0 input outs ≡ passed_sum (charge_if q (is_directed input)) outs
 passed_first q input [] h = refl
 passed_first q input (o ∷ outs) h =
     let f = λ (r : OutRecord). part_of_charge (charge_if q (is_directed input)) r.charge in
@@ -111,7 +114,7 @@ failed_first q input (o ∷ sends) h =
 turn_seats : (was now : ShardView ShardState Handled) → InTurn pppoe was now → AllByRecursion (HasSeat pppoe 1) now.journal → AllByRecursion OfFirst now.outs
 turn_seats was now t seats = subst (λ (os : List OutRecord). AllByRecursion OfFirst os) (sym t.outs) (run_seated pppoe pppoe_laws 1 was.state now.journal t.steps seats)
 
-outs_seats : (was now : Seens) → AllZip (InTurn pppoe) was now → AllByRecursion (λ v. AllByRecursion (HasSeat pppoe 1) v.journal) now → AllByRecursion OfFirst (all_outs now)
+pub outs_seats : (was now : Seens) → AllZip (InTurn pppoe) was now → AllByRecursion (λ v. AllByRecursion (HasSeat pppoe 1) v.journal) now → AllByRecursion OfFirst (all_outs now)
 outs_seats [] [] t seats = tt
 outs_seats [] (x ∷ now) t seats = absurd t
 outs_seats (b ∷ was) [] t seats = absurd t
@@ -130,7 +133,7 @@ sends_seats was now xs s seats = absurd s
 
 -- Tallies ---------------------------------------------------------------------------------------------------------------
 
-shown_outs : (f : Charge → ℕ) (ws : Shards) (now : Seens) → AllZip (Shows pppoe) ws now → sum_by (λ v. passed_sum f v.outs) ws ≡ passed_sum f (all_outs now)
+pub shown_outs : (f : Charge → ℕ) (ws : Shards) (now : Seens) → AllZip (Shows pppoe) ws now → sum_by (λ v. passed_sum f v.outs) ws ≡ passed_sum f (all_outs now)
 shown_outs f [] [] h = refl
 shown_outs f [] (x ∷ now) h = absurd h
 shown_outs f (w ∷ ws) [] h = absurd h
@@ -243,20 +246,23 @@ pub told_as : (named : Named) (n : ℕ) (allowances : List ℕ) (journals : List
 told_as named n allowances journals loose outs refused none_begin none =
     ap (λ (zs : List ℕ). made named zs journals loose outs refused) none_begin ∙ ap (λ (rs : List Item). made named (replicate n 0) journals loose outs rs) none
 
-pub round_held : (r : Rules) (holders : List Holder) (named : Named) (items : List Item) (p p' : PlantTold) (vs ws left : Shards) (loose : List Loose) (outs : List OutRecord) (journals : List (List Entry)) (d d' d'' : Drops) (t t' t'' : Book) (told : RoundRecord)
+pub round_held : (r : Rules) (holders holders' : List Holder) (lines lines' : List Line) (named : Named) (items : List Item) (p p' : PlantTold) (vs ws us left : Shards) (loose : List Loose) (outs : List OutRecord) (journals : List (List Entry)) (d d' d'' : Drops) (t t' t'' : Book) (told : RoundRecord)
     → (deals : Deals r holders named.moment items vs ws loose d d' t t')
-    → SettlesAll (views_of vs) deals.seen p p' left outs journals d' d'' t' t''
-    → told ≡ told_of named (length vs) journals loose outs → RoundHeld r holders named items p p' vs left d d'' t t'' told
-round_held r holders named items p p' vs ws left loose outs journals d d' d'' t t' t'' told deals s is =
-    let held = held_by holders in
-    let c = carries (views_of vs) deals.seen s.settled s.settles s.allowances in
+    → SendsAll ws us p p' outs journals d' d'' t' t'' → ReapsAll us left holders holders' lines lines'
+    → told ≡ told_of named (length vs) journals loose outs → RoundHeld r holders holders' lines lines' named items p p' vs left d d'' t t'' told
+round_held r holders holders' lines lines' named items p p' vs ws us left loose outs journals d d' d'' t t' t'' told deals s y is =
+    let reaped = as_seen ws (views_of vs) deals.seen us s.sends left y.stops (all_turning r holders named.moment items vs ws loose d d' t t' deals) s.each y.each in
+    let xs = reaped.settled in
+    let seen = reaped.is in
+    let c = carries (views_of vs) deals.seen xs seen.settles seen.allowances in
     let allowances = c.allowances (recursion_from_All IsPlain deals.seen deals.plain) in
-    let round : Round = record { whose = deals.whose ∷ []; shards = s.settled; tallies = t'' ∷ [] } in
-    let seats = sends_seats (views_of vs) deals.seen s.settled s.settles deals.round.seats in
-    let fall : TalliesSoFar (t' ∷ []) [] (all_sends s.settled) (t'' ∷ []) = record { count = refl; each = fall_each t' t'' (all_sends s.settled) seats s.falls } in
-    let count : length s.settled ≡ length vs =
+    let round : Round = record { whose = deals.whose ∷ []; shards = xs; tallies = t'' ∷ [] } in
+    let seats = sends_seats (views_of vs) deals.seen xs seen.settles deals.round.seats in
+    let falls : Falls t' (all_sends xs) t'' = subst (λ (os : List OutRecord). Falls t' os t'') seen.sends s.falls in
+    let fall : TalliesSoFar (t' ∷ []) [] (all_sends xs) (t'' ∷ []) = record { count = refl; each = fall_each t' t'' (all_sends xs) seats falls } in
+    let count : length xs ≡ length vs =
     c.count ∙ sym (zip_length (Shows pppoe) ws deals.seen deals.shown) ∙ dealt_count r holders named.moment items vs ws loose d d' t t' deals in
-    let n = count_by is_failed (all_sends s.settled) in
+    let n = count_by is_failed (all_sends xs) in
     let first = map (λ (l : Loose). l.fate) (loose_in 0 0 items deals.whose) in
     let ls : loose_in 0 0 items deals.whose ≡ all_loose 0 (items ∷ []) (deals.whose ∷ []) = sym (append-nil (loose_in 0 0 items deals.whose)) in
     record {
@@ -264,23 +270,27 @@ round_held r holders named items p p' vs ws left loose outs journals d d' d'' t 
       is = record {
         dealt = record {
           whose = (deals.is_whose, tt);
-          inside = All-from_recursion (λ (ws : List Whose). All (StandsWithin (length s.settled)) ws) (deals.whose ∷ [])
-              (All-from_recursion (StandsWithin (length s.settled)) deals.whose (subst (λ (n : ℕ). AllByRecursion (StandsWithin n) deals.whose) (sym count) deals.inside), tt);
-          parts = parts items deals.whose 0 named.moment s.settled (c.dealt 0 named.moment items deals.whose deals.dealt);
-          allowances = All-from_recursion (λ (v : ShardView ShardState Handled). v.allowance ≡ 0) s.settled allowances;
+          inside = All-from_recursion (λ (ws : List Whose). All (StandsWithin (length xs)) ws) (deals.whose ∷ [])
+              (All-from_recursion (StandsWithin (length xs)) deals.whose (subst (λ (n : ℕ). AllByRecursion (StandsWithin n) deals.whose) (sym count) deals.inside), tt);
+          parts = parts items deals.whose 0 named.moment xs (c.dealt 0 named.moment items deals.whose deals.dealt);
+          allowances = All-from_recursion (λ (v : ShardView ShardState Handled). v.allowance ≡ 0) xs allowances;
         };
-        turn = turn_made pppoe (views_of vs) deals.seen s.settled held held held (t ∷ []) (t' ∷ []) (t'' ∷ []) deals.round s.settles (still_gives pppoe pppoe_still (views_of vs) deals.seen s.settled held s.settles) fall;
+        turn = turn_made pppoe (views_of vs) deals.seen xs (held_by holders) (held_by holders) (held_by (holders_after (stops_of round) holders)) (t ∷ []) (t' ∷ []) (t'' ∷ []) deals.round seen.settles (gives_back xs holders) fall;
       };
-      shards_are = s.left;
+      shards_are = seen.left;
+      holders_are = y.holders_are ∙ ap (λ (ss : List Stop). holders_after ss holders) seen.stops;
+      lines_are = y.lines_are ∙ ap (λ (ss : List Stop). map (line_after ss) lines) seen.stops;
       tallies_are = refl;
-      drops_are = s.drops_are ∙ ap (λ (x : Drops). plus x (with_failed n)) deals.drops_are
+      drops_are = s.drops_are
+          ∙ ap (λ (os : List OutRecord). plus d' (with_failed (count_by is_failed os))) seen.sends
+          ∙ ap (λ (x : Drops). plus x (with_failed n)) deals.drops_are
           ∙ ap (λ (fs : List Fate). plus (plus d (drops_of (first ++ fs))) (with_failed n)) (sym c.fates)
-          ∙ ap (λ (xs : List Loose). plus (plus d (drops_of (map (λ (l : Loose). l.fate) xs ++ flat_map fates_by s.settled))) (with_failed n)) ls
+          ∙ ap (λ (ys : List Loose). plus (plus d (drops_of (map (λ (l : Loose). l.fate) ys ++ flat_map fates_by xs))) (with_failed n)) ls
           ∙ plus_assoc d (drops_of (fates_in (items ∷ []) round)) (with_failed n);
-      told = s.told;
+      told = subst (λ (os : List OutRecord). ExtendsPlant p p' (sends_stretch os)) seen.sends s.told;
       record_told = is
-          ∙ ap (λ (zs : List ℕ). made named zs journals loose outs []) (sym (zeros s.settled (length vs) allowances count))
-          ∙ ap (λ (js : List (List Entry)). made named (map (λ (v : ShardView ShardState Handled). v.allowance) s.settled) js loose outs []) (s.journals_are ∙ sym c.entries)
-          ∙ ap (λ (xs : List Loose). made named (map (λ (v : ShardView ShardState Handled). v.allowance) s.settled) (map entries_of s.settled) xs outs []) (deals.loose_are ∙ ls)
-          ∙ ap (λ (os : List OutRecord). made named (map (λ (v : ShardView ShardState Handled). v.allowance) s.settled) (map entries_of s.settled) (all_loose 0 (items ∷ []) (deals.whose ∷ [])) os []) s.outs_are;
+          ∙ ap (λ (zs : List ℕ). made named zs journals loose outs []) (sym (zeros xs (length vs) allowances count))
+          ∙ ap (λ (js : List (List Entry)). made named (map (λ (v : ShardView ShardState Handled). v.allowance) xs) js loose outs []) (s.journals_are ∙ seen.journals ∙ sym c.entries)
+          ∙ ap (λ (ys : List Loose). made named (map (λ (v : ShardView ShardState Handled). v.allowance) xs) (map entries_of xs) ys outs []) (deals.loose_are ∙ ls)
+          ∙ ap (λ (os : List OutRecord). made named (map (λ (v : ShardView ShardState Handled). v.allowance) xs) (map entries_of xs) (all_loose 0 (items ∷ []) (deals.whose ∷ [])) os []) (s.outs_are ∙ seen.sends);
     }

@@ -5,8 +5,10 @@ pub mod TakeLaws
 pub mod ItemLaws
 pub mod Zips
 pub mod Readying
+pub mod Unclaiming
 pub mod Sending
 pub mod Settling
+pub mod Reaping
 pub mod Admitting
 pub mod Dealing
 pub mod OneMore
@@ -14,6 +16,7 @@ pub mod RefusedLaws
 pub mod Staying
 pub mod Outfit
 pub mod Joining
+pub mod Tallied
 pub mod Resting
 pub mod Dwindling
 pub mod Done

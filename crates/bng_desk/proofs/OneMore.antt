@@ -1,10 +1,9 @@
 -- A round goes on by one item.
-use Rattle.std.proofs.Common.{◌≡◌, ℕ, zero, suc, eqb, ◌+◌, ◌-◌, ◌*◌, ◌<◌, ◌≤◌, Bool, true, false, cond, List, [], ◌∷◌, ◌++◌, Option, Some, None, map, length, get_or, set, refl, sym, ap, subst, ◌∙◌, arith, append-nil, length-append}
+use Rattle.std.proofs.Common.{◌≡◌, ℕ, zero, suc, eqb, ◌+◌, ◌-◌, ◌*◌, ◌<◌, ◌≤◌, Bool, true, false, cond, List, [], ◌∷◌, ◌++◌, Option, Some, None, length, get_or, set, refl, sym, ap, subst, ◌∙◌, arith, append-nil, length-append}
 use Rattle.std.specs.List.{All, AllByRecursion, AllZip, sum_by}
 use Rattle.std.proofs.lemmas.List.{get_or-map, length-map, map-append}
 use Rattle.std.proofs.lemmas.List.Elements.{All-set, All-weaker, All-from_recursion, recursion_from_All}
 use Rattle.std.proofs.lemmas.List.Sums.{sum_by-append, sum_by-cons, sum_by-le, sum_by-le-sum_by, sum_by-set, sum_by_push}
-use Rattle.bng_base.specs.declared.address.Ip4.{Ip4}
 use Rattle.bng_base.specs.declared.book.Book.{Book}
 use Rattle.bng_base.specs.declared.fate.Fate.{Fate}
 use Rattle.bng_base.specs.declared.item.Charge.{Charge}
@@ -21,11 +20,11 @@ use Rattle.bng_engine.specs.Protocol.{IsOfSeat}
 use Rattle.bng_engine.specs.Quantities.{Quantity, Octets, Packets, in_book}
 use Rattle.bng_engine.specs.Showing.{Shows, with_journal}
 use Rattle.bng_engine.specs.Sums.{part_of_charge, charge_if, is_any, is_directed, is_under, passed_sum, sent_where}
-use Rattle.bng_engine.specs.Views.{Row, ShardView, row_keys, rows_where}
+use Rattle.bng_engine.specs.Views.{ShardView, row_keys, rows_where}
 use Rattle.bng_engine.specs.Terms.{keys}
 use Rattle.bng_engine.specs.Turns.{InRound}
 use Rattle.bng_engine.proofs.Everywhere.{all_append}
-use Rattle.bng_engine.proofs.Joining.{round_begins, round_goes_on, still_asks}
+use Rattle.bng_engine.proofs.Joining.{round_begins, round_goes_on}
 use Rattle.bng_engine.proofs.SameLists.{same_equal}
 use Rattle.bng_engine.proofs.Showing.{shows_begin, shows_handles, shows_more}
 use Rattle.bng_shard.specs.declared.pool.Holder.{Holder}
@@ -36,7 +35,7 @@ use Rattle.bng_shard.specs.Hearing.{outs_most}
 use Rattle.bng_shard.specs.Protocol.{ShardState, Handled, pppoe, packet_octets, entry_of, terms_of}
 use Rattle.bng_shard.specs.Sums.{Rises, IsLow, AreLow, RowsAreLow}
 use Rattle.bng_shard.specs.Whose.{IsWhose}
-use Rattle.bng_shard.proofs.StepLaws.{pppoe_laws, pppoe_still}
+use Rattle.bng_shard.proofs.StepLaws.{pppoe_laws}
 use Rattle.bng_desk.specs.declared.drops.Drops.{Drops}
 use Rattle.bng_desk.specs.Counting.{with_fate, drops_of, plus}
 use Rattle.bng_desk.specs.Items.{entries_in, loose_item, loose_in}
@@ -44,8 +43,9 @@ use Rattle.bng_desk.specs.Round.{StandsWithin, views_of, held_by, entries_of}
 use Rattle.bng_desk.specs.Taking.{AreDealt, AreInOrder, Deals, DealsOne, DealsTo, HasRows, IsLight, IsPlain}
 use Rattle.bng_desk.proofs.DropLaws.{drops_none}
 use Rattle.bng_desk.proofs.Readying.{Shards}
+use Rattle.bng_desk.proofs.Unclaiming.{asks_nothing}
 use Rattle.bng_desk.proofs.Zips.{zip_push, zip_length, zip_at, zip_set_both}
-use Rattle.bng_desk.proofs.Dealing.{Seens, all_fates, drops_with, loose_fates, shard_fates, loose_push, dealt_others, dealt_at, dealt_in}
+use Rattle.bng_desk.proofs.Dealing.{all_fates, drops_with, loose_fates, shard_fates, loose_push, dealt_others, dealt_at, dealt_in}
 
 abbrev outs_in : ShardView ShardState Entry → ℕ
 outs_in v = length v.outs
@@ -201,7 +201,7 @@ module _ (r : Rules) (holders : List Holder) (moment : ℕ) (done : List Item) (
         inside = all_append (StandsWithin (length olds)) so_far.whose (w ∷ []) so_far.inside (omega (arith, h.within, count), tt);
         seen = set so_far.seen n v';
         round = round_goes_on pppoe (views_of olds) (held_by holders) (start ∷ []) so_far.seen (held_by holders) (held_by holders) (tally ∷ []) (tally' ∷ []) n d v' effect within (omega (arith, seat)) step
-            (still_asks pppoe pppoe_still v.state effect (held_by holders) step.is_step) tallied so_far.round;
+            (asks_nothing v.state effect (held_by holders) step.is_step) tallied so_far.round;
         shown = subst (λ (vs : Shards). AllZip (Shows pppoe) vs (set so_far.seen n v')) (sym h.others) (zip_set_both (Shows pppoe) shards so_far.seen n w' v' so_far.shown shows');
         plain = All-set IsPlain so_far.seen n v' (record { allowance = step.allowance ∙ plain.allowance; stops = step.stops ∙ plain.stops; starts = step.starts ∙ plain.starts }) so_far.plain;
         dealt = dealt_at r holders moment 0 n n done so_far.whose item so_far.seen d v' so_far.is_whose within (omega arith) entries so_far.dealt;

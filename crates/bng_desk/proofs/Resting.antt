@@ -1,5 +1,5 @@
 -- Shards between rounds, as the desk's contracts see them.
-use Rattle.std.proofs.Common.{◌≡◌, ℕ, zero, suc, ◌+◌, Bool, true, false, cond, List, [], ◌∷◌, Option, None, map, filter, fold, length, slice_get, refl, sym, ap, ◌∙◌}
+use Rattle.std.proofs.Common.{◌≡◌, ℕ, zero, suc, ◌+◌, Bool, true, false, cond, List, [], ◌∷◌, Option, None, map, filter, fold, slice_get, refl, sym, ap, ◌∙◌}
 use Rattle.std.specs.List.{AllZip}
 use Rattle.std.proofs.lemmas.List.Sums.{sum_by-cons}
 use Rattle.bng_base.specs.declared.book.Book.{Book}
@@ -19,8 +19,8 @@ use Rattle.bng_shard.specs.Protocol.{ShardState, Handled, pppoe, deadline_of, se
 use Rattle.bng_desk.specs.declared.line.Line.{Line}
 use Rattle.bng_desk.specs.Items.{for_shard, is_due, ticks_of}
 use Rattle.bng_desk.specs.Kept.{rested}
-use Rattle.bng_desk.specs.Model.{sessions_in, carried_on, traffic_at}
-use Rattle.bng_desk.specs.Round.{Round, IsRound, left_by, views_of, view_of, view_after}
+use Rattle.bng_desk.specs.Model.{sessions_in, carried_on, plus_traffic, traffic_at}
+use Rattle.bng_desk.specs.Round.{Round, IsRound, stops_of, holders_after, left_by, views_of, view_of, view_after}
 use Rattle.bng_desk.specs.Taking.{IsLeftBy}
 use Rattle.bng_desk.specs.Turn.{deadline_in}
 
@@ -41,7 +41,7 @@ traffic_rested (v ∷ vs) zero session = refl
 traffic_rested (v ∷ vs) (suc n) session = traffic_rested vs n session
 
 pub carried_rested : (vs : Shards) (l : Line) → carried_on (map rested vs) l ≡ carried_on vs l
-carried_rested vs l = traffic_rested vs _ l.session.0
+carried_rested vs l = ap (plus_traffic l.stopped) (traffic_rested vs _ l.session.0)
 
 pub all_carried_rested : (vs : Shards) (ls : List Line) → map (carried_on vs) ls ≡ map (carried_on (map rested vs)) ls
 all_carried_rested vs [] = refl
@@ -114,8 +114,8 @@ all_move [] (x ∷ xs) h = absurd h
 all_move (v ∷ vs) [] h = absurd h
 all_move (v ∷ vs) (x ∷ xs) h = (moves_rested v x h.0, all_move vs xs h.1)
 
-turn_rested : (vs : Shards) (holders : List Holder) (tallies : List Book) (round : Round) → TurnOf pppoe (view_of vs holders tallies) (view_after holders round) → TurnOf pppoe (view_of (map rested vs) holders tallies) (view_after holders round)
-turn_rested vs holders tallies round t = record { shards = all_move vs round.shards t.shards; mid = t.mid; claims = t.claims; given = t.given; seats = t.seats; tallies = t.tallies }
+turn_rested : (vs : Shards) (holders holders' : List Holder) (tallies : List Book) (round : Round) → TurnOf pppoe (view_of vs holders tallies) (view_after holders' round) → TurnOf pppoe (view_of (map rested vs) holders tallies) (view_after holders' round)
+turn_rested vs holders holders' tallies round t = record { shards = all_move vs round.shards t.shards; mid = t.mid; claims = t.claims; given = t.given; seats = t.seats; tallies = t.tallies }
 
 pub round_rested : (r : Rules) (vs : Shards) (holders : List Holder) (tallies : List Book) (moment : ℕ) (lists : List (List Item)) (round : Round) → IsRound r vs holders tallies moment lists round → IsRound r (map rested vs) holders tallies moment lists round
-round_rested r vs holders tallies moment lists round is = record { dealt = is.dealt; turn = turn_rested vs holders tallies round is.turn }
+round_rested r vs holders tallies moment lists round is = record { dealt = is.dealt; turn = turn_rested vs holders (holders_after (stops_of round) holders) tallies round is.turn }

@@ -1,5 +1,5 @@
 -- A shard's outs are sent, one after the other.
-use Rattle.std.proofs.Common.{◌≡◌, ℕ, zero, suc, ◌+◌, ◌<◌, ◌≤◌, Bool, true, false, ◌&&◌, not, cond, List, [], ◌∷◌, ◌++◌, map, Option, Some, None, is_some, length, length-append, refl, sym, ap, subst, ◌∙◌, arith, append-nil, append_assoc}
+use Rattle.std.proofs.Common.{◌≡◌, ℕ, ◌+◌, ◌<◌, ◌≤◌, Bool, true, false, ◌&&◌, not, cond, List, [], ◌∷◌, ◌++◌, map, Option, Some, None, is_some, length, length-append, refl, sym, ap, subst, ◌∙◌, arith, append-nil, append_assoc}
 use Rattle.std.specs.List.{AllByRecursion, count_by, sum_by}
 use Rattle.std.proofs.lemmas.List.{length-map, map-append}
 use Rattle.std.proofs.lemmas.List.Sums.{sum_by-le-sum_by, sum_by_push, sum_by-append, sum_by-cons}
@@ -12,14 +12,14 @@ use Rattle.bng_base.specs.Stretch.{PlantStretch, plant_joined, ExtendsPlant}
 use Rattle.bng_base.specs.Told.{PlantTold}
 use Rattle.bng_base.proofs.StretchLaws.{plant_more, plant_stays}
 use Rattle.bng_engine.specs.Books.{book_at, failed_under, BooksSoFar}
-use Rattle.bng_engine.specs.Calls.{InTurn, Reaps}
+use Rattle.bng_engine.specs.Calls.{InTurn}
 use Rattle.bng_engine.specs.Journals.{unsent, after, AreLimited}
 use Rattle.bng_engine.specs.Lists.{one_if}
 use Rattle.bng_engine.specs.Protocol.{IsOwned, IsUnsent}
 use Rattle.bng_engine.specs.Quantities.{Quantity, in_book}
-use Rattle.bng_engine.specs.Showing.{ChargesShown, with_journal, with_lists}
+use Rattle.bng_engine.specs.Showing.{ChargesShown, with_lists}
 use Rattle.bng_engine.specs.Sums.{part_of_charge, charge_if, is_any, is_directed, is_picked, sent_sum, passed_sum, failed_sum, sent_where}
-use Rattle.bng_engine.specs.Terms.{Key, Term, Stop, keys}
+use Rattle.bng_engine.specs.Terms.{keys}
 use Rattle.bng_engine.specs.Views.{Row, ShardView, row_keys, rows_where}
 use Rattle.bng_engine.specs.Wire.{datagram_of, went}
 use Rattle.bng_engine.proofs.Adding.{sum_map}
@@ -27,19 +27,17 @@ use Rattle.bng_engine.proofs.Covering.{book_covers}
 use Rattle.bng_engine.proofs.Journals.{run_owned, run_unsent, owned_same}
 use Rattle.bng_engine.proofs.Progressing.{turn_sends}
 use Rattle.bng_engine.proofs.SameLists.{same_back}
-use Rattle.bng_engine.proofs.Still.{still_reaps}
 use Rattle.bng_engine.proofs.Wire.{went_append}
 use Rattle.bng_shard.specs.declared.sums.Charged.{Charged}
 use Rattle.bng_shard.specs.declared.sums.Charged.TheVariants.{Packet}
 use Rattle.bng_shard.specs.Protocol.{ShardState, Handled, pppoe, terms_of}
-use Rattle.bng_shard.specs.State.{settled}
 use Rattle.bng_shard.specs.Sums.{charged_as, Has, IsMore, AreCovered, AreLow, RowsAreLow}
-use Rattle.bng_shard.proofs.StepLaws.{pppoe_laws, pppoe_still}
+use Rattle.bng_shard.proofs.StepLaws.{pppoe_laws}
 use Rattle.bng_desk.specs.declared.drops.Drops.{Drops}
 use Rattle.bng_desk.specs.Counting.{plus, Within}
 use Rattle.bng_desk.specs.Reading.{sending}
 use Rattle.bng_desk.specs.Round.{is_failed, with_failed, not_sent, sends_stretch}
-use Rattle.bng_desk.specs.Taking.{is_lost, lost_part, IsEmpty, HasFewSessions, IsLight, IsTurning, Turns, Covers, Falls, SettledTo, Sends}
+use Rattle.bng_desk.specs.Taking.{is_lost, lost_part, IsEmpty, IsLight, IsTurning, Turns, Covers, Falls, Sends}
 use Rattle.bng_desk.proofs.DropLaws.{same}
 use Rattle.bng_desk.proofs.Going.{count_pushed}
 
@@ -50,8 +48,6 @@ pub record SendsSome (v w : ShardView ShardState Entry) (old new : PlantTold) (o
   pub turn : (was now : ShardView ShardState Handled) → IsTurning v was now → InTurn pppoe was (with_lists w now.journal now.outs sends)
   pub number : w.number ≡ v.number
   pub allowance : w.allowance ≡ v.allowance
-  pub stops : w.stops ≡ v.stops
-  pub starts : w.starts ≡ v.starts
   pub empty : IsEmpty w
   pub outs_are : outs' ≡ outs ++ sends
   pub told : ExtendsPlant old new (sends_stretch sends)
@@ -209,7 +205,7 @@ module _ (v : ShardView ShardState Entry) (was now : ShardView ShardState Handle
   outs_same : now.outs ≡ v.outs
   outs_same = ap (λ (x : ShardView ShardState Handled). x.outs) (sym t.shows.same)
 
-  not_sent_yet : map unsent v.outs ≡ now.outs
+  pub not_sent_yet : map unsent v.outs ≡ now.outs
   not_sent_yet =
       let all : AllByRecursion IsUnsent now.outs = subst (λ (os : List OutRecord). AllByRecursion IsUnsent os) (sym t.turn.outs) (run_unsent pppoe pppoe_laws was.state now.journal t.turn.steps) in
       ap (map unsent) (sym outs_same) ∙ unsent_same now.outs all
@@ -275,8 +271,6 @@ sends_none v w told outs rest drops tally drained_as all = record {
       (ap (λ (x : ShardView ShardState Entry). x.books) drained_as ∙ ap (λ (x : ShardView ShardState Handled). x.books) t.shows.same);
   number = ap (λ (x : ShardView ShardState Entry). x.number) drained_as;
   allowance = ap (λ (x : ShardView ShardState Entry). x.allowance) drained_as;
-  stops = ap (λ (x : ShardView ShardState Entry). x.stops) drained_as;
-  starts = ap (λ (x : ShardView ShardState Entry). x.starts) drained_as;
   empty = (ap (λ (x : ShardView ShardState Entry). x.journal) drained_as, ap (λ (x : ShardView ShardState Entry). x.outs) drained_as);
   outs_are = sym (append-nil outs);
   told = plant_stays told;
@@ -307,8 +301,6 @@ module _ (v w w' : ShardView ShardState Entry) (old mid new : PlantTold) (outs o
         turn = λ was now t. turn_sends pppoe was (with_lists w now.journal now.outs rs) r (with_lists w' now.journal now.outs (rs ++ r ∷ [])) (so_far.turn was now t) (charges.charges now.journal now.outs rs);
         number = one.number ∙ so_far.number;
         allowance = one.allowance ∙ so_far.allowance;
-        stops = one.stops ∙ so_far.stops;
-        starts = one.starts ∙ so_far.starts;
         empty = (charges.journal ∙ so_far.empty.0, charges.outs ∙ so_far.empty.1);
         outs_are = pushed ∙ ap (λ (xs : List OutRecord). xs ++ r ∷ []) so_far.outs_are ∙ append_assoc outs rs (r ∷ []);
         told = subst (λ (s : PlantStretch). ExtendsPlant old new s) (stretch_more rs r) (plant_more old mid new (sends_stretch rs) (sending r.role r.to r.frame r.sent) so_far.told sending_is);
@@ -323,58 +315,31 @@ module _ (v w w' : ShardView ShardState Entry) (old mid new : PlantTold) (outs o
       }
 
 -- how much room there is is nothing to the engine once a round is over
-aside : (before : List Term) (x y : ShardView ShardState Handled) (n : ℕ) → Reaps pppoe before x y → Reaps pppoe before x (record y { room = n })
-aside before x y n h = record {
-  number = h.number;
-  allowance = h.allowance;
-  state = h.state;
-  fit = h.fit;
-  order = h.order;
-  each = h.each;
-  rows = h.rows;
-  begun = h.begun;
-  books = h.books;
-  journal = h.journal;
-  sends = h.sends;
-}
+aside : (was x : ShardView ShardState Handled) (n : ℕ) → InTurn pppoe was x → InTurn pppoe was (record x { room = n })
+aside was x n h = record { number = h.number; steps = h.steps; limits = h.limits; state = h.state; outs = h.outs; fit = h.fit; rows = h.rows; books = h.books }
 
-abbrev pub reaped : ShardView ShardState Entry → ShardView ShardState Entry
-reaped w = record w { state = record w.state { slots = settled w.state.slots }; room = 0 }
+abbrev pub roomless : ShardView ShardState Entry → ShardView ShardState Entry
+roomless w = record w { room = 0 }
 
 module _ (v w w' : ShardView ShardState Entry) (old new : PlantTold) (first last outs rest : List OutRecord) (journal : List Entry) (drops drops' : Drops) (tally tally' : Book) where
-  pub sends_all : Turns v → SendsSome v w old new [] outs rest drops drops' tally tally' → rest ≡ [] → journal ≡ v.journal → last ≡ first ++ outs → w' ≡ reaped w → HasFewSessions w' → Sends v w' old new first last journal drops drops' tally tally'
-  sends_all turns s none is moved left few =
+  pub sends_all : Turns v → SendsSome v w old new [] outs rest drops drops' tally tally' → rest ≡ [] → journal ≡ v.journal → last ≡ first ++ outs → w' ≡ roomless w → Sends v w' old new first last journal drops drops' tally tally'
+  sends_all turns s none is moved left =
       let are : map unsent s.sends ++ map unsent [] ≡ map unsent v.outs = ap (λ (xs : List OutRecord). map unsent s.sends ++ map unsent xs) (sym none) ∙ s.are_outs in
       let all : map unsent s.sends ≡ map unsent v.outs = sym (append-nil (map unsent s.sends)) ∙ are in
       let here = turns.turning in
       let turn = s.turn turns.was turns.now here in
       record {
         sends = s.sends;
-        settled = record {
+        sent = record {
           are_outs = all;
-          settles = λ was now t.
-              let mid : ShardView ShardState Handled = with_lists w now.journal now.outs s.sends in
-              let x = s.turn was now t in
-              let stops : w.stops ≡ [] = s.stops ∙ ap (λ (y : ShardView ShardState Handled). y.stops) t.shows.same ∙ t.stops in
-              let starts : w.starts ≡ [] = s.starts ∙ ap (λ (y : ShardView ShardState Handled). y.starts) t.shows.same ∙ t.starts in
-              record {
-                mid = mid;
-                turn = x;
-                journal = refl;
-                outs = refl;
-                settles = record {
-                  all = all ∙ not_sent_yet v was now t;
-                  reaps = subst (λ (y : ShardView ShardState Entry). Reaps pppoe (terms_of was.state) mid (with_lists y now.journal now.outs s.sends)) (sym left)
-                      (aside (terms_of was.state) mid (record mid { state = record w.state { slots = settled w.state.slots } }) 0 (still_reaps pppoe pppoe_laws pppoe_still was mid x stops starts));
-                };
-              };
+          turn = λ was now t.
+              subst (λ (y : ShardView ShardState Entry). InTurn pppoe was (with_lists y now.journal now.outs s.sends)) (sym left) (aside was (with_lists w now.journal now.outs s.sends) 0 (s.turn was now t));
           number = ap (λ (y : ShardView ShardState Entry). y.number) left ∙ s.number;
           allowance = ap (λ (y : ShardView ShardState Entry). y.allowance) left ∙ s.allowance;
           empty = (ap (λ (y : ShardView ShardState Entry). y.journal) left ∙ s.empty.0, ap (λ (y : ShardView ShardState Entry). y.outs) left ∙ s.empty.1);
           rows = λ most octets low light.
               subst (λ (y : ShardView ShardState Entry). RowsAreLow (most + octets) y.rows) (sym left) (sent_low v turns.was turns.now here w s.sends turn [] are most octets low light);
           books = λ most low. subst (λ (y : ShardView ShardState Entry). AreLow most y.books) (sym left) (books_low v turns.was turns.now here w s.sends turn most low);
-          sessions = few;
         };
         outs_are = moved ∙ ap (λ (xs : List OutRecord). first ++ xs) s.outs_are;
         journal_is = is;

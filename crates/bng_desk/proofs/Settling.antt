@@ -1,6 +1,6 @@
--- The shards are settled, one after the other.
-use Rattle.std.proofs.Common.{◌≡◌, ℕ, zero, suc, ◌+◌, ◌<◌, ◌≤◌, Bool, cond, List, [], ◌∷◌, ◌++◌, map, length, take, drop, get_or, set, refl, sym, ap, subst, ◌∙◌, arith, append-nil, length-append}
-use Rattle.std.specs.List.{All, AllByRecursion, AllZip, count_by, flat_map, sum_by}
+-- What the shards have to send is sent, one shard after the other.
+use Rattle.std.proofs.Common.{◌≡◌, ℕ, ◌+◌, ◌<◌, ◌≤◌, Bool, cond, List, [], ◌∷◌, ◌++◌, map, length, take, drop, get_or, set, refl, sym, ap, subst, ◌∙◌, arith, append-nil, length-append}
+use Rattle.std.specs.List.{All, count_by, sum_by}
 use Rattle.std.proofs.lemmas.List.{length-map, map-append, take_more, take_more_set, take_all, drop-set-lt, drop-drop}
 use Rattle.std.proofs.lemmas.List.Concat.{flat_map-append}
 use Rattle.std.proofs.lemmas.List.Sums.{sum_by-append, sum_by-cons}
@@ -12,34 +12,29 @@ use Rattle.bng_base.specs.declared.outside.Datagram.{Datagram}
 use Rattle.bng_base.specs.Stretch.{PlantStretch, plant_joined, ExtendsPlant}
 use Rattle.bng_base.specs.Told.{PlantTold}
 use Rattle.bng_base.proofs.StretchLaws.{plant_more, plant_stays}
-use Rattle.bng_engine.specs.Calls.{IsSettled, all_sends}
 use Rattle.bng_engine.specs.Journals.{unsent}
 use Rattle.bng_engine.specs.Lists.{Zip3, one_if}
 use Rattle.bng_engine.specs.Quantities.{Quantity, in_book}
 use Rattle.bng_engine.specs.Showing.{with_lists}
-use Rattle.bng_engine.specs.Sums.{part_of_charge, charge_if, is_directed, passed_sum, failed_sum}
+use Rattle.bng_engine.specs.Sums.{part_of_charge, charge_if, is_directed, passed_sum}
 use Rattle.bng_engine.specs.Views.{ShardView}
 use Rattle.bng_engine.specs.Wire.{went}
 use Rattle.bng_engine.proofs.Walks.{same_at}
 use Rattle.bng_engine.proofs.Wire.{went_append}
-use Rattle.bng_shard.specs.Protocol.{ShardState, Handled, pppoe}
+use Rattle.bng_shard.specs.Protocol.{ShardState, Handled}
 use Rattle.bng_shard.specs.Sums.{IsLow, AreLow, RowsAreLow}
 use Rattle.bng_desk.specs.declared.drops.Drops.{Drops}
 use Rattle.bng_desk.specs.Counting.{plus}
-use Rattle.bng_desk.specs.Round.{entries_of, is_failed, with_failed, not_sent, sends_stretch}
-use Rattle.bng_desk.specs.Taking.{IsEmpty, HasFewSessions, IsLight, AreInOrder, IsTurning, Turns, AllTurn, IsLeftBy, Covers, Falls, SettledTo, Sends, SettlesAll}
-use Rattle.bng_desk.proofs.Dealing.{Seens}
+use Rattle.bng_desk.specs.Round.{is_failed, with_failed, not_sent, sends_stretch}
+use Rattle.bng_desk.specs.Taking.{IsEmpty, IsLight, AreInOrder, IsTurning, Turns, AllTurn, Covers, Falls, SentTo, Sends, SendsAll, joined}
 use Rattle.bng_desk.proofs.Readying.{Shards}
 use Rattle.bng_desk.proofs.Sending.{failed_none, failed_more, failed_least, passed_unsent}
 use Rattle.bng_desk.proofs.Zips.{zip3_push, zip3_at, zip3_length}
 
-abbrev pub joined : List (List OutRecord) → List OutRecord
-joined rss = flat_map (λ rs. rs) rss
-
--- the first shards are settled, and the others are as they were
+-- the outs of the first shards were sent, and the other shards are as they were
 pub record SettlesSome (olds shards : Shards) (i : ℕ) (old new : PlantTold) (outs : List OutRecord) (journals : List (List Entry)) (drops drops' : Drops) (tally tally' : Book) : Type 0 where
   pub sends : List (List OutRecord)
-  pub done : Zip3 SettledTo (take i olds) (take i shards) sends
+  pub done : Zip3 SentTo (take i olds) (take i shards) sends
   pub rest : drop i shards ≡ drop i olds
   pub outs_are : outs ≡ joined sends
   pub journals_are : journals ≡ map (λ v. v.journal) (take i olds)
@@ -55,18 +50,18 @@ tails xs ys i e = sym (drop-drop 1 i xs) ∙ ap (drop 1) e ∙ drop-drop 1 i ys
 joined_push : (rss : List (List OutRecord)) (rs : List OutRecord) → joined rss ++ rs ≡ joined (rss ++ rs ∷ [])
 joined_push rss rs = ap (λ (ys : List OutRecord). joined rss ++ ys) (sym (append-nil rs)) ∙ sym (flat_map-append (λ (x : List OutRecord). x) rss (rs ∷ []))
 
-as_many : (v w : ShardView ShardState Entry) (sends : List OutRecord) → SettledTo v w sends → length sends ≡ length v.outs
+as_many : (v w : ShardView ShardState Entry) (sends : List OutRecord) → SentTo v w sends → length sends ≡ length v.outs
 as_many v w sends s = omega (arith, ap (λ (xs : List OutRecord). length xs) s.are_outs, length-map sends unsent, length-map v.outs unsent)
 
 -- how many were sent
-pub joined_count : (vs ws : Shards) (rss : List (List OutRecord)) → Zip3 SettledTo vs ws rss → length (joined rss) ≡ sum_by (λ (v : ShardView ShardState Entry). length v.outs) vs
+pub joined_count : (vs ws : Shards) (rss : List (List OutRecord)) → Zip3 SentTo vs ws rss → length (joined rss) ≡ sum_by (λ (v : ShardView ShardState Entry). length v.outs) vs
 joined_count [] [] [] h = refl
 joined_count (v ∷ vs) (w ∷ ws) (rs ∷ rss) h =
     omega (arith, length-append rs (joined rss), as_many v w rs h.0, joined_count vs ws rss h.1, sum_by-cons (λ (v : ShardView ShardState Entry). length v.outs) v vs)
 joined_count vs ws rss h = absurd h
 
 -- what passed was sent, or failed
-pub joined_passed : (f : Charge → ℕ) (vs ws : Shards) (rss : List (List OutRecord)) → Zip3 SettledTo vs ws rss → passed_sum f (joined rss) ≡ sum_by (λ (v : ShardView ShardState Entry). passed_sum f v.outs) vs
+pub joined_passed : (f : Charge → ℕ) (vs ws : Shards) (rss : List (List OutRecord)) → Zip3 SentTo vs ws rss → passed_sum f (joined rss) ≡ sum_by (λ (v : ShardView ShardState Entry). passed_sum f v.outs) vs
 joined_passed f [] [] [] h = refl
 joined_passed f (v ∷ vs) (w ∷ ws) (rs ∷ rss) h =
     omega (
@@ -123,9 +118,9 @@ module _ (olds shards : Shards) (i : ℕ) (d : ShardView ShardState Entry) (old 
       let two : take (i + 1) (set shards i w) ≡ take i shards ++ w ∷ [] = take_more_set shards i w within in
       record {
         sends = rss ++ rs ∷ [];
-        done = subst (λ (vs : Shards). Zip3 SettledTo vs (take (i + 1) (set shards i w)) (rss ++ rs ∷ [])) (sym one)
-            (subst (λ (ws : Shards). Zip3 SettledTo (take i olds ++ v ∷ []) ws (rss ++ rs ∷ [])) (sym two)
-            (zip3_push SettledTo (take i olds) (take i shards) rss v w rs so_far.done (subst (λ (x : ShardView ShardState Entry). SettledTo x w rs) at here.settled)));
+        done = subst (λ (vs : Shards). Zip3 SentTo vs (take (i + 1) (set shards i w)) (rss ++ rs ∷ [])) (sym one)
+            (subst (λ (ws : Shards). Zip3 SentTo (take i olds ++ v ∷ []) ws (rss ++ rs ∷ [])) (sym two)
+            (zip3_push SentTo (take i olds) (take i shards) rss v w rs so_far.done (subst (λ (x : ShardView ShardState Entry). SentTo x w rs) at here.sent)));
         rest = drop-set-lt (i + 1) shards i w (omega arith) ∙ tails shards olds i so_far.rest;
         outs_are = here.outs_are ∙ ap (λ (xs : List OutRecord). xs ++ rs) so_far.outs_are ∙ all;
         journals_are = pushed
@@ -158,22 +153,13 @@ module _ (olds shards : Shards) (i : ℕ) (d : ShardView ShardState Entry) (old 
       )
 
 -- all of them
-pub record SettlesThem (olds shards : Shards) (old new : PlantTold) (outs : List OutRecord) (journals : List (List Entry)) (drops drops' : Drops) (tally tally' : Book) : Type 0 where
-  pub sends : List (List OutRecord)
-  pub done : Zip3 SettledTo olds shards sends
-  pub outs_are : outs ≡ joined sends
-  pub journals_are : journals ≡ map (λ v. v.journal) olds
-  pub told : ExtendsPlant old new (sends_stretch (joined sends))
-  pub drops_are : drops' ≡ plus drops (with_failed (count_by is_failed (joined sends)))
-  pub falls : Falls tally (joined sends) tally'
-
-pub settles_them : (olds shards : Shards) (i : ℕ) (old new : PlantTold) (outs : List OutRecord) (journals : List (List Entry)) (drops drops' : Drops) (tally tally' : Book) → i ≡ length olds → length shards ≡ length olds → SettlesSome olds shards i old new outs journals drops drops' tally tally' → SettlesThem olds shards old new outs journals drops drops' tally tally'
+pub settles_them : (olds shards : Shards) (i : ℕ) (old new : PlantTold) (outs : List OutRecord) (journals : List (List Entry)) (drops drops' : Drops) (tally tally' : Book) → i ≡ length olds → length shards ≡ length olds → SettlesSome olds shards i old new outs journals drops drops' tally tally' → SendsAll olds shards old new outs journals drops drops' tally tally'
 settles_them olds shards i old new outs journals drops drops' tally tally' e same s =
     let all : take i olds ≡ olds = take_all i olds (omega (arith, e)) in
     let those : take i shards ≡ shards = take_all i shards (omega (arith, e, same)) in
     record {
       sends = s.sends;
-      done = subst (λ (vs : Shards). Zip3 SettledTo vs shards s.sends) all (subst (λ (ws : Shards). Zip3 SettledTo (take i olds) ws s.sends) those s.done);
+      each = subst (λ (vs : Shards). Zip3 SentTo vs shards s.sends) all (subst (λ (ws : Shards). Zip3 SentTo (take i olds) ws s.sends) those s.done);
       outs_are = s.outs_are;
       journals_are = s.journals_are ∙ ap (map (λ (v : ShardView ShardState Entry). v.journal)) all;
       told = s.told;
@@ -183,18 +169,15 @@ settles_them olds shards i old new outs journals drops drops' tally tally' e sam
 
 -- What is left ----------------------------------------------------------------------------------------------------------
 
-module _ (vs ws : Shards) (rss : List (List OutRecord)) (z : Zip3 SettledTo vs ws rss) where
+module _ (vs ws : Shards) (rss : List (List OutRecord)) (z : Zip3 SentTo vs ws rss) where
   count : length vs ≡ length ws
-  count = zip3_length SettledTo vs ws rss z
+  count = zip3_length SentTo vs ws rss z
 
-  each : (k : ℕ) (d : ShardView ShardState Entry) → k < length ws → SettledTo (get_or vs k d) (get_or ws k d) (get_or rss k [])
-  each k d lt = zip3_at SettledTo vs ws rss k d d [] z (omega (arith, lt, count))
+  each : (k : ℕ) (d : ShardView ShardState Entry) → k < length ws → SentTo (get_or vs k d) (get_or ws k d) (get_or rss k [])
+  each k d lt = zip3_at SentTo vs ws rss k d d [] z (omega (arith, lt, count))
 
   pub all_empty : All IsEmpty ws
   all_empty k d lt = (each k d lt).empty
-
-  pub all_few : All HasFewSessions ws
-  all_few k d lt = (each k d lt).sessions
 
   pub all_low : (most octets : ℕ) → All (λ v. RowsAreLow most v.rows) vs → All (λ v. IsLight octets v.outs) vs → All (λ v. RowsAreLow (most + octets) v.rows) ws
   all_low most octets low light k d lt = (each k d lt).rows most octets (low k d (omega (arith, lt, count))) (light k d (omega (arith, lt, count)))
@@ -216,50 +199,4 @@ turns_at vs k d v lt is all =
       was = get_or all.was k x;
       now = get_or all.now k x;
       turning = subst (λ (y : ShardView ShardState Entry). IsTurning y (get_or all.was k x) (get_or all.now k x)) (sym is) (zip3_at IsTurning vs all.was all.now k d x x all.turning lt);
-    }
-
--- As the engine sees it ------------------------------------------------------------------------------------------------
-
-abbrev all_seen : Seens → Shards → List (List OutRecord) → Seens
-all_seen [] ws rss = []
-all_seen (x ∷ xs) [] rss = []
-all_seen (x ∷ xs) (w ∷ ws) [] = []
-all_seen (x ∷ xs) (w ∷ ws) (rs ∷ rss) = with_lists w x.journal x.outs rs ∷ all_seen xs ws rss
-
-record Reaped (was now xs : Seens) (vs ws : Shards) (rss : List (List OutRecord)) : Type 0 where
-  settles : Zip3 (IsSettled pppoe) was now xs
-  left : AllZip IsLeftBy ws xs
-  allowances : AllZip (λ (x y : ShardView ShardState Handled). y.allowance ≡ x.allowance) now xs
-  sends : joined rss ≡ all_sends xs
-  journals : map (λ v. v.journal) vs ≡ map entries_of now
-
-reaps : (vs : Shards) (was now : Seens) (ws : Shards) (rss : List (List OutRecord)) → Zip3 IsTurning vs was now → Zip3 SettledTo vs ws rss → Reaped was now (all_seen now ws rss) vs ws rss
-reaps [] [] [] [] [] t z = record { settles = tt; left = tt; allowances = tt; sends = refl; journals = refl }
-reaps [] [] [] ws rss t z = absurd z
-reaps (v ∷ vs) (b ∷ was) (x ∷ now) (w ∷ ws) (rs ∷ rss) t z =
-    let more = reaps vs was now ws rss t.1 z.1 in
-    record {
-      settles = (z.0.settles b x t.0, more.settles);
-      left = (record { number = refl; state = refl; rows = refl; books = refl }, more.left);
-      allowances = (z.0.allowance ∙ ap (λ (y : ShardView ShardState Handled). y.allowance) t.0.shows.same, more.allowances);
-      sends = ap (λ (os : List OutRecord). rs ++ os) more.sends;
-      journals = ap (λ (es : List Entry). es ∷ map (λ (y : ShardView ShardState Entry). y.journal) vs) (sym t.0.shows.entries) ∙ ap (λ (js : List (List Entry)). entries_of x ∷ js) more.journals;
-    }
-reaps (v ∷ vs) (b ∷ was) (x ∷ now) ws rss t z = absurd z
-reaps vs was now ws rss t z = absurd t
-
-pub settled_all : (was now : Seens) (olds shards : Shards) (old new : PlantTold) (outs : List OutRecord) (journals : List (List Entry)) (drops drops' : Drops) (tally tally' : Book)
-    → Zip3 IsTurning olds was now → SettlesThem olds shards old new outs journals drops drops' tally tally' → SettlesAll was now old new shards outs journals drops drops' tally tally'
-settled_all was now olds shards old new outs journals drops drops' tally tally' turning s =
-    let all = reaps olds was now shards s.sends turning s.done in
-    record {
-      settled = all_seen now shards s.sends;
-      settles = all.settles;
-      left = all.left;
-      allowances = all.allowances;
-      outs_are = s.outs_are ∙ all.sends;
-      journals_are = s.journals_are ∙ all.journals;
-      told = subst (λ (xs : List OutRecord). ExtendsPlant old new (sends_stretch xs)) all.sends s.told;
-      drops_are = s.drops_are ∙ ap (λ (xs : List OutRecord). plus drops (with_failed (count_by is_failed xs))) all.sends;
-      falls = subst (λ (xs : List OutRecord). Falls tally xs tally') all.sends s.falls;
     }

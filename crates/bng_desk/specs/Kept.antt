@@ -4,6 +4,7 @@ use Rattle.std.specs.List.{All}
 use Rattle.bng_base.specs.declared.item.Entry.{Entry}
 use Rattle.bng_base.specs.declared.item.Item.{Item}
 use Rattle.bng_base.specs.declared.item.ItemKind.TheVariants.{Verdict}
+use Rattle.bng_engine.specs.Books.{book_at}
 use Rattle.bng_engine.specs.Views.{ShardView}
 use Rattle.bng_shard.specs.declared.pool.Holder.{Holder}
 use Rattle.bng_shard.specs.Protocol.{ShardState}
@@ -12,7 +13,7 @@ use Rattle.bng_desk.specs.Counting.{Within}
 use Rattle.bng_desk.specs.Items.{ends_of}
 use Rattle.bng_desk.specs.Logins.{verdicts_most}
 use Rattle.bng_desk.specs.Model.{Desk, HasOneRule, is_over, rounds_left, unopened_most}
-use Rattle.bng_desk.specs.Taking.{IsEmpty, HasFewSessions, AreInOrder, AreItems}
+use Rattle.bng_desk.specs.Taking.{IsEmpty, HasFewSessions, AreInOrder, AreItems, AreTallied}
 
 -- a shard between two rounds, as the desk's contracts see it: nothing of a round, and no room for one
 abbrev pub rested : ShardView ShardState Entry → ShardView ShardState Entry
@@ -57,8 +58,9 @@ pub record Stays (shards : ℕ) (items : List Item) : Type 0 where
   pub one_each : (ends ≡ []) ⊎ AreEndsOf shards ends
 
 -- One port to sixteen, one shard to 64 in their order, all by the desk's rules, with nothing of a round in them and at most 1,022
--- sessions in each, one seat. No sum is above what the turns so far could add, and none wraps before the last. What stays of a round
--- that was not opened are verdicts, and Ends in the ending alone. Of each shard there is a list of the questions that it handed out.
+-- sessions in each, one seat. No sum is above what the turns so far could add, and none wraps before the last; what a circuit has carried,
+-- by its Stops and by its row, stands in the seat's tally. What stays of a round that was not opened are verdicts, and Ends in the ending
+-- alone. Of each shard there is a list of the questions that it handed out.
 pub record IsKept (d : Desk) : Type 0 where
   pub some_port : 1 ≤ length d.rules.access
   pub few_ports : length d.rules.access ≤ 16
@@ -82,6 +84,7 @@ pub record IsKept (d : Desk) : Type 0 where
   pub low : All (λ v. RowsAreLow (octets_most * all_turns d) v.rows) d.shards
   pub books : All (λ v. AreLow (octets_most * all_turns d) v.books) d.shards
   pub tallies : AreLow (octets_most * all_turns d) d.tallies
+  pub tallied : AreTallied (book_at 0 d.tallies) d.shards d.lines
   pub counts : Within (drops_most * all_turns d) d.drops
   pub kept : AreItems d.kept
   pub stays : Stays (length d.shards) d.kept

@@ -1,9 +1,12 @@
 -- The desk as contracts see it.
-use Rattle.std.specs.Prelude.{◌≡◌, ℕ, ◌+◌, ◌-◌, ◌*◌, ◌/◌, Bool, ◌==◌, ◌||◌, ◌&&◌, not, List, Option, Some, None, length, map, sum_by, slice_get, nat_le, if◌then◌else◌}
+use Rattle.std.specs.Prelude.{◌≡◌, ℕ, ◌+◌, ◌-◌, ◌*◌, ◌/◌, Bool, true, false, ◌==◌, ◌||◌, ◌&&◌, not, List, Option, Some, None, map, sum_by, slice_get, nat_le, if◌then◌else◌}
 use Rattle.std.specs.List.{All}
 use Rattle.bng_base.specs.declared.book.Book.{Book}
 use Rattle.bng_base.specs.declared.item.Entry.{Entry}
 use Rattle.bng_base.specs.declared.item.Item.{Item}
+use Rattle.bng_engine.specs.Quantities.{Octets}
+use Rattle.bng_engine.specs.Sums.{stopped_where}
+use Rattle.bng_engine.specs.Terms.{Key, Stop}
 use Rattle.bng_engine.specs.Views.{ShardView, Row}
 use Rattle.bng_lane.specs.State.{LaneState}
 use Rattle.bng_shard.specs.declared.pool.Holder.{Holder}
@@ -89,9 +92,25 @@ abbrev pub traffic_at : Option (ShardView ShardState Entry) → ℕ → Traffic
 traffic_at None session = no_traffic
 traffic_at (Some v) session = traffic_or (row_at v.rows session)
 
--- what a provisioned circuit carried, as the shard of its number keeps it
+-- one and the other together
+abbrev pub plus_traffic : Traffic → Traffic → Traffic
+plus_traffic a b = record { input = a.input + b.input; output = a.output + b.output }
+
+-- what a provisioned circuit carried: what the Stops of its terms say, and what the shard of its number keeps for a term that is there
 abbrev pub carried_on : List (ShardView ShardState Entry) → Line → Traffic
-carried_on shards l = traffic_at (slice_get shards (l.session.0 / 1024)) l.session.0
+carried_on shards l = plus_traffic l.stopped (traffic_at (slice_get shards (l.session.0 / 1024)) l.session.0)
+
+-- a term of the session with this number
+abbrev pub is_of : ℕ → Key → Bool
+is_of session k = k.term.session.0 == session
+
+-- what the Stops of a session's terms say, in octets
+abbrev pub stopped_of : ℕ → List Stop → Traffic
+stopped_of session stops = record { input = stopped_where Octets (is_of session) true stops; output = stopped_where Octets (is_of session) false stops }
+
+-- a circuit once these Stops were formed
+abbrev pub line_after : List Stop → Line → Line
+line_after stops l = record l { stopped = plus_traffic l.stopped (stopped_of l.session.0 stops) }
 
 abbrev pub all_carried : Desk → List Traffic
 all_carried d = map (carried_on d.shards) d.lines

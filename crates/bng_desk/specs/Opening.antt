@@ -19,7 +19,7 @@ use Rattle.bng_shard.specs.Questions.{none_handed}
 use Rattle.bng_slots.specs.Sessions.{IsNumberOf}
 use Rattle.bng_desk.specs.declared.line.Line.{Line}
 use Rattle.bng_desk.specs.Counting.{no_drops}
-use Rattle.bng_desk.specs.Model.{Desk}
+use Rattle.bng_desk.specs.Model.{Desk, no_traffic}
 use Rattle.bng_desk.specs.Random.{draw}
 
 -- what the access port with this number offers: its MAC, this key of its cookies, this name and these services
@@ -60,7 +60,7 @@ pub record AreRules (config : Config) (seed : List ℕ) (r : Rules) : Type 0 whe
   pub echo : r.link.echo ≡ config.echo
 
 abbrev pub line_of : Static → Line
-line_of c = record { session = c.session; address = c.address }
+line_of c = record { session = c.session; address = c.address; stopped = no_traffic }
 
 -- the shard of a session number
 abbrev pub shard_of : Static → ℕ

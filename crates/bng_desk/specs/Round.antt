@@ -1,6 +1,6 @@
 -- A round and its settlement.
 use Rattle.std.specs.Prelude.{◌≡◌, ℕ, ◌+◌, ◌<◌, ◌==◌, Bool, not, ◌&&◌, List, [], ◌∷◌, ◌++◌, map, filter, length, replicate, is_some, count_by, slice_index_or}
-use Rattle.std.specs.List.{All, AllZip, flat_map}
+use Rattle.std.specs.List.{All, AllZip, flat_map, list_any}
 use Rattle.bng_base.specs.declared.address.Ip4.{Ip4}
 use Rattle.bng_base.specs.declared.book.Book.{Book}
 use Rattle.bng_base.specs.declared.fate.Fate.{Fate}
@@ -11,6 +11,7 @@ use Rattle.bng_base.specs.declared.round.RoundRecord.{RoundRecord}
 use Rattle.bng_base.specs.Stretch.{PlantStretch}
 use Rattle.bng_engine.specs.Calls.{all_sends}
 use Rattle.bng_engine.specs.Showing.{with_journal}
+use Rattle.bng_engine.specs.Terms.{Stop}
 use Rattle.bng_engine.specs.Turns.{TurnOf}
 use Rattle.bng_engine.specs.Views.{ShardView, DeskView}
 use Rattle.bng_engine.specs.Wire.{went}
@@ -45,6 +46,14 @@ view_of shards holders tallies = record { shards = views_of shards; held = held_
 abbrev pub view_after : List Holder → Round → DeskView ShardState Handled
 view_after holders round = record { shards = round.shards; held = held_by holders; tallies = round.tallies }
 
+-- the Stops of a round, of the first shard first
+abbrev pub stops_of : Round → List Stop
+stops_of round = flat_map (λ v. v.stops) round.shards
+
+-- who holds an address once the terms of these Stops have left
+abbrev pub holders_after : List Stop → List Holder → List Holder
+holders_after stops holders = filter (λ (h : Holder). not (list_any (λ (s : Stop). s.key.lease.0 == h.address.0) stops)) holders
+
 -- the entries of a shard, and those of a seat among some
 abbrev pub entries_of : ShardView ShardState Handled → List Entry
 entries_of v = map (λ (h : Handled). h.deed.entry) v.journal
@@ -77,10 +86,10 @@ pub record IsDealt (r : Rules) (holders : List Holder) (moment : ℕ) (lists : L
   pub allowances : All (λ (v : ShardView ShardState Handled). v.allowance ≡ 0) round.shards
 
 -- A round with its settlement: its items were dealt, and the shards made one turn of the engine, in which each journal is a run of steps,
--- each of its outs was sent once, and what was sent was charged.
+-- each of its outs was sent once, what was sent was charged, each term that ended has a Stop, and its address was given back.
 pub record IsRound (r : Rules) (shards : List (ShardView ShardState Entry)) (holders : List Holder) (tallies : List Book) (moment : ℕ) (lists : List (List Item)) (round : Round) : Type 0 where
   pub dealt : IsDealt r holders moment lists round
-  pub turn : TurnOf pppoe (view_of shards holders tallies) (view_after holders round)
+  pub turn : TurnOf pppoe (view_of shards holders tallies) (view_after (holders_after (stops_of round) holders) round)
 
 -- a shard once its round is over
 abbrev pub left_by : ShardView ShardState Handled → ShardView ShardState Entry

@@ -1,5 +1,5 @@
 -- A round in the desk: its items are dealt to the shards, and the shards are settled.
-use Rattle.std.specs.Prelude.{◌≡◌, ◌⊎◌, ℕ, ◌+◌, ◌*◌, ◌≤◌, ◌<◌, Bool, true, false, cond, List, [], ◌∷◌, ◌++◌, All, length, map, sum_by, count_by, ◌||◌, filter, not, slice_index_or, slice_set}
+use Rattle.std.specs.Prelude.{◌≡◌, ◌⊎◌, ℕ, ◌+◌, ◌*◌, ◌^◌, ◌≤◌, ◌<◌, Bool, true, false, cond, List, [], ◌∷◌, ◌++◌, All, length, map, sum_by, count_by, ◌||◌, filter, not, slice_index_or, slice_set}
 use Rattle.std.specs.List.{AllByRecursion, AllZip, AllPairs, flat_map}
 use Rattle.bng_base.specs.declared.book.Book.{Book}
 use Rattle.bng_base.specs.declared.fate.Fate.{Fate}
@@ -12,15 +12,15 @@ use Rattle.bng_base.specs.declared.item.OutRecord.{OutRecord}
 use Rattle.bng_base.specs.declared.round.RoundRecord.{RoundRecord}
 use Rattle.bng_base.specs.Told.{PlantTold}
 use Rattle.bng_base.specs.Stretch.{ExtendsPlant}
-use Rattle.bng_engine.specs.Calls.{Kept, InTurn, IsSettled, all_sends}
+use Rattle.bng_engine.specs.Calls.{Kept, InTurn, Reaps, all_sends}
 use Rattle.bng_engine.specs.Journals.{unsent}
 use Rattle.bng_engine.specs.Lists.{Zip3}
-use Rattle.bng_engine.specs.Quantities.{Quantity, amount, in_book}
+use Rattle.bng_engine.specs.Quantities.{Quantity, Octets, amount, in_book}
 use Rattle.bng_engine.specs.Showing.{Shows, with_lists}
-use Rattle.bng_engine.specs.Sums.{same, charge_if, is_directed, passed_sum, failed_sum}
-use Rattle.bng_engine.specs.Terms.{keys}
+use Rattle.bng_engine.specs.Sums.{same, charge_if, is_directed, passed_sum, failed_sum, stopped_where}
+use Rattle.bng_engine.specs.Terms.{Key, Stop, keys}
 use Rattle.bng_engine.specs.Turns.{InRound}
-use Rattle.bng_engine.specs.Views.{ShardView, row_keys}
+use Rattle.bng_engine.specs.Views.{ShardView, row_keys, rows_where}
 use Rattle.bng_shard.specs.declared.pool.Holder.{Holder}
 use Rattle.bng_shard.specs.declared.rules.Rules.{Rules}
 use Rattle.bng_shard.specs.declared.sums.Charged.{Charged}
@@ -34,9 +34,11 @@ use Rattle.bng_shard.specs.Sums.{AreLow, RowsAreLow}
 use Rattle.bng_shard.specs.Whose.{IsWhose}
 use Rattle.bng_desk.specs.declared.drops.Drops.{Drops}
 use Rattle.bng_desk.specs.declared.holding.Named.{Named}
+use Rattle.bng_desk.specs.declared.line.Line.{Line}
 use Rattle.bng_desk.specs.Counting.{drops_of, plus}
 use Rattle.bng_desk.specs.Items.{entries_in, kept_of, loose_item, loose_in}
-use Rattle.bng_desk.specs.Round.{Round, IsRound, StandsWithin, views_of, held_by, entries_of, is_failed, with_failed, sends_stretch, drops_in, record_of, refused_of, refused_record, with_refused}
+use Rattle.bng_desk.specs.Model.{is_of, line_after}
+use Rattle.bng_desk.specs.Round.{Round, IsRound, StandsWithin, views_of, held_by, stops_of, holders_after, is_failed, with_failed, sends_stretch, drops_in, record_of, refused_of, refused_record, with_refused, entries_of}
 
 -- a shard as the desk has it, and as the engine sees it
 abbrev pub Shown : Type 0
@@ -125,7 +127,7 @@ abbrev pub AreDealt : ℕ → ℕ → List Item → List Whose → List Sight �
 AreDealt shard moment items whose [] = Unit {0}
 AreDealt shard moment items whose (v ∷ vs) = (entries_of v ≡ entries_in 0 shard 0 moment items whose) × AreDealt (shard + 1) moment items whose vs
 
--- no term may begin in its round, and none has ended or begun
+-- no term may begin in its round, and no Stop and no Start is formed yet
 pub record IsPlain (v : Sight) : Type 0 where
   pub allowance : v.allowance ≡ 0
   pub stops : v.stops ≡ []
@@ -152,8 +154,6 @@ pub record IsTurning (v : Shown) (was now : Sight) : Type 0 where
   pub turn : InTurn pppoe was now
   pub shows : Shows pppoe v now
   pub sends : now.sends ≡ []
-  pub stops : now.stops ≡ []
-  pub starts : now.starts ≡ []
 
 pub record Turns (v : Shown) : Type 0 where
   pub was : Sight
@@ -165,26 +165,108 @@ pub record AllTurn (vs : List Shown) : Type 0 where
   pub now : List Sight
   pub turning : Zip3 IsTurning vs was now
 
--- A shard's outs were sent, each once and in their order, and each answer was charged; its round is over.
-pub record SettledTo (v v' : Shown) (sends : List OutRecord) : Type 0 where
+-- A shard's outs were sent, each once and in their order, and each answer was charged.
+pub record SentTo (v v' : Shown) (sends : List OutRecord) : Type 0 where
   pub are_outs : map unsent sends ≡ map unsent v.outs
-  pub settles : (was now : Sight) → IsTurning v was now → IsSettled pppoe was now (with_lists v' now.journal now.outs sends)
+  pub turn : (was now : Sight) → IsTurning v was now → InTurn pppoe was (with_lists v' now.journal now.outs sends)
   pub number : v'.number ≡ v.number
   pub allowance : v'.allowance ≡ v.allowance
   pub empty : IsEmpty v'
   pub rows : (most octets : ℕ) → RowsAreLow most v.rows → IsLight octets v.outs → RowsAreLow (most + octets) v'.rows
   pub books : (most : ℕ) → AreLow most v.books → AreLow most v'.books
-  pub sessions : HasFewSessions v'
 
 -- and what failed was counted, and taken off the tally
 pub record Sends (v v' : Shown) (old new : PlantTold) (outs outs' : List OutRecord) (journal : List Entry) (drops drops' : Drops) (tally tally' : Book) : Type 0 where
   pub sends : List OutRecord
-  pub settled : SettledTo v v' sends
+  pub sent : SentTo v v' sends
   pub outs_are : outs' ≡ outs ++ sends
   pub journal_is : journal ≡ v.journal
   pub told : ExtendsPlant old new (sends_stretch sends)
   pub drops_are : drops' ≡ plus drops (with_failed (count_by is_failed sends))
   pub falls : Falls tally sends tally'
+
+-- one list after the other
+abbrev pub joined : {X : Type 0} → List (List X) → List X
+joined xss = flat_map (λ xs. xs) xss
+
+-- The shards' outs were sent, in the order of the shards, each once; what was sent was charged, and what failed was taken off the tally.
+pub record SendsAll (vs vs' : List Shown) (old new : PlantTold) (outs : List OutRecord) (journals : List (List Entry)) (drops drops' : Drops) (tally tally' : Book) : Type 0 where
+  pub sends : List (List OutRecord)
+  pub each : Zip3 SentTo vs vs' sends
+  pub outs_are : outs ≡ joined sends
+  pub journals_are : journals ≡ map (λ v. v.journal) vs
+  pub told : ExtendsPlant old new (sends_stretch (joined sends))
+  pub drops_are : drops' ≡ plus drops (with_failed (count_by is_failed (joined sends)))
+  pub falls : Falls tally (joined sends) tally'
+
+-- a shard as the engine sees it once its round was settled: with that journal, those outs and sends, and these Stops; no term began
+abbrev pub settled_as : Shown → List Handled → List OutRecord → List OutRecord → List Stop → Sight
+settled_as v es outs sends stops = record {
+  number = v.number;
+  state = v.state;
+  rows = v.rows;
+  books = v.books;
+  allowance = v.allowance;
+  journal = es;
+  outs = outs;
+  sends = sends;
+  stops = stops;
+  starts = [];
+  room = 0;
+}
+
+-- The terms of a shard that ended have left, each by one Stop, and its round is over.
+pub record ReapedTo (v v' : Shown) (stops : List Stop) : Type 0 where
+  pub reaps : (was : Sight) (es : List Handled) (outs sends : List OutRecord) → InTurn pppoe was (with_lists v es outs sends) → Reaps pppoe (terms_of was.state) (with_lists v es outs sends) (settled_as v' es outs sends stops)
+  pub rows : (q : Quantity) (pick : Key → Bool) (input : Bool) → stopped_where q pick input stops + rows_where q pick input v'.rows ≡ rows_where q pick input v.rows
+  pub number : v'.number ≡ v.number
+  pub allowance : v'.allowance ≡ v.allowance
+  pub books : v'.books ≡ v.books
+  pub journal : v'.journal ≡ v.journal
+  pub outs : v'.outs ≡ v.outs
+  pub sessions : HasFewSessions v'
+
+-- and their addresses were given back, and what they carried was added to the lines of their circuits
+pub record ReapsShard (v v' : Shown) (holders holders' : List Holder) (lines lines' : List Line) : Type 0 where
+  pub stops : List Stop
+  pub reaped : ReapedTo v v' stops
+  pub holders_are : holders' ≡ holders_after stops holders
+  pub lines_are : lines' ≡ map (line_after stops) lines
+
+-- so in all shards, in their order
+pub record ReapsAll (vs vs' : List Shown) (holders holders' : List Holder) (lines lines' : List Line) : Type 0 where
+  pub stops : List (List Stop)
+  pub each : Zip3 ReapedTo vs vs' stops
+  pub holders_are : holders' ≡ holders_after (joined stops) holders
+  pub lines_are : lines' ≡ map (line_after (joined stops)) lines
+
+-- what the Stops of a circuit's terms say so far, in octets of one direction
+abbrev pub stopped_in : Bool → Line → ℕ
+stopped_in true l = l.stopped.input
+stopped_in false l = l.stopped.output
+
+-- and what a shard says of the terms that are there
+abbrev pub kept_in : Bool → Line → Shown → ℕ
+kept_in input l v = rows_where Octets (is_of l.session.0) input v.rows
+
+-- the circuit has carried no more, in octets of either direction
+abbrev pub CarriesWithin : (Bool → ℕ) → List Shown → Line → Type 0
+CarriesWithin most vs l = (input : Bool) → stopped_in input l + sum_by (kept_in input l) vs ≤ most input
+
+abbrev pub LinesWithin : (Bool → ℕ) → List Shown → List Line → Type 0
+LinesWithin most vs lines = All (CarriesWithin most vs) lines
+
+-- a number that no sum of octets comes near
+abbrev pub far : Bool → ℕ
+far input = 2 ^ 63
+
+-- a line has room for what these Stops say of its circuit
+abbrev pub TakesIn : List Stop → Line → Type 0
+TakesIn stops l = (input : Bool) → stopped_in input l + stopped_where Octets (is_of l.session.0) input stops ≤ far input
+
+-- what the circuits have carried stands in the tally
+abbrev pub AreTallied : Book → List Shown → List Line → Type 0
+AreTallied tally vs lines = LinesWithin (λ input. in_book Octets input tally) vs lines
 
 -- the desk has the shard as the engine left it
 pub record IsLeftBy (w : Shown) (v : Sight) : Type 0 where
@@ -193,45 +275,36 @@ pub record IsLeftBy (w : Shown) (v : Sight) : Type 0 where
   pub rows : w.rows ≡ v.rows
   pub books : w.books ≡ v.books
 
--- The shards' outs were sent, in the order of the shards, each once; what was sent was charged, what failed was taken off the tally, and
--- the shards are ready for the next round.
-pub record SettlesAll (was now : List Sight) (old new : PlantTold) (shards' : List Shown) (outs : List OutRecord) (journals : List (List Entry)) (drops drops' : Drops) (tally tally' : Book) : Type 0 where
-  pub settled : List Sight
-  pub settles : Zip3 (IsSettled pppoe) was now settled
-  pub left : AllZip IsLeftBy shards' settled
-  pub allowances : AllZip (λ (x y : Sight). y.allowance ≡ x.allowance) now settled
-  pub outs_are : outs ≡ all_sends settled
-  pub journals_are : journals ≡ map entries_of now
-  pub told : ExtendsPlant old new (sends_stretch (all_sends settled))
-  pub drops_are : drops' ≡ plus drops (with_failed (count_by is_failed (all_sends settled)))
-  pub falls : Falls tally (all_sends settled) tally'
-
 -- A round was opened and settled: what it was, and what the trace is to be told.
-pub record RoundHeld (r : Rules) (holders : List Holder) (named : Named) (items : List Item) (old new : PlantTold) (shards shards' : List Shown) (drops drops' : Drops) (tally tally' : Book) (record_is : RoundRecord) : Type 0 where
+pub record RoundHeld (r : Rules) (holders holders' : List Holder) (lines lines' : List Line) (named : Named) (items : List Item) (old new : PlantTold) (shards shards' : List Shown) (drops drops' : Drops) (tally tally' : Book) (record_is : RoundRecord) : Type 0 where
   pub round : Round
   pub is : IsRound r shards holders (tally ∷ []) named.moment (items ∷ []) round
   pub shards_are : AllZip IsLeftBy shards' round.shards
+  pub holders_are : holders' ≡ holders_after (stops_of round) holders
+  pub lines_are : lines' ≡ map (line_after (stops_of round)) lines
   pub tallies_are : round.tallies ≡ tally' ∷ []
   pub drops_are : drops' ≡ plus drops (drops_in (items ∷ []) round)
   pub told : ExtendsPlant old new (sends_stretch (all_sends round.shards))
   pub record_told : record_is ≡ record_of named.number named.moment named.wall (items ∷ []) round
 
 -- The shards were made ready, and the round was held.
-pub record IsHeld (r : Rules) (holders : List Holder) (named : Named) (items : List Item) (old new : PlantTold) (shards shards' : List Shown) (drops drops' : Drops) (tally tally' : Book) (record_is : RoundRecord) : Type 0 where
+pub record IsHeld (r : Rules) (holders holders' : List Holder) (lines lines' : List Line) (named : Named) (items : List Item) (old new : PlantTold) (shards shards' : List Shown) (drops drops' : Drops) (tally tally' : Book) (record_is : RoundRecord) : Type 0 where
   pub ready : List Shown
   pub kept : AllZip Kept shards ready
-  pub held : RoundHeld r holders named items old new ready shards' drops drops' tally tally' record_is
+  pub held : RoundHeld r holders holders' lines lines' named items old new ready shards' drops drops' tally tally' record_is
 
 -- The shards could not be made ready: the items of the outside were dropped, and nothing was sent.
-pub record IsRefused (named : Named) (items : List Item) (old new : PlantTold) (shards shards' : List Shown) (drops drops' : Drops) (tally tally' : Book) (record_is : RoundRecord) : Type 0 where
+pub record IsRefused (holders holders' : List Holder) (lines lines' : List Line) (named : Named) (items : List Item) (old new : PlantTold) (shards shards' : List Shown) (drops drops' : Drops) (tally tally' : Book) (record_is : RoundRecord) : Type 0 where
   pub kept : AllZip Kept shards shards'
   pub told : new ≡ old
   pub drops_are : drops' ≡ plus drops (with_refused (length (refused_of items)))
+  pub holders_are : holders' ≡ holders
+  pub lines_are : lines' ≡ lines
   pub tally_is : tally' ≡ tally
   pub record_told : record_is ≡ refused_record named.number named.moment named.wall (length shards) items
 
 -- A round was held, and no item stays; or it could not be opened, and its verdicts and Ends stay.
-abbrev pub Holds : Rules → List Holder → Named → List Item → PlantTold → PlantTold → List Shown → List Shown → Drops → Drops → Book → Book → RoundRecord → Bool → List Item → Type 0
-Holds r holders named items old new shards shards' drops drops' tally tally' record_is opened kept =
-    ((opened ≡ true) × (kept ≡ []) × IsHeld r holders named items old new shards shards' drops drops' tally tally' record_is)
-    ⊎ ((opened ≡ false) × (kept ≡ kept_of items) × IsRefused named items old new shards shards' drops drops' tally tally' record_is)
+abbrev pub Holds : Rules → List Holder → List Holder → List Line → List Line → Named → List Item → PlantTold → PlantTold → List Shown → List Shown → Drops → Drops → Book → Book → RoundRecord → Bool → List Item → Type 0
+Holds r holders holders' lines lines' named items old new shards shards' drops drops' tally tally' record_is opened kept =
+    ((opened ≡ true) × (kept ≡ []) × IsHeld r holders holders' lines lines' named items old new shards shards' drops drops' tally tally' record_is)
+    ⊎ ((opened ≡ false) × (kept ≡ kept_of items) × IsRefused holders holders' lines lines' named items old new shards shards' drops drops' tally tally' record_is)

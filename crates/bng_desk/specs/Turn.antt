@@ -27,9 +27,9 @@ use Rattle.bng_rad_client.specs.DueRequests.{IsDeadline}
 use Rattle.bng_verdict.specs.declared.question.QuestionNo.{QuestionNo}
 use Rattle.bng_desk.specs.Items.{DataReading, taken_items, ticks_of, ends_of, drawn_from, kept_of}
 use Rattle.bng_desk.specs.Logins.{Answered, Requests, Hears, TimesOut, SettlesLane, reply_items, timeout_items, auth_reading, requests_stretch, verdicts_most}
-use Rattle.bng_desk.specs.Model.{Desk}
+use Rattle.bng_desk.specs.Model.{Desk, line_after}
 use Rattle.bng_desk.specs.Reading.{receives, taken_in, ending_stretch, EndsRight, is_empty}
-use Rattle.bng_desk.specs.Round.{Round, IsRound, left_by, drops_in, sends_stretch, record_of, refused_of, refused_record, with_refused}
+use Rattle.bng_desk.specs.Round.{Round, IsRound, stops_of, holders_after, left_by, drops_in, sends_stretch, record_of, refused_of, refused_record, with_refused}
 
 -- the access ports so far, and then the core
 abbrev pub ports_up_to : ℕ → List Role
@@ -117,7 +117,14 @@ RoundOf d moment items (Some round) = IsRound d.rules d.shards d.holders d.talli
 -- the desk after a round, or after one that was not opened, whose items of the outside are dropped, and whose verdicts and Ends stay
 abbrev pub after_round : Desk → List Item → Option Round → Desk
 after_round d items None = record d { drops = plus d.drops (with_refused (length (refused_of items))); kept = kept_of items }
-after_round d items (Some round) = record d { shards = map left_by round.shards; tallies = round.tallies; drops = plus d.drops (drops_in (items ∷ []) round); kept = [] }
+after_round d items (Some round) = record d {
+  shards = map left_by round.shards;
+  holders = holders_after (stops_of round) d.holders;
+  lines = map (line_after (stops_of round)) d.lines;
+  tallies = round.tallies;
+  drops = plus d.drops (drops_in (items ∷ []) round);
+  kept = [];
+}
 
 -- the number of the last round that the trace took, after one more; one that it did not take leaves it
 abbrev pub told_after : Bool → ℕ → ℕ

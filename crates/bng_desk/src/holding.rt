@@ -8,13 +8,15 @@ ghost use Rattle.bng_shard.specs.Sums.{IsLow, AreLow, RowsAreLow};
 ghost use Rattle.bng_desk.specs.Counting.{Within};
 ghost use Rattle.bng_desk.specs.Items.{stays, kept_of, is_from_outside};
 ghost use Rattle.bng_desk.specs.Kept.{octets_most, drops_most};
-ghost use Rattle.bng_desk.specs.Taking.{IsEmpty, HasFewSessions, HasRows, AreInOrder, AreItems, RoundHeld, Holds, outs_of_items};
+ghost use Rattle.bng_desk.specs.Taking.{IsEmpty, HasFewSessions, HasRows, AreInOrder, AreItems, RoundHeld, Holds, AreTallied, outs_of_items};
 ghost use Rattle.bng_desk.specs.Round.{refused_of};
 ghost use Rattle.bng_desk.specs.Turn.{told_if};
 
 use crate::drops::{Drops, count_refused};
+use crate::line::Line;
 use crate::lists::Lists;
-use crate::round::{deal_all, prepare_all, settle_all};
+use crate::round::{deal_all, prepare_all, send_all};
+use crate::stops::reap_all;
 use bng_base::{
     Book, Entry, Frame, Ip4, Item, ItemKind, Listed, Loose, OutRecord, Peer, RoundRecord,
 };
@@ -58,7 +60,8 @@ fn recorded(
 pub(crate) fn opened<P: Plant>(
     rules: &Rules,
     shards: &mut [Shard],
-    pool: &PlainPool,
+    pool: &mut PlainPool,
+    lines: &mut Vec<Line>,
     plant: &mut P,
     named: Named,
     lists: Lists,
@@ -69,7 +72,7 @@ pub(crate) fn opened<P: Plant>(
     requires count { length shards.old ≡ rules.now.shards }
     requires some { 1 ≤ rules.now.shards }
     requires few { rules.now.shards ≤ 64 }
-    requires held { All (λ h. h.shard < rules.now.shards) pool.now }
+    requires held { All (λ h. h.shard < rules.now.shards) pool.old }
     requires moment { named.moment < 2 ^ 60 }
     requires items { AreItems lists.items.items }
     requires ready { All (IsReady (length lists.items.items) 0) shards.old }
@@ -77,6 +80,7 @@ pub(crate) fn opened<P: Plant>(
     requires low { All (λ v. RowsAreLow (2 ^ 62 + 2 ^ 61) v.rows) shards.old }
     requires low_books { All (λ v. AreLow (2 ^ 62 + 2 ^ 61) v.books) shards.old }
     requires low_tally { IsLow (2 ^ 62 + 2 ^ 61) tally.old }
+    requires lines { AreTallied tally.old shards.old lines.old.items }
     requires few_outs { outs_of_items lists.items.items ≤ 5760 + 320 * length shards.old }
     requires loose { (lists.loose.items ≡ []) × (1024 ≤ vec_capacity lists.loose) }
     requires journals { (lists.journals.items ≡ []) × (length shards.old ≤ vec_capacity lists.journals) }
@@ -84,13 +88,14 @@ pub(crate) fn opened<P: Plant>(
     requires allowances { lists.allowances.items ≡ replicate (length shards.old) 0 }
     requires refused { lists.refused.items ≡ [] }
     requires drops { Within (2 ^ 61) drops.old }
-    ensures round { RoundHeld rules.now pool.now named lists.items.items (P.told plant.old) (P.told plant.new) shards.old shards.new drops.old drops.new tally.old tally.new result }
+    ensures round { RoundHeld rules.now pool.old pool.new lines.old.items lines.new.items named lists.items.items (P.told plant.old) (P.told plant.new) shards.old shards.new drops.old drops.new tally.old tally.new result }
     ensures empty { All IsEmpty shards.new }
     ensures sessions { All HasFewSessions shards.new }
     ensures numbers { AreInOrder shards.new }
     ensures low { (most : ℕ) → All (λ v. RowsAreLow most v.rows) shards.old → All (λ v. RowsAreLow (most + octets_most) v.rows) shards.new }
     ensures books { (most : ℕ) → All (λ v. AreLow most v.books) shards.old → All (λ v. AreLow (most + octets_most) v.books) shards.new }
     ensures tally { (most : ℕ) → IsLow most tally.old → IsLow (most + octets_most) tally.new }
+    ensures lines { AreTallied tally.new shards.new lines.new.items }
     ensures within { (most : ℕ) → Within most drops.old → Within (most + drops_most) drops.new }
 {
     let Lists {
@@ -111,7 +116,8 @@ pub(crate) fn opened<P: Plant>(
         drops,
         tally,
     );
-    settle_all(shards, plant, &mut outs, &mut journals, drops, tally);
+    send_all(shards, plant, &mut outs, &mut journals, drops, tally);
+    reap_all(shards, pool, lines);
     recorded(named, allowances, journals, loose, outs, refused)
 }
 
@@ -219,7 +225,8 @@ pub(crate) fn hold<P: Plant>(
     alloc: Global,
     rules: &Rules,
     shards: &mut [Shard],
-    pool: &PlainPool,
+    pool: &mut PlainPool,
+    lines: &mut Vec<Line>,
     plant: &mut P,
     named: Named,
     mut lists: Lists,
@@ -232,13 +239,14 @@ pub(crate) fn hold<P: Plant>(
     requires count { length shards.old ≡ rules.now.shards }
     requires some { 1 ≤ rules.now.shards }
     requires few { rules.now.shards ≤ 64 }
-    requires held { All (λ h. h.shard < rules.now.shards) pool.now }
+    requires held { All (λ h. h.shard < rules.now.shards) pool.old }
     requires moment { named.moment < 2 ^ 60 }
     requires items { AreItems lists.items.items }
     requires empty_before { All IsEmpty shards.old }
     requires low { All (λ v. RowsAreLow (2 ^ 62 + 2 ^ 61) v.rows) shards.old }
     requires low_books { All (λ v. AreLow (2 ^ 62 + 2 ^ 61) v.books) shards.old }
     requires low_tally { IsLow (2 ^ 62 + 2 ^ 61) tally.old }
+    requires lines { AreTallied tally.old shards.old lines.old.items }
     requires few_outs { outs_of_items lists.items.items ≤ 5760 + 320 * length shards.old }
     requires loose { (lists.loose.items ≡ []) × (1024 ≤ vec_capacity lists.loose) }
     requires journals { (lists.journals.items ≡ []) × (length shards.old ≤ vec_capacity lists.journals) }
@@ -248,7 +256,7 @@ pub(crate) fn hold<P: Plant>(
     requires none_kept { kept.old.items ≡ [] }
     requires kept_room { length (kept_of lists.items.items) ≤ vec_capacity kept.old }
     requires drops { Within (2 ^ 61) drops.old }
-    ensures round { Holds rules.now pool.now named lists.items.items (P.told plant.old) (P.told plant.new) shards.old shards.new drops.old drops.new tally.old tally.new result.record result.is_opened kept.new.items }
+    ensures round { Holds rules.now pool.old pool.new lines.old.items lines.new.items named lists.items.items (P.told plant.old) (P.told plant.new) shards.old shards.new drops.old drops.new tally.old tally.new result.record result.is_opened kept.new.items }
     ensures kept_room { vec_capacity kept.new ≡ vec_capacity kept.old }
     ensures empty { All IsEmpty shards.new }
     ensures sessions { All HasFewSessions shards.old → All HasFewSessions shards.new }
@@ -256,12 +264,15 @@ pub(crate) fn hold<P: Plant>(
     ensures low { (most : ℕ) → All (λ v. RowsAreLow most v.rows) shards.old → All (λ v. RowsAreLow (most + octets_most) v.rows) shards.new }
     ensures books { (most : ℕ) → All (λ v. AreLow most v.books) shards.old → All (λ v. AreLow (most + octets_most) v.books) shards.new }
     ensures tally { (most : ℕ) → IsLow most tally.old → IsLow (most + octets_most) tally.new }
+    ensures lines { AreTallied tally.new shards.new lines.new.items }
     ensures within { (most : ℕ) → Within most drops.old → Within (most + drops_most) drops.new }
 {
     let count = lists.items.len() as u16;
     if prepare_all(shards, alloc, count, spare) {
         return Held {
-            record: opened(rules, shards, pool, plant, named, lists, drops, tally),
+            record: opened(
+                rules, shards, pool, lines, plant, named, lists, drops, tally,
+            ),
             is_opened: true,
         };
     }

@@ -23,6 +23,7 @@ mod reading;
 mod report;
 mod requests;
 mod round;
+mod stops;
 mod sums;
 
 pub use crate::desk::{Desk, DeskError, DeskState, Turned};

@@ -1,13 +1,15 @@
 //! What a desk is opened with.
 ghost use Rattle.std.specs.Prelude.{◌≡◌, ◌≤◌, ◌<◌, ◌==◌, ◌/◌, [], ◌∷◌, ℕ, None, IfOk, length, map, filter};
 ghost use Rattle.std.specs.List.{All, range_with_len};
-ghost use Rattle.bng_shard.specs.Protocol.{opened, sessions_of};
+ghost use Rattle.bng_shard.specs.Protocol.{opened};
 ghost use Rattle.bng_lane.specs.State.{IsNewLane};
 ghost use Rattle.bng_shard.specs.Questions.{none_handed};
 ghost use Rattle.bng_desk.specs.Opening.{line_of, holder_of, shard_of, no_address, no_dns, IsOfferOf, AreOffersOf, AreServed};
+ghost use Rattle.bng_desk.specs.Taking.{HasFewSessions};
 
 use crate::desk::DeskError;
 use crate::line::Line;
+use crate::sums::NO_TRAFFIC;
 use arrayvec::ArrayVec;
 use bng_access::NasRules;
 use bng_base::{AccessPort, AuthKind, Ip4, Listed, Peer, Static};
@@ -216,6 +218,7 @@ pub(crate) fn lines(alloc: Global, circuits: &[Static]) -> Result<Vec<Line>, Des
     let named = circuits.iter().map(|circuit| Line {
         session: circuit.session,
         address: circuit.address,
+        stopped: NO_TRAFFIC,
     });
     match named.collect(alloc) {
         Ok(lines) => Ok(lines),
@@ -276,7 +279,7 @@ pub(crate) fn shards(
     requires offers { length rules.now.offers ≡ length rules.now.access }
     requires auth { 0 < length rules.now.link.auth.items }
     ensures opened { IfOk result (λ opens. opens.items ≡ map (λ n. opened n rules.now (filter (λ c. shard_of c == n) circuits.items)) (range_with_len 0 rules.now.shards)) }
-    ensures none { IfOk result (λ opens. All (λ v. sessions_of v.state ≡ 0) opens.items) }
+    ensures sessions { IfOk result (λ opens. All HasFewSessions opens.items) }
 {
     let lists = dealt(alloc, rules.shards, circuits)?;
     let Ok(mut opens) = Vec::with_capacity(alloc, usize::from(rules.shards)) else {

@@ -2,7 +2,7 @@
 ghost use Rattle.std.specs.Prelude.{◌≡◌, ◌+◌, ◌*◌, ◌≤◌, ◌<◌, ◌^◌, [], true, ℕ, List, Bool, length, sum_by, slice_index_or, vec_capacity};
 ghost use Rattle.std.specs.List.{All, AllZip};
 ghost use Rattle.bng_engine.specs.Calls.{Kept, IsReady};
-ghost use Rattle.bng_engine.specs.Lists.{Zip3, one_if};
+ghost use Rattle.bng_engine.specs.Lists.{one_if};
 ghost use Rattle.bng_engine.specs.Quantities.{Quantity, in_book};
 ghost use Rattle.bng_engine.specs.Sums.{charge_if, is_directed, passed_sum};
 ghost use Rattle.bng_shard.specs.Room.{Admits};
@@ -10,7 +10,7 @@ ghost use Rattle.bng_shard.specs.Sums.{Has, IsMore, IsLow, AreLow, RowsAreLow};
 ghost use Rattle.bng_shard.specs.Whose.{IsWhose};
 ghost use Rattle.bng_desk.specs.Counting.{Within, plus};
 ghost use Rattle.bng_desk.specs.Round.{with_failed};
-ghost use Rattle.bng_desk.specs.Taking.{Shown, Sight, IsEmpty, HasFewSessions, HasRows, AreInOrder, AreItems, IsLight, Covers, DealsOne, Deals, is_lost, lost_part, IsTurning, Turns, AllTurn, Sends, SettlesAll};
+ghost use Rattle.bng_desk.specs.Taking.{Shown, IsEmpty, HasRows, AreInOrder, AreItems, IsLight, Covers, DealsOne, Deals, is_lost, lost_part, Turns, AllTurn, Sends, SendsAll};
 
 use crate::calls::send;
 use crate::drops::{Drops, count};
@@ -178,8 +178,8 @@ fn take_back(tally: &mut Book, charged: Charged, sent: bool)
     }
 }
 
-// Sends what a shard has to send and charges the answers; then its round is over.
-fn settle<P: Plant>(
+// Sends what a shard has to send and charges the answers.
+fn send_outs<P: Plant>(
     shard: &mut Shard,
     plant: &mut P,
     outs: &mut Vec<OutRecord>,
@@ -204,15 +204,14 @@ fn settle<P: Plant>(
         count_failed(drops, charged, sent);
         take_back(tally, charged, sent);
     }
-    shard.settle();
     let moved = outs.append(&mut to_send);
     prove!(moved.is_ok());
     shard.keep_outs(to_send);
     journal
 }
 
-/// Settles the shards, in their order.
-pub(crate) fn settle_all<P: Plant>(
+/// Sends what the shards have to send, in their order, and charges the answers.
+pub(crate) fn send_all<P: Plant>(
     shards: &mut [Shard],
     plant: &mut P,
     outs: &mut Vec<OutRecord>,
@@ -230,17 +229,12 @@ pub(crate) fn settle_all<P: Plant>(
     requires drops { Within (2 ^ 62) drops.old }
     requires few { sum_by (λ v. length v.outs) shards.old ≤ 2 ^ 32 }
     requires covered { (q : Quantity) (input : Bool) → sum_by (λ v. passed_sum (charge_if q (is_directed input)) v.outs) shards.old ≤ in_book q input tally.old }
-    ensures settles { (was now : List Sight) → Zip3 IsTurning shards.old was now → SettlesAll was now (P.told plant.old) (P.told plant.new) shards.new outs.new.items journals.new.items drops.old drops.new tally.old tally.new }
-    ensures empty { All IsEmpty shards.new }
-    ensures sessions { All HasFewSessions shards.new }
-    ensures numbers { AreInOrder shards.old → AreInOrder shards.new }
-    ensures low { (most octets : ℕ) → All (λ v. RowsAreLow most v.rows) shards.old → All (λ v. IsLight octets v.outs) shards.old → All (λ v. RowsAreLow (most + octets) v.rows) shards.new }
-    ensures books { (most : ℕ) → All (λ v. AreLow most v.books) shards.old → All (λ v. AreLow most v.books) shards.new }
+    ensures sends { SendsAll shards.old shards.new (P.told plant.old) (P.told plant.new) outs.new.items journals.new.items drops.old drops.new tally.old tally.new }
     ensures tally { (most : ℕ) → IsLow most tally.old → IsLow most tally.new }
     ensures within { (most : ℕ) → Within most drops.old → Within (most + sum_by (λ v. length v.outs) shards.old) drops.new }
 {
     for shard in shards.iter_mut() {
-        let journal = settle(shard, plant, outs, drops, tally);
+        let journal = send_outs(shard, plant, outs, drops, tally);
         journals.push_reserved(Listed::of(journal));
     }
 }

@@ -1,6 +1,7 @@
 //! Sums over all shards.
-ghost use Rattle.std.specs.Prelude.{◌≡◌, ◌≤◌, IfOk, length, map};
-ghost use Rattle.bng_desk.specs.Model.{sessions_in, carried_on, traffic_or};
+ghost use Rattle.std.specs.Prelude.{◌≡◌, ◌≤◌, ◌<◌, ◌+◌, ◌/◌, ◌^◌, IfOk, length, map, slice_get};
+ghost use Rattle.bng_desk.specs.Model.{sessions_in, carried_on, plus_traffic, traffic_at, traffic_or};
+ghost use Rattle.bng_desk.specs.Taking.{CarriesWithin, LinesWithin, far};
 ghost use Rattle.bng_shard.specs.Protocol.{row_at};
 
 use crate::line::Line;
@@ -9,7 +10,7 @@ use bng_shard::{Shard, Traffic};
 use std::alloc::{AllocError, Global};
 
 /// Nothing was carried.
-const NO_TRAFFIC: Traffic = Traffic {
+pub(crate) const NO_TRAFFIC: Traffic = Traffic {
     input: 0,
     output: 0,
 };
@@ -36,14 +37,34 @@ fn carried_in(shard: &Shard, session: SessionNo) -> Traffic
     }
 }
 
-/// What a circuit carried, as the shard of its number keeps it.
-pub(crate) fn carried_on(shards: &[Shard], line: Line) -> Traffic
-    ensures { result ≡ carried_on shards.now line }
+// One and the other together.
+fn plus(a: Traffic, b: Traffic) -> Traffic
+    requires input { a.input + b.input < 2 ^ 64 }
+    requires output { a.output + b.output < 2 ^ 64 }
+    ensures { result ≡ plus_traffic a b }
+{
+    Traffic {
+        input: a.input + b.input,
+        output: a.output + b.output,
+    }
+}
+
+// What the term of a circuit carried that is there.
+fn carried_now(shards: &[Shard], line: Line) -> Traffic
+    ensures { result ≡ traffic_at (slice_get shards.now (line.session.0 / 1024)) line.session.0 }
 {
     match shards.get(usize::from(line.session.0 / 1024)) {
         Some(shard) => carried_in(shard, line.session),
         None => NO_TRAFFIC,
     }
+}
+
+/// What a circuit carried: what the Stops of its terms say, and what the shard of its number keeps for a term that is there.
+pub(crate) fn carried_on(shards: &[Shard], line: Line) -> Traffic
+    requires { CarriesWithin far shards.now line }
+    ensures { result ≡ carried_on shards.now line }
+{
+    plus(line.stopped, carried_now(shards, line))
 }
 
 /// What each circuit carried.
@@ -52,10 +73,12 @@ pub(crate) fn all_carried(
     shards: &[Shard],
     lines: &[Line],
 ) -> Result<Vec<Traffic>, AllocError>
+    requires low { LinesWithin far shards.now lines.now }
     ensures { IfOk result (λ traffic. traffic.items ≡ map (carried_on shards.now) lines.now) }
 {
-    lines
-        .iter()
-        .map(|line| carried_on(shards, *line))
-        .collect(alloc)
+    let mut traffic = Vec::with_capacity(alloc, lines.len())?;
+    for line in lines {
+        traffic.push_reserved(carried_on(shards, *line));
+    }
+    Ok(traffic)
 }

@@ -1,82 +1,122 @@
 use Rattle.std.proofs.Common.{◌+◌, ◌*◌, ◌^◌, length, sum_by, arith, ◌∙◌}
 use Rattle.bng_base.specs.declared.item.Entry.{Entry}
+use Rattle.bng_engine.specs.Quantities.{Octets, in_book}
 use Rattle.bng_engine.specs.Views.{ShardView}
 use Rattle.bng_shard.specs.Protocol.{ShardState}
 use Rattle.bng_desk.specs.Kept.{octets_most, drops_most}
-use Rattle.bng_desk.specs.Round.{views_of}
+use Rattle.bng_desk.specs.Taking.{AreTallied}
 use Rattle.bng_desk.proofs.DropLaws.{within_wider}
-use Rattle.bng_desk.proofs.Joining.{all_turning, all_turn, dealt_covered, round_held, told_as, books_wider}
+use Rattle.bng_desk.proofs.Joining.{all_turn, dealt_covered, round_held, told_as, books_wider}
 use Rattle.bng_desk.proofs.OneMore.{dealt_rows, dealt_books, dealt_count, low_more}
+use Rattle.bng_desk.proofs.Reaping.{all_empty as reaped_empty, all_few as reaped_few, all_low as reaped_low, all_books as reaped_books, in_order as reaped_order}
+use Rattle.bng_desk.proofs.Settling.{all_empty as sent_empty, all_low as sent_low, all_books as sent_books, in_order as sent_order}
+use Rattle.bng_desk.proofs.Tallied.{lines_far, sent_tallied}
+use Rattle.bng_desk.proofs.holding.opened.Given.{Over}
 use Rattle.bng_desk.proofs.holding.opened.Goals as goal
+use Rattle.bng_desk.proofs.holding.opened.Goals.{After-send_all}
 
 pub deal_all-requires-clause-drops : goal.deal_all-requires-clause-drops
 deal_all-requires-clause-drops g c = within_wider (2 ^ 61) (2 ^ 62) c.args.drops.now (omega arith) c.requires.drops
 
-pub settle_all-requires-clause-turning : goal.settle_all-requires-clause-turning
-settle_all-requires-clause-turning g c =
+pub send_all-requires-clause-turning : goal.send_all-requires-clause-turning
+send_all-requires-clause-turning g c =
     all_turn c.args.rules.now c.args.pool.now c.args.named.moment c.args.lists.items.items c.args.shards.now c.deal_all.new.shards c.deal_all.new.loose.items c.args.drops.now c.deal_all.new.drops c.args.tally.now c.deal_all.new.tally c.deal_all.ensures.deals
 
-pub settle_all-requires-clause-low : goal.settle_all-requires-clause-low
-settle_all-requires-clause-low g c =
+pub send_all-requires-clause-low : goal.send_all-requires-clause-low
+send_all-requires-clause-low g c =
     dealt_rows c.args.rules.now c.args.pool.now c.args.named.moment c.args.lists.items.items c.args.shards.now c.deal_all.new.shards c.deal_all.new.loose.items c.args.drops.now c.deal_all.new.drops c.args.tally.now c.deal_all.new.tally c.deal_all.ensures.deals (2 ^ 62 + 2 ^ 61) c.requires.low
 
-pub settle_all-requires-clause-light : goal.settle_all-requires-clause-light
-settle_all-requires-clause-light g c k d lt q test = omega (arith, c.deal_all.ensures.deals.light k d lt q test, c.requires.items.few)
+pub send_all-requires-clause-light : goal.send_all-requires-clause-light
+send_all-requires-clause-light g c k d lt q test = omega (arith, c.deal_all.ensures.deals.light k d lt q test, c.requires.items.few)
 
-pub settle_all-requires-clause-outs_room : goal.settle_all-requires-clause-outs_room
-settle_all-requires-clause-outs_room g c = omega (arith, c.deal_all.ensures.deals.few, c.requires.few_outs, c.requires.outs.1)
+pub send_all-requires-clause-outs_room : goal.send_all-requires-clause-outs_room
+send_all-requires-clause-outs_room g c = omega (arith, c.deal_all.ensures.deals.few, c.requires.few_outs, c.requires.outs.1)
 
-pub settle_all-requires-clause-journals_room : goal.settle_all-requires-clause-journals_room
-settle_all-requires-clause-journals_room g c =
+pub send_all-requires-clause-journals_room : goal.send_all-requires-clause-journals_room
+send_all-requires-clause-journals_room g c =
     omega (arith, dealt_count c.args.rules.now c.args.pool.now c.args.named.moment c.args.lists.items.items c.args.shards.now c.deal_all.new.shards c.deal_all.new.loose.items c.args.drops.now c.deal_all.new.drops c.args.tally.now c.deal_all.new.tally c.deal_all.ensures.deals, c.requires.journals.1)
 
-pub settle_all-requires-clause-drops : goal.settle_all-requires-clause-drops
-settle_all-requires-clause-drops g c = within_wider (2 ^ 61 + length c.args.lists.items.items) (2 ^ 62) c.deal_all.new.drops (omega (arith, c.requires.items.few)) (c.deal_all.ensures.within (2 ^ 61) c.requires.drops)
+pub send_all-requires-clause-drops : goal.send_all-requires-clause-drops
+send_all-requires-clause-drops g c = within_wider (2 ^ 61 + length c.args.lists.items.items) (2 ^ 62) c.deal_all.new.drops (omega (arith, c.requires.items.few)) (c.deal_all.ensures.within (2 ^ 61) c.requires.drops)
 
-pub settle_all-requires-clause-few : goal.settle_all-requires-clause-few
-settle_all-requires-clause-few g c = omega (arith, c.deal_all.ensures.deals.few, c.requires.few_outs, c.requires.count, c.requires.few)
+pub send_all-requires-clause-few : goal.send_all-requires-clause-few
+send_all-requires-clause-few g c = omega (arith, c.deal_all.ensures.deals.few, c.requires.few_outs, c.requires.count, c.requires.few)
 
-pub settle_all-requires-clause-covered : goal.settle_all-requires-clause-covered
-settle_all-requires-clause-covered g c =
+pub send_all-requires-clause-covered : goal.send_all-requires-clause-covered
+send_all-requires-clause-covered g c =
     dealt_covered c.args.rules.now c.args.pool.now c.args.named.moment c.args.lists.items.items c.args.shards.now c.deal_all.new.shards c.deal_all.new.loose.items c.args.drops.now c.deal_all.new.drops c.args.tally.now c.deal_all.new.tally c.deal_all.ensures.deals
+
+-- the outs were sent, and what the circuits have carried stands in the tally
+module _ (g : Over) (c : After-send_all g) where
+  tallied : AreTallied c.send_all.new.tally c.send_all.new.shards c.args.lines.now.items
+  tallied =
+      sent_tallied c.args.rules.now c.args.pool.now c.args.named.moment c.args.lists.items.items c.args.shards.now c.deal_all.new.shards c.send_all.new.shards c.deal_all.new.loose.items c.args.drops.now c.deal_all.new.drops c.send_all.new.drops c.args.tally.now c.deal_all.new.tally c.send_all.new.tally
+      (g.P.Plant.told c.args.plant.now) (g.P.Plant.told c.send_all.new.plant) c.send_all.new.outs.items c.send_all.new.journals.items c.args.lines.now.items c.deal_all.ensures.deals c.send_all.ensures.sends c.requires.lines
+
+pub reap_all-requires : goal.reap_all-requires
+reap_all-requires g c =
+    let n = length c.args.lists.items.items in
+    record {
+      low = lines_far (2 ^ 62 + 2 ^ 61 + 4160 * n) c.send_all.new.tally c.send_all.new.shards c.args.lines.now.items (omega (arith, c.requires.items.few))
+          (c.send_all.ensures.tally (2 ^ 62 + 2 ^ 61 + 4160 * n) (c.deal_all.ensures.tally (2 ^ 62 + 2 ^ 61) c.requires.low_tally)) (tallied g (goal.at.reap_all-requires g c).After-send_all);
+    }
 
 pub returns-clause-round : goal.returns-clause-round
 returns-clause-round g c =
     let told = g.P.Plant.told in
     let r = c.args.rules.now in
     let items = c.args.lists.items.items in
-    let deals = c.deal_all.ensures.deals in
-    let turning = all_turning r c.args.pool.now c.args.named.moment items c.args.shards.now c.deal_all.new.shards c.deal_all.new.loose.items c.args.drops.now c.deal_all.new.drops c.args.tally.now c.deal_all.new.tally deals in
-    round_held r c.args.pool.now c.args.named items (told c.args.plant.now) (told c.settle_all.new.plant) c.args.shards.now c.deal_all.new.shards c.settle_all.new.shards
-    c.deal_all.new.loose.items c.settle_all.new.outs.items c.settle_all.new.journals.items c.args.drops.now c.deal_all.new.drops c.settle_all.new.drops c.args.tally.now c.deal_all.new.tally c.settle_all.new.tally c.recorded.result
-    deals (c.settle_all.ensures.settles (views_of c.args.shards.now) deals.seen turning)
+    round_held r c.args.pool.now c.reap_all.new.pool c.args.lines.now.items c.reap_all.new.lines.items c.args.named items (told c.args.plant.now) (told c.send_all.new.plant) c.args.shards.now c.deal_all.new.shards c.send_all.new.shards c.reap_all.new.shards
+    c.deal_all.new.loose.items c.send_all.new.outs.items c.send_all.new.journals.items c.args.drops.now c.deal_all.new.drops c.send_all.new.drops c.args.tally.now c.deal_all.new.tally c.send_all.new.tally c.recorded.result
+    c.deal_all.ensures.deals c.send_all.ensures.sends c.reap_all.ensures.reaps
     (c.recorded.ensures
-    ∙ told_as c.args.named (length c.args.shards.now) c.args.lists.allowances.items c.settle_all.new.journals.items c.deal_all.new.loose.items c.settle_all.new.outs.items c.args.lists.refused.items c.requires.allowances c.requires.refused)
+    ∙ told_as c.args.named (length c.args.shards.now) c.args.lists.allowances.items c.send_all.new.journals.items c.deal_all.new.loose.items c.send_all.new.outs.items c.args.lists.refused.items c.requires.allowances c.requires.refused)
+
+pub returns-clause-empty : goal.returns-clause-empty
+returns-clause-empty g c =
+    let sent = c.send_all.ensures.sends in
+    let reaped = c.reap_all.ensures.reaps in
+    reaped_empty c.send_all.new.shards c.reap_all.new.shards reaped.stops reaped.each (sent_empty c.deal_all.new.shards c.send_all.new.shards sent.sends sent.each)
+
+pub returns-clause-sessions : goal.returns-clause-sessions
+returns-clause-sessions g c = let reaped = c.reap_all.ensures.reaps in reaped_few c.send_all.new.shards c.reap_all.new.shards reaped.stops reaped.each
 
 pub returns-clause-numbers : goal.returns-clause-numbers
-returns-clause-numbers g c = c.settle_all.ensures.numbers c.deal_all.ensures.numbers
+returns-clause-numbers g c =
+    let sent = c.send_all.ensures.sends in
+    let reaped = c.reap_all.ensures.reaps in
+    reaped_order c.send_all.new.shards c.reap_all.new.shards reaped.stops reaped.each (sent_order c.deal_all.new.shards c.send_all.new.shards sent.sends sent.each c.deal_all.ensures.numbers)
 
 pub returns-clause-low : goal.returns-clause-low
 returns-clause-low g c most low =
-    c.settle_all.ensures.low most octets_most
+    let sent = c.send_all.ensures.sends in
+    let reaped = c.reap_all.ensures.reaps in
+    reaped_low c.send_all.new.shards c.reap_all.new.shards reaped.stops reaped.each (most + octets_most)
+    (sent_low c.deal_all.new.shards c.send_all.new.shards sent.sends sent.each most octets_most
     (dealt_rows c.args.rules.now c.args.pool.now c.args.named.moment c.args.lists.items.items c.args.shards.now c.deal_all.new.shards c.deal_all.new.loose.items c.args.drops.now c.deal_all.new.drops c.args.tally.now c.deal_all.new.tally c.deal_all.ensures.deals most low)
-    (λ k d lt q test. omega (arith, c.deal_all.ensures.deals.light k d lt q test, c.requires.items.few))
+    (λ k d lt q test. omega (arith, c.deal_all.ensures.deals.light k d lt q test, c.requires.items.few)))
 
 pub returns-clause-books : goal.returns-clause-books
 returns-clause-books g c most low =
     let n = length c.args.lists.items.items in
-    books_wider (most + 4160 * n) (most + octets_most) c.settle_all.new.shards (omega (arith, c.requires.items.few))
-    (c.settle_all.ensures.books (most + 4160 * n)
-    (dealt_books c.args.rules.now c.args.pool.now c.args.named.moment c.args.lists.items.items c.args.shards.now c.deal_all.new.shards c.deal_all.new.loose.items c.args.drops.now c.deal_all.new.drops c.args.tally.now c.deal_all.new.tally c.deal_all.ensures.deals most low))
+    let sent = c.send_all.ensures.sends in
+    let reaped = c.reap_all.ensures.reaps in
+    books_wider (most + 4160 * n) (most + octets_most) c.reap_all.new.shards (omega (arith, c.requires.items.few))
+    (reaped_books c.send_all.new.shards c.reap_all.new.shards reaped.stops reaped.each (most + 4160 * n)
+    (sent_books c.deal_all.new.shards c.send_all.new.shards sent.sends sent.each (most + 4160 * n)
+    (dealt_books c.args.rules.now c.args.pool.now c.args.named.moment c.args.lists.items.items c.args.shards.now c.deal_all.new.shards c.deal_all.new.loose.items c.args.drops.now c.deal_all.new.drops c.args.tally.now c.deal_all.new.tally c.deal_all.ensures.deals most low)))
+
+pub returns-clause-lines : goal.returns-clause-lines
+returns-clause-lines g c = c.reap_all.ensures.within (λ input. in_book Octets input c.send_all.new.tally) (tallied g (goal.at.returns-clause-lines g c).After-send_all)
 
 pub returns-clause-tally : goal.returns-clause-tally
 returns-clause-tally g c most low =
     let n = length c.args.lists.items.items in
-    low_more (most + 4160 * n) (most + octets_most) c.settle_all.new.tally (omega (arith, c.requires.items.few)) (c.settle_all.ensures.tally (most + 4160 * n) (c.deal_all.ensures.tally most low))
+    low_more (most + 4160 * n) (most + octets_most) c.send_all.new.tally (omega (arith, c.requires.items.few)) (c.send_all.ensures.tally (most + 4160 * n) (c.deal_all.ensures.tally most low))
 
 pub returns-clause-within : goal.returns-clause-within
 returns-clause-within g c most within =
     let n = length c.args.lists.items.items in
     let m = sum_by (λ (v : ShardView ShardState Entry). length v.outs) c.deal_all.new.shards in
-    within_wider (most + n + m) (most + drops_most) c.settle_all.new.drops (omega (arith, c.deal_all.ensures.deals.few, c.requires.few_outs, c.requires.count, c.requires.few, c.requires.items.few))
-    (c.settle_all.ensures.within (most + n) (c.deal_all.ensures.within most within))
+    within_wider (most + n + m) (most + drops_most) c.send_all.new.drops (omega (arith, c.deal_all.ensures.deals.few, c.requires.few_outs, c.requires.count, c.requires.few, c.requires.items.few))
+    (c.send_all.ensures.within (most + n) (c.deal_all.ensures.within most within))

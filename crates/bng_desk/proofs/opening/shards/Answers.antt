@@ -1,4 +1,4 @@
-use Rattle.std.proofs.Common.{◌≡◌, ℕ, ◌++◌, ◌∷◌, List, [], length, map, sym, ap, subst, ◌∙◌, arith, append_assoc, length-append}
+use Rattle.std.proofs.Common.{ℕ, ◌++◌, ◌∷◌, List, [], length, map, sym, ap, subst, ◌∙◌, arith, append_assoc, length-append}
 use Rattle.std.specs.List.{All, range_with_len}
 use Rattle.std.proofs.lemmas.List.Elements.{All-append, All-cons, All-nil}
 use Rattle.std.proofs.lemmas.List.FromFn.{map-range_with_len_more, length-map-range_with_len}
@@ -7,13 +7,10 @@ use Rattle.bng_base.specs.declared.settings.Static.{Static}
 use Rattle.bng_engine.specs.Views.{ShardView}
 use Rattle.bng_shard.specs.declared.rules.Rules.{Rules}
 use Rattle.bng_shard.specs.Protocol.{opened}
-use Rattle.bng_shard.specs.Protocol.{ShardState, sessions_of}
+use Rattle.bng_shard.specs.Protocol.{ShardState}
+use Rattle.bng_desk.specs.Taking.{HasFewSessions}
 use Rattle.bng_desk.proofs.Outfit.{of_shard, list_count, list_next, next_are}
 use Rattle.bng_desk.proofs.opening.shards.Goals as goal
-
--- discovery made no session of the shard
-abbrev HasNone : ShardView ShardState Entry → Type 0
-HasNone v = sessions_of v.state ≡ 0
 
 pub open-requires-clause-number : goal.open-requires-clause-number
 open-requires-clause-number c =
@@ -67,8 +64,8 @@ loop-circuits-preserved c =
           ∙ ap (λ (vs : List (ShardView ShardState Entry)). vs ++ c.in-Ok-open.shard ∷ []) was.opens
           ∙ ap (λ (v : ShardView ShardState Entry). map open_shard (range_with_len 0 n) ++ v ∷ []) (c.in-Ok-open.ensures.opened ∙ ap (λ (r : Rules). opened n r c.as_slice.result.now) c.in_ok-own.ensures ∙ ap (λ (cs : List Static). opened n c.args.rules.now cs) (c.as_slice.ensures.value ∙ next.1))
           ∙ sym (map-range_with_len_more open_shard 0 n n (omega arith));
-      none = subst (λ (vs : List (ShardView ShardState Entry)). All HasNone vs) (sym c.push_reserved.ensures.items)
-          (All-append HasNone c.loop-circuits.opens.items (c.in-Ok-open.shard ∷ []) was.none (All-cons HasNone c.in-Ok-open.shard [] c.in-Ok-open.ensures.none (All-nil HasNone)));
+      sessions = subst (λ (vs : List (ShardView ShardState Entry)). All HasFewSessions vs) (sym c.push_reserved.ensures.items)
+          (All-append HasFewSessions c.loop-circuits.opens.items (c.in-Ok-open.shard ∷ []) was.sessions (All-cons HasFewSessions c.in-Ok-open.shard [] c.in-Ok-open.ensures.few (All-nil HasFewSessions)));
       number = omega (arith, length-append done (c.in-Some.circuits ∷ []), was.number);
       room = omega (arith, c.push_reserved.ensures.capacity, was.room);
     }

@@ -19,7 +19,7 @@ loop-place-preserved c =
     let n : ℕ = c.loop-place.place in
     let ss : List Line = c.args.circuits.now in
     let ts : List Traffic = c.args.traffic.now in
-    let none : Line = record { session = record { 0 = 0 }; address = record { 0 = 0 } } in
+    let none : Line = record { session = record { 0 = 0 }; address = record { 0 = 0 }; stopped = no_traffic } in
     let old = string_bytes c.args.text.now in
     let before = static_lines (take n ss) ts in
     let line = static_line (get_or ss n none).address (get_or ts n no_traffic) in

@@ -2,7 +2,6 @@ use Rattle.std.proofs.Common.{◌≡◌, ◌+◌, ◌*◌, ◌≤◌, ◌^◌, �
 use Rattle.std.specs.List.{All}
 use Rattle.bng_base.specs.declared.item.Item.{Item}
 use Rattle.bng_base.specs.declared.item.Loose.{Loose}
-use Rattle.bng_shard.specs.Sums.{IsLow}
 use Rattle.bng_desk.specs.Taking.{AreOnce, DealsOne}
 use Rattle.bng_desk.proofs.Admitting.{admits_next}
 use Rattle.bng_desk.proofs.DropLaws.{within_wider, within_more}

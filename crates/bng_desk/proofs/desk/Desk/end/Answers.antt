@@ -5,13 +5,14 @@ use Rattle.std.proofs.lemmas.Bool.{false≢true}
 use Rattle.std.proofs.lemmas.List.{with_items_is, length-map}
 use Rattle.bng_base.specs.declared.item.Item.{Item}
 use Rattle.bng_base.specs.Stretch.{Outside}
+use Rattle.bng_shard.specs.declared.pool.Holder.{Holder}
 use Rattle.bng_desk.specs.declared.holding.Named.{Named}
 use Rattle.bng_desk.specs.Intake.{SendsRequests}
 use Rattle.bng_desk.specs.Items.{drawn_from, ends_of}
 use Rattle.bng_desk.specs.Kept.{IsKept, all_turns, rested, octets_most, drops_most}
 use Rattle.bng_desk.specs.Model.{Desk, is_over, left_of, rounds_left, sessions_in, state_of, unopened_most}
 use Rattle.bng_desk.specs.Random.{Drawn}
-use Rattle.bng_desk.specs.Taking.{AreInOrder, HasFewSessions, Holds, outs_of_items}
+use Rattle.bng_desk.specs.Taking.{AreInOrder, AreTallied, HasFewSessions, Holds, outs_of_items}
 use Rattle.bng_desk.specs.Turn.{MakesEnd, ending_items, has_end}
 use Rattle.bng_desk.proofs.Done.{kept_as}
 use Rattle.bng_desk.proofs.Ending.{ended, after_ending}
@@ -20,7 +21,7 @@ use Rattle.bng_desk.proofs.Resting.{sessions_rested}
 use Rattle.bng_desk.proofs.Joining.{HasLow, HasLowBooks, low_wider, books_wider}
 use Rattle.bng_desk.proofs.DropLaws.{within_wider}
 use Rattle.bng_desk.proofs.OneMore.{low_more}
-use Rattle.bng_desk.proofs.Keeping.{AreKept, IsLeft, IsNearer, Ends, kept_ended, ends_of_state, ends_few_kept, ends_kept, ends_near, few_told, is_nearer, are_ends_of, none_kept, few_draws, one_low}
+use Rattle.bng_desk.proofs.Keeping.{AreKept, IsLeft, IsNearer, Ends, kept_ended, ends_of_state, ends_few_kept, ends_kept, ends_near, holders_kept, few_told, is_nearer, are_ends_of, none_kept, few_draws, one_low}
 use Rattle.bng_desk.proofs.Readying.{Shards}
 use Rattle.bng_desk.proofs.Staying.{AreEnds, items_of_ends, outs_of_ending, stays_few}
 use Rattle.bng_desk.proofs.desk.Desk.end.Given.{Over}
@@ -104,6 +105,7 @@ invariant_of-self g c =
         low = low_wider (octets_most * (turns + endings)) (octets_most * (turns + (endings + 1))) c.self.inside.shards.items (omega arith) was.low;
         books = books_wider (octets_most * (turns + endings)) (octets_most * (turns + (endings + 1))) c.self.inside.shards.items (omega arith) was.books;
         tallies = one_low (octets_most * (turns + (endings + 1))) c.self.inside.tally (low_more (octets_most * (turns + endings)) (octets_most * (turns + (endings + 1))) c.self.inside.tally (omega arith) (was.tallies 0 (omega arith)));
+        tallied = was.tallied;
         counts = within_wider (drops_most * (turns + endings)) (drops_most * (turns + (endings + 1))) c.self.inside.drops (omega arith) was.counts;
         kept = was.kept;
         stays = was.stays;
@@ -117,6 +119,9 @@ pub to_end-requires-clause-room : goal.to_end-requires-clause-room
 to_end-requires-clause-room g c =
     let was = c.self.invariant.0 in
     omega (arith, stays_few (length c.self.inside.shards.items) c.self.inside.kept.items (omega (arith, was.shards, was.few_shards)) was.stays, c.len-2.ensures, c.self.inside.shards.ok.0, was.shards, was.few_shards, c.in-Ok.ensures.items.1)
+
+pub hold-held-requires-clause-lines : goal.hold-held-requires-clause-lines
+hold-held-requires-clause-lines g c = subst (λ (vs : Shards). AreTallied c.self.inside.tally vs c.self.inside.lines.items) (sym c.as_mut_slice.ensures.value) c.self.invariant.0.tallied
 
 pub hold-held-requires-clause-low_tally : goal.hold-held-requires-clause-low_tally
 hold-held-requires-clause-low_tally g c =
@@ -161,32 +166,35 @@ invariant_of-self-2 g c =
     let ws = c.hold-held.new.shards in
     let d = before g b vs in
     let named : Named = record { number = c.self.inside.told + 1; moment = c.now-now.result; wall = c.wall-wall.result } in
-    let staying : AreKept d c.hold-held.new.kept.items = kept_as (λ (is : List Item). AreKept d is) d.rules d.holders named c.to_end.new.items.items (g.P.Plant.told c.args.plant.now) (g.P.Plant.told c.hold-held.new.plant) c.as_mut_slice.result.now ws d.drops c.hold-held.new.drops c.self.inside.tally c.hold-held.new.tally
+    let staying : AreKept d c.hold-held.new.kept.items = kept_as (λ (is : List Item). AreKept d is) d.rules d.holders c.hold-held.new.pool d.lines c.hold-held.new.lines.items named c.to_end.new.items.items (g.P.Plant.told c.args.plant.now) (g.P.Plant.told c.hold-held.new.plant) c.as_mut_slice.result.now ws d.drops c.hold-held.new.drops c.self.inside.tally c.hold-held.new.tally
     c.hold-held.result.record c.hold-held.result.is_opened c.hold-held.new.kept.items c.hold-held.ensures.round (none_kept d) (ends_kept d c.to_end.new.items.items c.self.invariant.0 (are_ends g b)) in
-    let left : IsLeft d ws c.hold-held.new.drops c.hold-held.new.tally c.send_requests.new.draws.drawn c.send_requests.new.handed = record {
+    let left : IsLeft d ws c.hold-held.new.pool c.hold-held.new.lines.items c.hold-held.new.drops c.hold-held.new.tally c.send_requests.new.draws.drawn c.send_requests.new.handed = record {
       shards = same_length g c b ∙ c.self.inside.shards.ok.0;
       order = c.hold-held.ensures.numbers;
-      rules = all_work d.rules d.holders named c.to_end.new.items.items (g.P.Plant.told c.args.plant.now) (g.P.Plant.told c.hold-held.new.plant) c.as_mut_slice.result.now ws d.drops c.hold-held.new.drops c.self.inside.tally c.hold-held.new.tally
+      rules = all_work d.rules d.holders c.hold-held.new.pool d.lines c.hold-held.new.lines.items named c.to_end.new.items.items (g.P.Plant.told c.args.plant.now) (g.P.Plant.told c.hold-held.new.plant) c.as_mut_slice.result.now ws d.drops c.hold-held.new.drops c.self.inside.tally c.hold-held.new.tally
           c.hold-held.result.record d.rules c.hold-held.result.is_opened c.hold-held.new.kept.items c.hold-held.ensures.round
           (subst (λ (xs : Shards). All (WorksBy d.rules) xs) (sym c.as_mut_slice.ensures.value) c.self.invariant.0.rules);
       empty = c.hold-held.ensures.empty;
       sessions = c.hold-held.ensures.sessions (subst (λ (xs : Shards). All HasFewSessions xs) (sym c.as_mut_slice.ensures.value) c.self.invariant.0.sessions);
       low = c.hold-held.ensures.low (octets_most * all_turns d) (subst (λ (xs : Shards). All (HasLow (octets_most * all_turns d)) xs) (sym c.as_mut_slice.ensures.value) c.self.invariant.0.low);
       books = c.hold-held.ensures.books (octets_most * all_turns d) (subst (λ (xs : Shards). All (HasLowBooks (octets_most * all_turns d)) xs) (sym c.as_mut_slice.ensures.value) c.self.invariant.0.books);
+      holders_are = holders_kept (λ (h : Holder). h.shard < d.rules.shards) d c.hold-held.new.pool c.hold-held.new.lines.items named c.to_end.new.items.items (g.P.Plant.told c.args.plant.now) (g.P.Plant.told c.hold-held.new.plant) c.as_mut_slice.result.now ws c.hold-held.new.drops c.self.inside.tally c.hold-held.new.tally
+          c.hold-held.result.record c.hold-held.result.is_opened c.hold-held.new.kept.items c.hold-held.ensures.round c.self.invariant.0.holders;
+      tallied = c.hold-held.ensures.lines;
       tally_low = c.hold-held.ensures.tally (octets_most * all_turns d) (c.self.invariant.0.tallies 0 (omega arith));
       counts = c.hold-held.ensures.within (drops_most * all_turns d) c.self.invariant.0.counts;
       drawn_is = omega (arith, ap (λ (x : Drawn). x.drawn) (draws_are g b), few_draws d c.self.invariant.0, c.send_requests.ensures.few_drawn);
       handed_is = same_handed g c b ∙ c.self.inside.handed.ok.0;
     } in
     let e : Ends (before g b (map rested vs)) = ends_of_state (before g b (map rested vs)) (ap (λ (x : Desk). state_of x) c.self.view_is ∙ c.requires.state) in
-    let nears : Nears c.hold-held.result.is_opened (sessions_in vs) (sessions_in ws) = ends_near d named c.to_end.new.items.items (g.P.Plant.told c.args.plant.now) (g.P.Plant.told c.hold-held.new.plant) c.as_mut_slice.result.now ws
+    let nears : Nears c.hold-held.result.is_opened (sessions_in vs) (sessions_in ws) = ends_near d c.hold-held.new.pool c.hold-held.new.lines.items named c.to_end.new.items.items (g.P.Plant.told c.args.plant.now) (g.P.Plant.told c.hold-held.new.plant) c.as_mut_slice.result.now ws
     c.hold-held.new.drops c.self.inside.tally c.hold-held.new.tally c.hold-held.result.record c.hold-held.result.is_opened c.hold-held.new.kept.items c.self.invariant.0 (are_ends g b) c.as_mut_slice.ensures.value c.hold-held.ensures.round in
     let near : IsNearer d ws c.unopened_after-self-inside.result c.either-self-inside.result = is_nearer d ws c.hold-held.result.is_opened c.unopened_after-self-inside.result c.either-self-inside.result
     (record { over = e.over; low = e.low; some = λ closed. omega (arith, e.some closed, sessions_rested vs) }) nears c.self.invariant.0.left c.unopened_after-self-inside.ensures c.either-self-inside.ensures in
-    let turn = λ (xs : Shards) (hs : List (List ℕ)). after_ending d xs c.hold-held.new.drops c.hold-held.new.tally c.send_requests.new.draws c.unopened_after-self-inside.result c.either-self-inside.result c.hold-held.new.kept.items c.now-now.result c.told_after-self-inside.result c.send_requests.new.lane hs in (
+    let turn = λ (xs : Shards) (hs : List (List ℕ)). after_ending d xs c.hold-held.new.pool c.hold-held.new.lines.items c.hold-held.new.drops c.hold-held.new.tally c.send_requests.new.draws c.unopened_after-self-inside.result c.either-self-inside.result c.hold-held.new.kept.items c.now-now.result c.told_after-self-inside.result c.send_requests.new.lane hs in (
       subst (λ (xs : Shards). IsKept (turn xs (with_items c.self.inside.handed c.send_requests.new.handed).items)) (sym (shards_are g c b))
           (subst (λ (hs : List (List ℕ)). IsKept (turn ws hs)) (sym (handed_are g c b))
-          (kept_ended d ws c.hold-held.new.drops c.hold-held.new.tally c.send_requests.new.draws c.unopened_after-self-inside.result c.either-self-inside.result c.hold-held.new.kept.items c.now-now.result c.told_after-self-inside.result c.send_requests.new.lane c.send_requests.new.handed c.self.invariant.0
+          (kept_ended d ws c.hold-held.new.pool c.hold-held.new.lines.items c.hold-held.new.drops c.hold-held.new.tally c.send_requests.new.draws c.unopened_after-self-inside.result c.either-self-inside.result c.hold-held.new.kept.items c.now-now.result c.told_after-self-inside.result c.send_requests.new.lane c.send_requests.new.handed c.self.invariant.0
           e.over near left
           (subst (λ (n : ℕ). n ≤ c.self.inside.told + 1) (sym c.told_after-self-inside.ensures) (few_told c.note-noted.result c.self.inside.told)) staying)),
       omega (arith, c.hold-held.ensures.kept_room, c.to_end.ensures.kept_room, c.self.invariant.1),
@@ -202,7 +210,7 @@ returns-clause-nearer g c =
     let closed = c.either-self-inside.result in
     let was : sessions_in vs ≡ sessions_in d.shards = sym (sessions_rested vs) in
     let now : sessions_in (with_items c.self.inside.shards ws).items ≡ sessions_in (map rested (with_items c.self.inside.shards ws).items) = sym (sessions_rested (with_items c.self.inside.shards ws).items) in
-    let nears : Nears c.hold-held.result.is_opened (sessions_in vs) (sessions_in ws) = ends_near (before g b vs) (record { number = c.self.inside.told + 1; moment = c.now-now.result; wall = c.wall-wall.result }) c.to_end.new.items.items (g.P.Plant.told c.args.plant.now) (g.P.Plant.told c.hold-held.new.plant) c.as_mut_slice.result.now ws
+    let nears : Nears c.hold-held.result.is_opened (sessions_in vs) (sessions_in ws) = ends_near (before g b vs) c.hold-held.new.pool c.hold-held.new.lines.items (record { number = c.self.inside.told + 1; moment = c.now-now.result; wall = c.wall-wall.result }) c.to_end.new.items.items (g.P.Plant.told c.args.plant.now) (g.P.Plant.told c.hold-held.new.plant) c.as_mut_slice.result.now ws
     c.hold-held.new.drops c.self.inside.tally c.hold-held.new.tally c.hold-held.result.record c.hold-held.result.is_opened c.hold-held.new.kept.items c.self.invariant.0 (are_ends g b) c.as_mut_slice.ensures.value c.hold-held.ensures.round in
     let here : Nears c.hold-held.result.is_opened (sessions_in vs) (sessions_in (with_items c.self.inside.shards ws).items) =
     subst (λ (xs : Shards). Nears c.hold-held.result.is_opened (sessions_in vs) (sessions_in xs)) (sym (shards_are g c b)) nears in
@@ -247,13 +255,13 @@ returns-clause-makes g c =
     let count : length vs ≡ length (map rested vs) = sym (length-map vs rested) in
     let same : c.to_end.new.items.items ≡ ending_items d = items_are g b ∙ ap (λ (n : ℕ). ending_with g b n) count in
     let drew = draws_are g b ∙ ap (λ (n : ℕ). drawn_with g b n) count in
-    let made = ended d vs ws named c.note-noted.result lane handed draws draws' c.to_end.new.items.items drops tally tally' c.hold-held.result.record opened kept p₀ p₁ p₂ refl refl refl same drew
-    (subst (λ (xs : Shards). Holds d.rules d.holders named c.to_end.new.items.items p₀ p₁ xs ws d.drops drops tally tally' c.hold-held.result.record opened kept) c.as_mut_slice.ensures.value c.hold-held.ensures.round)
+    let made = ended d vs ws c.hold-held.new.pool c.hold-held.new.lines.items named c.note-noted.result lane handed draws draws' c.to_end.new.items.items drops tally tally' c.hold-held.result.record opened kept p₀ p₁ p₂ refl refl refl same drew
+    (subst (λ (xs : Shards). Holds d.rules d.holders c.hold-held.new.pool d.lines c.hold-held.new.lines.items named c.to_end.new.items.items p₀ p₁ xs ws d.drops drops tally tally' c.hold-held.result.record opened kept) c.as_mut_slice.ensures.value c.hold-held.ensures.round)
     (subst (λ (xs : Shards). SendsRequests named.moment xs p₁ p₂ d.lane lane d.handed handed draws draws') (c.as_slice.ensures.value ∙ shards_are g c b)
     (subst (λ (hs : List (List ℕ)). SendsRequests named.moment c.as_slice.result.now p₁ p₂ d.lane lane hs handed draws draws') c.as_mut_slice-2.ensures.value c.send_requests.ensures.sends))
     (omega (arith, ap (λ (x : Desk). x.moment) c.self.view_is, c.requires.later, c.now-now.ensures.later)) c₀ c₁ c₂ c.now-now.ensures.answers c.wall-wall.ensures.answers (c.wall-wall.ensures.last ∙ c.now-now.ensures.last)
     t₀ t₁ c.note-noted.ensures.rounds c.note-noted.ensures.cause c.note-noted.ensures.uncounted c.answer.result c.answer.ensures unopened c.unopened_after-self-inside.ensures closed c.either-self-inside.ensures c.told_after-self-inside.result c.told_after-self-inside.ensures in
-    let turn = λ (xs : Shards) (hs : List (List ℕ)). after_ending d (map rested xs) drops tally' draws' unopened closed kept named.moment c.told_after-self-inside.result lane hs in
+    let turn = λ (xs : Shards) (hs : List (List ℕ)). after_ending d (map rested xs) c.hold-held.new.pool c.hold-held.new.lines.items drops tally' draws' unopened closed kept named.moment c.told_after-self-inside.result lane hs in
     subst (λ (x : Desk). MakesEnd x (turn (with_items c.self.inside.shards ws).items (with_items c.self.inside.handed handed).items) before_is behind_is c.answer.result) c.self.view_is
     (subst (λ (xs : Shards). MakesEnd d (turn xs (with_items c.self.inside.handed handed).items) before_is behind_is c.answer.result) (sym (shards_are g c b))
     (subst (λ (hs : List (List ℕ)). MakesEnd d (turn ws hs) before_is behind_is c.answer.result) (sym (handed_are g c b)) made))

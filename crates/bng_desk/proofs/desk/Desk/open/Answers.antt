@@ -86,7 +86,7 @@ module _ (c : After-new-2) where
 pub invariant_of-result : goal.invariant_of-result
 invariant_of-result c =
     let rules = are_rules c in (
-      kept_fresh _ (statics c) (shards_are c) c.in_ok-opens.ensures.none
+      kept_fresh _ (statics c) c.args.config.statics (shards_are c) c.in_ok-opens.ensures.sessions (lines_are c)
           (omega (arith, c.requires.rules.some_port, ap (λ (ps : List AccessPort). length ps) rules.access)) (omega (arith, c.requires.rules.few_ports, ap (λ (ps : List AccessPort). length ps) rules.access))
           (omega (arith, c.requires.rules.some_shard, rules.shards)) (omega (arith, c.requires.rules.few_shards, rules.shards))
           (subst (λ (hs : List Holder). All (λ (h : Holder). h.shard < (made c).shards) hs) (sym (holders_are c)) (All-map (λ (h : Holder). h.shard < (made c).shards) holder_of c.args.config.statics (λ k d l. omega (arith, (c.requires.rules.sharded k d l).shard, rules.shards))))

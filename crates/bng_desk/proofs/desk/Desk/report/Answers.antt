@@ -1,12 +1,24 @@
-use Rattle.std.proofs.Common.{◌≡◌, ℕ, List, ◌++◌, map, ap, subst, ◌∙◌}
+use Rattle.std.proofs.Common.{◌≡◌, ℕ, ◌+◌, ◌*◌, List, ◌++◌, map, sym, ap, subst, ◌∙◌, arith}
 use Rattle.bng_shard.specs.declared.sums.Traffic.{Traffic}
 use Rattle.bng_desk.specs.declared.line.Line.{Line}
-use Rattle.bng_desk.specs.Kept.{rested}
+use Rattle.bng_desk.specs.Kept.{octets_most, rested}
 use Rattle.bng_desk.specs.Model.{Desk, carried_on, all_carried}
 use Rattle.bng_desk.specs.Report.{by_number, report_text}
 use Rattle.bng_desk.proofs.Readying.{Shards}
 use Rattle.bng_desk.proofs.Resting.{all_carried_rested}
+use Rattle.bng_desk.specs.Taking.{LinesWithin, far}
+use Rattle.bng_desk.proofs.Tallied.{lines_far}
 use Rattle.bng_desk.proofs.desk.Desk.report.Goals as goal
+
+pub all_carried-requires : goal.all_carried-requires
+all_carried-requires c =
+    let was = c.self.invariant.0 in
+    let inside = c.self.inside in
+    record {
+      low = subst (λ (vs : Shards). LinesWithin far vs c.as_slice-lines.result.now) (sym c.as_slice.ensures.value)
+          (subst (λ (ls : List Line). LinesWithin far inside.shards.items ls) (sym c.as_slice-lines.ensures.value)
+          (lines_far (octets_most * (inside.turns + inside.endings)) inside.tally inside.shards.items inside.lines.items (omega (arith, was.made, was.most, was.endings)) (was.tallies 0 (omega arith)) was.tallied));
+    }
 
 pub returns-in-Ok-extend_from_slice-clause-appended : goal.returns-in-Ok-extend_from_slice-clause-appended
 returns-in-Ok-extend_from_slice-clause-appended c =

@@ -5,17 +5,18 @@ use Rattle.std.proofs.lemmas.List.{with_items_is}
 use Rattle.bng_base.specs.declared.item.Item.{Item}
 use Rattle.bng_base.specs.Stretch.{Outside}
 use Rattle.bng_ppp.specs.LinkRelation.{earliest}
+use Rattle.bng_shard.specs.declared.pool.Holder.{Holder}
 use Rattle.bng_desk.specs.declared.holding.Named.{Named}
 use Rattle.bng_desk.specs.Kept.{IsKept, all_turns, is_verdict, rested, octets_most, drops_most}
 use Rattle.bng_desk.specs.Model.{Desk, is_over, state_of}
 use Rattle.bng_desk.specs.Intake.{Gathers, SendsRequests}
-use Rattle.bng_desk.specs.Taking.{AreInOrder, HasFewSessions, Holds}
+use Rattle.bng_desk.specs.Taking.{AreInOrder, AreTallied, HasFewSessions, Holds}
 use Rattle.bng_desk.specs.Turn.{MakesTurn, wait_for, deadline_in}
 use Rattle.bng_desk.proofs.Done.{kept_as}
 use Rattle.bng_desk.proofs.DropLaws.{within_wider}
 use Rattle.bng_desk.proofs.Dwindling.{WorksBy, all_work}
 use Rattle.bng_desk.proofs.Joining.{HasLow, HasLowBooks, low_wider, books_wider}
-use Rattle.bng_desk.proofs.Keeping.{AreKept, IsLeft, StaysServing, few_kept, kept_served, few_told, none_kept, not_over, serving_staying, turns_left, one_low}
+use Rattle.bng_desk.proofs.Keeping.{AreKept, IsLeft, StaysServing, few_kept, holders_kept, kept_served, few_told, none_kept, not_over, serving_staying, turns_left, one_low}
 use Rattle.bng_desk.proofs.OneMore.{low_more}
 use Rattle.bng_desk.proofs.Readying.{Shards}
 use Rattle.bng_desk.proofs.Turning.{served, after_turn}
@@ -101,17 +102,20 @@ module _ (g : Over) (c : After-answer g) where
   handed_are : (with_items c.self.inside.handed c.send_requests.new.handed).items ≡ c.send_requests.new.handed
   handed_are = with_items_is c.self.inside.handed c.send_requests.new.handed same_handed
 
-  is_left : IsLeft (before c.self.inside.shards.items) c.hold-held.new.shards c.hold-held.new.drops c.hold-held.new.tally c.send_requests.new.draws.drawn c.send_requests.new.handed
+  is_left : IsLeft (before c.self.inside.shards.items) c.hold-held.new.shards c.hold-held.new.pool c.hold-held.new.lines.items c.hold-held.new.drops c.hold-held.new.tally c.send_requests.new.draws.drawn c.send_requests.new.handed
   is_left = record {
     shards = same_length ∙ c.self.inside.shards.ok.0;
     order = c.hold-held.ensures.numbers;
-    rules = all_work c.self.inside.rules c.self.inside.pool named c.gather-quiet.new.items.items (g.P.Plant.told c.gather-quiet.new.plant) (g.P.Plant.told c.hold-held.new.plant)
+    rules = all_work c.self.inside.rules c.self.inside.pool c.hold-held.new.pool c.self.inside.lines.items c.hold-held.new.lines.items named c.gather-quiet.new.items.items (g.P.Plant.told c.gather-quiet.new.plant) (g.P.Plant.told c.hold-held.new.plant)
         c.as_mut_slice.result.now c.hold-held.new.shards c.self.inside.drops c.hold-held.new.drops c.self.inside.tally c.hold-held.new.tally c.hold-held.result.record c.self.inside.rules c.hold-held.result.is_opened c.hold-held.new.kept.items c.hold-held.ensures.round
         (subst (λ (xs : Shards). All (WorksBy c.self.inside.rules) xs) (sym c.as_mut_slice.ensures.value) c.self.invariant.0.rules);
     empty = c.hold-held.ensures.empty;
     sessions = c.hold-held.ensures.sessions (subst (λ (xs : Shards). All HasFewSessions xs) (sym c.as_mut_slice.ensures.value) c.self.invariant.0.sessions);
     low = c.hold-held.ensures.low (octets_most * all_turns (before c.self.inside.shards.items)) (subst (λ (xs : Shards). All (HasLow (octets_most * all_turns (before c.self.inside.shards.items))) xs) (sym c.as_mut_slice.ensures.value) c.self.invariant.0.low);
     books = c.hold-held.ensures.books (octets_most * all_turns (before c.self.inside.shards.items)) (subst (λ (xs : Shards). All (HasLowBooks (octets_most * all_turns (before c.self.inside.shards.items))) xs) (sym c.as_mut_slice.ensures.value) c.self.invariant.0.books);
+    holders_are = holders_kept (λ (h : Holder). h.shard < c.self.inside.rules.shards) (before c.self.inside.shards.items) c.hold-held.new.pool c.hold-held.new.lines.items named c.gather-quiet.new.items.items (g.P.Plant.told c.gather-quiet.new.plant) (g.P.Plant.told c.hold-held.new.plant)
+        c.as_mut_slice.result.now c.hold-held.new.shards c.hold-held.new.drops c.self.inside.tally c.hold-held.new.tally c.hold-held.result.record c.hold-held.result.is_opened c.hold-held.new.kept.items c.hold-held.ensures.round c.self.invariant.0.holders;
+    tallied = c.hold-held.ensures.lines;
     tally_low = c.hold-held.ensures.tally (octets_most * all_turns (before c.self.inside.shards.items)) (c.self.invariant.0.tallies 0 (omega arith));
     counts = c.hold-held.ensures.within (drops_most * all_turns (before c.self.inside.shards.items)) c.self.invariant.0.counts;
     drawn_is = omega (arith, c.gather-quiet.ensures.few_drawn, c.send_requests.ensures.few_drawn);
@@ -120,13 +124,13 @@ module _ (g : Over) (c : After-answer g) where
 
   kept_is : StaysServing (before c.self.inside.shards.items) c.gather-quiet.new.items.items → AreKept (before c.self.inside.shards.items) c.hold-held.new.kept.items
   kept_is staying =
-      kept_as (λ (is : List Item). AreKept (before c.self.inside.shards.items) is) c.self.inside.rules c.self.inside.pool named c.gather-quiet.new.items.items (g.P.Plant.told c.gather-quiet.new.plant) (g.P.Plant.told c.hold-held.new.plant)
+      kept_as (λ (is : List Item). AreKept (before c.self.inside.shards.items) is) c.self.inside.rules c.self.inside.pool c.hold-held.new.pool c.self.inside.lines.items c.hold-held.new.lines.items named c.gather-quiet.new.items.items (g.P.Plant.told c.gather-quiet.new.plant) (g.P.Plant.told c.hold-held.new.plant)
       c.as_mut_slice.result.now c.hold-held.new.shards c.self.inside.drops c.hold-held.new.drops c.self.inside.tally c.hold-held.new.tally c.hold-held.result.record c.hold-held.result.is_opened c.hold-held.new.kept.items c.hold-held.ensures.round
       (none_kept (before c.self.inside.shards.items)) staying.kept
 
   kept_verdicts : StaysServing (before c.self.inside.shards.items) c.gather-quiet.new.items.items → All is_verdict c.hold-held.new.kept.items
   kept_verdicts staying =
-      kept_as (λ (is : List Item). All is_verdict is) c.self.inside.rules c.self.inside.pool named c.gather-quiet.new.items.items (g.P.Plant.told c.gather-quiet.new.plant) (g.P.Plant.told c.hold-held.new.plant)
+      kept_as (λ (is : List Item). All is_verdict is) c.self.inside.rules c.self.inside.pool c.hold-held.new.pool c.self.inside.lines.items c.hold-held.new.lines.items named c.gather-quiet.new.items.items (g.P.Plant.told c.gather-quiet.new.plant) (g.P.Plant.told c.hold-held.new.plant)
       c.as_mut_slice.result.now c.hold-held.new.shards c.self.inside.drops c.hold-held.new.drops c.self.inside.tally c.hold-held.new.tally c.hold-held.result.record c.hold-held.result.is_opened c.hold-held.new.kept.items c.hold-held.ensures.round
       (λ k d lt. absurd (omega arith)) staying.verdicts
 
@@ -140,6 +144,9 @@ gather-quiet-requires-clause-few_kept g c = few_kept _ c.self.invariant.0 (subst
 pub hold-held-requires-clause-kept_room : goal.hold-held-requires-clause-kept_room
 hold-held-requires-clause-kept_room g c =
     omega (arith, (stay g (goal.at.hold-held-requires-clause-kept_room g c).After-gather-quiet).few, c.gather-quiet.ensures.kept_room, c.self.invariant.1)
+
+pub hold-held-requires-clause-lines : goal.hold-held-requires-clause-lines
+hold-held-requires-clause-lines g c = subst (λ (vs : Shards). AreTallied c.self.inside.tally vs c.self.inside.lines.items) (sym c.as_mut_slice.ensures.value) c.self.invariant.0.tallied
 
 pub hold-held-requires-clause-low_tally : goal.hold-held-requires-clause-low_tally
 hold-held-requires-clause-low_tally g c =
@@ -180,6 +187,7 @@ invariant_of-self g c =
         low = low_wider (octets_most * (c.self.inside.turns + c.self.inside.endings)) (octets_most * (c.self.inside.turns + 1 + c.self.inside.endings)) c.self.inside.shards.items (omega arith) was.low;
         books = books_wider (octets_most * (c.self.inside.turns + c.self.inside.endings)) (octets_most * (c.self.inside.turns + 1 + c.self.inside.endings)) c.self.inside.shards.items (omega arith) was.books;
         tallies = one_low (octets_most * (c.self.inside.turns + 1 + c.self.inside.endings)) c.self.inside.tally (low_more (octets_most * (c.self.inside.turns + c.self.inside.endings)) (octets_most * (c.self.inside.turns + 1 + c.self.inside.endings)) c.self.inside.tally (omega arith) (was.tallies 0 (omega arith)));
+        tallied = was.tallied;
         counts = within_wider (drops_most * (c.self.inside.turns + c.self.inside.endings)) (drops_most * (c.self.inside.turns + 1 + c.self.inside.endings)) c.self.inside.drops (omega arith) was.counts;
         kept = was.kept;
         stays = was.stays;
@@ -193,10 +201,10 @@ pub invariant_of-self-2 : goal.invariant_of-self-2
 invariant_of-self-2 g c =
     let d = before g c c.self.inside.shards.items in
     let staying = stay g (goal.at.invariant_of-self-2 g c).After-gather-quiet in
-    let turn = λ (xs : Shards) (hs : List (List ℕ)). after_turn d xs c.hold-held.new.drops c.hold-held.new.tally c.send_requests.new.draws c.either-self-inside.result c.now-now.result c.told_after-self-inside.result c.send_requests.new.lane hs c.hold-held.new.kept.items in (
+    let turn = λ (xs : Shards) (hs : List (List ℕ)). after_turn d xs c.hold-held.new.pool c.hold-held.new.lines.items c.hold-held.new.drops c.hold-held.new.tally c.send_requests.new.draws c.either-self-inside.result c.now-now.result c.told_after-self-inside.result c.send_requests.new.lane hs c.hold-held.new.kept.items in (
       subst (λ (xs : Shards). IsKept (turn xs (with_items c.self.inside.handed c.send_requests.new.handed).items)) (sym (shards_are g c))
           (subst (λ (hs : List (List ℕ)). IsKept (turn c.hold-held.new.shards hs)) (sym (handed_are g c))
-          (kept_served d c.hold-held.new.shards c.hold-held.new.drops c.hold-held.new.tally c.send_requests.new.draws c.either-self-inside.result c.now-now.result c.told_after-self-inside.result c.send_requests.new.lane c.send_requests.new.handed c.hold-held.new.kept.items c.self.invariant.0
+          (kept_served d c.hold-held.new.shards c.hold-held.new.pool c.hold-held.new.lines.items c.hold-held.new.drops c.hold-held.new.tally c.send_requests.new.draws c.either-self-inside.result c.now-now.result c.told_after-self-inside.result c.send_requests.new.lane c.send_requests.new.handed c.hold-held.new.kept.items c.self.invariant.0
           (not_over (before g c (map rested c.self.inside.shards.items)) (ap (λ (x : Desk). state_of x) c.self.view_is ∙ c.requires.state))
           (turns_left (before g c (map rested c.self.inside.shards.items)) (ap (λ (x : Desk). state_of x) c.self.view_is ∙ c.requires.state) c.self.invariant.0.made) (is_left g c)
           (subst (λ (n : ℕ). n ≤ c.self.inside.told + 1) (sym c.told_after-self-inside.ensures) (few_told c.note-noted.result c.self.inside.told)) (kept_is g c staying) (kept_verdicts g c staying))),
@@ -232,10 +240,10 @@ returns g c =
     let kept = c.hold-held.new.kept.items in
     let opened = c.hold-held.result.is_opened in
     let now_shards = c.as_slice-2.ensures.value ∙ shards_are g c in
-    let made = served d vs ws name c.heed-heeding.result c.gather-quiet.result c.note-noted.result lane lane' c.deadline.result handed draws draws' items c.hold-held.new.drops c.self.inside.tally c.hold-held.new.tally c.hold-held.result.record opened kept p₀ p₁ p₂ p₃ p₄ p₅
+    let made = served d vs ws c.hold-held.new.pool c.hold-held.new.lines.items name c.heed-heeding.result c.gather-quiet.result c.note-noted.result lane lane' c.deadline.result handed draws draws' items c.hold-held.new.drops c.self.inside.tally c.hold-held.new.tally c.hold-held.result.record opened kept p₀ p₁ p₂ p₃ p₄ p₅
     refl refl refl c.heed-heeding.ensures
     (subst (λ (xs : Shards). Gathers d.rules xs name.moment d.kept p₁ p₂ d.lane lane c.self.inside.draws draws items c.gather-quiet.result) c.as_slice.ensures.value c.gather-quiet.ensures.gathers)
-    (subst (λ (xs : Shards). Holds d.rules d.holders name items p₂ p₃ xs ws d.drops c.hold-held.new.drops c.self.inside.tally c.hold-held.new.tally c.hold-held.result.record opened kept) c.as_mut_slice.ensures.value c.hold-held.ensures.round)
+    (subst (λ (xs : Shards). Holds d.rules d.holders c.hold-held.new.pool d.lines c.hold-held.new.lines.items name items p₂ p₃ xs ws d.drops c.hold-held.new.drops c.self.inside.tally c.hold-held.new.tally c.hold-held.result.record opened kept) c.as_mut_slice.ensures.value c.hold-held.ensures.round)
     (subst (λ (xs : Shards). SendsRequests name.moment xs p₃ p₄ lane lane' d.handed handed draws draws') now_shards
     (subst (λ (hs : List (List ℕ)). SendsRequests name.moment c.as_slice-2.result.now p₃ p₄ lane lane' hs handed draws draws') c.as_mut_slice-2.ensures.value c.send_requests.ensures.sends))
     c.deadline.ensures
@@ -244,7 +252,7 @@ returns g c =
     ∙ ap (λ (x : Option ℕ). wait_for x name.moment) (c.earlier-due.ensures ∙ ap (λ (x : Option ℕ). earliest x c.deadline.result) (c.deadline_of.ensures ∙ ap (λ (xs : Shards). deadline_in xs) (c.as_slice-3.ensures.value ∙ shards_are g c))))
     (omega (arith, ap (λ (x : Desk). x.moment) c.self.view_is, c.requires.later, c.now-now.ensures.later)) c₀ c₁ c₂ c.now-now.ensures.answers c.wall-wall.ensures.answers (c.wall-wall.ensures.last ∙ c.now-now.ensures.last)
     t₀ t₁ c.note-noted.ensures.rounds c.note-noted.ensures.cause c.note-noted.ensures.uncounted c.answer.result c.answer.ensures c.either-self-inside.result c.either-self-inside.ensures c.told_after-self-inside.result c.told_after-self-inside.ensures in
-    let turn = λ (xs : Shards) (hs : List (List ℕ)). after_turn d (map rested xs) c.hold-held.new.drops c.hold-held.new.tally draws' c.either-self-inside.result name.moment c.told_after-self-inside.result lane' hs kept in
+    let turn = λ (xs : Shards) (hs : List (List ℕ)). after_turn d (map rested xs) c.hold-held.new.pool c.hold-held.new.lines.items c.hold-held.new.drops c.hold-held.new.tally draws' c.either-self-inside.result name.moment c.told_after-self-inside.result lane' hs kept in
     subst (λ (x : Desk). MakesTurn x (turn (with_items c.self.inside.shards ws).items (with_items c.self.inside.handed handed).items) before_is behind_is c.answer.result) c.self.view_is
     (subst (λ (xs : Shards). MakesTurn d (turn xs (with_items c.self.inside.handed handed).items) before_is behind_is c.answer.result) (sym (shards_are g c))
     (subst (λ (hs : List (List ℕ)). MakesTurn d (turn ws hs) before_is behind_is c.answer.result) (sym (handed_are g c)) made))

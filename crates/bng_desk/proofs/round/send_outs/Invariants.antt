@@ -1,6 +1,6 @@
 use Rattle.std.proofs.Common.{[], take, drop}
 use Rattle.bng_desk.proofs.Sending.{SendsSome}
-use Rattle.bng_desk.proofs.round.settle.Given as goal
+use Rattle.bng_desk.proofs.round.send_outs.Given as goal
 
 abbrev pub invariant-loop-out : goal.invariant-loop-out
 invariant-loop-out g l =

@@ -1,6 +1,6 @@
 use Rattle.std.proofs.Common.{◌≡◌, ◌≤◌, vec_capacity}
 use Rattle.bng_desk.proofs.Settling.{SettlesSome}
-use Rattle.bng_desk.proofs.round.settle_all.Given as goal
+use Rattle.bng_desk.proofs.round.send_all.Given as goal
 
 abbrev pub invariant-loop-shard : goal.invariant-loop-shard
 invariant-loop-shard g l =

@@ -1,17 +1,12 @@
 use Rattle.std.proofs.Common.{rules, ◌≡◌, ◌+◌, ◌*◌, ◌<◌, ◌≤◌, ◌^◌, ℕ, List, [], ◌∷◌, ◌++◌, drop, take, get_or, length, refl, sym, ap, subst, ◌∙◌, arith}
 use Rattle.std.specs.Vec.{with_items}
 use Rattle.std.proofs.lemmas.List.{drop_all, take_all, with_items_is}
-use Rattle.bng_base.specs.declared.item.Entry.{Entry}
 use Rattle.bng_base.specs.declared.item.OutRecord.{OutRecord}
 use Rattle.bng_base.specs.Stretch.{ExtendsPlant}
-use Rattle.bng_engine.specs.Views.{ShardView}
-use Rattle.bng_shard.specs.Protocol.{ShardState}
-use Rattle.bng_shard.specs.Sums.{RowsAreLow}
 use Rattle.bng_desk.specs.Reading.{sending}
-use Rattle.bng_desk.specs.Taking.{HasFewSessions, Sends}
-use Rattle.bng_desk.proofs.Sending.{reaped, sends_none, sends_all, sent_low, book_has, row_has, still_covered}
+use Rattle.bng_desk.proofs.Sending.{sends_none, sends_all, sent_low, book_has, row_has, still_covered}
 use Rattle.bng_desk.proofs.InPlace.{answered, next_out, sends_at}
-use Rattle.bng_desk.proofs.round.settle.Goals as goal
+use Rattle.bng_desk.proofs.round.send_outs.Goals as goal
 
 pub loop-out-init : goal.loop-out-init
 loop-out-init g c =
@@ -72,5 +67,4 @@ returns-clause-sends g c =
     sends_all c.args.shard.now c.loop-out.shard c.keep_outs.new.self (told c.args.plant.now) (told c.loop-out.plant) c.args.outs.now.items c.append-moved.new.self.items (take i items) (drop i items)
     c.drain-journal.result.0.items c.args.drops.now c.loop-out.drops c.args.tally.now c.loop-out.tally c.requires.turns c.loop-out.invariant (drop_all i items all) c.drain-journal.ensures.journal
     (moved ∙ ap (λ (xs : List OutRecord). c.args.outs.now.items ++ xs) (sym (take_all i items all)))
-    (c.keep_outs.ensures ∙ ap (λ (v : ShardView ShardState Entry). let w : ShardView ShardState Entry = record v { room = 0 } in w) c.settle.ensures.after)
-    (subst (λ (v : ShardView ShardState Entry). HasFewSessions v) (sym c.keep_outs.ensures) c.settle.ensures.few)
+    c.keep_outs.ensures

@@ -1,0 +1,472 @@
+-- The terms that ended leave the shards, one shard after the other.
+use Rattle.std.proofs.Common.{◌≡◌, ℕ, ◌+◌, ◌<◌, Bool, true, false, not, ◌&&◌, ◌||◌, cond, eqb, List, [], ◌∷◌, ◌++◌, map, filter, length, take, drop, get_or, set, refl, sym, ap, subst, ◌∙◌, arith, append-nil}
+use Rattle.std.specs.List.{All, AllZip, flat_map, list_any, sum_by}
+use Rattle.std.proofs.lemmas.Bool.{false≢true}
+use Rattle.std.proofs.lemmas.Bool.Decides.{nat_tests}
+use Rattle.std.proofs.lemmas.List.{map-append, take_more, take_more_set, take_all, drop-set-lt, drop-drop}
+use Rattle.std.proofs.lemmas.List.Concat.{flat_map-append}
+use Rattle.std.proofs.lemmas.List.Elements.{All-map}
+use Rattle.std.proofs.lemmas.List.Folds.{list_any-append}
+use Rattle.std.proofs.lemmas.List.Sums.{sum_by-append, sum_by-cons, sum_by-set, sum_by_more_le}
+use Rattle.bng_base.specs.declared.book.Book.{Book}
+use Rattle.bng_base.specs.declared.item.Entry.{Entry}
+use Rattle.bng_base.specs.declared.item.OutRecord.{OutRecord}
+use Rattle.bng_base.specs.Listed.{Same}
+use Rattle.bng_engine.specs.Calls.{InReaping, IsSettled, all_sends}
+use Rattle.bng_engine.specs.Claims.{is_held}
+use Rattle.bng_engine.specs.Lists.{Zip3}
+use Rattle.bng_engine.specs.Pool.{GivesAllBack}
+use Rattle.bng_engine.specs.Quantities.{Quantity, Octets, in_book}
+use Rattle.bng_engine.specs.Showing.{with_lists}
+use Rattle.bng_engine.specs.Sums.{is_any, stopped_where}
+use Rattle.bng_engine.specs.Terms.{Key, Term, Stop, is_ended, is_live, keys}
+use Rattle.bng_engine.specs.Turns.{given_back}
+use Rattle.bng_engine.specs.Views.{Row, ShardView, row_keys, rows_where}
+use Rattle.bng_engine.proofs.Reaping.{reaping_begins, reaping_goes_on, reaping_ends}
+use Rattle.bng_engine.proofs.SameLists.{same_equal, same_map}
+use Rattle.bng_engine.proofs.Walks.{same_at}
+use Rattle.bng_shard.specs.declared.pool.Holder.{Holder}
+use Rattle.bng_shard.specs.declared.rules.Rules.{Rules}
+use Rattle.bng_shard.specs.Protocol.{ShardState, Handled, Leaves, pppoe, ended_terms, terms_of}
+use Rattle.bng_shard.specs.State.{State, settled}
+use Rattle.bng_shard.specs.Sums.{AreLow, RowsAreLow}
+use Rattle.bng_shard.specs.Whose.{without_holder}
+use Rattle.bng_shard.proofs.StepLaws.{pppoe_laws}
+use Rattle.bng_desk.specs.declared.line.Line.{Line}
+use Rattle.bng_desk.specs.Model.{is_of, line_after}
+use Rattle.bng_desk.specs.Round.{held_by, holders_after, entries_of}
+use Rattle.bng_desk.specs.Taking.{IsEmpty, HasFewSessions, AreInOrder, IsLeftBy, IsTurning, CarriesWithin, LinesWithin, TakesIn, SentTo, ReapedTo, ReapsShard, ReapsAll, settled_as, stopped_in, kept_in, joined, far}
+use Rattle.bng_desk.proofs.Dealing.{Seens}
+use Rattle.bng_desk.proofs.Readying.{Shards}
+use Rattle.bng_desk.proofs.Sending.{not_sent_yet}
+use Rattle.bng_desk.proofs.Unclaiming.{keys_stay}
+use Rattle.bng_desk.proofs.Zips.{zip3_push, zip3_at, zip3_length}
+
+-- Holders ---------------------------------------------------------------------------------------------------------------
+
+abbrev has : List Stop → Holder → Bool
+has stops h = list_any (λ (s : Stop). eqb s.key.lease.0 h.address.0) stops
+
+pub holders_none : (hs : List Holder) → hs ≡ holders_after [] hs
+holders_none [] = refl
+holders_none (h ∷ hs) = ap (λ (xs : List Holder). h ∷ xs) (holders_none hs)
+
+filter_both : {X : Type 0} (p q : X → Bool) (xs : List X) → filter q (filter p xs) ≡ filter (λ x. p x && q x) xs
+filter_both p q [] = refl
+filter_both {X} p q (x ∷ xs) =
+    elim (p x) as (λ b. filter q (cond b (x ∷ filter p xs) (filter p xs)) ≡ cond (b && q x) (x ∷ filter (λ y. p y && q y) xs) (filter (λ y. p y && q y) xs)) [
+      | true ↦ ap (λ (ys : List X). cond (q x) (x ∷ ys) ys) (filter_both p q xs)
+      | false ↦ filter_both p q xs
+    ]
+
+filter_same : {X : Type 0} (p q : X → Bool) → ((x : X) → p x ≡ q x) → (xs : List X) → filter p xs ≡ filter q xs
+filter_same p q e [] = refl
+filter_same {X} p q e (x ∷ xs) =
+    ap (λ (b : Bool). cond b (x ∷ filter p xs) (filter p xs)) (e x) ∙ ap (λ (ys : List X). cond (q x) (x ∷ ys) ys) (filter_same p q e xs)
+
+neither : (a b : Bool) → not (a || b) ≡ (not a && not b)
+neither true b = refl
+neither false b = refl
+
+-- some leave, and then some more
+pub holders_more : (a b : List Stop) (hs : List Holder) → holders_after (a ++ b) hs ≡ holders_after b (holders_after a hs)
+holders_more a b hs =
+    filter_same (λ (h : Holder). not (has (a ++ b) h)) (λ (h : Holder). not (has a h) && not (has b h))
+    (λ h. ap not (list_any-append (λ (s : Stop). eqb s.key.lease.0 h.address.0) a b) ∙ neither (has a h) (has b h)) hs
+    ∙ sym (filter_both (λ (h : Holder). not (has a h)) (λ (h : Holder). not (has b h)) hs)
+
+held_by_one : (b : Bool) (h : Holder) (hs : List Holder) (a : ℕ) → is_held a (held_by (cond (not b) (h ∷ hs) hs)) ≡ cond (not b) (eqb h.address.0 a || is_held a (held_by hs)) (is_held a (held_by hs))
+held_by_one true h hs a = refl
+held_by_one false h hs a = refl
+
+-- an address that is given back, by whether this one is it
+less_by : (here it rest given : Bool) → (here ≡ true → it ≡ given) → (here ≡ false → it ≡ true → given ≡ false) → cond (not here) (it || (rest && not given)) (rest && not given) ≡ ((it || rest) && not given)
+less_by true true true true f g = refl
+less_by true true false true f g = refl
+less_by true true rest false f g = absurd (false≢true (sym (f refl)))
+less_by true false rest given f g = refl
+less_by false true rest true f g = absurd (false≢true (sym (g refl refl)))
+less_by false true rest false f g = refl
+less_by false false rest given f g = refl
+
+same_lease : (x h a : ℕ) → (eqb x h || false) ≡ true → eqb h a ≡ eqb x a
+same_lease x h a e = grind (arith, nat_tests)
+
+other_lease : (x h a : ℕ) → (eqb x h || false) ≡ false → eqb h a ≡ true → eqb x a ≡ false
+other_lease x h a e f = grind (arith, nat_tests)
+
+one_given : (s : Stop) (hs : List Holder) (a : ℕ) → is_held a (held_by (holders_after (s ∷ []) hs)) ≡ (is_held a (held_by hs) && not (eqb s.key.lease.0 a))
+one_given s [] a = refl
+one_given s (h ∷ hs) a =
+    let x = s.key.lease.0 in
+    let here = eqb x h.address.0 || false in
+    held_by_one here h (holders_after (s ∷ []) hs) a
+    ∙ ap (λ (b : Bool). cond (not here) (eqb h.address.0 a || b) b) (one_given s hs a)
+    ∙ less_by here (eqb h.address.0 a) (is_held a (held_by hs)) (eqb x a) (same_lease x h.address.0 a) (other_lease x h.address.0 a)
+
+abbrev leases : List Stop → List ℕ
+leases stops = map (λ (s : Stop). s.key.lease.0) stops
+
+-- the addresses of the Stops are given back, one after another
+all_given : (stops : List Stop) (hs : List Holder) → GivesAllBack (leases stops) (held_by hs) (held_by (holders_after stops hs))
+all_given [] hs = λ a. ap (λ (xs : List Holder). is_held a (held_by xs)) (sym (holders_none hs))
+all_given (s ∷ stops) hs = (
+  held_by (holders_after (s ∷ []) hs),
+  one_given s hs,
+  subst (λ (xs : List Holder). GivesAllBack (leases stops) (held_by (holders_after (s ∷ []) hs)) (held_by xs)) (sym (holders_more (s ∷ []) stops hs)) (all_given stops (holders_after (s ∷ []) hs)),
+)
+
+leases_of : (xs : Seens) → leases (flat_map (λ v. v.stops) xs) ≡ given_back xs
+leases_of [] = refl
+leases_of (x ∷ xs) =
+    map-append (λ (s : Stop). s.key.lease.0) x.stops (flat_map (λ v. v.stops) xs) ∙ ap (λ (ns : List ℕ). leases x.stops ++ ns) (leases_of xs)
+
+pub gives_back : (xs : Seens) (hs : List Holder) → GivesAllBack (given_back xs) (held_by hs) (held_by (holders_after (flat_map (λ v. v.stops) xs) hs))
+gives_back xs hs =
+    let stops = flat_map (λ (v : ShardView ShardState Handled). v.stops) xs in
+    subst (λ (ns : List ℕ). GivesAllBack ns (held_by hs) (held_by (holders_after stops hs))) (leases_of xs) (all_given stops hs)
+
+-- Lines -----------------------------------------------------------------------------------------------------------------
+
+abbrev line_with : Line → ℕ → ℕ → Line
+line_with l input output = record l { stopped = record { input = input; output = output } }
+
+line_none : (l : Line) → l ≡ line_after [] l
+line_none l =
+    ap (λ (n : ℕ). line_with l n l.stopped.output) (let e : l.stopped.input ≡ l.stopped.input + 0 = omega arith in e)
+    ∙ ap (λ (n : ℕ). line_with l (l.stopped.input + 0) n) (let e : l.stopped.output ≡ l.stopped.output + 0 = omega arith in e)
+
+pub lines_none : (ls : List Line) → ls ≡ map (line_after []) ls
+lines_none [] = refl
+lines_none (l ∷ ls) = ap (λ (x : Line). x ∷ ls) (line_none l) ∙ ap (λ (xs : List Line). line_after [] l ∷ xs) (lines_none ls)
+
+abbrev said : Bool → Line → List Stop → ℕ
+said input l stops = stopped_where Octets (is_of l.session.0) input stops
+
+said_more : (input : Bool) (l : Line) (a b : List Stop) → said input l (a ++ b) ≡ said input l a + said input l b
+said_more input l a b = sum_by-append (λ (s : Stop). cond (is_of l.session.0 s.key) (in_book Octets input s.carried) 0) a b
+
+line_more : (a b : List Stop) (l : Line) → line_after (a ++ b) l ≡ line_after b (line_after a l)
+line_more a b l =
+    let input : l.stopped.input + said true l (a ++ b) ≡ l.stopped.input + said true l a + said true l b = omega (arith, said_more true l a b) in
+    let output : l.stopped.output + said false l (a ++ b) ≡ l.stopped.output + said false l a + said false l b = omega (arith, said_more false l a b) in
+    ap (λ (n : ℕ). line_with l n (l.stopped.output + said false l (a ++ b))) input ∙ ap (λ (n : ℕ). line_with l (l.stopped.input + said true l a + said true l b) n) output
+
+pub lines_more : (a b : List Stop) (ls : List Line) → map (line_after (a ++ b)) ls ≡ map (line_after b) (map (line_after a) ls)
+lines_more a b [] = refl
+lines_more a b (l ∷ ls) = ap (λ (x : Line). x ∷ map (line_after (a ++ b)) ls) (line_more a b l) ∙ ap (λ (xs : List Line). line_after b (line_after a l) ∷ xs) (lines_more a b ls)
+
+pub stopped_after : (input : Bool) (stops : List Stop) (l : Line) → stopped_in input (line_after stops l) ≡ stopped_in input l + said input l stops
+stopped_after true stops l = refl
+stopped_after false stops l = refl
+
+same_session : (a b : ℕ) → a ≡ b → eqb b a ≡ true
+same_session a b e = grind (arith, nat_tests)
+
+-- what the Stop of a line's own circuit says
+pub one_said : (input : Bool) (l : Line) (s : Stop) → l.session.0 ≡ s.key.term.session.0 → said input l (s ∷ []) ≡ in_book Octets input s.carried
+one_said input l s e =
+    let n = in_book Octets input s.carried in
+    omega (arith, sum_by-cons (λ (x : Stop). cond (is_of l.session.0 x.key) (in_book Octets input x.carried) 0) s [], ap (λ (b : Bool). cond b n 0) (same_session l.session.0 s.key.term.session.0 e))
+
+-- a line after these Stops
+abbrev pub IsAfter : List Stop → Line → Line → Type 0
+IsAfter stops l l' = l' ≡ line_after stops l
+
+pub all_after : (stops : List Stop) (ls ls' : List Line) → AllZip (IsAfter stops) ls ls' → ls' ≡ map (line_after stops) ls
+all_after stops [] [] h = refl
+all_after stops [] (l' ∷ ls') h = absurd h
+all_after stops (l ∷ ls) [] h = absurd h
+all_after stops (l ∷ ls) (l' ∷ ls') h = ap (λ (x : Line). x ∷ ls') h.0 ∙ ap (λ (xs : List Line). line_after stops l ∷ xs) (all_after stops ls ls' h.1)
+
+-- the lines of one of the shards
+pub within_one : (most : Bool → ℕ) (vs : Shards) (i : ℕ) (d : ShardView ShardState Entry) (ls : List Line) → i < length vs → LinesWithin most vs ls → LinesWithin most (get_or vs i d ∷ []) ls
+within_one most vs i d ls lt within k e inside input =
+    let l = get_or ls k e in
+    omega (arith, within k e inside input, sum_by_more_le (kept_in input l) vs i d lt, sum_by-cons (kept_in input l) (get_or vs i d) [])
+
+-- what left a row stands in the line
+within_more : (most : Bool → ℕ) (vs : Shards) (i : ℕ) (d w : ShardView ShardState Entry) (stops : List Stop) (ls : List Line) → i < length vs
+    → ((q : Quantity) (pick : Key → Bool) (input : Bool) → stopped_where q pick input stops + rows_where q pick input w.rows ≡ rows_where q pick input (get_or vs i d).rows)
+    → LinesWithin most vs ls → LinesWithin most (set vs i w) (map (line_after stops) ls)
+within_more most vs i d w stops ls lt rows within =
+    All-map (CarriesWithin most (set vs i w)) (line_after stops) ls
+    (λ k e inside input.
+    let l = get_or ls k e in
+    omega (arith, within k e inside input, stopped_after input stops l, sum_by-set (kept_in input l) vs i w d lt, rows Octets (is_of l.session.0) input))
+
+-- One shard -------------------------------------------------------------------------------------------------------------
+
+abbrev seen : ShardView ShardState Entry → List Stop → ShardView ShardState Handled
+seen v stops = settled_as v [] [] [] stops
+
+-- some terms have left by these Stops
+pub record LeavesSome (v w : ShardView ShardState Entry) (stops : List Stop) : Type 0 where
+  pub reaping : InReaping pppoe (seen v []) (seen w stops)
+  pub rules : w.state.rules ≡ v.state.rules
+  pub slots : settled w.state.slots ≡ settled v.state.slots
+  pub fit : Same (row_keys v.rows) (keys (terms_of v.state)) → Same (row_keys w.rows) (keys (terms_of w.state))
+  pub number : w.number ≡ v.number
+  pub allowance : w.allowance ≡ v.allowance
+  pub books : w.books ≡ v.books
+  pub journal : w.journal ≡ v.journal
+  pub outs : w.outs ≡ v.outs
+
+pub leaves_none : (v : ShardView ShardState Entry) → LeavesSome v v []
+leaves_none v = record {
+  reaping = reaping_begins pppoe (seen v []) refl;
+  rules = refl;
+  slots = refl;
+  fit = λ h. h;
+  number = refl;
+  allowance = refl;
+  books = refl;
+  journal = refl;
+  outs = refl;
+}
+
+live_by : (b : Bool) (t : Term) (ts : List Term) → cond b (t ∷ filter is_ended ts) (filter is_ended ts) ≡ [] → (filter is_ended ts ≡ [] → filter is_live ts ≡ ts) → cond (not b) (t ∷ filter is_live ts) (filter is_live ts) ≡ t ∷ ts
+live_by true t ts e rest = let no : ⊥ = cc in absurd no
+live_by false t ts e rest = ap (λ (us : List Term). t ∷ us) (rest e)
+
+ones : (ts : List Term) → sum_by (λ (t : Term). 1) ts ≡ length ts
+ones [] = refl
+ones (t ∷ ts) = omega (arith, sum_by-cons (λ (t : Term). 1) t ts, ones ts)
+
+-- one more leaves
+pub leaves_more : (v w w' : ShardView ShardState Entry) (stops : List Stop) (s : Stop) → LeavesSome v w stops → Leaves w w' s → LeavesSome v w' (stops ++ s ∷ [])
+leaves_more v w w' stops s some one = record {
+  reaping = reaping_goes_on pppoe (seen v []) (seen w stops) s (seen w' (stops ++ s ∷ [])) some.reaping (record { one = one.one; least = one.least; rows = one.rows; stops = refl });
+  rules = one.rules ∙ some.rules;
+  slots = one.slots ∙ some.slots;
+  fit = λ h. same_equal (row_keys w'.rows) (keys (terms_of w'.state)) one.fit;
+  number = one.number ∙ some.number;
+  allowance = one.allowance ∙ some.allowance;
+  books = one.books ∙ some.books;
+  journal = one.journal ∙ some.journal;
+  outs = one.outs ∙ some.outs;
+}
+
+-- and its address and what it carried are given over
+pub record ReapsFew (v w : ShardView ShardState Entry) (holders holders' : List Holder) (lines lines' : List Line) : Type 0 where
+  pub stops : List Stop
+  pub some : LeavesSome v w stops
+  pub holders_are : holders' ≡ holders_after stops holders
+  pub lines_are : lines' ≡ map (line_after stops) lines
+  pub within : (most : Bool → ℕ) → LinesWithin most (v ∷ []) lines → LinesWithin most (w ∷ []) lines'
+
+pub reaps_begin : (v : ShardView ShardState Entry) (holders : List Holder) (lines : List Line) → ReapsFew v v holders holders lines lines
+reaps_begin v holders lines = record { stops = []; some = leaves_none v; holders_are = holders_none holders; lines_are = lines_none lines; within = λ most h. h }
+
+given_once : (x a : ℕ) → not (eqb a x) ≡ not (eqb x a || false)
+given_once x a = grind (arith, nat_tests)
+
+without_is : (s : Stop) (hs : List Holder) → without_holder s.key.lease hs ≡ holders_after (s ∷ []) hs
+without_is s hs = filter_same (λ (h : Holder). not (eqb h.address.0 s.key.lease.0)) (λ (h : Holder). not (has (s ∷ []) h)) (λ h. given_once s.key.lease.0 h.address.0) hs
+
+-- the line has room for what leaves the row
+pub takes_in : (w w' : ShardView ShardState Entry) (s : Stop) (ls : List Line) → Leaves w w' s → LinesWithin far (w ∷ []) ls → All (TakesIn (s ∷ [])) ls
+takes_in w w' s ls one within k e lt input =
+    let l = get_or ls k e in
+    omega (arith, within k e lt input, one.rows Octets (is_of l.session.0) input, sum_by-cons (kept_in input l) w [])
+
+pub reaps_on : (v w w' : ShardView ShardState Entry) (s : Stop) (holders holders' holders'' : List Holder) (lines lines' lines'' : List Line) → ReapsFew v w holders holders' lines lines' → Leaves w w' s → holders'' ≡ without_holder s.key.lease holders' → lines'' ≡ map (line_after (s ∷ [])) lines'
+    → ReapsFew v w' holders holders'' lines lines''
+reaps_on v w w' s holders holders' holders'' lines lines' lines'' so_far one given added = record {
+  stops = so_far.stops ++ s ∷ [];
+  some = leaves_more v w w' so_far.stops s so_far.some one;
+  holders_are = given ∙ without_is s holders' ∙ ap (holders_after (s ∷ [])) so_far.holders_are ∙ sym (holders_more so_far.stops (s ∷ []) holders);
+  lines_are = added ∙ ap (map (line_after (s ∷ []))) so_far.lines_are ∙ sym (lines_more so_far.stops (s ∷ []) lines);
+  within = λ most h. subst (λ (ls : List Line). LinesWithin most (w' ∷ []) ls) (sym added) (within_more most (w ∷ []) 0 w w' (s ∷ []) lines' (omega arith) one.rows (so_far.within most h));
+}
+
+-- how many terms have still to leave
+pub fewer_ended : (w w' : ShardView ShardState Entry) (s : Stop) → Leaves w w' s → length (ended_terms w'.state) < length (ended_terms w.state)
+fewer_ended w w' s one = omega (arith, one.one (λ k c. 1), ones (ended_terms w'.state), ones (ended_terms w.state))
+
+-- where none has ended, all are live
+all_live : (ts : List Term) → filter is_ended ts ≡ [] → filter is_live ts ≡ ts
+all_live [] e = refl
+all_live (t ∷ ts) e = live_by t.ended t ts e (all_live ts)
+
+abbrev pub over : ShardView ShardState Entry → ShardView ShardState Entry
+over w = record w { state = record w.state { slots = settled w.state.slots }; room = 0 }
+
+abbrev state_with : Rules → State → ShardState
+state_with rules slots = record { rules = rules; slots = slots }
+
+-- all have left
+module _ (v w w' : ShardView ShardState Entry) (stops : List Stop) (some : LeavesSome v w stops) (none : filter is_ended (terms_of w.state) ≡ []) (is : w' ≡ over w) where
+  state_is : w'.state ≡ pppoe.settled v.state
+  state_is = ap (λ (x : ShardView ShardState Entry). x.state) is ∙ ap (λ (r : Rules). state_with r (settled w.state.slots)) some.rules ∙ ap (λ (s : State). state_with v.state.rules s) some.slots
+
+  rows_are : w'.rows ≡ w.rows
+  rows_are = ap (λ (x : ShardView ShardState Entry). x.rows) is
+
+  rows_left : (q : Quantity) (pick : Key → Bool) (input : Bool) → stopped_where q pick input stops + rows_where q pick input w'.rows ≡ rows_where q pick input v.rows
+  rows_left q pick input = omega (arith, some.reaping.rows q pick input, ap (rows_where q pick input) rows_are)
+
+  -- the terms that are left are those that did not end
+  same_terms : Same (terms_of w'.state) (terms_of w.state)
+  same_terms f = ap (λ (x : ShardView ShardState Entry). sum_by f (terms_of x.state)) is ∙ pppoe_laws.settles w.state f ∙ ap (sum_by f) (all_live (terms_of w.state) none)
+
+  pub leaves_all : HasFewSessions w' → ReapedTo v w' stops
+  leaves_all few = record {
+    reaps = λ was es outs sends turn. record {
+      number = ap (λ (x : ShardView ShardState Entry). x.number) is ∙ some.number;
+      allowance = ap (λ (x : ShardView ShardState Entry). x.allowance) is ∙ some.allowance;
+      state = state_is;
+      fit = λ f. ap (λ (rs : List Row). sum_by f (row_keys rs)) rows_are ∙ some.fit turn.fit f ∙ sym (same_map (λ (t : Term). t.key) (terms_of w'.state) (terms_of w.state) same_terms f);
+      order = some.reaping.order;
+      each = reaping_ends pppoe (seen v []) (seen w stops) some.reaping none;
+      rows = rows_left;
+      begun = record { order = tt; each = λ f. ap (λ (s : ShardState). sum_by f (keys (terms_of s))) turn.state ∙ keys_stay was.state es turn.steps f };
+      books = ap (λ (x : ShardView ShardState Entry). x.books) is ∙ some.books;
+      journal = refl;
+      sends = refl;
+    };
+    rows = rows_left;
+    number = ap (λ (x : ShardView ShardState Entry). x.number) is ∙ some.number;
+    allowance = ap (λ (x : ShardView ShardState Entry). x.allowance) is ∙ some.allowance;
+    books = ap (λ (x : ShardView ShardState Entry). x.books) is ∙ some.books;
+    journal = ap (λ (x : ShardView ShardState Entry). x.journal) is ∙ some.journal;
+    outs = ap (λ (x : ShardView ShardState Entry). x.outs) is ∙ some.outs;
+    sessions = few;
+  }
+
+-- Shard by shard --------------------------------------------------------------------------------------------------------
+
+-- the first shards are reaped, and the others are as they were
+pub record ReapsSome (olds shards : Shards) (i : ℕ) (holders holders' : List Holder) (lines lines' : List Line) : Type 0 where
+  pub stops : List (List Stop)
+  pub done : Zip3 ReapedTo (take i olds) (take i shards) stops
+  pub rest : drop i shards ≡ drop i olds
+  pub holders_are : holders' ≡ holders_after (joined stops) holders
+  pub lines_are : lines' ≡ map (line_after (joined stops)) lines
+  pub within : (most : Bool → ℕ) → LinesWithin most olds lines → LinesWithin most shards lines'
+
+tails : (xs ys : Shards) (i : ℕ) → drop i xs ≡ drop i ys → drop (i + 1) xs ≡ drop (i + 1) ys
+tails xs ys i e = sym (drop-drop 1 i xs) ∙ ap (drop 1) e ∙ drop-drop 1 i ys
+
+joined_push : (sss : List (List Stop)) (ss : List Stop) → joined (sss ++ ss ∷ []) ≡ joined sss ++ ss
+joined_push sss ss = flat_map-append (λ (x : List Stop). x) sss (ss ∷ []) ∙ ap (λ (ys : List Stop). joined sss ++ ys) (append-nil ss)
+
+pub reaps_none : (olds : Shards) (holders : List Holder) (lines : List Line) → ReapsSome olds olds 0 holders holders lines lines
+reaps_none olds holders lines = record {
+  stops = [];
+  done = tt;
+  rest = refl;
+  holders_are = holders_none holders;
+  lines_are = lines_none lines;
+  within = λ most h. h;
+}
+
+pub reaps_more : (olds shards : Shards) (i : ℕ) (d w : ShardView ShardState Entry) (holders holders' holders'' : List Holder) (lines lines' lines'' : List Line) → i < length olds → length shards ≡ length olds → ReapsSome olds shards i holders holders' lines lines'
+    → ReapsShard (get_or shards i d) w holders' holders'' lines' lines'' → ReapsSome olds (set shards i w) (i + 1) holders holders'' lines lines''
+reaps_more olds shards i d w holders holders' holders'' lines lines' lines'' lt same so_far one =
+    let v = get_or olds i d in
+    let at : get_or shards i d ≡ v = same_at olds shards i d so_far.rest in
+    let within : i < length shards = omega (arith, lt, same) in
+    let sss = so_far.stops in
+    let ss = one.stops in
+    let all : joined (sss ++ ss ∷ []) ≡ joined sss ++ ss = joined_push sss ss in
+    record {
+      stops = sss ++ ss ∷ [];
+      done = subst (λ (vs : Shards). Zip3 ReapedTo vs (take (i + 1) (set shards i w)) (sss ++ ss ∷ [])) (sym (take_more olds i d lt))
+          (subst (λ (ws : Shards). Zip3 ReapedTo (take i olds ++ v ∷ []) ws (sss ++ ss ∷ [])) (sym (take_more_set shards i w within))
+          (zip3_push ReapedTo (take i olds) (take i shards) sss v w ss so_far.done (subst (λ (x : ShardView ShardState Entry). ReapedTo x w ss) at one.reaped)));
+      rest = drop-set-lt (i + 1) shards i w (omega arith) ∙ tails shards olds i so_far.rest;
+      holders_are = one.holders_are ∙ ap (holders_after ss) so_far.holders_are ∙ sym (holders_more (joined sss) ss holders) ∙ ap (λ (xs : List Stop). holders_after xs holders) (sym all);
+      lines_are = one.lines_are ∙ ap (map (line_after ss)) so_far.lines_are ∙ sym (lines_more (joined sss) ss lines) ∙ ap (λ (xs : List Stop). map (line_after xs) lines) (sym all);
+      within = λ most h. subst (λ (ls : List Line). LinesWithin most (set shards i w) ls) (sym one.lines_are) (within_more most shards i d w ss lines' within one.reaped.rows (so_far.within most h));
+    }
+
+pub reaps_them : (olds shards : Shards) (i : ℕ) (holders holders' : List Holder) (lines lines' : List Line) → i ≡ length olds → length shards ≡ length olds → ReapsSome olds shards i holders holders' lines lines' → ReapsAll olds shards holders holders' lines lines'
+reaps_them olds shards i holders holders' lines lines' e same s =
+    let all : take i olds ≡ olds = take_all i olds (omega (arith, e)) in
+    let those : take i shards ≡ shards = take_all i shards (omega (arith, e, same)) in
+    record {
+      stops = s.stops;
+      each = subst (λ (vs : Shards). Zip3 ReapedTo vs shards s.stops) all (subst (λ (ws : Shards). Zip3 ReapedTo (take i olds) ws s.stops) those s.done);
+      holders_are = s.holders_are;
+      lines_are = s.lines_are;
+    }
+
+-- What is left ----------------------------------------------------------------------------------------------------------
+
+module _ (vs ws : Shards) (sss : List (List Stop)) (z : Zip3 ReapedTo vs ws sss) where
+  count : length vs ≡ length ws
+  count = zip3_length ReapedTo vs ws sss z
+
+  each : (k : ℕ) (d : ShardView ShardState Entry) → k < length ws → ReapedTo (get_or vs k d) (get_or ws k d) (get_or sss k [])
+  each k d lt = zip3_at ReapedTo vs ws sss k d d [] z (omega (arith, lt, count))
+
+  pub all_empty : All IsEmpty vs → All IsEmpty ws
+  all_empty empty k d lt =
+      let was = empty k d (omega (arith, lt, count)) in
+      ((each k d lt).journal ∙ was.0, (each k d lt).outs ∙ was.1)
+
+  pub all_few : All HasFewSessions ws
+  all_few k d lt = (each k d lt).sessions
+
+  pub all_low : (most : ℕ) → All (λ v. RowsAreLow most v.rows) vs → All (λ v. RowsAreLow most v.rows) ws
+  all_low most low k d lt q input = omega (arith, (each k d lt).rows q is_any input, low k d (omega (arith, lt, count)) q input)
+
+  pub all_books : (most : ℕ) → All (λ v. AreLow most v.books) vs → All (λ v. AreLow most v.books) ws
+  all_books most low k d lt = subst (λ (bs : List Book). AreLow most bs) (sym (each k d lt).books) (low k d (omega (arith, lt, count)))
+
+  pub in_order : AreInOrder vs → AreInOrder ws
+  in_order order k d lt = (each k d lt).number ∙ order k d (omega (arith, lt, count))
+
+-- As the engine sees it -------------------------------------------------------------------------------------------------
+
+abbrev all_seen : Seens → Shards → List (List OutRecord) → List (List Stop) → Seens
+all_seen [] ws rss sss = []
+all_seen (x ∷ xs) [] rss sss = []
+all_seen (x ∷ xs) (w ∷ ws) [] sss = []
+all_seen (x ∷ xs) (w ∷ ws) (rs ∷ rss) [] = []
+all_seen (x ∷ xs) (w ∷ ws) (rs ∷ rss) (ss ∷ sss) = settled_as w x.journal x.outs rs ss ∷ all_seen xs ws rss sss
+
+-- the shards once their round is settled
+pub record IsSeen (was now xs : Seens) (vs ws : Shards) (rss : List (List OutRecord)) (sss : List (List Stop)) : Type 0 where
+  pub settles : Zip3 (IsSettled pppoe) was now xs
+  pub left : AllZip IsLeftBy ws xs
+  pub allowances : AllZip (λ (x y : ShardView ShardState Handled). y.allowance ≡ x.allowance) now xs
+  pub sends : joined rss ≡ all_sends xs
+  pub stops : joined sss ≡ flat_map (λ v. v.stops) xs
+  pub journals : map (λ v. v.journal) vs ≡ map entries_of now
+
+reaped : (vs : Shards) (was now : Seens) (us : Shards) (rss : List (List OutRecord)) (ws : Shards) (sss : List (List Stop)) → Zip3 IsTurning vs was now → Zip3 SentTo vs us rss → Zip3 ReapedTo us ws sss → IsSeen was now (all_seen now ws rss sss) vs ws rss sss
+reaped [] [] [] [] [] [] [] t z y = record { settles = tt; left = tt; allowances = tt; sends = refl; stops = refl; journals = refl }
+reaped [] [] [] [] [] ws sss t z y = absurd y
+reaped [] [] [] us rss ws sss t z y = absurd z
+reaped (v ∷ vs) (b ∷ was) (x ∷ now) (u ∷ us) (rs ∷ rss) (w ∷ ws) (ss ∷ sss) t z y =
+    let more = reaped vs was now us rss ws sss t.1 z.1 y.1 in
+    let turn = z.0.turn b x t.0 in
+    record {
+      settles = (
+        record {
+          mid = with_lists u x.journal x.outs rs;
+          turn = turn;
+          journal = refl;
+          outs = refl;
+          settles = record { all = z.0.are_outs ∙ not_sent_yet v b x t.0; reaps = y.0.reaps b x.journal x.outs rs turn };
+        },
+        more.settles,
+      );
+      left = (record { number = refl; state = refl; rows = refl; books = refl }, more.left);
+      allowances = (y.0.allowance ∙ z.0.allowance ∙ ap (λ (y : ShardView ShardState Handled). y.allowance) t.0.shows.same, more.allowances);
+      sends = ap (λ (os : List OutRecord). rs ++ os) more.sends;
+      stops = ap (λ (os : List Stop). ss ++ os) more.stops;
+      journals = ap (λ (es : List Entry). es ∷ map (λ (y : ShardView ShardState Entry). y.journal) vs) (sym t.0.shows.entries) ∙ ap (λ (js : List (List Entry)). entries_of x ∷ js) more.journals;
+    }
+reaped (v ∷ vs) (b ∷ was) (x ∷ now) (u ∷ us) (rs ∷ rss) ws sss t z y = absurd y
+reaped (v ∷ vs) (b ∷ was) (x ∷ now) us rss ws sss t z y = absurd z
+reaped vs was now us rss ws sss t z y = absurd t
+
+pub record IsReaped (was now : Seens) (vs ws : Shards) (rss : List (List OutRecord)) (sss : List (List Stop)) : Type 0 where
+  pub settled : Seens
+  pub is : IsSeen was now settled vs ws rss sss
+
+pub as_seen : (vs : Shards) (was now : Seens) (us : Shards) (rss : List (List OutRecord)) (ws : Shards) (sss : List (List Stop)) → Zip3 IsTurning vs was now → Zip3 SentTo vs us rss → Zip3 ReapedTo us ws sss → IsReaped was now vs ws rss sss
+as_seen vs was now us rss ws sss t z y = record { settled = all_seen now ws rss sss; is = reaped vs was now us rss ws sss t z y }
