@@ -6,9 +6,11 @@ use Rattle.bng_base.specs.declared.item.Item.{Item}
 use Rattle.bng_base.specs.Chain.{Chain}
 use Rattle.bng_base.proofs.ChainLaws.{chain_append}
 use Rattle.bng_engine.specs.Views.{ShardView}
+use Rattle.bng_shard.specs.declared.pool.Holder.{Holder}
 use Rattle.bng_shard.specs.Protocol.{ShardState}
-use Rattle.bng_desk.specs.Model.{Desk}
-use Rattle.bng_desk.specs.Round.{Round, IsRound, left_by}
+use Rattle.bng_desk.specs.declared.line.Line.{Line}
+use Rattle.bng_desk.specs.Model.{Desk, line_after}
+use Rattle.bng_desk.specs.Round.{Round, IsRound, holders_after, left_by, stops_of}
 use Rattle.bng_desk.specs.Turn.{Turn, EndTurn, RoundOf, Step, EndStep, after_round, items_of, ending_items}
 use Rattle.bng_gate.specs.Rounds.{round_in, end_round_in, rounds_in}
 use Rattle.bng_gate.specs.Serving.{Made, MadeEnd, Goes, GoesEnding, Run, EndRun}
@@ -23,19 +25,29 @@ abbrev pub tallies_after : List Book → Option Round → List Book
 tallies_after tallies None = tallies
 tallies_after tallies (Some round) = round.tallies
 
+-- who holds an address then
+abbrev pub holders_left : List Holder → Option Round → List Holder
+holders_left holders None = holders
+holders_left holders (Some round) = holders_after (stops_of round) holders
+
+-- and what the circuits' Stops say
+abbrev pub lines_left : List Line → Option Round → List Line
+lines_left lines None = lines
+lines_left lines (Some round) = map (line_after (stops_of round)) lines
+
 -- the round was one of this desk, at some moment and of some items
 abbrev pub IsOf : Desk → Option Round → Type 0
 IsOf d None = Unit {0}
 IsOf d (Some round) = (moment : ℕ) × (lists : List (List Item)) × IsRound d.rules d.shards d.holders d.tallies moment lists round
 
--- the desk went on by a round, or as it was; what it serves and who holds an address stay
+-- the desk went on by a round, or as it was; by what it works stays
 pub record Follows (d : Desk) (round : Option Round) (d' : Desk) : Type 0 where
   pub is_round : IsOf d round
   pub shards : d'.shards ≡ left_after d.shards round
   pub tallies : d'.tallies ≡ tallies_after d.tallies round
-  pub holders : d'.holders ≡ d.holders
+  pub holders : d'.holders ≡ holders_left d.holders round
   pub rules : d'.rules ≡ d.rules
-  pub lines : d'.lines ≡ d.lines
+  pub lines : d'.lines ≡ lines_left d.lines round
 
 is_of : (d : Desk) (moment : ℕ) (items : List Item) (round : Option Round) → RoundOf d moment items round → IsOf d round
 is_of d moment items None h = tt
@@ -50,17 +62,17 @@ tallies_left : (d : Desk) (items : List Item) (round : Option Round) → (after_
 tallies_left d items None = refl
 tallies_left d items (Some round) = refl
 
-holders_after : (d : Desk) (items : List Item) (round : Option Round) → (after_round d items round).holders ≡ d.holders
-holders_after d items None = refl
-holders_after d items (Some round) = refl
+holders_there : (d : Desk) (items : List Item) (round : Option Round) → (after_round d items round).holders ≡ holders_left d.holders round
+holders_there d items None = refl
+holders_there d items (Some round) = refl
 
 rules_after : (d : Desk) (items : List Item) (round : Option Round) → (after_round d items round).rules ≡ d.rules
 rules_after d items None = refl
 rules_after d items (Some round) = refl
 
-lines_after : (d : Desk) (items : List Item) (round : Option Round) → (after_round d items round).lines ≡ d.lines
-lines_after d items None = refl
-lines_after d items (Some round) = refl
+lines_there : (d : Desk) (items : List Item) (round : Option Round) → (after_round d items round).lines ≡ lines_left d.lines round
+lines_there d items None = refl
+lines_there d items (Some round) = refl
 
 pub step_follows : (d d' : Desk) (t : Option Turn) → Step d t d' → Follows d (round_in t) d'
 step_follows d d' None step = record {
@@ -75,9 +87,9 @@ step_follows d d' (Some t) step = record {
   is_round = is_of d t.moment (items_of d t) t.round step.1;
   shards = ap (λ (x : Desk). x.shards) step.3 ∙ shards_after d (items_of d t) t.round;
   tallies = ap (λ (x : Desk). x.tallies) step.3 ∙ tallies_left d (items_of d t) t.round;
-  holders = ap (λ (x : Desk). x.holders) step.3 ∙ holders_after d (items_of d t) t.round;
+  holders = ap (λ (x : Desk). x.holders) step.3 ∙ holders_there d (items_of d t) t.round;
   rules = ap (λ (x : Desk). x.rules) step.3 ∙ rules_after d (items_of d t) t.round;
-  lines = ap (λ (x : Desk). x.lines) step.3 ∙ lines_after d (items_of d t) t.round;
+  lines = ap (λ (x : Desk). x.lines) step.3 ∙ lines_there d (items_of d t) t.round;
 }
 
 pub end_follows : (d d' : Desk) (t : Option EndTurn) → EndStep d t d' → Follows d (end_round_in t) d'
@@ -93,9 +105,9 @@ end_follows d d' (Some t) step = record {
   is_round = is_of d t.moment (ending_items d) t.round step.1;
   shards = ap (λ (x : Desk). x.shards) step.3 ∙ shards_after d (ending_items d) t.round;
   tallies = ap (λ (x : Desk). x.tallies) step.3 ∙ tallies_left d (ending_items d) t.round;
-  holders = ap (λ (x : Desk). x.holders) step.3 ∙ holders_after d (ending_items d) t.round;
+  holders = ap (λ (x : Desk). x.holders) step.3 ∙ holders_there d (ending_items d) t.round;
   rules = ap (λ (x : Desk). x.rules) step.3 ∙ rules_after d (ending_items d) t.round;
-  lines = ap (λ (x : Desk). x.lines) step.3 ∙ lines_after d (ending_items d) t.round;
+  lines = ap (λ (x : Desk). x.lines) step.3 ∙ lines_there d (ending_items d) t.round;
 }
 
 -- a chain, seen by what each of its links has
@@ -109,12 +121,3 @@ run_follows d over last turns endings run ending =
     chain_append Follows d over last (map (λ (m : Made). round_in m.turn) turns) (map (λ (m : MadeEnd). end_round_in m.turn) endings)
     (chain_map Goes Follows (λ (m : Made). round_in m.turn) (λ s m s' h. step_follows s s' m.turn h.1) d over turns run)
     (chain_map GoesEnding Follows (λ (m : MadeEnd). end_round_in m.turn) (λ s m s' h. end_follows s s' m.turn h.1) over last endings ending)
-
--- what stays over all rounds
-pub lines_stay : (d d' : Desk) (rounds : List (Option Round)) → Chain Follows d rounds d' → d'.lines ≡ d.lines
-lines_stay d d' [] run = ap (λ (x : Desk). x.lines) run
-lines_stay d d' (r ∷ rounds) run = lines_stay run.0 d' rounds run.2 ∙ run.1.lines
-
-pub holders_stay : (d d' : Desk) (rounds : List (Option Round)) → Chain Follows d rounds d' → d'.holders ≡ d.holders
-holders_stay d d' [] run = ap (λ (x : Desk). x.holders) run
-holders_stay d d' (r ∷ rounds) run = holders_stay run.0 d' rounds run.2 ∙ run.1.holders

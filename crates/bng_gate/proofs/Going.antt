@@ -19,7 +19,7 @@ use Rattle.bng_engine.specs.Views.{Row, ShardView, DeskView, rows_where, turn_in
 use Rattle.bng_engine.proofs.Walks.{zip_both}
 use Rattle.bng_shard.specs.Protocol.{ShardState, Handled, pppoe}
 use Rattle.bng_desk.specs.Model.{Desk}
-use Rattle.bng_desk.specs.Round.{Round, left_by, views_of, view_of, view_after, held_by}
+use Rattle.bng_desk.specs.Round.{Round, holders_after, left_by, stops_of, views_of, view_of, view_after, held_by}
 use Rattle.bng_gate.specs.Rounds.{turns_of}
 use Rattle.bng_gate.proofs.Follows.{Follows, IsOf}
 
@@ -71,13 +71,17 @@ left_kept : (vs : List (ShardView ShardState Handled)) → AllZip Kept vs (views
 left_kept [] = tt
 left_kept (v ∷ vs) = (record { number = refl; state = refl; rows = refl; books = refl }, left_kept vs)
 
-round_turns : (v : DeskView ShardState Handled) (d : Desk) (round : Round) → Stands v d → IsOf d (Some round) → TurnBy pppoe v (map turn_in round.shards) (view_after d.holders round)
+-- the desk as the engine sees it once a round is settled
+abbrev view_settled : Desk → Round → DeskView ShardState Handled
+view_settled d round = view_after (holders_after (stops_of round) d.holders) round
+
+round_turns : (v : DeskView ShardState Handled) (d : Desk) (round : Round) → Stands v d → IsOf d (Some round) → TurnBy pppoe v (map turn_in round.shards) (view_settled d round)
 round_turns v d round stands is = record {
-  turn = turn_from pppoe v (view_of d.shards d.holders d.tallies) (view_after d.holders round) stands.shards stands.held stands.tallies is.2.turn;
+  turn = turn_from pppoe v (view_of d.shards d.holders d.tallies) (view_settled d round) stands.shards stands.held stands.tallies is.2.turn;
   parts = refl;
 }
 
-round_stands : (d d' : Desk) (round : Round) → Follows d (Some round) d' → Stands (view_after d.holders round) d'
+round_stands : (d d' : Desk) (round : Round) → Follows d (Some round) d' → Stands (view_settled d round) d'
 round_stands d d' round follows = record {
   shards = subst (λ (vs : List (ShardView ShardState Entry)). AllZip Kept round.shards (views_of vs)) (sym follows.shards) (left_kept round.shards);
   held = ap held_by follows.holders;
@@ -101,6 +105,6 @@ pub rounds_lead : (d d' : Desk) (rounds : List (Option Round)) → Chain Follows
 rounds_lead d d' [] run v stands = record { view = v; turns = refl; stands = subst (λ (x : Desk). Stands v x) (sym run) stands }
 rounds_lead d d' (None ∷ rounds) run v stands = rounds_lead run.0 d' rounds run.2 v (none_stands v d run.0 stands run.1)
 rounds_lead d d' (Some round ∷ rounds) run v stands =
-    let mid = view_after d.holders round in
+    let mid = view_settled d round in
     let rest = rounds_lead run.0 d' rounds run.2 mid (round_stands d run.0 round run.1) in
     record { view = rest.view; turns = (mid, round_turns v d round stands run.1.is_round, rest.turns); stands = rest.stands }

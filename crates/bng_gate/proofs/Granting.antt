@@ -1,4 +1,4 @@
--- Who was let in: what shards and the lane say, put together.
+-- Who was let in: what the subscribers, the shards and the lane say, put together.
 use Rattle.std.proofs.Common.{◌≡◌, inl, inr, ℕ, ◌+◌, ◌≤◌, List, [], ◌∷◌, Some, refl, sym, ap, subst, ◌∙◌, arith}
 use Rattle.std.specs.List.{Contains}
 use Rattle.bng_base.specs.declared.address.Mac.{Mac}
@@ -6,6 +6,7 @@ use Rattle.bng_base.specs.declared.item.OutRecord.{OutRecord}
 use Rattle.bng_base.specs.declared.outside.Datagram.{Datagram}
 use Rattle.bng_config.specs.declared.config.Config.{Config}
 use Rattle.bng_engine.specs.Lists.{AnyOf}
+use Rattle.bng_shard.specs.declared.rules.Rules.{Rules}
 use Rattle.bng_shard.specs.Granting.{GivesYes, IsYesOn}
 use Rattle.bng_shard.specs.Protocol.{ShardState, Handled}
 use Rattle.bng_shard.specs.Questions.{Asking, asking_from}
@@ -15,6 +16,8 @@ use Rattle.bng_gate.specs.Granted.{Granted, Held, HandledIn, IsLetIn, Login, Let
 use Rattle.bng_gate.specs.Replied.{AreReplied}
 use Rattle.bng_gate.specs.Serving.{Made, MadeEnd, Run, EndRun}
 use Rattle.bng_gate.proofs.Accepting.{YesCause, yes_has_cause}
+use Rattle.bng_gate.proofs.HeardLogins.{all_heard}
+use Rattle.bng_gate.proofs.Hearing.{WorkBy}
 use Rattle.bng_gate.proofs.HeldRuns.{HasCount, HeldRun}
 use Rattle.bng_gate.proofs.Holding.{held_run}
 use Rattle.bng_gate.proofs.Knowing.{known}
@@ -34,7 +37,7 @@ same_number : (a : QuestionNo) (session ask : ℕ) → a.session.0 ≡ session �
 same_number a session ask s e = ap (λ n. question_no n a.ask) s ∙ ap (question_no session) e
 
 module _ (config : Config) (seed : List ℕ) (opening over last : Desk) (turns : List Made) (endings : List MadeEnd) (run : Run opening turns over) (ending : EndRun over endings last) (none_kept : opening.kept ≡ []) (fresh : AreFresh opening.shards)
-    (count : HasCount (held_of turns endings)) (replied : AreReplied config seed turns) where
+    (r : Rules) (rules : WorkBy r opening.shards) (access : r.access ≡ config.access) (count : HasCount (held_of turns endings)) (replied : AreReplied config seed turns) where
   abbrev held : List Held
   held = held_of turns endings
 
@@ -90,6 +93,7 @@ module _ (config : Config) (seed : List ℕ) (opening over last : Desk) (turns :
       record {
         logins = all.0;
         right = all.1.right;
+        heard = all_heard config opening over last turns endings run ending none_kept fresh r rules access all.0 all.1.opened;
         once = all.1.once;
         draws = all.1.draws;
         granted = λ k d port mac session sent tells.

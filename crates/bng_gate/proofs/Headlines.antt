@@ -1,6 +1,7 @@
 -- The headline of a run, from its turns.
 use Rattle.std.proofs.Common.{◌≡◌, ◌⊎◌, inl, inr, ℕ, List, [], ◌∷◌, map, Option, refl, sym, ap, subst, ◌∙◌, arith}
 use Rattle.std.specs.List.{All, AllByRecursion, AllZip, range_with_len}
+use Rattle.std.proofs.lemmas.List.Elements.{All-from_recursion}
 use Rattle.bng_base.specs.declared.outside.Datagram.{Datagram}
 use Rattle.bng_base.specs.declared.outside.Heard.{Heard}
 use Rattle.bng_base.specs.Chain.{Chain}
@@ -10,23 +11,25 @@ use Rattle.bng_config.specs.Configuration.{IsRead}
 use Rattle.bng_config.specs.Rules.{KeepsRules}
 use Rattle.bng_config.proofs.Kept.{read_keeps}
 use Rattle.bng_engine.specs.Accounted.{Accounted, opening as nothing_yet}
-use Rattle.bng_engine.specs.Histories.{History, ShardHistory, ShardTurn, Run as Rounds}
+use Rattle.bng_engine.specs.Histories.{History, ShardTurn, Run as Rounds}
 use Rattle.bng_engine.specs.Laws.{Opens, RunFrom, RowsAccountOnWire, sends_of, stops_of}
 use Rattle.bng_engine.specs.Quantities.{empty_book, Octets}
-use Rattle.bng_engine.specs.Terms.{keys}
 use Rattle.bng_engine.specs.Views.{DeskView}
 use Rattle.bng_engine.specs.Wire.{went, is_input, is_output, told_of}
+use Rattle.bng_engine.proofs.Everywhere.{all_weaker}
 use Rattle.bng_engine.proofs.Openings.{refused_keeps, opening_accounted}
 use Rattle.bng_engine.proofs.Runs.{rounds_are_right, run_conserves_at, turns_go_on, rows_account_on_wire}
 use Rattle.bng_engine.proofs.Turns.{balanced}
 use Rattle.bng_shard.specs.declared.rules.Rules.{Rules}
 use Rattle.bng_shard.specs.declared.sums.Traffic.{Traffic}
-use Rattle.bng_shard.specs.Protocol.{ShardState, Handled, terms_of, pppoe}
+use Rattle.bng_shard.specs.Link.{nas_request}
+use Rattle.bng_shard.specs.Protocol.{ShardState, Handled, pppoe}
 use Rattle.bng_shard.specs.Reader.{pppoe_reader}
 use Rattle.bng_shard.proofs.StepLaws.{pppoe_laws}
+use Rattle.bng_desk.specs.declared.desk.DeskState.TheVariants.{Ended}
 use Rattle.bng_desk.specs.declared.drops.Drops.{Drops}
 use Rattle.bng_desk.specs.declared.line.Line.{Line}
-use Rattle.bng_desk.specs.Model.{Desk, carried_on, all_carried, input_of, output_of}
+use Rattle.bng_desk.specs.Model.{Desk, carried_on, all_carried, input_of, line_after, output_of, state_of}
 use Rattle.bng_desk.specs.Opening.{line_of, holder_of, opened_shards}
 use Rattle.bng_desk.specs.Report.{report_text, by_number}
 use Rattle.bng_desk.specs.Round.{view_of}
@@ -34,20 +37,23 @@ use Rattle.bng_gate.specs.declared.texts.Refusal.{Refusal}
 use Rattle.bng_gate.specs.declared.texts.Refusal.TheVariants.{Usage, Refused, CannotOpen, OutOfMemory, TraceFailed, OutputFailed}
 use Rattle.bng_gate.specs.Granted.{Granted}
 use Rattle.bng_gate.specs.Replied.{AreReplied}
-use Rattle.bng_gate.specs.Headline.{Headline, IsSafe, IsQuiet, WasSafe, all_traffic}
+use Rattle.bng_gate.specs.Headline.{AreStopped, Headline, IsSafe, IsQuiet, StopsAccount, WasSafe, all_traffic}
 use Rattle.bng_gate.specs.Rounds.{rounds_in, rounds_of, plant_of, on_data, drops_of_run}
 use Rattle.bng_gate.specs.Run.{World, turns_most, outside, Course, Runs, IsReady, IsUntouched, WantsToServe, Why, IsUnwritten, RunEnds}
 use Rattle.bng_gate.proofs.Addressing.{all_addressed}
 use Rattle.bng_gate.proofs.Drops.{all_dropped}
-use Rattle.bng_gate.proofs.Follows.{Follows, run_follows, lines_stay}
+use Rattle.bng_gate.proofs.Follows.{Follows, run_follows}
 use Rattle.bng_gate.proofs.Going.{Leads, stands_itself, rounds_lead}
-use Rattle.bng_gate.proofs.Keys.{HasKeys, HasRows, IsKeyOf, IsOurs, all_keys, opened_keys, all_keys_known, run_keys, run_ours, run_stops, rows_have, history_keys}
+use Rattle.bng_gate.proofs.Keys.{IsKeyOf, all_keys, all_keys_known}
+use Rattle.bng_gate.proofs.Leaving.{HasNoRows, IsEmpty, all_stopped, ended_empty, rows_gone, rows_say_none}
+use Rattle.bng_gate.proofs.Lines.{lines_gone, report_told}
 use Rattle.bng_gate.proofs.LoginsGranted.{logins_granted}
 use Rattle.bng_gate.proofs.Openings.{opens}
 use Rattle.bng_gate.proofs.Replying.{replies_of}
-use Rattle.bng_gate.proofs.Staging.{stages_heard, stages_sent}
+use Rattle.bng_gate.proofs.Staging.{stages_heard, stages_taken, stages_sent}
+use Rattle.bng_gate.proofs.Stopping.{AreRight, IsOurStop, IsRight, all_terms, opened_right, run_right}
 use Rattle.bng_gate.proofs.Telling.{sent_are, taken_are, unsent_failed}
-use Rattle.bng_gate.proofs.Traffic.{traffic_same, input_all, output_all}
+use Rattle.bng_gate.proofs.Traffic.{stops_account, traffic_same, input_all, output_all}
 
 -- each circuit of a configuration that is read has the first profile
 first_profiles : (text : List ℕ) (config : Config) → IsRead text config → All (λ c. c.profile ≡ 0) config.statics
@@ -76,8 +82,8 @@ module _ (text : List ℕ) (config : Config) (read : IsRead text config) (seed :
   start_opens : Opens pppoe start
   start_opens = subst (Opens pppoe) (sym start_is) (opens r config rules (first_profiles text config read))
 
-  start_keys : AllZip HasKeys start.shards (all_keys config)
-  start_keys = subst (λ (v : DeskView ShardState Handled). AllZip HasKeys v.shards (all_keys config)) (sym start_is) (opened_keys r config rules (range_with_len 0 config.shards))
+  start_right : AllZip IsRight (nothing_yet start).shards (all_keys config)
+  start_right = subst (λ (v : DeskView ShardState Handled). AllZip IsRight (nothing_yet v).shards (all_keys config)) (sym start_is) (opened_right r config rules (range_with_len 0 config.shards))
 
   follows : Chain Follows course.opening (rounds_in course.turns course.endings) course.last
   follows = run_follows course.opening course.over course.last course.turns course.endings course.run course.ending
@@ -97,23 +103,12 @@ module _ (text : List ℕ) (config : Config) (read : IsRead text config) (seed :
   on_wire : RowsAccountOnWire pppoe rounds end
   on_wire = rows_account_on_wire pppoe pppoe_laws start end goes.0 rounds goes.1 accounted
 
-  end_keys : AllZip HasKeys leads.view.shards (all_keys config)
-  end_keys = run_keys start leads.view rounds (all_keys config) leads.turns start_keys
+  -- each term is live or has its Stop, and what was sent is theirs
+  rights : AreRight (IsKeyOf config) (sends_of rounds) (stops_of rounds) goes.0.shards (all_keys config)
+  rights = run_right (IsKeyOf config) (nothing_yet start) goes.0 rounds (all_keys config) goes.1 start_right (all_keys_known config)
 
-  rows : AllZip HasRows course.last.shards (all_keys config)
-  rows = rows_have leads.view.shards course.last.shards goes.0.shards (all_keys config) leads.stands.shards end_keys accounted.tells.shards
-
-  terms : map (λ (h : ShardHistory ShardState). keys (terms_of h.state)) goes.0.shards ≡ all_keys config
-  terms = history_keys leads.view.shards goes.0.shards (all_keys config) goes.2.tells.shards end_keys
-
-  ours : AllByRecursion (IsOurs (IsKeyOf config)) (sends_of rounds)
-  ours = run_ours (IsKeyOf config) start leads.view rounds (all_keys config) leads.turns start_keys (all_keys_known config)
-
-  stops : stops_of rounds ≡ []
-  stops = run_stops start leads.view rounds leads.turns
-
-  lines : course.last.lines ≡ map line_of config.statics
-  lines = lines_stay course.opening course.last (rounds_in course.turns course.endings) follows ∙ ap (λ (d : Desk). d.lines) course.begins.is_opened.desk
+  lines : course.last.lines ≡ map (line_after (stops_of rounds)) (map line_of config.statics)
+  lines = lines_gone course.opening course.last (rounds_in course.turns course.endings) follows ∙ ap (λ (d : Desk). map (line_after (stops_of rounds)) d.lines) course.begins.is_opened.desk
 
   -- what was sent, as the plant tells it
   abbrev sent : List Datagram
@@ -148,12 +143,13 @@ module _ (text : List ℕ) (config : Config) (read : IsRead text config) (seed :
     sends = sends;
     history = goes.0;
     rounds = rounds_are_right pppoe pppoe_laws start rounds goes.0 run_from;
-    terms = terms;
-    no_stops = stops;
+    terms = all_terms goes.0.shards (all_keys config) rights.right;
+    causes = All-from_recursion (λ s. s.cause ≡ nas_request) (stops_of rounds) (all_weaker (IsOurStop (IsKeyOf config)) (λ s. s.cause ≡ nas_request) (λ s is. is.cause) (stops_of rounds) rights.stops_are);
     conserved = run_conserves_at pppoe pppoe_laws start rounds goes.0 run_from;
     balanced = balanced pppoe end goes.0 accounted;
-    addressed = all_addressed config sent (sends_of rounds) sends ours;
+    addressed = all_addressed config sent (sends_of rounds) sends rights.sends_are;
     stages_heard = stages_heard course.opening course.over course.turns course.endings course.run;
+    stages_taken = stages_taken course.opening course.over course.turns course.endings course.run;
     stages_sent = stages_sent course.turns course.endings;
     replied = replied;
     granted = granted;
@@ -163,17 +159,35 @@ module _ (text : List ℕ) (config : Config) (read : IsRead text config) (seed :
     };
   }
 
-  report : report_text course.last.lines (all_carried course.last) (by_number course.last.drops) ≡ report_text (map line_of config.statics) (all_traffic config sent) (by_number (drops_of_run course.turns course.endings))
-  report =
-      ap (λ (ls : List Line). report_text ls (map (carried_on course.last.shards) ls) (by_number course.last.drops)) lines
-      ∙ ap (λ (ts : List Traffic). report_text (map line_of config.statics) ts (by_number course.last.drops)) (traffic_same config rules course.last.shards rows course.last.holders course.last.tallies sent rounds sends stops on_wire)
-      ∙ ap (λ (d : Drops). report_text (map line_of config.statics) (all_traffic config sent) (by_number d)) drops
+  -- Once no session is left
+  module _ (ended : state_of course.last ≡ Ended) where
+    empty : AllByRecursion IsEmpty course.last.shards
+    empty = ended_empty course.last ended
 
-  all_in : input_of (all_traffic config sent) ≡ told_of pppoe_reader Octets is_input sent
-  all_in = input_all config rules course.last.shards rows course.last.holders course.last.tallies sent rounds sends stops on_wire
+    no_rows : AllByRecursion HasNoRows course.last.shards
+    no_rows = rows_gone course.last.shards goes.0.shards empty accounted.tells.shards
 
-  all_out : output_of (all_traffic config sent) ≡ told_of pppoe_reader Octets is_output sent
-  all_out = output_all config rules course.last.shards rows course.last.holders course.last.tallies sent rounds sends stops on_wire
+    stopped_all : AllZip AreStopped goes.0.shards (all_keys config)
+    stopped_all = all_stopped course.last.shards goes.0.shards (all_keys config) empty accounted.tells.shards rights.right
+
+    exact : StopsAccount (stops_of rounds) sent
+    exact = stops_account sent rounds sends end (λ q pick input. rows_say_none q pick input course.last.shards no_rows) on_wire
+
+    known : AllByRecursion (λ s. IsKeyOf config s.key) (stops_of rounds)
+    known = all_weaker (IsOurStop (IsKeyOf config)) (λ s. IsKeyOf config s.key) (λ s is. is.known) (stops_of rounds) rights.stops_are
+
+    report : report_text course.last.lines (all_carried course.last) (by_number course.last.drops) ≡ report_text (map line_of config.statics) (all_traffic config sent) (by_number (drops_of_run course.turns course.endings))
+    report =
+        ap (λ (ls : List Line). report_text ls (map (carried_on course.last.shards) ls) (by_number course.last.drops)) lines
+        ∙ ap (λ (ts : List Traffic). report_text (map (line_after (stops_of rounds)) (map line_of config.statics)) ts (by_number course.last.drops)) (traffic_same config rules sent (stops_of rounds) known exact course.last.shards no_rows)
+        ∙ report_told (stops_of rounds) (map line_of config.statics) (all_traffic config sent) (by_number course.last.drops)
+        ∙ ap (λ (d : Drops). report_text (map line_of config.statics) (all_traffic config sent) (by_number d)) drops
+
+    all_in : input_of (all_traffic config sent) ≡ told_of pppoe_reader Octets is_input sent
+    all_in = input_all config rules sent (stops_of rounds) known exact
+
+    all_out : output_of (all_traffic config sent) ≡ told_of pppoe_reader Octets is_output sent
+    all_out = output_all config rules sent (stops_of rounds) known exact
 
 module _ (text : List ℕ) (config : Config) (read : IsRead text config) (seed : List ℕ) (old new : World) (run : Runs config seed (outside old) (outside new) old.out new.out) where
   abbrev turned : Course config seed (outside old) (outside new)
@@ -185,9 +199,11 @@ module _ (text : List ℕ) (config : Config) (read : IsRead text config) (seed :
     seed = seed;
     run = run;
     safe = safe_of text config read seed old new turned;
-    printed = subst (λ (text : List ℕ). Grows old.out.bytes new.out.bytes text) (report text config read seed old new turned) run.reports.printed;
-    all_input = all_in text config read seed old new turned;
-    all_output = all_out text config read seed old new turned;
+    stopped = stopped_all text config read seed old new turned run.ended;
+    exact = exact text config read seed old new turned run.ended;
+    printed = subst (λ (text : List ℕ). Grows old.out.bytes new.out.bytes text) (report text config read seed old new turned run.ended) run.reports.printed;
+    all_input = all_in text config read seed old new turned run.ended;
+    all_output = all_out text config read seed old new turned run.ended;
   }
 
 pub headline : (text : List ℕ) (config : Config) (seed : List ℕ) (old new : World) → IsRead text config → Runs config seed (outside old) (outside new) old.out new.out → Headline config old new

@@ -38,7 +38,7 @@ open_last : (v : Service) (q : Question) → open_in v ≡ Some q → last_in v 
 open_last (Provisioned l) q e = absurd (none-some q e)
 open_last (Discovered m) q e = if_some (not m.ended && is_open m.link.auth) m.question q e
 
-stands : (s : State) (a : Asking) → Contains (questions_of s) a → (n : ℕ) × (last_asking_at s n ≡ Some a)
+pub stands : (s : State) (a : Asking) → Contains (questions_of s) a → (n : ℕ) × (last_asking_at s n ≡ Some a)
 stands s a among =
     let x = stands_in (λ (y : Session). asked_in y (open_of y)) (values s.sessions) a among in
     let at = numbered s.sessions x.0 x.1 in
@@ -47,7 +47,7 @@ stands s a among =
 
 -- Places ------------------------------------------------------------------------------------------------------------------
 
-any_at : {X : Type 0} (P : X → Type 0) (xs : List X) → AnyOf P xs → (i : ℕ) × (x : X) × (slice_get xs i ≡ Some x) × P x
+pub any_at : {X : Type 0} (P : X → Type 0) (xs : List X) → AnyOf P xs → (i : ℕ) × (x : X) × (slice_get xs i ≡ Some x) × P x
 any_at P [] h = absurd h
 any_at P (x ∷ xs) (inl h) = (0, x, refl, h)
 any_at P (x ∷ xs) (inr h) = let rest = any_at P xs h in (suc rest.0, rest.1, rest.2, rest.3)

@@ -15,6 +15,9 @@ pub mod Replying
 pub mod Reaching
 pub mod Accepting
 pub mod Knowing
+pub mod Hearing
+pub mod Arriving
+pub mod HeardLogins
 pub mod OpeningFacts
 pub mod Counts
 pub mod States
@@ -30,7 +33,9 @@ pub mod Follows
 pub mod Going
 pub mod Openings
 pub mod Keys
-pub mod Accounts
+pub mod Stopping
+pub mod Leaving
+pub mod Lines
 pub mod Telling
 pub mod Staging
 pub mod Addressing

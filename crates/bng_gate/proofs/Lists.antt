@@ -62,6 +62,14 @@ all_at P [] i x h e = absurd (none-some x e)
 all_at P (y ∷ ys) zero x h e = let same = same_Some y x e in rw (← same) h.0
 all_at P (y ∷ ys) (suc i) x h e = all_at P ys i x h.1 e
 
+-- two at places that have the same number are one
+pub same_at : {X : Type 0} (f : X → ℕ) (xs : List X) (i j : ℕ) (x y : X) → slice_get xs i ≡ Some x → slice_get xs j ≡ Some y → Apart f xs → f y ≡ f x → y ≡ x
+same_at f [] i j x y at bt apart e = absurd (none-some x at)
+same_at f (z ∷ zs) zero zero x y at bt apart e = sym (same_Some z y bt) ∙ same_Some z x at
+same_at f (z ∷ zs) zero (suc j) x y at bt apart e = absurd (all_at (λ w. f w ≡ f z → ⊥) zs j y apart.0 bt (e ∙ ap f (sym (same_Some z x at))))
+same_at f (z ∷ zs) (suc i) zero x y at bt apart e = absurd (all_at (λ w. f w ≡ f z → ⊥) zs i x apart.0 at (sym e ∙ ap f (sym (same_Some z y bt))))
+same_at f (z ∷ zs) (suc i) (suc j) x y at bt apart e = same_at f zs i j x y at bt apart.1 e
+
 -- where each has what is asked of it at its place
 pub all_by_place : {X : Type 0} (P : X → Type 0) (xs : List X) → ((i : ℕ) (x : X) → slice_get xs i ≡ Some x → P x) → AllByRecursion P xs
 all_by_place P [] h = tt

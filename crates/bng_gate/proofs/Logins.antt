@@ -9,12 +9,13 @@ use Rattle.bng_config.specs.declared.config.Config.{Config}
 use Rattle.bng_engine.specs.Lists.{AnyOf}
 use Rattle.bng_engine.proofs.Everywhere.{all_weaker}
 use Rattle.bng_lane.specs.Sends.{LaneAsk}
+use Rattle.bng_shard.specs.Questions.{asking_from}
 use Rattle.bng_verdict.specs.declared.question.QuestionNo.{QuestionNo}
 use Rattle.bng_verdict.specs.Verdicts.{IsVerdict, Replied}
 use Rattle.bng_desk.specs.Logins.{Answered}
 use Rattle.bng_desk.specs.Model.{Desk}
 use Rattle.bng_gate.specs.Granted.{Login, IsLogin, AreApart, HaveOwnDraws, stages_of}
-use Rattle.bng_gate.specs.Replied.{AreReplied, IsReplied, answers_in}
+use Rattle.bng_gate.specs.Replied.{AreReplied, IsReplied, OpenIn, answers_in}
 use Rattle.bng_gate.specs.Serving.{Made, MadeEnd, Run}
 use Rattle.bng_gate.proofs.Draws.{own_draw}
 use Rattle.bng_gate.proofs.LoginsAt.{IsDrawn, IsLoginAt, login_of, says_yes, decide_yes}
@@ -84,10 +85,15 @@ module _ (config : Config) (seed : List ℕ) (opening over : Desk) (turns : List
   abbrev Is : ℕ → ℕ → QuestionNo → Login → Type 0
   Is = IsLoginAt config seed opening over turns endings run replied
 
+  -- where it was asked, its question was open
+  abbrev pub WasOpen : Login → Type 0
+  WasOpen g = OpenIn turns g.asked (asking_from g.ask)
+
   -- the logins of the places before this one
   record Collected (n p : ℕ) : Type 0 where
     logins : List Login
     right : AllByRecursion (IsLogin config seed (stages_of turns endings)) logins
+    opened : AllByRecursion WasOpen logins
     inside : AllByRecursion (λ g. IsBefore n p g.answered g.place) logins
     once : AllPairs AreApart logins
     drawn : AllByRecursion (IsDrawn seed turns) logins
@@ -98,6 +104,7 @@ module _ (config : Config) (seed : List ℕ) (opening over : Desk) (turns : List
   none_yet = record {
     logins = [];
     right = tt;
+    opened = tt;
     inside = tt;
     once = λ i j d low high. absurd (omega arith);
     drawn = tt;
@@ -144,6 +151,7 @@ module _ (config : Config) (seed : List ℕ) (opening over : Desk) (turns : List
         record {
           logins = g ∷ c.logins;
           right = (is.right, c.right);
+          opened = (is.is_open, c.opened);
           inside = (
             let lt : p < suc p = omega arith in inr (is.answered, subst (λ (i : ℕ). i < suc p) (sym is.place) lt),
             all_weaker (λ x. IsBefore n p x.answered x.place) (λ x. IsBefore n (suc p) x.answered x.place) (λ x. wider n p x.answered x.place) c.logins c.inside,
@@ -165,6 +173,7 @@ module _ (config : Config) (seed : List ℕ) (opening over : Desk) (turns : List
     | inr none ↦ record {
       logins = c.logins;
       right = c.right;
+      opened = c.opened;
       inside = all_weaker (λ x. IsBefore n p x.answered x.place) (λ x. IsBefore n (suc p) x.answered x.place) (λ x. wider n p x.answered x.place) c.logins c.inside;
       once = c.once;
       drawn = c.drawn;
@@ -192,6 +201,7 @@ module _ (config : Config) (seed : List ℕ) (opening over : Desk) (turns : List
   next_turn n c = record {
     logins = c.logins;
     right = c.right;
+    opened = c.opened;
     inside = all_weaker (λ x. IsBefore n (length (answers_at (slice_get turns n))) x.answered x.place) (λ x. IsBefore (suc n) 0 x.answered x.place) (λ x. past x.answered x.place) c.logins c.inside;
     once = c.once;
     drawn = c.drawn;
@@ -216,9 +226,10 @@ module _ (config : Config) (seed : List ℕ) (opening over : Desk) (turns : List
   all_turns zero = none_yet
   all_turns (suc n) = next_turn n (of_turn n (length (answers_at (slice_get turns n))) (all_turns n))
 
-  -- the logins, each of them right, no two with the same datagram, no two of different questions with one draw, and one for each reply that was taken as a yes
+  -- the logins, each of them right and of an open question, no two with the same datagram, no two of different questions with one draw, and one for each reply that was taken as a yes
   pub record AreLogins (logins : List Login) : Type 0 where
     pub right : All (IsLogin config seed (stages_of turns endings)) logins
+    pub opened : All WasOpen logins
     pub once : AllPairs AreApart logins
     pub draws : AllPairs HaveOwnDraws logins
     pub complete : (k place : ℕ) (q : QuestionNo) → IsYesAt turns k place q → AnyOf (Is k place q) logins
@@ -229,6 +240,7 @@ module _ (config : Config) (seed : List ℕ) (opening over : Desk) (turns : List
         c.logins,
         record {
           right = All-from_recursion (IsLogin config seed (stages_of turns endings)) c.logins c.right;
+          opened = All-from_recursion WasOpen c.logins c.opened;
           once = c.once;
           draws = c.draws;
           complete = λ k place q y. c.complete k place q (inl (slice_get_within turns k y.made y.at)) y;

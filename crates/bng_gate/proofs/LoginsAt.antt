@@ -29,7 +29,7 @@ use Rattle.bng_gate.proofs.YesItems.{IsYesAt}
 
 -- What a turn of serving says of itself in the stages ----------------------------------------------------------------------
 
-stage_is : (turns : List Made) (endings : List MadeEnd) (k : ℕ) (m : Made) → slice_get turns k ≡ Some m → stage_at (stages_of turns endings) k ≡ stage_in m.desk m.turn
+pub stage_is : (turns : List Made) (endings : List MadeEnd) (k : ℕ) (m : Made) → slice_get turns k ≡ Some m → stage_at (stages_of turns endings) k ≡ stage_in m.desk m.turn
 stage_is [] endings k m at = absurd (none-some m at)
 stage_is (x ∷ turns) endings zero m at = ap (λ (y : Made). stage_in y.desk y.turn) (same_Some x m at)
 stage_is (x ∷ turns) endings (suc k) m at = stage_is turns endings k m at
@@ -133,6 +133,7 @@ module _ (config : Config) (seed : List ℕ) (opening over : Desk) (turns : List
     pub answered : g.answered ≡ k
     pub place : g.place ≡ p
     pub number : g.ask.number ≡ q
+    pub is_open : OpenIn turns g.asked (asking_from g.ask)
     pub turn : ℕ
     pub before : turn ≤ k
     pub was_open : OpenBefore (held_of turns endings) turn (asking_from g.ask)
@@ -182,6 +183,7 @@ module _ (config : Config) (seed : List ℕ) (opening over : Desk) (turns : List
           answered = refl;
           place = refl;
           number = r.number;
+          is_open = r.is_open;
           turn = suc r.asked;
           before = next;
           was_open = open_before r.asked k y.made opened y.at (asking_from r.put.ask) r.is_open;

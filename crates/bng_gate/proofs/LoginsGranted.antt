@@ -1,5 +1,5 @@
 -- Of a run from its opening on, all logins are granted.
-use Rattle.std.proofs.Common.{ℕ, ◌^◌, ◌≤◌, List, length, arith}
+use Rattle.std.proofs.Common.{◌≡◌, ℕ, ◌^◌, ◌≤◌, List, length, ap, ◌∙◌, arith}
 use Rattle.bng_config.specs.declared.config.Config.{Config}
 use Rattle.bng_config.specs.Rules.{KeepsRules}
 use Rattle.bng_desk.specs.Model.{Desk}
@@ -17,6 +17,7 @@ pub logins_granted : (config : Config) (rounds : ℕ) (seed : List ℕ) (now : �
 logins_granted config rounds seed now opening over last turns endings rules opened run ending few few_ends =
     let facts = opening_facts config rules rounds seed now opening opened in
     let fewer : length endings ≤ 2 ^ 37 = omega (arith, few_ends) in
-    granted_of config seed opening over last turns endings run ending facts.kept (are_fresh config opening facts)
+    let access : opening.rules.access ≡ config.access = ap (λ (d : Desk). d.rules.access) opened.desk ∙ opened.are_rules.access in
+    granted_of config seed opening over last turns endings run ending facts.kept (are_fresh config opening facts) opening.rules (λ p v at. (facts.fresh p v at).rules) access
     (has_count config opening over last turns endings facts run ending few fewer)
     (replies_of config rounds seed now opening over turns opened run)

@@ -1,5 +1,5 @@
 -- A desk that was opened over a configuration: its terms are those of the circuits.
-use Rattle.std.proofs.Common.{◌≡◌, ◌||◌, ℕ, zero, suc, ◌+◌, ◌*◌, Bool, true, false, List, [], ◌∷◌, ◌/◌, cond, map, length, refl, sym, ap, subst, ◌∙◌, arith, eqb, zero-add}
+use Rattle.std.proofs.Common.{◌≡◌, ◌||◌, ℕ, zero, suc, ◌+◌, ◌*◌, Bool, true, false, List, [], ◌∷◌, None, ◌/◌, cond, map, length, refl, sym, ap, subst, ◌∙◌, arith, eqb, zero-add}
 use Rattle.std.specs.Prelude.{filter}
 use Rattle.std.specs.List.{All, AllByRecursion, sum_by, count_by, range_with_len}
 use Rattle.std.proofs.lemmas.Bool.{eqb-true, ne_eqb}
@@ -21,15 +21,15 @@ use Rattle.bng_engine.specs.Lists.{one_if}
 use Rattle.bng_engine.specs.Protocol.{AreNumbered, HaveProfiles}
 use Rattle.bng_engine.specs.Quantities.{empty_book}
 use Rattle.bng_engine.specs.Showing.{with_journal}
-use Rattle.bng_engine.specs.Terms.{Key, keys, leases_at}
+use Rattle.bng_engine.specs.Terms.{Key, Term, keys, leases_at}
 use Rattle.bng_engine.specs.Views.{new_row, row_keys}
 use Rattle.bng_engine.proofs.Everywhere.{all_filter}
 use Rattle.bng_shard.specs.declared.rules.Rules.{Rules}
 use Rattle.bng_slots.specs.Sessions.{IsNumberOf}
 use Rattle.bng_shard.specs.Opening.{in_order, lease_from, opened_slots, provisioned}
-use Rattle.bng_shard.specs.Protocol.{ShardState, Handled, term_of, terms_of, terms_after, profiles_there, pppoe, opened}
+use Rattle.bng_shard.specs.Protocol.{ShardState, Handled, term_of, terms_of, terms_after, terms_of_circuits, profiles_there, pppoe, opened}
 use Rattle.bng_shard.proofs.InOrder as ordered
-use Rattle.bng_shard.proofs.StepLaws.{pppoe_still}
+use Rattle.bng_shard.proofs.StepLaws.{opened_live}
 use Rattle.bng_desk.specs.Opening.{shard_of, holder_of, statics_of, opened_shards}
 use Rattle.bng_desk.specs.Round.{views_of, view_of, held_by}
 use Rattle.bng_gate.proofs.Lists.{Apart, apart_of, IsWithin, sum_parts}
@@ -114,6 +114,13 @@ first_profiles : (n : ℕ) (cs : List Static) → AllByRecursion IsFirst cs → 
 first_profiles n [] h = tt
 first_profiles n (c ∷ cs) h = (omega (arith, h.0), first_profiles (n + 1) cs h.1)
 
+-- no term has ended
+abbrev pub IsLive : Term → Type 0
+IsLive t = t.ended ≡ false
+
+pub all_live : (number : ℕ) (cs : List Static) → AllByRecursion IsLive (terms_of_circuits number cs)
+all_live number cs = opened_live 0 (in_order number cs)
+
 -- as many ones as there are circuits
 ones : (cs : List Static) → sum_by (λ _. 1) cs ≡ length cs
 ones [] = refl
@@ -134,7 +141,7 @@ module _ (r : Rules) where
       let circuits = in_order number cs in
       let terms : terms_of (fresh number cs) ≡ terms_after 0 circuits = ordered.opened_terms r number cs apart in
       record {
-        live = pppoe_still.live (fresh number cs);
+        live = subst (AllByRecursion IsLive) (sym terms) (all_live number cs);
         numbered = record {
           in_order = keys (terms_after 0 circuits);
           same = λ f. ap (λ ts. sum_by f (keys ts)) terms;
@@ -160,7 +167,7 @@ module _ (r : Rules) where
   leases_are a n (c ∷ cs) =
       omega (
         arith,
-        sum_by-cons (λ (k : Key). one_if (eqb k.lease.0 a)) (term_of (provisioned c (n + 1)) (lease_from c (n + 1))).key (keys (terms_after (n + 1) cs)),
+        sum_by-cons (λ (k : Key). one_if (eqb k.lease.0 a)) (term_of (provisioned c (n + 1)) (lease_from c (n + 1)) None).key (keys (terms_after (n + 1) cs)),
         sum_by-cons (λ (x : Static). one_if (eqb (address_in x) a)) c cs,
         leases_are a (n + 1) cs,
       )

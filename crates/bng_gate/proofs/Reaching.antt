@@ -1,5 +1,5 @@
 -- What holds of the shards at one turn, and is kept by each entry, by each settlement and where no round was opened, holds from then on.
-use Rattle.std.proofs.Common.{◌≡◌, ℕ, zero, suc, ◌+◌, ◌-◌, ◌≤◌, List, [], ◌∷◌, ◌++◌, Option, None, Some, map, append-nil, refl, sym, ap, subst, ◌∙◌, arith}
+use Rattle.std.proofs.Common.{◌≡◌, ◌⊎◌, inl, inr, ℕ, zero, suc, ◌+◌, ◌-◌, ◌≤◌, List, [], ◌∷◌, ◌++◌, Option, None, Some, map, append-nil, refl, sym, ap, subst, ◌∙◌, arith}
 use Rattle.std.specs.Prelude.{slice_get}
 use Rattle.std.specs.List.{AllZip}
 use Rattle.std.specs.Option.{option_map}
@@ -69,7 +69,7 @@ pub record IsMade (t : Held) : Type 0 where
   pub items : List Item
   pub round : RoundOf t.desk moment items t.round
 
-left_is : (d : Desk) (items : List Item) (round : Option Round) → (after_round d items round).shards ≡ left_after d.shards round
+pub left_is : (d : Desk) (items : List Item) (round : Option Round) → (after_round d items round).shards ≡ left_after d.shards round
 left_is d items None = refl
 left_is d items (Some round) = refl
 
@@ -133,6 +133,12 @@ module _ (held : List Held) (P : ℕ → ℕ → ShardState → Type 0) where
   abbrev pub HoldsAt : ℕ → Type 0
   HoldsAt k = (t : Held) → slice_get held k ≡ Some t → (p : ℕ) (v : ShardView ShardState Entry) → slice_get t.desk.shards p ≡ Some v → P k p v.state
 
+  -- what a turn leaves of a shard is what its entries left of it, settled, or what was there, where no round was opened
+  pub record IsLeft (k p : ℕ) (s : ShardState) : Type 0 where
+    pub before : ShardState
+    pub holds : P k p before
+    pub is : (s ≡ (pppoe).settled before) ⊎ (s ≡ before)
+
   module _ (keeps : IsKept) (k : ℕ) (turn : Held) (at : slice_get held k ≡ Some turn) (round : Round) (opened : turn.round ≡ Some round)
       (p : ℕ) (before : ShardState) (was : option_map (λ v. v.state) (slice_get turn.desk.shards p) ≡ Some before)
       (w : ShardView ShardState Handled) (there : slice_get round.shards p ≡ Some w) where
@@ -166,8 +172,8 @@ module _ (held : List Held) (P : ℕ → ℕ → ShardState → Type 0) where
   module _ (keeps : IsKept) (opening last : Desk) (run : HeldRun opening held last) where
     by_round : (k : ℕ) (t : Held) → slice_get held k ≡ Some t → IsMade t → (round : Option Round) → t.round ≡ round
         → ((p : ℕ) (v : ShardView ShardState Entry) → slice_get t.desk.shards p ≡ Some v → P k p v.state)
-        → (p : ℕ) (v : ShardView ShardState Entry) → slice_get (left_after t.desk.shards round) p ≡ Some v → P (suc k) p v.state
-    by_round k t at made None opened h p v is = keeps.rests k p v.state (h p v is)
+        → (p : ℕ) (v : ShardView ShardState Entry) → slice_get (left_after t.desk.shards round) p ≡ Some v → IsLeft k p v.state
+    by_round k t at made None opened h p v is = record { before = v.state; holds = h p v is; is = inr refl }
     by_round k t at made (Some round) opened h p v is =
         let w = map_at left_by round.shards p v is in
         let b = begun t round p w.0 made opened w.1 in
@@ -175,13 +181,20 @@ module _ (held : List Held) (P : ℕ → ℕ → ShardState → Type 0) where
         let went = walk keeps k t at round opened p b.view.state (ap (option_map (λ (x : ShardView ShardState Entry). x.state)) b.at) w.0 w.1
         b.view.state [] w.0.journal [] refl whole (subst (λ (es : List Handled). AreSteps pppoe b.view.state es) whole b.steps) (h p b.view b.at) in
         let ends : w.0.state ≡ v.state = ap (λ (x : ShardView ShardState Entry). x.state) w.2 in
-        subst (P (suc k) p) (sym b.state ∙ ends) (keeps.settles k p (after pppoe b.view.state w.0.journal) went.0)
+        record { before = after pppoe b.view.state w.0.journal; holds = went.0; is = inl (sym ends ∙ b.state) }
+
+    -- what a turn leaves of the shards
+    pub left : (k : ℕ) (t : Held) → slice_get held k ≡ Some t → HoldsAt k → (p : ℕ) (v : ShardView ShardState Entry) → slice_get (left_after t.desk.shards t.round) p ≡ Some v → IsLeft k p v.state
+    left k t at h p v is = by_round k t at (turn_made opening last held k t run at) t.round refl (h t at) p v is
 
     next_at : (k : ℕ) → HoldsAt k → HoldsAt (suc k)
     next_at k h u at p v is =
         let t = one_before held k u at in
-        by_round k t.0 t.1 (turn_made opening last held k t.0 run t.1) t.0.round refl (h t.0 t.1) p v
-        (subst (λ (vs : List (ShardView ShardState Entry)). slice_get vs p ≡ Some v) (turn_next opening last held k t.0 u run t.1 at) is)
+        let x = left k t.0 t.1 h p v (subst (λ (vs : List (ShardView ShardState Entry)). slice_get vs p ≡ Some v) (turn_next opening last held k t.0 u run t.1 at) is) in
+        elim x.is [
+          | inl settles ↦ subst (P (suc k) p) (sym settles) (keeps.settles k p x.before x.holds)
+          | inr rests ↦ subst (P (suc k) p) (sym rests) (keeps.rests k p x.before x.holds)
+        ]
 
     later : (j n : ℕ) → HoldsAt j → HoldsAt (n + j)
     later j zero h = let e : j ≡ zero + j = omega arith in subst HoldsAt e h

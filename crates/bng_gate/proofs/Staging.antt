@@ -1,4 +1,5 @@
--- The stages of the turns are what the turns tell: what they took from Auth, and what they sent, the answers on Control aside.
+-- The stages of the turns are what the turns tell: what they took from Auth, the access ports and the core, and what they sent, the
+-- answers on Control aside.
 use Rattle.std.proofs.Common.{◌≡◌, ℕ, zero, suc, ◌+◌, Bool, true, false, cond, List, [], ◌∷◌, ◌++◌, map, Option, Some, None, refl, sym, ap, subst, ◌∙◌, append-nil}
 use Rattle.std.specs.Prelude.{filter, not}
 use Rattle.std.specs.List.{AllByRecursion, flat_map, range_with_len}
@@ -18,8 +19,9 @@ use Rattle.bng_desk.specs.Reading.{is_empty, taken_in}
 use Rattle.bng_desk.specs.Round.{Round}
 use Rattle.bng_desk.specs.Turn.{Turn, EndTurn, ReadsWhere, Step, auth_stretch, data_stretch, round_stretch, stretch_of, end_stretch}
 use Rattle.bng_gate.specs.Granted.{Stage, sent_by, stage_in, end_stage_in, stages_of}
-use Rattle.bng_gate.specs.Rounds.{plant_of, is_auth, is_control, on_auth, beside_control}
+use Rattle.bng_gate.specs.Rounds.{plant_of, is_auth, is_control, on_auth, on_data, beside_control, readings_in, readings_of}
 use Rattle.bng_gate.specs.Serving.{Made, MadeEnd, Run, run_stretch, ending_stretch}
+use Rattle.bng_gate.proofs.Telling.{taken_are, taken_by_reading}
 
 -- What was sent ------------------------------------------------------------------------------------------------------------
 
@@ -184,3 +186,36 @@ stages_heard d d' turns endings run =
     ∙ ap (λ (ds : List Datagram). ds ++ on_auth (ending_stretch endings).plant.taken) (turns_taken d d' turns run)
     ∙ ap (λ (ds : List Datagram). flat_map heard_of serving ++ ds) (endings_taken endings)
     ∙ sym (flat_map-append heard_of serving ending)
+
+abbrev taken_of : Stage → List Datagram
+taken_of s = s.taken
+
+turns_took : (turns : List Made) → flat_map taken_by_reading (readings_of turns) ≡ flat_map taken_of (map (λ m. stage_in m.desk m.turn) turns)
+turns_took [] = refl
+turns_took (m ∷ turns) =
+    flat_map-append taken_by_reading (readings_in m.turn) (readings_of turns)
+    ∙ ap (λ (ds : List Datagram). ds ++ flat_map taken_by_reading (readings_of turns)) (turn_took m.desk m.turn)
+    ∙ ap (λ (ds : List Datagram). (stage_in m.desk m.turn).taken ++ ds) (turns_took turns)
+  where
+    turn_took : (d : Desk) (t : Option Turn) → flat_map taken_by_reading (readings_in t) ≡ (stage_in d t).taken
+    turn_took d None = refl
+    turn_took d (Some t) = refl
+
+endings_took : (endings : List MadeEnd) → flat_map taken_of (map (λ m. end_stage_in m.desk m.turn) endings) ≡ []
+endings_took [] = refl
+endings_took (m ∷ endings) = ap (λ (ds : List Datagram). ds ++ flat_map taken_of (map (λ (x : MadeEnd). end_stage_in x.desk x.turn) endings)) (end_took m.desk m.turn) ∙ endings_took endings
+  where
+    end_took : (d : Desk) (t : Option EndTurn) → (end_stage_in d t).taken ≡ []
+    end_took d None = refl
+    end_took d (Some t) = refl
+
+-- what was taken from the access ports and the core is what the stages took there, in their order
+pub stages_taken : (d d' : Desk) (turns : List Made) (endings : List MadeEnd) → Run d turns d' → on_data (plant_of turns endings).taken ≡ flat_map (λ s. s.taken) (stages_of turns endings)
+stages_taken d d' turns endings run =
+    let serving = map (λ (m : Made). stage_in m.desk m.turn) turns in
+    let ending = map (λ (m : MadeEnd). end_stage_in m.desk m.turn) endings in
+    taken_are d d' turns endings run
+    ∙ turns_took turns
+    ∙ sym (append-nil (flat_map taken_of serving))
+    ∙ ap (λ (ds : List Datagram). flat_map taken_of serving ++ ds) (sym (endings_took endings))
+    ∙ sym (flat_map-append taken_of serving ending)

@@ -37,6 +37,12 @@ left_by true false true now e = inr refl
 left_by true false false now e = cc
 left_by false ended starved now e = cc
 
+pub ended_by : (over ended starved : Bool) → state_by over ended starved ≡ Ended → ended ≡ true
+ended_by true true starved e = refl
+ended_by true false true e = cc
+ended_by true false false e = cc
+ended_by false ended starved e = cc
+
 pub serving : (d : Desk) → is_serving (state_of d) ≡ true → (state_of d ≡ Serving) × (is_over d ≡ false)
 serving d e = serving_by (is_over d) (has_ended d) (has_starved d) e
 

@@ -156,7 +156,7 @@ all_of_role role (a ∷ as') e =
     let rest = on_data (taken_in role as') in
     ap (λ (b : Bool). cond b (d ∷ rest) rest) e ∙ ap (λ (ds : List Datagram). d ∷ ds) (all_of_role role as' e)
 
-abbrev taken_by_reading : DataReading → List Datagram
+abbrev pub taken_by_reading : DataReading → List Datagram
 taken_by_reading r = taken_in r.role r.arrivals
 
 data_taken : (readings : List DataReading) → AllByRecursion (λ role. is_data role ≡ true) (map (λ r. r.role) readings) → on_data (data_stretch readings).taken ≡ flat_map taken_by_reading readings

@@ -1,11 +1,13 @@
 -- The octets that are printed are those of the packets that were sent, told from the octets alone.
-use Rattle.std.proofs.Common.{◌≡◌, ◌&&◌, ℕ, ◌+◌, Bool, true, false, cond, List, [], ◌∷◌, map, Some, refl, sym, ap, ◌∙◌, arith, eqb}
+use Rattle.std.proofs.Common.{◌≡◌, ◌&&◌, ℕ, ◌+◌, ◌/◌, Bool, true, false, cond, List, [], ◌∷◌, map, Some, refl, sym, ap, ◌∙◌, arith, eqb}
 use Rattle.std.specs.Prelude.{slice_get}
-use Rattle.std.specs.List.{AllZip, sum_by}
+use Rattle.std.specs.List.{AllByRecursion, sum_by}
 use Rattle.std.specs.Str.{bytes_eq}
 use Rattle.std.proofs.lemmas.Bool.{and_parts, eqb-true, eq-eqb}
 use Rattle.std.proofs.lemmas.List.Sums.{sum_by-cons}
-use Rattle.bng_base.specs.declared.book.Book.{Book}
+use Rattle.bng_base.specs.declared.address.Ip4.{Ip4}
+use Rattle.bng_base.specs.declared.address.SessionNo.{SessionNo}
+use Rattle.bng_base.specs.declared.circuit.Circuit.{Circuit}
 use Rattle.bng_base.specs.declared.circuit.Circuit.TheVariants.{Pppoe}
 use Rattle.bng_base.specs.declared.item.Entry.{Entry}
 use Rattle.bng_base.specs.declared.outside.Datagram.{Datagram}
@@ -17,28 +19,28 @@ use Rattle.bng_config.specs.declared.config.Config.{Config}
 use Rattle.bng_config.specs.Rules.{KeepsRules}
 use Rattle.bng_engine.specs.Histories.{ShardTurn}
 use Rattle.bng_engine.specs.Laws.{RowsAccountOnWire, accounted_in, sends_of, stops_of}
-use Rattle.bng_engine.specs.Quantities.{Quantity, Octets}
-use Rattle.bng_engine.specs.Showing.{with_journal}
-use Rattle.bng_engine.specs.Sums.{stopped_where, has_lease, has_circuit, is_any}
-use Rattle.bng_engine.specs.Terms.{Key, same_circuit}
-use Rattle.bng_engine.specs.Views.{ShardView, rows_where}
-use Rattle.bng_engine.specs.Wire.{WirePacket, is_input, is_from, is_output, is_on, counted, on_wire, told_of, went}
-use Rattle.bng_engine.proofs.Adding.{sum_map}
+use Rattle.bng_engine.specs.Quantities.{Quantity, Octets, in_book}
+use Rattle.bng_engine.specs.Sums.{stopped_where, has_lease, has_circuit, is_at, is_any}
+use Rattle.bng_engine.specs.Terms.{Key, Stop, same_circuit}
+use Rattle.bng_engine.specs.Views.{DeskView, ShardView, rows_where}
+use Rattle.bng_engine.specs.Wire.{WirePacket, is_input, is_from, is_output, is_to, is_on, is_on_to, counted, on_wire, told_of, went}
+use Rattle.bng_engine.proofs.Adding.{sum_map, sum_none, sum_plus, sum_same}
 use Rattle.bng_engine.proofs.Deciding.{circuit_itself}
+use Rattle.bng_engine.proofs.Everywhere.{all_weaker}
 use Rattle.bng_engine.proofs.Wire.{on_wire_went}
-use Rattle.bng_shard.specs.declared.pool.Holder.{Holder}
 use Rattle.bng_shard.specs.declared.sums.Traffic.{Traffic}
 use Rattle.bng_shard.specs.Protocol.{ShardState, Handled, pppoe}
 use Rattle.bng_shard.specs.Reader.{pppoe_reader}
-use Rattle.bng_desk.specs.Model.{carried_on, input_of, output_of}
+use Rattle.bng_desk.specs.declared.line.Line.{Line}
+use Rattle.bng_desk.specs.Model.{carried_on, input_of, is_of, line_after, no_traffic, output_of, plus_traffic, stopped_of}
 use Rattle.bng_desk.specs.Opening.{line_of}
-use Rattle.bng_desk.specs.Round.{view_of}
-use Rattle.bng_gate.specs.Headline.{traffic_of, all_traffic}
+use Rattle.bng_gate.specs.Headline.{StopsAccount, traffic_of, all_traffic}
 use Rattle.bng_gate.specs.Rounds.{on_data}
-use Rattle.bng_gate.proofs.Lists.{all_by_place, map_same_in, sum_of_one}
+use Rattle.bng_gate.proofs.Keys.{IsKeyOf}
+use Rattle.bng_gate.proofs.Leaving.{HasNoRows, none_carried}
+use Rattle.bng_gate.proofs.Lines.{traffic_is}
+use Rattle.bng_gate.proofs.Lists.{all_by_place, map_same_in, same_at, sum_of_one, sum_same_in}
 use Rattle.bng_gate.proofs.Openings.{session_in, address_in, sessions_apart, addresses_apart}
-use Rattle.bng_gate.proofs.Keys.{all_keys, HasRows}
-use Rattle.bng_gate.proofs.Accounts.{rows_total}
 
 -- Sums over what was sent ------------------------------------------------------------------------------------------------
 
@@ -70,89 +72,151 @@ module _ (sent : List Datagram) (rounds : List (List (ShardTurn Handled))) (same
       on_wire_went pppoe_reader q test (sends_of rounds)
       ∙ sym (sums_same (λ (d : Datagram). counted q test (pppoe_reader d.role d.octets)) (λ d e. none_told q test d.role d.octets e) sent (went (sends_of rounds)) same)
 
--- What the desk keeps -----------------------------------------------------------------------------------------------------
+-- What the Stops say ------------------------------------------------------------------------------------------------------
 
-abbrev make : ℕ → ℕ → Traffic
-make input output = record { input = input; output = output }
+-- where no row says anything, the Stops say what was sent
+module _ (sent : List Datagram) (rounds : List (List (ShardTurn Handled))) (same : on_data sent ≡ on_data (went (sends_of rounds))) (v : DeskView ShardState Handled)
+    (none : (q : Quantity) (pick : Key → Bool) (input : Bool) → sum_by (λ x. rows_where q pick input x.rows) v.shards ≡ 0) (wire : RowsAccountOnWire pppoe rounds v) where
+  alone : (q : Quantity) (pick : Key → Bool) (input : Bool) (test : WirePacket → Bool) → accounted_in q pick input rounds v ≡ on_wire pppoe_reader q test (sends_of rounds) → stopped_where q pick input (stops_of rounds) ≡ told_of pppoe_reader q test sent
+  alone q pick input test e =
+      let here : stopped_where q pick input (stops_of rounds) ≡ on_wire pppoe_reader q test (sends_of rounds) = omega (arith, e, none q pick input) in
+      here ∙ told_same sent rounds same q test
 
-traffic_is : (t : Traffic) (input output : ℕ) → t.input ≡ input → t.output ≡ output → t ≡ make input output
-traffic_is t input output i o = ap (λ (x : ℕ). make x t.output) i ∙ ap (λ (x : ℕ). make input x) o
+  pub stops_account : StopsAccount (stops_of rounds) sent
+  stops_account = record {
+    from = λ q a. alone q (has_lease a) true (is_from a) (wire.from q a);
+    to = λ q a. alone q (has_lease a) false (is_to a) (wire.to q a);
+    on = λ q circuit tells. alone q (has_circuit circuit) false (is_on circuit) (wire.on q circuit tells);
+    on_to = λ q circuit a tells. alone q (is_at circuit a) false (is_on_to circuit a) (wire.on_to q circuit a tells);
+    all_input = λ q. alone q is_any true is_input (wire.all_input q);
+    all_output = λ q. alone q is_any false is_output (wire.all_output q);
+  }
+
+-- where a test passes the keys that another one passes, it picks the same Stops
+tests_agree : (a b : Bool) → (a ≡ true → b ≡ true) → (b ≡ true → a ≡ true) → a ≡ b
+tests_agree true b f g = sym (f refl)
+tests_agree false true f g = g refl
+tests_agree false false f g = refl
+
+picked_same : (q : Quantity) (pick pick' : Key → Bool) (input : Bool) (ss : List Stop) → AllByRecursion (λ s. pick s.key ≡ pick' s.key) ss → stopped_where q pick input ss ≡ stopped_where q pick' input ss
+picked_same q pick pick' input ss h =
+    sum_same_in (λ (s : Stop). cond (pick s.key) (in_book q input s.carried) 0) (λ (s : Stop). cond (pick' s.key) (in_book q input s.carried) 0) ss
+    (all_weaker (λ (s : Stop). pick s.key ≡ pick' s.key) (λ s. cond (pick s.key) (in_book q input s.carried) 0 ≡ cond (pick' s.key) (in_book q input s.carried) 0) (λ s e. ap (λ (b : Bool). cond b (in_book q input s.carried) 0) e) ss h)
+
+-- Circuits ----------------------------------------------------------------------------------------------------------------
+
+abbrev circuit_of : Static → Circuit
+circuit_of c = Pppoe c.port c.mac c.session
 
 -- a frame of a circuit is told by its session
-session_tells : (c x : Static) → same_circuit (Pppoe x.port x.mac x.session) (Pppoe c.port c.mac c.session) ≡ true → session_in x ≡ session_in c
+session_tells : (c x : Static) → same_circuit (circuit_of x) (circuit_of c) ≡ true → session_in x ≡ session_in c
 session_tells c x e =
     let mac = bytes_eq x.mac.0 c.mac.0 in
     let session = eqb x.session.0 c.session.0 in
     eqb-true x.session.0 c.session.0 (and_parts mac session (and_parts (eqb x.port c.port) (mac && session) e).1).1
 
-module _ (config : Config) (rules : KeepsRules config) (shards : List (ShardView ShardState Entry)) (has : AllZip HasRows shards (all_keys config)) where
-  abbrev input_on : Static → ℕ
-  input_on c = (carried_on shards (line_of c)).input
+module _ (config : Config) (rules : KeepsRules config) where
+  -- of the keys of circuits, those of a circuit's session are those with its address, and those on it
+  module _ (i : ℕ) (c : Static) (at : slice_get config.statics i ≡ Some c) (k : Key) (is : IsKeyOf config k) where
+    session_is : k.term.session.0 ≡ session_in is.circuit
+    session_is = ap (λ (n : SessionNo). n.0) is.session
 
-  abbrev output_on : Static → ℕ
-  output_on c = (carried_on shards (line_of c)).output
+    address_is : k.lease.0 ≡ address_in is.circuit
+    address_is = ap (λ (a : Ip4). a.0) is.lease
 
-  -- the rows of one circuit, by its address and by its frames, and those of all
-  input_from : (i : ℕ) (c : Static) → slice_get config.statics i ≡ Some c → sum_by (λ v. rows_where Octets (has_lease c.address) true v.rows) shards ≡ input_on c
-  input_from i c at =
-      let test = λ (x : Static). eqb (address_in x) (address_in c) in
-      rows_total (has_lease c.address) test (λ x n. refl) true config rules shards has
-      ∙ sum_of_one address_in input_on test c (eq-eqb (address_in c) (address_in c) refl) (λ y e. eqb-true (address_in y) (address_in c) e) config.statics i at (addresses_apart config rules)
+    on_circuit : same_circuit k.circuit (circuit_of c) ≡ same_circuit (circuit_of is.circuit) (circuit_of c)
+    on_circuit = ap (λ (x : Circuit). same_circuit x (circuit_of c)) is.on
 
-  output_to : (i : ℕ) (c : Static) → slice_get config.statics i ≡ Some c → sum_by (λ v. rows_where Octets (has_circuit (Pppoe c.port c.mac c.session)) false v.rows) shards ≡ output_on c
-  output_to i c at =
-      let test = λ (x : Static). same_circuit (Pppoe x.port x.mac x.session) (Pppoe c.port c.mac c.session) in
-      rows_total (has_circuit (Pppoe c.port c.mac c.session)) test (λ x n. refl) false config rules shards has
-      ∙ sum_of_one session_in output_on test c (circuit_itself (Pppoe c.port c.mac c.session)) (λ y e. session_tells c y e) config.statics i at (sessions_apart config rules)
+    by_session : session_in is.circuit ≡ session_in c → is.circuit ≡ c
+    by_session e = same_at session_in config.statics i is.place c is.circuit at is.at (sessions_apart config rules) e
 
-  input_of_all : sum_by (λ v. rows_where Octets is_any true v.rows) shards ≡ sum_by input_on config.statics
-  input_of_all = rows_total is_any (λ x. true) (λ x n. refl) true config rules shards has
+    of_session : is_of c.session.0 k ≡ true → is.circuit ≡ c
+    of_session e = by_session (sym session_is ∙ eqb-true k.term.session.0 c.session.0 e)
 
-  output_of_all : sum_by (λ v. rows_where Octets is_any false v.rows) shards ≡ sum_by output_on config.statics
-  output_of_all = rows_total is_any (λ x. true) (λ x n. refl) false config rules shards has
+    by_address : is_of c.session.0 k ≡ has_lease c.address k
+    by_address =
+        tests_agree (is_of c.session.0 k) (has_lease c.address k)
+        (λ e. eq-eqb k.lease.0 c.address.0 (address_is ∙ ap address_in (of_session e)))
+        (λ e.
+        let one : is.circuit ≡ c = same_at address_in config.statics i is.place c is.circuit at is.at (addresses_apart config rules) (sym address_is ∙ eqb-true k.lease.0 c.address.0 e) in
+        eq-eqb k.term.session.0 c.session.0 (session_is ∙ ap session_in one))
 
-  module _ (holders : List Holder) (tallies : List Book) (sent : List Datagram) (rounds : List (List (ShardTurn Handled))) (same : on_data sent ≡ on_data (went (sends_of rounds))) (stops : stops_of rounds ≡ []) (wire : RowsAccountOnWire pppoe rounds (view_of shards holders tallies)) where
-    -- with no Stop formed, the rows are all that was sent
-    rows_alone : (pick : Key → Bool) (input : Bool) (n : ℕ) → accounted_in Octets pick input rounds (view_of shards holders tallies) ≡ n → sum_by (λ v. rows_where Octets pick input v.rows) shards ≡ n
-    rows_alone pick input n e =
-        omega (
-          arith,
-          e,
-          ap (stopped_where Octets pick input) stops,
-          sum_map (λ (v : ShardView ShardState Entry). with_journal {E = Handled} v []) (λ (v : ShardView ShardState Handled). rows_where Octets pick input v.rows) shards,
-        )
+    by_circuit : is_of c.session.0 k ≡ has_circuit (circuit_of c) k
+    by_circuit =
+        tests_agree (is_of c.session.0 k) (has_circuit (circuit_of c) k)
+        (λ e. on_circuit ∙ ap (λ (x : Static). same_circuit (circuit_of x) (circuit_of c)) (of_session e) ∙ circuit_itself (circuit_of c))
+        (λ e. eq-eqb k.term.session.0 c.session.0 (session_is ∙ session_tells c is.circuit (sym on_circuit ∙ e)))
 
-    traffic_one : (i : ℕ) (c : Static) → slice_get config.statics i ≡ Some c → carried_on shards (line_of c) ≡ traffic_of sent c
-    traffic_one i c at =
-        let circuit = Pppoe c.port c.mac c.session in
-        traffic_is (carried_on shards (line_of c)) (told_of pppoe_reader Octets (is_from c.address) sent) (told_of pppoe_reader Octets (is_on circuit) sent)
-        (sym (input_from i c at) ∙ rows_alone (has_lease c.address) true (on_wire pppoe_reader Octets (is_from c.address) (sends_of rounds)) (wire.from Octets c.address) ∙ told_same sent rounds same Octets (is_from c.address))
-        (sym (output_to i c at) ∙ rows_alone (has_circuit circuit) false (on_wire pppoe_reader Octets (is_on circuit) (sends_of rounds)) (wire.on Octets circuit refl) ∙ told_same sent rounds same Octets (is_on circuit))
+  -- each key of a circuit is that of one
+  one_address : (k : Key) → IsKeyOf config k → (v : ℕ) → sum_by (λ c. cond (has_lease c.address k) v 0) config.statics ≡ v
+  one_address k is v =
+      let address : k.lease.0 ≡ address_in is.circuit = ap (λ (a : Ip4). a.0) is.lease in
+      sum_of_one address_in (λ (c : Static). v) (λ (c : Static). eqb k.lease.0 c.address.0) is.circuit (eq-eqb k.lease.0 is.circuit.address.0 address)
+      (λ y e. sym (eqb-true k.lease.0 y.address.0 e) ∙ address) config.statics is.place is.at (addresses_apart config rules)
 
-    -- what is printed for each circuit
-    pub traffic_same : map (carried_on shards) (map line_of config.statics) ≡ all_traffic config sent
-    traffic_same =
-        map_map config.statics ∙ map_same_in (λ (c : Static). carried_on shards (line_of c)) (traffic_of sent) config.statics (all_by_place (λ c. carried_on shards (line_of c) ≡ traffic_of sent c) config.statics traffic_one)
-      where
-        map_map : (cs : List Static) → map (carried_on shards) (map line_of cs) ≡ map (λ (c : Static). carried_on shards (line_of c)) cs
-        map_map [] = refl
-        map_map (c ∷ cs) = ap (λ (t : List Traffic). carried_on shards (line_of c) ∷ t) (map_map cs)
+  one_circuit : (k : Key) → IsKeyOf config k → (v : ℕ) → sum_by (λ c. cond (has_circuit (circuit_of c) k) v 0) config.statics ≡ v
+  one_circuit k is v =
+      let on : (c : Static) → same_circuit k.circuit (circuit_of c) ≡ same_circuit (circuit_of is.circuit) (circuit_of c) = λ c. ap (λ (x : Circuit). same_circuit x (circuit_of c)) is.on in
+      sum_of_one session_in (λ (c : Static). v) (λ (c : Static). same_circuit k.circuit (circuit_of c)) is.circuit (on is.circuit ∙ circuit_itself (circuit_of is.circuit))
+      (λ y e. sym (session_tells y is.circuit (sym (on y) ∙ e))) config.statics is.place is.at (sessions_apart config rules)
+
+  -- so what the Stops say of all circuits is what they say
+  of_all : (pick : Static → Key → Bool) → ((k : Key) → IsKeyOf config k → (v : ℕ) → sum_by (λ c. cond (pick c k) v 0) config.statics ≡ v) → (input : Bool) (ss : List Stop) → AllByRecursion (λ s. IsKeyOf config s.key) ss
+      → sum_by (λ c. stopped_where Octets (pick c) input ss) config.statics ≡ stopped_where Octets is_any input ss
+  of_all pick one input [] known = sum_none (λ (c : Static). 0) (λ c. refl) config.statics
+  of_all pick one input (s ∷ ss) known =
+      let v = in_book Octets input s.carried in
+      omega (
+        arith,
+        sum_plus (λ (c : Static). cond (pick c s.key) v 0) (λ (c : Static). stopped_where Octets (pick c) input ss) (λ (c : Static). stopped_where Octets (pick c) input (s ∷ ss)) (λ c. sum_by-cons (λ (x : Stop). cond (pick c x.key) (in_book Octets input x.carried) 0) s ss) config.statics,
+        one s.key known.0 v,
+        of_all pick one input ss known.1,
+        sum_by-cons (λ (x : Stop). in_book Octets input x.carried) s ss,
+      )
+
+  module _ (sent : List Datagram) (stops : List Stop) (known : AllByRecursion (λ s. IsKeyOf config s.key) stops) (exact : StopsAccount stops sent) where
+    stopped_one : (i : ℕ) (c : Static) → slice_get config.statics i ≡ Some c → stopped_of c.session.0 stops ≡ traffic_of sent c
+    stopped_one i c at =
+        traffic_is (stopped_of c.session.0 stops) (told_of pppoe_reader Octets (is_from c.address) sent) (told_of pppoe_reader Octets (is_on (circuit_of c)) sent)
+        (picked_same Octets (is_of c.session.0) (has_lease c.address) true stops (all_weaker (λ (s : Stop). IsKeyOf config s.key) (λ s. is_of c.session.0 s.key ≡ has_lease c.address s.key) (λ s is. by_address i c at s.key is) stops known)
+        ∙ exact.from Octets c.address)
+        (picked_same Octets (is_of c.session.0) (has_circuit (circuit_of c)) false stops (all_weaker (λ (s : Stop). IsKeyOf config s.key) (λ s. is_of c.session.0 s.key ≡ has_circuit (circuit_of c) s.key) (λ s is. by_circuit i c at s.key is) stops known)
+        ∙ exact.on Octets (circuit_of c) refl)
+
+    module _ (shards : List (ShardView ShardState Entry)) (none : AllByRecursion HasNoRows shards) where
+      -- a circuit's line in the end
+      abbrev line_in : Static → Line
+      line_in c = line_after stops (line_of c)
+
+      traffic_one : (i : ℕ) (c : Static) → slice_get config.statics i ≡ Some c → carried_on shards (line_in c) ≡ traffic_of sent c
+      traffic_one i c at =
+          let t = traffic_of sent c in
+          let says = stopped_one i c at in
+          let row = none_carried shards none (c.session.0 / 1024) c.session.0 in
+          ap (plus_traffic (line_in c).stopped) row
+          ∙ traffic_is (plus_traffic (line_in c).stopped no_traffic) t.input t.output
+          (omega (arith, ap (λ (x : Traffic). x.input) says)) (omega (arith, ap (λ (x : Traffic). x.output) says))
+
+      -- what is printed for each circuit
+      pub traffic_same : map (carried_on shards) (map (line_after stops) (map line_of config.statics)) ≡ all_traffic config sent
+      traffic_same =
+          map_map config.statics ∙ map_same_in (λ (c : Static). carried_on shards (line_in c)) (traffic_of sent) config.statics (all_by_place (λ c. carried_on shards (line_in c) ≡ traffic_of sent c) config.statics traffic_one)
+        where
+          map_map : (cs : List Static) → map (carried_on shards) (map (line_after stops) (map line_of cs)) ≡ map (λ (c : Static). carried_on shards (line_in c)) cs
+          map_map [] = refl
+          map_map (c ∷ cs) = ap (λ (t : List Traffic). carried_on shards (line_in c) ∷ t) (map_map cs)
 
     -- and all together
     pub input_all : input_of (all_traffic config sent) ≡ told_of pppoe_reader Octets is_input sent
     input_all =
-        ap input_of (sym traffic_same)
-        ∙ sum_map (carried_on shards) (λ (t : Traffic). t.input) (map line_of config.statics)
-        ∙ sum_map line_of (λ l. (carried_on shards l).input) config.statics
-        ∙ sym input_of_all
-        ∙ rows_alone is_any true (on_wire pppoe_reader Octets is_input (sends_of rounds)) (wire.all_input Octets)
-        ∙ told_same sent rounds same Octets is_input
+        sum_map (traffic_of sent) (λ (t : Traffic). t.input) config.statics
+        ∙ sum_same (λ (c : Static). told_of pppoe_reader Octets (is_from c.address) sent) (λ (c : Static). stopped_where Octets (has_lease c.address) true stops) (λ c. sym (exact.from Octets c.address)) config.statics
+        ∙ of_all (λ c. has_lease c.address) one_address true stops known
+        ∙ exact.all_input Octets
 
     pub output_all : output_of (all_traffic config sent) ≡ told_of pppoe_reader Octets is_output sent
     output_all =
-        ap output_of (sym traffic_same)
-        ∙ sum_map (carried_on shards) (λ (t : Traffic). t.output) (map line_of config.statics)
-        ∙ sum_map line_of (λ l. (carried_on shards l).output) config.statics
-        ∙ sym output_of_all
-        ∙ rows_alone is_any false (on_wire pppoe_reader Octets is_output (sends_of rounds)) (wire.all_output Octets)
-        ∙ told_same sent rounds same Octets is_output
+        sum_map (traffic_of sent) (λ (t : Traffic). t.output) config.statics
+        ∙ sum_same (λ (c : Static). told_of pppoe_reader Octets (is_on (circuit_of c)) sent) (λ (c : Static). stopped_where Octets (has_circuit (circuit_of c)) false stops) (λ c. sym (exact.on Octets (circuit_of c) refl)) config.statics
+        ∙ of_all (λ c. has_circuit (circuit_of c)) one_circuit false stops known
+        ∙ exact.all_output Octets

@@ -19,7 +19,7 @@ use Rattle.bng_gate.proofs.Places.{InFirst, InSecond, link_at, chain_end, in_bot
 use Rattle.bng_gate.proofs.YesItems.{HasCause, WasTaken, question_no, later_cause, drawn_caused, ends_caused, kept_caused, replies_caused, taken_caused, ticks_caused, timeout_caused, readings_else}
 
 -- what stays for the next turn
-kept_after : (P : Item → Type 0) (d : Desk) (items : List Item) (round : Option Round) → All P (kept_of items) → All P (after_round d items round).kept
+pub kept_after : (P : Item → Type 0) (d : Desk) (items : List Item) (round : Option Round) → All P (kept_of items) → All P (after_round d items round).kept
 kept_after P d items None all = all
 kept_after P d items (Some round) all = All-nil P
 

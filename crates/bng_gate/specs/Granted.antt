@@ -1,27 +1,35 @@
 -- Who was let in, and by what: over what was taken from Auth, the questions that were asked and what was sent there, what was sent to
 -- peers, and the states that the shards had.
-use Rattle.std.specs.Prelude.{◌≡◌, ◌⊎◌, ℕ, ◌<◌, ◌≤◌, true, List, [], ◌∷◌, ◌++◌, Option, Some, None, map, slice_get, slice_index_or}
+use Rattle.std.specs.Prelude.{◌≡◌, ◌⊎◌, ℕ, ◌<◌, ◌≤◌, true, false, List, [], ◌∷◌, ◌++◌, Option, Some, None, map, slice_get, slice_index_or}
 use Rattle.std.specs.List.{All, AllPairs, Contains, flat_map}
 use Rattle.std.specs.Option.{option_map}
 use Rattle.bng_base.specs.declared.circuit.Circuit.TheVariants.{Pppoe}
 use Rattle.bng_base.specs.declared.address.Mac.{Mac}
 use Rattle.bng_base.specs.declared.item.OutRecord.{OutRecord}
 use Rattle.bng_base.specs.declared.outside.Datagram.{Datagram}
-use Rattle.bng_base.specs.declared.outside.Role.TheVariants.{Auth}
+use Rattle.bng_base.specs.declared.outside.Role.TheVariants.{Access, Auth}
+use Rattle.bng_base.specs.FateOf.{Arrival}
+use Rattle.bng_base.specs.PppoeGrammar.{PppoeFrame}
 use Rattle.bng_config.specs.declared.config.Config.{Config}
 use Rattle.bng_engine.specs.Calls.{all_sends}
 use Rattle.bng_engine.specs.Journals.{after}
 use Rattle.bng_engine.specs.Lists.{AnyOf}
 use Rattle.bng_engine.specs.Wire.{went}
 use Rattle.bng_access.specs.Request.{request_of}
+use Rattle.bng_forward.specs.Fates.{IsFrame}
 use Rattle.bng_lane.specs.Laws.{but_for_digest}
 use Rattle.bng_lane.specs.Sends.{LaneAsk}
+use Rattle.bng_ppp.specs.declared.authentication.Authentication.{Authentication}
+use Rattle.bng_ppp.specs.Claims.{claim_of}
+use Rattle.bng_ppp.specs.Saying.{Says}
 use Rattle.bng_radius_wire.specs.Codes.{access_request, access_accept}
 use Rattle.bng_radius_wire.specs.Digests.{IsSigned}
 use Rattle.bng_radius_wire.specs.Grammar.{Packet, IsRadius}
+use Rattle.bng_shard.specs.Claiming.{IsAskedBy}
+use Rattle.bng_shard.specs.Deed.{arrival_in}
 use Rattle.bng_shard.specs.Granting.{GivesYes, IsYesOn, accepted_ask_at}
 use Rattle.bng_shard.specs.Protocol.{ShardState, Handled, pppoe}
-use Rattle.bng_shard.specs.Questions.{asking_from, last_asking_at}
+use Rattle.bng_shard.specs.Questions.{Asking, asking_from, last_asking_at}
 use Rattle.bng_verdict.specs.declared.question.AuthAsk.{AuthAsk}
 use Rattle.bng_verdict.specs.Verdicts.{Saying, IsVerdict}
 use Rattle.bng_desk.specs.Logins.{lane_datagram, lane_sends}
@@ -33,17 +41,18 @@ use Rattle.bng_desk.specs.Round.{Round}
 use Rattle.bng_desk.specs.Turn.{Turn, EndTurn}
 use Rattle.bng_gate.specs.Serving.{Made, MadeEnd}
 
--- Of a turn, in their order: the datagrams that it took from Auth, the datagrams of its round that were sent, the questions that it
--- asked after them, each with the octets of its Access-Request, and the requests that were sent: those that were sent again, and then
--- those of these questions.
+-- Of a turn, in their order: the datagrams that it took from Auth, those that it took from the access ports and the core, the
+-- datagrams of its round that were sent, the questions that it asked after them, each with the octets of its Access-Request, and the
+-- requests that were sent: those that were sent again, and then those of these questions.
 pub record Stage : Type 0 where
   pub heard : List Datagram
+  pub taken : List Datagram
   pub sent : List Datagram
   pub asked : List LaneAsk
   pub requests : List Datagram
 
 abbrev pub nothing : Stage
-nothing = record { heard = []; sent = []; asked = []; requests = [] }
+nothing = record { heard = []; taken = []; sent = []; asked = []; requests = [] }
 
 -- what a round sent
 abbrev pub sent_by : Option Round → List Datagram
@@ -54,6 +63,7 @@ abbrev pub stage_in : Desk → Option Turn → Stage
 stage_in d None = nothing
 stage_in d (Some t) = record {
   heard = taken_in Auth (map (λ a. a.arrival) t.answers);
+  taken = flat_map (λ r. taken_in r.role r.arrivals) t.readings;
   sent = sent_by t.round;
   asked = t.requests.asked;
   requests = flat_map (lane_datagram d.lane.client.auth_server) (lane_sends t.requests);
@@ -63,6 +73,7 @@ abbrev pub end_stage_in : Desk → Option EndTurn → Stage
 end_stage_in d None = nothing
 end_stage_in d (Some t) = record {
   heard = [];
+  taken = [];
   sent = sent_by t.round;
   asked = t.requests.asked;
   requests = flat_map (lane_datagram d.lane.client.auth_server) (lane_sends t.requests);
@@ -179,6 +190,41 @@ pub record HandledIn (held : List Held) (k : ℕ) (s : ShardState) (h : Handled)
   pub journal : option_map (λ v. v.journal) (slice_get round.shards place) ≡ Some (earlier ++ h ∷ later)
   pub state : s ≡ after pppoe before earlier
 
+-- In the turn with this number a shard handled an entry, which is this arrival, and by it the link of the session with this number
+-- asked this question. The question has the next number of its shard, and from then on is the one that the link asked last. Before the
+-- entry the authentication of the link stood so.
+pub record IsAskedIn (held : List Held) (k session : ℕ) (arrival : Arrival) (stands : Authentication) (a : Asking) : Type 0 where
+  pub state : ShardState
+  pub handled : Handled
+  pub at : HandledIn held k state handled
+  pub by : IsAskedBy state.rules state.slots handled.deed session a
+  pub last : last_asking_at handled.deed.next session ≡ Some a
+  pub arrival_is : arrival_in handled.deed.entry ≡ arrival
+  pub auth : by.made.link.auth ≡ stands
+
+-- The question of the login was heard. In the turn in which it was asked, or in one before it, a datagram was taken on the access port
+-- of the question's circuit. It came whole from that port's other end, and is a frame of the session stage from the circuit's MAC in its
+-- session (RFC 2516 section 6). In the PPP frame in it stands what the question claims, by how the authentication of the session's link
+-- stood then: the Peer-ID and the Password of an Authenticate-Request (RFC 1334 section 2.2.1), or the Name and the Value of a Response
+-- to the Challenge that the link had sent (RFC 1994 section 4.1). By this very datagram the link asked the question.
+pub record IsHeard (config : Config) (stages : List Stage) (held : List Held) (g : Login) : Type 0 where
+  pub turn : ℕ
+  pub before : turn ≤ g.asked
+  pub port : ℕ
+  pub mac : Mac
+  pub session : ℕ
+  pub circuit : g.ask.circuit ≡ Pppoe port mac (record { 0 = session })
+  pub arrival : Arrival
+  pub taken : Contains (stage_at stages turn).taken (record { role = Access port; peer = arrival.from; octets = arrival.octets })
+  pub frame : PppoeFrame
+  pub came : IsFrame config.access port arrival frame
+  pub no_discovery : frame.discovery ≡ false
+  pub from : frame.src ≡ mac
+  pub session_is : frame.session ≡ session
+  pub stands : Authentication
+  pub says : Says stands frame.payload (claim_of g.ask.credentials)
+  pub asks : IsAskedIn held turn session arrival stands (asking_from g.ask)
+
 -- in the turn with this number a shard handled an entry, and the datagram is one that it had to send for it
 pub record SentBy (held : List Held) (k : ℕ) (d : Datagram) : Type 0 where
   pub state : ShardState
@@ -194,13 +240,15 @@ pub record IsLetIn (held : List Held) (logins : List Login) (k : ℕ) (d : Datag
   pub by : SentBy held k d
   pub login : AnyOf (LetsInOwn by.state by.handled port mac session k) logins
 
--- There are logins, each of them right, no two with the same datagram of the server, and no two of different questions with the same
--- draw as the authenticator of their requests, such that each yes that was sent to a peer is that of a login: whoever reads what was
--- sent finds one of the same circuit (`granted`); each such datagram comes from an entry of a shard, and a login of that entry is the
--- one of the question that the link asked last (`sent_by`); and so it is of each yes that a shard had to send, sent or not (`own`).
+-- There are logins, each of them right, the question of each heard from the subscriber, no two with the same datagram of the server, and
+-- no two of different questions with the same draw as the authenticator of their requests, such that each yes that was sent to a peer is
+-- that of a login: whoever reads what was sent finds one of the same circuit (`granted`); each such datagram comes from an entry of a
+-- shard, and a login of that entry is the one of the question that the link asked last (`sent_by`); and so it is of each yes that a
+-- shard had to send, sent or not (`own`).
 pub record Granted (config : Config) (seed : List ℕ) (turns : List Made) (endings : List MadeEnd) : Type 0 where
   pub logins : List Login
   pub right : All (IsLogin config seed (stages_of turns endings)) logins
+  pub heard : All (IsHeard config (stages_of turns endings) (held_of turns endings)) logins
   pub once : AllPairs AreApart logins
   pub draws : AllPairs HaveOwnDraws logins
   pub granted : (k : ℕ) (d : Datagram) (port : ℕ) (mac : Mac) (session : ℕ) → Contains (stage_at (stages_of turns endings) k).sent d

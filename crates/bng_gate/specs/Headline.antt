@@ -1,7 +1,9 @@
 -- What a run says in the subject's own words.
-use Rattle.std.specs.Prelude.{◌≡◌, ℕ, ◌+◌, ◌++◌, true, List, [], Some, length, map, take, drop, slice_get, count_by}
-use Rattle.std.specs.List.{All, flat_map, range_with_len}
+use Rattle.std.specs.Prelude.{◌≡◌, ℕ, ◌+◌, ◌++◌, true, false, List, [], Some, length, map, take, drop, slice_get, count_by}
+use Rattle.std.specs.List.{All, AllZip, flat_map, range_with_len}
 use Rattle.byteorder.specs.Endian.{big_from}
+use Rattle.bng_base.specs.declared.address.Ip4.{Ip4}
+use Rattle.bng_base.specs.declared.circuit.Circuit.{Circuit}
 use Rattle.bng_base.specs.declared.circuit.Circuit.TheVariants.{Pppoe}
 use Rattle.bng_base.specs.declared.ipv4.Ipv4.{Ipv4}
 use Rattle.bng_base.specs.declared.outside.Datagram.{Datagram}
@@ -12,19 +14,22 @@ use Rattle.bng_base.specs.declared.settings.Static.{Static}
 use Rattle.bng_base.specs.Causes.{HasCauses}
 use Rattle.bng_base.specs.Chain.{Chain}
 use Rattle.bng_base.specs.Ipv4Grammar.{IsIpv4}
+use Rattle.bng_base.specs.Listed.{Same}
 use Rattle.bng_base.specs.Roles.{is_core, is_access}
 use Rattle.bng_base.specs.Told.{Grows, GrowsIfTold}
 use Rattle.bng_config.specs.declared.config.Config.{Config}
 use Rattle.bng_engine.specs.Accounted.{Balanced}
 use Rattle.bng_engine.specs.Exact.{ConservedAt}
-use Rattle.bng_engine.specs.Histories.{History}
+use Rattle.bng_engine.specs.Histories.{History, ShardHistory}
 use Rattle.bng_engine.specs.Laws.{RightRound, sends_of, stops_of}
-use Rattle.bng_engine.specs.Quantities.{Octets}
-use Rattle.bng_engine.specs.Terms.{Key, keys}
-use Rattle.bng_engine.specs.Wire.{is_input, is_from, is_output, is_on, told_of, went}
+use Rattle.bng_engine.specs.Quantities.{Quantity, Octets}
+use Rattle.bng_engine.specs.Sums.{stopped_where, has_lease, has_circuit, is_at, is_any}
+use Rattle.bng_engine.specs.Terms.{Key, Stop, keys, stopped_keys}
+use Rattle.bng_engine.specs.Wire.{is_input, is_from, is_output, is_to, is_on, is_on_to, told_of, went}
 use Rattle.bng_shard.specs.declared.sums.Traffic.{Traffic}
 use Rattle.bng_shard.specs.Protocol.{ShardState, terms_of, terms_of_circuits, pppoe}
-use Rattle.bng_shard.specs.Reader.{is_session_data, pppoe_reader}
+use Rattle.bng_shard.specs.Link.{nas_request}
+use Rattle.bng_shard.specs.Reader.{is_session_data, pppoe_reader, tells_pppoe}
 use Rattle.bng_desk.specs.Model.{input_of, output_of}
 use Rattle.bng_desk.specs.Opening.{line_of, statics_of}
 use Rattle.bng_desk.specs.Reading.{taken_in}
@@ -83,6 +88,26 @@ all_traffic config sent = map (traffic_of sent) config.statics
 abbrev pub keys_of_circuits : Config → List (List Key)
 keys_of_circuits config = map (λ n. keys (terms_of_circuits n (statics_of config n))) (range_with_len 0 config.shards)
 
+-- of each of these terms there is a Stop, or it is live, and there is no other
+abbrev pub HaveTerms : ShardHistory ShardState → List Key → Type 0
+HaveTerms h ks = Same (stopped_keys h.stops ++ keys (terms_of h.state)) ks
+
+-- of each of these terms there is one Stop, and there is no other
+abbrev pub AreStopped : ShardHistory ShardState → List Key → Type 0
+AreStopped h ks = Same (stopped_keys h.stops) ks
+
+-- Over the octets alone of what was sent. For each address: the Input octets of the Stops with it sum to the lengths of the packets to the
+-- core with that source, and the Output octets to those of the packets on access ports with that destination. For each PPPoE circuit:
+-- the Output octets of the Stops with it sum to the lengths of the packets on it, and so for each circuit and address. So it is of the
+-- numbers of packets.
+pub record StopsAccount (stops : List Stop) (sent : List Datagram) : Type 0 where
+  pub from : (q : Quantity) (address : Ip4) → stopped_where q (has_lease address) true stops ≡ told_of pppoe_reader q (is_from address) sent
+  pub to : (q : Quantity) (address : Ip4) → stopped_where q (has_lease address) false stops ≡ told_of pppoe_reader q (is_to address) sent
+  pub on : (q : Quantity) (circuit : Circuit) → tells_pppoe circuit ≡ true → stopped_where q (has_circuit circuit) false stops ≡ told_of pppoe_reader q (is_on circuit) sent
+  pub on_to : (q : Quantity) (circuit : Circuit) (address : Ip4) → tells_pppoe circuit ≡ true → stopped_where q (is_at circuit address) false stops ≡ told_of pppoe_reader q (is_on_to circuit address) sent
+  pub all_input : (q : Quantity) → stopped_where q is_any true stops ≡ told_of pppoe_reader q is_input sent
+  pub all_output : (q : Quantity) → stopped_where q is_any false stops ≡ told_of pppoe_reader q is_output sent
+
 -- What holds of the turns that a run made, whatever frames and datagrams, repeats and moments it met.
 pub record IsSafe (config : Config) (seed : List ℕ) (old new : World) (course : Course config seed (outside old) (outside new)) : Type 0 where
   -- What was heard, taken and sent was so in these turns, one after another.
@@ -104,27 +129,30 @@ pub record IsSafe (config : Config) (seed : List ℕ) (old new : World) (course 
   -- a live term, on its circuit and with its address.
   pub history : History ShardState
   pub rounds : Chain (RightRound pppoe) (history_of course.opening) (rounds_of course.turns course.endings) history
-  -- No term ended: those of the circuits are live in the end. For each circuit, address and direction what was sent is theirs, in octets
-  -- and in packets; and the books of the profiles, the tallies of the seats and what the terms carried have one total, all that was sent.
-  pub terms : map (λ h. keys (terms_of h.state)) history.shards ≡ keys_of_circuits config
-  pub no_stops : stops_of (rounds_of course.turns course.endings) ≡ []
+  -- Each circuit has one term: it has its Stop, or it is live in the end. Each Stop says that the gateway stopped. For each circuit,
+  -- address and direction what was sent is what the Stops and the live terms say, in octets and in packets; and the books of the profiles,
+  -- the tallies of the seats and what the terms carried have one total, all that was sent.
+  pub terms : AllZip HaveTerms history.shards (keys_of_circuits config)
+  pub causes : All (λ s. s.cause ≡ nas_request) (stops_of (rounds_of course.turns course.endings))
   pub conserved : ConservedAt pppoe history.shards
   pub balanced : Balanced (view_of course.last.shards course.last.holders course.last.tallies) history
   -- Each datagram to the core was a packet from the address of a circuit, and each packet on an access port was on a circuit, to its
   -- address.
   pub addressed : All (IsAddressed config) sent
-  -- What was taken from Auth, each datagram once and in order, are the datagrams that the stages of the turns heard. What was sent on
-  -- all roles but Control, each datagram once and in order, is what each stage sent there for its round, and then its requests.
+  -- What was taken from Auth, each datagram once and in order, are the datagrams that the stages of the turns heard, and what was taken
+  -- from the access ports and the core, so too, those that they took there. What was sent on all roles but Control, each datagram once
+  -- and in order, is what each stage sent there for its round, and then its requests.
   pub stages_heard : on_auth taken ≡ flat_map (λ s. s.heard) (stages_of course.turns course.endings)
+  pub stages_taken : on_data taken ≡ flat_map (λ s. s.taken) (stages_of course.turns course.endings)
   pub stages_sent : beside_control sent ≡ beside_control (flat_map (λ s. s.sent ++ s.requests) (stages_of course.turns course.endings))
   -- Each of the datagrams of Auth that was taken for the reply to a question comes from the configured server and is signed for the
   -- request of that question, which was open and asked in an earlier turn, and whose request was sent since.
   pub replied : AreReplied config seed course.turns
   -- Each yes that was sent to a peer, a Success of CHAP or an Authenticate-Ack of PAP, is that of a login of its circuit: of a question
-  -- that was asked, whose very request, with the name and the proof of the question, was sent to the configured server, and to which
-  -- later an Access-Accept was taken from that server, signed for this request. It is the question that the peer's link asked last. No
-  -- datagram of the server is that of two logins, and no two logins of different questions have requests with the same draw as their
-  -- authenticator.
+  -- that was heard, with its name and its proof, in a frame of the circuit that was taken on its port, and was then asked; whose very
+  -- request, with that name and proof, was sent to the configured server, and to which later an Access-Accept was taken from that
+  -- server, signed for this request. It is the question that the peer's link asked last. No datagram of the server is that of two
+  -- logins, and no two logins of different questions have requests with the same draw as their authenticator.
   pub granted : Granted config seed course.turns course.endings
   -- Of what the rounds had to send and the requests of the turns, no more was not sent than the plant's count rose, unless that stands
   -- at its end.
@@ -136,6 +164,10 @@ pub record Headline (config : Config) (old new : World) : Type 0 where
   pub seed : List ℕ
   pub run : Runs config seed (outside old) (outside new) old.out new.out
   pub safe : IsSafe config seed old new run.completes.course
+  -- Each circuit's term has its Stop. What the Stops say, in octets and in packets, is exactly what was sent: whoever reads the sent
+  -- octets alone finds for each address and for each circuit that the Stops with it sum to its packets.
+  pub stopped : AllZip AreStopped safe.history.shards (keys_of_circuits config)
+  pub exact : StopsAccount (stops_of (rounds_of run.completes.course.turns run.completes.course.endings)) safe.sent
   -- The octets printed for a circuit are those of the packets that were sent for it, and all together are those of all packets that
   -- were sent. The drops printed are those of the rounds, and of those that could not be opened.
   pub printed : Grows old.out.bytes new.out.bytes (report_text (map line_of config.statics) (all_traffic config safe.sent) (by_number (drops_of_run run.completes.course.turns run.completes.course.endings)))

@@ -18,12 +18,14 @@ pub fn replies_are_of_questions()
 {}
 
 /// Each peer that was told yes, by Success of CHAP (RFC 1994 section 4.2) or Authenticate-Ack of PAP (RFC 1334 section 2.2.2), was let
-/// in by the configured server: of its circuit there is a login. Its question was asked in a turn; the Access-Request that was made for
-/// it then, with the name and the proof of the question, was sent in that turn or a later one; and in a still later one its
-/// Access-Accept was taken, signed for this very request. No datagram of the server is that of two logins, and no two logins of
-/// different questions have one draw as the authenticators of their requests. Each such yes was to be sent for an entry of a shard: by
-/// the state in which that was handled, the login is the one of the question that the peer's link asked last, and the link was accepted
-/// on it before, or the entry is this very Access-Accept.
+/// in by the configured server: of its circuit there is a login. Its question was heard in a turn: a datagram was taken on the access
+/// port of the circuit, from that port's end, a frame of the circuit's MAC in its session, and in it stand the name and the proof of the
+/// question, as the peer's authentication stood (an Authenticate-Request, or a Response to the Challenge of its link). In that turn or a
+/// later one the question was asked; the Access-Request that was made for it then, with that name and proof, was sent in that turn or a
+/// later one; and in a still later one its Access-Accept was taken, signed for this very request. No datagram of the server is that of
+/// two logins, and no two logins of different questions have one draw as the authenticators of their requests. Each such yes was to be
+/// sent for an entry of a shard: by the state in which that was handled, the login is the one of the question that the peer's link asked
+/// last, and the link was accepted on it before, or the entry is this very Access-Accept.
 pub fn logins_are_granted()
     ensures { (config : Config) (rounds : ℕ) (seed : List ℕ) (now : ℕ) (opening over last : Desk) (turns : List Made) (endings : List MadeEnd) → KeepsRules config → IsOpened config rounds seed now opening
         → Run opening turns over → EndRun over endings last → length turns ≤ turns_most → length endings ≤ endings_most → Granted config seed turns endings }

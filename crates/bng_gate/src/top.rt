@@ -295,8 +295,8 @@ where
         (record { files = F.told files.new; plant = P.told plant.new; clock = C.told clock.new; entropy = E.told entropy.new; trace = T.told trace.new; out = O.told out.new; err = X.told err.new })
         result }
 
-    // With status 0: no two live sessions ever held one address; the packets sent, their circuits and addresses; and the octets and
-    // drops printed.
+    // With status 0: no two live sessions ever held one address; the packets sent, their circuits and addresses; each circuit's
+    // term has its Stop, and the Stops say exactly what was sent; and the octets and drops printed.
     ensures headline { result ≡ 0 → (config : Settings) × Prepares (words_of words.now.items) (F.told files.old) (F.told files.new) config × Headline config
         (record { files = F.told files.old; plant = P.told plant.old; clock = C.told clock.old; entropy = E.told entropy.old; trace = T.told trace.old; out = O.told out.old; err = X.told err.old })
         (record { files = F.told files.new; plant = P.told plant.new; clock = C.told clock.new; entropy = E.told entropy.new; trace = T.told trace.new; out = O.told out.new; err = X.told err.new }) }

@@ -1,0 +1,84 @@
+-- Where no session is left, each term has its Stop, and no row says anything.
+use Rattle.std.proofs.Common.{◌≡◌, ℕ, zero, suc, ◌+◌, Bool, true, false, not, ◌&&◌, cond, List, [], ◌∷◌, ◌++◌, length, map, Option, Some, None, refl, sym, ap, subst, ◌∙◌, arith, append-nil}
+use Rattle.std.specs.Prelude.{slice_get}
+use Rattle.std.specs.List.{AllByRecursion, AllZip, flat_map, sum_by}
+use Rattle.std.proofs.lemmas.Bool.{and_parts, eqb-true}
+use Rattle.std.proofs.lemmas.List.{nil_from_length}
+use Rattle.std.proofs.lemmas.List.Sums.{sum_by-cons}
+use Rattle.bng_base.specs.declared.item.Entry.{Entry}
+use Rattle.bng_engine.specs.Histories.{ShardHistory}
+use Rattle.bng_engine.specs.Quantities.{Quantity}
+use Rattle.bng_engine.specs.Showing.{with_journal}
+use Rattle.bng_engine.specs.Terms.{Key, Term, keys, stopped_keys}
+use Rattle.bng_engine.specs.Turns.{Tells}
+use Rattle.bng_engine.specs.Views.{ShardView, Row, row_keys, rows_where}
+use Rattle.bng_slots.specs.Listed.{values}
+use Rattle.bng_shard.specs.declared.session.Session.{Session}
+use Rattle.bng_shard.specs.Protocol.{ShardState, Handled, pppoe, row_at, sessions_of, terms_at, terms_of}
+use Rattle.bng_desk.specs.declared.desk.DeskState.TheVariants.{Ended}
+use Rattle.bng_desk.specs.Model.{Desk, has_ended, has_starved, is_over, no_traffic, sessions_in, state_of, traffic_at, traffic_or}
+use Rattle.bng_desk.specs.Round.{views_of}
+use Rattle.bng_gate.specs.Headline.{AreStopped, HaveTerms}
+use Rattle.bng_gate.proofs.States.{ended_by}
+use Rattle.bng_gate.proofs.Stopping.{IsRight}
+
+-- no session is left in a shard
+abbrev pub IsEmpty : ShardView ShardState Entry → Type 0
+IsEmpty v = sessions_of v.state ≡ 0
+
+all_empty : (vs : List (ShardView ShardState Entry)) → sessions_in vs ≡ 0 → AllByRecursion IsEmpty vs
+all_empty [] e = tt
+all_empty (v ∷ vs) e =
+    let parts = sum_by-cons (λ (x : ShardView ShardState Entry). sessions_of x.state) v vs in
+    (omega (arith, e, parts), all_empty vs (omega (arith, e, parts)))
+
+pub ended_empty : (d : Desk) → state_of d ≡ Ended → AllByRecursion IsEmpty d.shards
+ended_empty d e =
+    let ended = ended_by (is_over d) (has_ended d) (has_starved d) e in
+    all_empty d.shards (eqb-true (sessions_in d.shards) 0 (and_parts d.closed _ ended).1)
+
+-- then it has no term
+none_there : (s : ShardState) → sessions_of s ≡ 0 → terms_of s ≡ []
+none_there s e = ap (flat_map terms_at) (nil_from_length (values s.slots.sessions) e)
+
+no_rows : (rows : List Row) → sum_by (λ _. 1) (row_keys rows) ≡ 0 → rows ≡ []
+no_rows [] e = refl
+no_rows (r ∷ rows) e = absurd (omega (arith, e, sum_by-cons (λ (_ : Key). 1) r.key (row_keys rows)))
+
+abbrev pub HasNoRows : ShardView ShardState Entry → Type 0
+HasNoRows v = v.rows ≡ []
+
+-- each term has its Stop
+pub all_stopped : (vs : List (ShardView ShardState Entry)) (hs : List (ShardHistory ShardState)) (kss : List (List Key)) → AllByRecursion IsEmpty vs → AllZip (Tells pppoe) (views_of vs) hs → AllZip IsRight hs kss → AllZip AreStopped hs kss
+all_stopped [] [] kss empty tells right = right
+all_stopped [] (h ∷ hs) kss empty tells right = absurd tells
+all_stopped (v ∷ vs) [] kss empty tells right = absurd tells
+all_stopped (v ∷ vs) (h ∷ hs) [] empty tells right = absurd right
+all_stopped (v ∷ vs) (h ∷ hs) (ks ∷ kss) empty tells right =
+    let none : terms_of h.state ≡ [] = ap (λ (s : ShardState). terms_of s) (sym tells.0.state) ∙ none_there v.state empty.0 in
+    let here : AreStopped h ks = λ f.
+    ap (sum_by f) (sym (append-nil (stopped_keys h.stops))) ∙ ap (λ (ts : List Term). sum_by f (stopped_keys h.stops ++ keys ts)) (sym none) ∙ right.0.terms f in
+    (here, all_stopped vs hs kss empty.1 tells.1 right.1)
+
+-- and none has a row
+pub rows_gone : (vs : List (ShardView ShardState Entry)) (hs : List (ShardHistory ShardState)) → AllByRecursion IsEmpty vs → AllZip (Tells pppoe) (views_of vs) hs → AllByRecursion HasNoRows vs
+rows_gone [] hs empty tells = tt
+rows_gone (v ∷ vs) [] empty tells = absurd tells
+rows_gone (v ∷ vs) (h ∷ hs) empty tells =
+    let none : terms_of h.state ≡ [] = ap (λ (s : ShardState). terms_of s) (sym tells.0.state) ∙ none_there v.state empty.0 in
+    (no_rows v.rows (tells.0.fit (λ _. 1) ∙ ap (λ (ts : List Term). sum_by (λ (_ : Key). 1) (keys ts)) none), rows_gone vs hs empty.1 tells.1)
+
+pub rows_say_none : (q : Quantity) (pick : Key → Bool) (input : Bool) (vs : List (ShardView ShardState Entry)) → AllByRecursion HasNoRows vs → sum_by (λ x. rows_where q pick input x.rows) (views_of vs) ≡ 0
+rows_say_none q pick input [] none = refl
+rows_say_none q pick input (v ∷ vs) none =
+    omega (
+      arith,
+      sum_by-cons (λ (x : ShardView ShardState Handled). rows_where q pick input x.rows) (with_journal v []) (views_of vs),
+      ap (rows_where q pick input) none.0,
+      rows_say_none q pick input vs none.1,
+    )
+
+pub none_carried : (vs : List (ShardView ShardState Entry)) → AllByRecursion HasNoRows vs → (i session : ℕ) → traffic_at (slice_get vs i) session ≡ no_traffic
+none_carried [] none i session = refl
+none_carried (v ∷ vs) none zero session = ap (λ (rows : List Row). traffic_or (row_at rows session)) none.0
+none_carried (v ∷ vs) none (suc i) session = none_carried vs none.1 i session
