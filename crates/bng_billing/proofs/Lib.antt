@@ -1,0 +1,10 @@
+pub mod Places
+pub mod Numbers
+pub mod Signing
+pub mod Keeping
+pub mod Clients
+pub mod Stopping
+pub mod Acting
+pub mod Saying
+pub mod Stops
+pub mod Following

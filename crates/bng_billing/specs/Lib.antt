@@ -1,0 +1,10 @@
+pub mod State
+pub mod Invariant
+pub mod Records
+pub mod Replies
+pub mod Due
+pub mod Sending
+pub mod Stopping
+pub mod Calls
+pub mod Laws
+pub mod Answered
