@@ -88,7 +88,7 @@ def compare(tool, shards, rounds, seconds):
         serve(ours)
         peers = [plain.core.getsockname()[1], plain.access.getsockname()[1]]
         ports = [plain.ports["access"], plain.ports["core"], *peers, plain.ports["control"]]
-        plain.start([tool, "loop", *map(str, ports)])
+        plain.start([tool, "loop", *map(str, ports)], roles=["access", "core", "control"])
         results = {(way, size): ([], []) for way in ("up", "down") for size in SIZES}
         octets = {"up": 0, "down": 0}
         lost = 0

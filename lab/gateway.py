@@ -177,12 +177,13 @@ class Lab:
             file.write(text)
         return path
 
-    def start(self, command, patience=10, **streams):
-        """Starts `command` on the configuration, and waits until the gateway has its sockets."""
+    def start(self, command, patience=10, roles=None, **streams):
+        """Starts `command`, and waits until it has its sockets: those of all roles, or of these."""
         pipes = {"stdin": subprocess.DEVNULL, "stdout": subprocess.PIPE, "stderr": subprocess.PIPE, **streams}
         self.program = subprocess.Popen(command, start_new_session=True, **pipes)
         end = time.monotonic() + patience
-        while not bound_ports().issuperset(self.ports.values()):
+        wanted = [self.ports[role] for role in roles or self.ports]
+        while not bound_ports().issuperset(wanted):
             if self.program.poll() is not None:
                 text = self.program.stderr.read().decode(errors="replace") if self.program.stderr else ""
                 raise RuntimeError(f"the gateway ended with status {self.program.returncode}: {text}")
