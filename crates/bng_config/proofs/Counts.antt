@@ -7,7 +7,7 @@ use Rattle.toml.specs.declared.value.Value.{Value}
 use Rattle.bng_config.specs.declared.fault.Key.{Key}
 use Rattle.bng_config.specs.declared.fault.Key.TheVariants.{Access, Statics, StaticPort}
 use Rattle.bng_config.specs.Keys.{path_of}
-use Rattle.bng_config.specs.Configuration.{StandsAt, IsFit, IsSound, IsList, IsPortNumber, value_at, item_count, entries, most_ports, most_circuits}
+use Rattle.bng_config.specs.Configuration.{StandsAt, IsFit, IsSound, IsList, IsPortNumber, value_at, item_count, entries, terms_of, most_ports, most_circuits}
 use Rattle.bng_config.specs.Find.{HasCount}
 use Rattle.bng_config.proofs.Faults.{fit_of, unfit_of}
 
@@ -49,20 +49,20 @@ pub entries_counted : (document : Data) (key : Key) (n : ℕ) → HasCount docum
 entries_counted document key n h = rw h.found h.count
 
 -- the lists that are long enough and short enough, and those that are not
-list_at : (low high : ℕ) (document : Data) (key : Key) (n : ℕ) → HasCount document key n → low ≤ n → n ≤ high → StandsAt document key (IsList low high)
-list_at low high document key n h some few =
+in_range : (low high : ℕ) (document : Data) (key : Key) (n : ℕ) (h : HasCount document key n) → low ≤ n → n ≤ high → IsList low high (array h.items)
+in_range low high document key n h some few =
     let count = h.count in
-    record { value = array h.items; found = h.found; is = record { items = h.items; list = refl; few = omega arith; some = omega arith } }
+    record { items = h.items; list = refl; few = omega arith; some = omega arith }
 
 pub ports_sound : (document : Data) (n : ℕ) → HasCount document Access n → 1 ≤ n → n ≤ 16 → IsSound document Access
 ports_sound document n h some few =
-    let list = list_at 1 most_ports document Access n h some few in
-    record { value = list.value; found = list.found; is = record { form = list.is; new = tt } }
+    record { value = array h.items; found = h.found; is = record { form = in_range 1 most_ports document Access n h some few; new = tt } }
 
-pub circuits_sound : (document : Data) (n : ℕ) → HasCount document Statics n → n ≤ 1024 → IsSound document Statics
-circuits_sound document n h few =
-    let list = list_at 0 most_circuits document Statics n h (omega arith) few in
-    inr record { value = list.value; found = list.found; is = record { form = list.is; new = tt } }
+pub circuits_sound : (document : Data) (terms n : ℕ) → terms ≡ terms_of document → HasCount document Statics n → n ≤ 1024 → n ≤ terms → IsSound document Statics
+circuits_sound document terms n all h few room =
+    let list = in_range 0 most_circuits document Statics n h (omega arith) few in
+    let fits = in_range 0 (terms_of document) document Statics n h (omega arith) (omega arith) in
+    inr record { value = array h.items; found = h.found; is = record { form = (list, fits); new = tt } }
 
 -- a list that stands at a key has a count
 pub count_of_list : {low high : ℕ} (document : Data) (key : Key) (d : Data) → value_at (path_of key) document ≡ Some d → (l : IsList low high d) → HasCount document key (item_count l.items)
@@ -87,13 +87,16 @@ there : (document : Data) (P : Data → Type 0) (n : ℕ) → HasCount document 
 there document P n h (inl none) = let both = sym none ∙ h.found in cc
 there document P n h (inr s) = s
 
-pub circuits_outside : (document : Data) (n : ℕ) → HasCount document Statics n → 1024 < n → ¬ IsSound document Statics
-circuits_outside document n h bad sound =
+pub circuits_outside : (document : Data) (terms n : ℕ) → terms ≡ terms_of document → HasCount document Statics n → (1024 < n) ⊎ (terms < n) → ¬ IsSound document Statics
+circuits_outside document terms n all h bad sound =
     let s = there document (IsFit document Statics) n h sound in
-    let form = s.is.form in
-    let same = one_count document Statics n (item_count form.items) h (count_of_list document Statics s.value s.found form) in
-    let few = form.few in
-    omega arith
+    let list = s.is.form.0 in
+    let fits = s.is.form.1 in
+    let same = one_count document Statics n (item_count list.items) h (count_of_list document Statics s.value s.found list) in
+    let also = one_count document Statics n (item_count fits.items) h (count_of_list document Statics s.value s.found fits) in
+    let few = list.few in
+    let room = fits.few in
+    grind arith
 
 circuits_absent : (document : Data) (r : Option (Bor Value)) → r ≡ None → option_map (λ v. view v.now) r ≡ value_at (path_of Statics) document → value_at (path_of Statics) document ≡ None
 circuits_absent document r is found = sym found ∙ ap (option_map (λ v. view v.now)) is
@@ -110,7 +113,7 @@ circuits_other document None some found none sound = some refl
 circuits_other document (Some v) some found none (inl absent) =
     let both = found ∙ absent in
     cc
-circuits_other document (Some v) some found none (inr s) = none (item_count s.is.form.items) (count_of_list document Statics s.value s.found s.is.form)
+circuits_other document (Some v) some found none (inr s) = none (item_count s.is.form.0.items) (count_of_list document Statics s.value s.found s.is.form.0)
 
 -- the number of an access port, where it is one of those that there are, and where it is none
 pub port_sound : (document : Data) (place ports n : ℕ) → ports ≡ entries document Access → StandsAt document (StaticPort place) (λ d. IsPortNumber ports d n) → IsSound document (StaticPort place)

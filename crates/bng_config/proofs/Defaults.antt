@@ -6,9 +6,10 @@ use Rattle.toml.specs.Data.{Data, as_integer}
 use Rattle.bng_base.specs.declared.settings.AuthKind.{AuthKind}
 use Rattle.bng_base.specs.declared.settings.AuthKind.TheVariants.{Chap, Pap}
 use Rattle.bng_config.specs.declared.fault.Key.{Key}
-use Rattle.bng_config.specs.declared.fault.Key.TheVariants.{GatewayName, GatewayShards, GatewayServices, GatewayAuth, GatewayEcho, RadiusTries}
+use Rattle.bng_config.specs.declared.fault.Key.TheVariants.{GatewayName, GatewayShards, GatewayTerms, GatewayServices, GatewayAuth, GatewayEcho, RadiusTries}
+use Rattle.bng_config.specs.Keys.{path_of}
 use Rattle.bng_config.specs.Rules.{IsServiceName}
-use Rattle.bng_config.specs.Configuration.{StandsAt, StandsOr, HasForm, IsNew, IsFitOrAbsent, IsSound, IsName, IsNumber, AreServices, AreKinds, natural_or, shards_of, most_shards, longest_echo, most_tries}
+use Rattle.bng_config.specs.Configuration.{StandsAt, StandsOr, HasForm, IsNew, IsFitOrAbsent, IsSound, IsName, IsNumber, AreServices, AreKinds, natural_or, value_at, shards_of, terms_of, most_shards, fewest_terms, most_terms, longest_echo, most_tries}
 use Rattle.bng_config.proofs.Faults.{fit_of, unfit_of}
 
 -- a value of this form stands at the key, or nothing does
@@ -33,6 +34,12 @@ module _ (document : Data) where
 
   pub shards_faulty : ((n : ℕ) → ¬ StandsOr document GatewayShards (λ d. IsNumber 1 most_shards d n) (n ≡ 4)) → ¬ IsSound document GatewayShards
   shards_faulty none = unfit_or_of (IsNumber 1 most_shards) (λ x. x ≡ 4) 4 refl none (λ d h. h)
+
+  pub terms_sound : (n : ℕ) → StandsOr document GatewayTerms (λ d. IsNumber fewest_terms most_terms d n) (n ≡ 8192) → IsSound document GatewayTerms
+  terms_sound n h = fit_or_of (IsNumber fewest_terms most_terms) (λ x. x ≡ 8192) n h (λ d is. (n, is)) (λ d. tt)
+
+  pub terms_faulty : ((n : ℕ) → ¬ StandsOr document GatewayTerms (λ d. IsNumber fewest_terms most_terms d n) (n ≡ 8192)) → ¬ IsSound document GatewayTerms
+  terms_faulty none = unfit_or_of (IsNumber fewest_terms most_terms) (λ x. x ≡ 8192) 8192 refl none (λ d h. h)
 
   pub services_sound : (s : ArrayVec (ArrayVec ℕ)) → StandsOr document GatewayServices (λ d. AreServices d s) (s.items ≡ []) → IsSound document GatewayServices
   services_sound s h = fit_or_of AreServices (λ x. x.items ≡ []) s h (λ d is. (s, is)) (λ d. tt)
@@ -64,10 +71,17 @@ pub range_or : {document : Data} {key : Key} (low high default n : ℕ) → low 
 range_or low high default n above below (inl h) = let same = h.1 in (omega arith, omega arith)
 range_or low high default n above below (inr h) = (h.is.low, h.is.high)
 
--- the number of shards is that of the document
+-- a number that is read, or its default, is that of the document
+known : (document : Data) (key : Key) (low high default n : ℕ) → StandsOr document key (λ d. IsNumber low high d n) (n ≡ default)
+    → n ≡ natural_or default (option_and_then as_integer (value_at (path_of key) document))
+known document key low high default n (inl h) = h.1 ∙ sym (ap (λ o. natural_or default (option_and_then as_integer o)) h.0)
+known document key low high default n (inr h) = sym (ap (λ o. natural_or default (option_and_then as_integer o)) (h.found ∙ ap Some h.is.number))
+
 pub known_shards : (document : Data) (n : ℕ) → StandsOr document GatewayShards (λ d. IsNumber 1 most_shards d n) (n ≡ 4) → n ≡ shards_of document
-known_shards document n (inl h) = h.1 ∙ sym (ap (λ o. natural_or 4 (option_and_then as_integer o)) h.0)
-known_shards document n (inr h) = sym (ap (λ o. natural_or 4 (option_and_then as_integer o)) (h.found ∙ ap Some h.is.number))
+known_shards document n h = known document GatewayShards 1 most_shards 4 n h
+
+pub known_terms : (document : Data) (n : ℕ) → StandsOr document GatewayTerms (λ d. IsNumber fewest_terms most_terms d n) (n ≡ 8192) → n ≡ terms_of document
+known_terms document n h = known document GatewayTerms fewest_terms most_terms 8192 n h
 
 pub services_kept : {document : Data} {key : Key} (s : ArrayVec (ArrayVec ℕ)) → StandsOr document key (λ d. AreServices d s) (s.items ≡ [])
     → (length s.items ≤ 8) × All (λ x. IsServiceName x.items) s.items

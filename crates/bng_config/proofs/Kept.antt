@@ -7,12 +7,12 @@ use Rattle.bng_base.specs.declared.address.Peer.{Peer}
 use Rattle.bng_base.specs.declared.settings.AccessPort.{AccessPort}
 use Rattle.bng_config.specs.declared.config.Config.{Config}
 use Rattle.bng_config.specs.declared.fault.Key.{Key}
-use Rattle.bng_config.specs.declared.fault.Key.TheVariants.{Access, Statics, RadiusAuthLocal}
+use Rattle.bng_config.specs.declared.fault.Key.TheVariants.{Access, Statics, RadiusAuthLocal, RadiusAcctLocal}
 use Rattle.bng_config.specs.Keys.{path_of, gateway_keys, end_keys, access_keys, static_keys, radius_keys}
-use Rattle.bng_config.specs.Configuration.{StandsAt, IsFit, IsSound, AreSound, value_at, entries, item_count, port_keys, circuit_keys, shards_of, most_shards, longest_echo, most_tries, Configures, IsRead}
-use Rattle.bng_config.specs.Rules.{IsGatewayName, IsServiceName, IsSharedSecret, IsSessionOf, IsPlaced, KeepsRules, ends_of}
+use Rattle.bng_config.specs.Configuration.{StandsAt, IsFit, IsSound, AreSound, value_at, entries, item_count, port_keys, circuit_keys, shards_of, terms_of, most_shards, fewest_terms, most_terms, longest_echo, most_tries, Configures, IsRead}
+use Rattle.bng_config.specs.Rules.{IsGatewayName, IsServiceName, IsSharedSecret, IsUserName, IsSessionOf, IsPlaced, KeepsRules, ends_of}
 use Rattle.bng_config.proofs.New.{other_end, other_session, other_address}
-use Rattle.bng_config.proofs.Defaults.{known_shards, range_or, services_kept, kinds_kept}
+use Rattle.bng_config.proofs.Defaults.{known_shards, known_terms, range_or, services_kept, kinds_kept}
 use Rattle.bng_config.proofs.Faults.{sound_front, sound_back, sound_entry}
 
 -- an element and later ones that differ from it, before a list whose elements differ
@@ -47,11 +47,12 @@ pub entries_of : (document : Data) (key : Key) (d : Data) (items : Items) → va
     → entries document key ≡ item_count items
 entries_of document key d items found is = rw (found, is)
 
-few_of : (document : Data) → IsSound document Statics → entries document Statics ≤ 1024
-few_of document (inl none) = rw none (omega arith)
+few_of : (document : Data) → IsSound document Statics → (entries document Statics ≤ 1024) × (entries document Statics ≤ terms_of document)
+few_of document (inl none) = (rw none (omega arith), rw none (omega arith))
 few_of document (inr h) =
-    let form = h.is.form in
-    rw (entries_of document Statics h.value form.items h.found form.list) form.few
+    let list = h.is.form.0 in
+    let fits = h.is.form.1 in
+    (rw (entries_of document Statics h.value list.items h.found list.list) list.few, rw (entries_of document Statics h.value fits.items h.found fits.list) fits.few)
 
 module _ (document : Data) (c : Config) (h : Configures document c) where
   sound_rest : AreSound document (end_keys ++ port_keys document ++ circuit_keys document ++ radius_keys)
@@ -118,16 +119,39 @@ module _ (document : Data) (c : Config) (h : Configures document c) where
       let there : i < entries document Access = subst (λ n. i < n) h.all_ports less in
       other_end c.auth_local (get_or c.access i d).local auth_fit.value auth_fit.found h.auth_local (h.access i d less).local (auth_fit.is.new.2 i there) (sym e)
 
+  acct_fit : StandsAt document RadiusAcctLocal (IsFit document RadiusAcctLocal)
+  acct_fit = sound_radius.1.1.1.0
+
+  acct_not_auth : c.auth_local ≢ c.acct_local
+  acct_not_auth = other_end c.acct_local c.auth_local acct_fit.value acct_fit.found h.acct_local h.auth_local acct_fit.is.new.0
+
+  acct_not_control : c.control_local ≢ c.acct_local
+  acct_not_control = other_end c.acct_local c.control_local acct_fit.value acct_fit.found h.acct_local h.control_local acct_fit.is.new.1.0
+
+  acct_not_core : c.core_local ≢ c.acct_local
+  acct_not_core = other_end c.acct_local c.core_local acct_fit.value acct_fit.found h.acct_local h.core_local acct_fit.is.new.1.1
+
+  acct_differs : (i : ℕ) (d : AccessPort) → i < length c.access → c.acct_local ≢ (get_or c.access i d).local
+  acct_differs i d less e =
+      let there : i < entries document Access = subst (λ n. i < n) h.all_ports less in
+      other_end c.acct_local (get_or c.access i d).local acct_fit.value acct_fit.found h.acct_local (h.access i d less).local (acct_fit.is.new.1.2 i there) (sym e)
+
   ends : AllPairs (λ a b. a ≢ b) (ends_of c)
   ends =
       let locals : List Peer = map (λ a. a.local) c.access in
-      pairs_cons (λ a b. a ≢ b) c.control_local (c.core_local ∷ c.auth_local ∷ locals)
-      (before_cons c.control_local c.core_local (c.auth_local ∷ locals) ends_differ
-      (before_cons c.control_local c.auth_local locals auth_not_control (over_map c.access c.control_local control_differs)))
-      (pairs_cons (λ a b. a ≢ b) c.core_local (c.auth_local ∷ locals)
-      (before_cons c.core_local c.auth_local locals auth_not_core (over_map c.access c.core_local core_differs))
-      (pairs_cons (λ a b. a ≢ b) c.auth_local locals (over_map c.access c.auth_local auth_differs)
-      (pairs_map (λ a. a.local) (λ a b. a ≢ b) c.access new_ports)))
+      let from_acct : List Peer = c.acct_local ∷ locals in
+      let from_auth : List Peer = c.auth_local ∷ from_acct in
+      pairs_cons (λ a b. a ≢ b) c.control_local (c.core_local ∷ from_auth)
+      (before_cons c.control_local c.core_local from_auth ends_differ
+      (before_cons c.control_local c.auth_local from_acct auth_not_control
+      (before_cons c.control_local c.acct_local locals acct_not_control (over_map c.access c.control_local control_differs))))
+      (pairs_cons (λ a b. a ≢ b) c.core_local from_auth
+      (before_cons c.core_local c.auth_local from_acct auth_not_core
+      (before_cons c.core_local c.acct_local locals acct_not_core (over_map c.access c.core_local core_differs)))
+      (pairs_cons (λ a b. a ≢ b) c.auth_local from_acct
+      (before_cons c.auth_local c.acct_local locals acct_not_auth (over_map c.access c.auth_local auth_differs))
+      (pairs_cons (λ a b. a ≢ b) c.acct_local locals (over_map c.access c.acct_local acct_differs)
+      (pairs_map (λ a. a.local) (λ a b. a ≢ b) c.access new_ports))))
 
   sessions : AllPairs (λ a b. a.session ≢ b.session) c.statics
   sessions i j d less long =
@@ -141,6 +165,12 @@ module _ (document : Data) (c : Config) (h : Configures document c) where
 
   shards : (1 ≤ c.shards) × (c.shards ≤ 64)
   shards = range_or 1 most_shards 4 c.shards (omega arith) (omega arith) h.shards
+
+  terms : (64 ≤ c.terms) × (c.terms ≤ 262144)
+  terms = range_or fewest_terms most_terms 8192 c.terms (omega arith) (omega arith) h.terms
+
+  users : All (λ s. IsUserName s.user.items) c.statics
+  users i d less = (h.statics i d less).user.is.is
 
   sharded : All (λ s. IsSessionOf c.shards s.session.0) c.statics
   sharded i d less =
@@ -184,11 +214,16 @@ module _ (document : Data) (c : Config) (h : Configures document c) where
       let few = form.few in
       let some = form.some in
       let circuits = few_of document sound_circuits.0 in
+      let few_circuits = circuits.0 in
+      let room = circuits.1 in
       let same = h.all_circuits in
+      let known = known_terms document c.terms h.terms in
       record {
         name = name;
         some_shard = shards.0;
         few_shards = shards.1;
+        some_terms = terms.0;
+        few_terms = terms.1;
         few_services = services.0;
         services = services.1;
         some_auth = auth.0;
@@ -198,8 +233,10 @@ module _ (document : Data) (c : Config) (h : Configures document c) where
         some_port = omega arith;
         few_ports = omega arith;
         few_statics = omega arith;
+        enough_terms = omega arith;
         placed = placed;
         sharded = sharded;
+        users = users;
         secret = secret;
         some_tries = tries.0;
         few_tries = tries.1;

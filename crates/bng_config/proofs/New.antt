@@ -10,7 +10,7 @@ use Rattle.bng_base.specs.declared.address.SessionNo.{SessionNo}
 use Rattle.bng_base.specs.declared.settings.AccessPort.{AccessPort}
 use Rattle.bng_base.specs.declared.settings.Static.{Static}
 use Rattle.bng_config.specs.declared.fault.Key.{Key}
-use Rattle.bng_config.specs.declared.fault.Key.TheVariants.{ControlLocal, CoreLocal, Access, AccessLocal, StaticSession, StaticAddress, RadiusAuthLocal}
+use Rattle.bng_config.specs.declared.fault.Key.TheVariants.{ControlLocal, CoreLocal, Access, AccessLocal, StaticSession, StaticAddress, RadiusAuthLocal, RadiusAcctLocal}
 use Rattle.bng_config.specs.Address.{peer_text, address_text}
 use Rattle.bng_config.specs.Keys.{path_of}
 use Rattle.bng_config.specs.Configuration.{StandsAt, IsSound, Differs, IsFreeEnd, IsPeer, IsSession, IsAddress, IsPort, IsCircuit, EachPlace, value_at, entries, shards_of}
@@ -130,6 +130,23 @@ module _ (document : Data) (control core local : Peer) (ports : List AccessPort)
   pub auth_end_taken : (local ≡ control) ⊎ (local ≡ core) ⊎ Any (λ port. port.local ≡ local) ports → ¬ IsSound document RadiusAuthLocal
   auth_end_taken taken sound =
       end_shared document RadiusAuthLocal (entries document Access) control core local ports at_control at_core all are here sound.value sound.found taken sound.is.new
+
+-- an end of the socket for accounting that no other socket has, and one that some has
+module _ (document : Data) (control core auth local : Peer) (ports : List AccessPort)
+    (at_control : StandsAt document ControlLocal (λ d. IsPeer d control)) (at_core : StandsAt document CoreLocal (λ d. IsPeer d core))
+    (at_auth : StandsAt document RadiusAuthLocal (λ d. IsPeer d auth))
+    (all : length ports ≡ entries document Access) (are : EachPlace (IsPort document) ports) (here : StandsAt document RadiusAcctLocal (λ d. IsPeer d local)) where
+  pub acct_end_sound : local ≢ auth → ((local ≡ control) ⊎ (local ≡ core) ⊎ Any (λ port. port.local ≡ local) ports → ⊥) → IsSound document RadiusAcctLocal
+  acct_end_sound other free =
+      fit_of IsPeer local here (λ d h. (local, h))
+      (end_differs local auth here at_auth other, end_free document RadiusAcctLocal (entries document Access) control core local ports at_control at_core all are here free)
+
+  pub acct_end_auth : local ≡ auth → ¬ IsSound document RadiusAcctLocal
+  acct_end_auth same sound = other_end local auth sound.value sound.found here at_auth sound.is.new.0 (sym same)
+
+  pub acct_end_taken : (local ≡ control) ⊎ (local ≡ core) ⊎ Any (λ port. port.local ≡ local) ports → ¬ IsSound document RadiusAcctLocal
+  acct_end_taken taken sound =
+      end_shared document RadiusAcctLocal (entries document Access) control core local ports at_control at_core all are here sound.value sound.found taken sound.is.new.1
 
 -- a session that no earlier circuit has, and one that some has
 module _ (document : Data) (place : ℕ) (session : SessionNo) (earlier : List Static)

@@ -16,11 +16,11 @@ use Rattle.bng_base.specs.declared.settings.AccessPort.{AccessPort}
 use Rattle.bng_base.specs.declared.settings.AuthKind.TheVariants.{Chap, Pap}
 use Rattle.bng_base.specs.declared.settings.Static.{Static}
 use Rattle.bng_config.specs.Address.{address_text, peer_text, mac_text, octet_text, dot, colon}
-use Rattle.bng_config.specs.Configuration.{StandsAt, StandsOr, IsName, IsNumber, IsSecret, AreServices, AreKinds, IsPeer, IsAddress, IsMac, IsSession, IsPortNumber, IsPort, IsCircuit, EachPlace, entries, shards_of, most_shards, longest_echo, most_tries, Configures, IsRead}
+use Rattle.bng_config.specs.Configuration.{StandsAt, StandsOr, IsName, IsNumber, IsSecret, IsUser, AreServices, AreKinds, IsPeer, IsAddress, IsMac, IsSession, IsPortNumber, IsPort, IsCircuit, EachPlace, entries, shards_of, most_shards, fewest_terms, most_terms, longest_echo, most_tries, Configures, IsRead}
 use Rattle.bng_config.proofs.Numbers.{decimal_without}
 use Rattle.bng_config.proofs.Addresses.{cut_once, address_parts, address_without, peer_parts, second_text, third_text, fourth_text}
 use Rattle.bng_config.proofs.Octets.{six_of, mac_parts, second_text as second_octets, third_text as third_octets, fourth_text as fourth_octets, fifth_text as fifth_octets, sixth_text as sixth_octets}
-use Rattle.bng_config.proofs.Spellings.{same_items, name_once, secret_once, number_once as range_once, services_once, kinds_once}
+use Rattle.bng_config.proofs.Spellings.{same_items, name_once, secret_once, user_once, number_once as range_once, services_once, kinds_once}
 use Rattle.bng_config.proofs.Exclusive.{one_document}
 
 pub number_once : (m n : ℕ) (x y : List ℕ) → m < 256 → n < 256 → decimal m ++ dot ∷ x ≡ decimal n ++ dot ∷ y → (m ≡ n) × (x ≡ y)
@@ -131,9 +131,9 @@ circuit_once document place a b p q =
     let macs : a.mac ≡ b.mac = one_at IsMac mac_once a.mac b.mac p.mac q.mac in
     let sessions : a.session ≡ b.session = one_at (IsSession (shards_of document)) (session_once (shards_of document)) a.session b.session p.session q.session in
     let addresses : a.address ≡ b.address = one_at IsAddress address_at_once a.address b.address p.address q.address in
-    let names : a.user.items ≡ b.user.items = p.user ∙ sym q.user in
+    let users : a.user ≡ b.user = one_at IsUser user_once a.user b.user p.user q.user in
     let profiles : a.profile ≡ b.profile = p.profile ∙ sym q.profile in
-    λ i. record { port = ports i; mac = macs i; session = sessions i; address = addresses i; user = record { items = names i }; profile = profiles i }
+    λ i. record { port = ports i; mac = macs i; session = sessions i; address = addresses i; user = users i; profile = profiles i }
 
 -- lists of one length that agree at each place are one
 one_list : {X : Type 0} (P : ℕ → X → Type 0) → ((i : ℕ) (x y : X) → P i x → P i y → x ≡ y) → (xs ys : List X) → length xs ≡ length ys
@@ -150,6 +150,7 @@ one_configuration : (document : Data) (a b : Config) → Configures document a �
 one_configuration document a b p q =
     let names : a.name ≡ b.name = one_at IsName name_once a.name b.name p.name q.name in
     let shards : a.shards ≡ b.shards = one_or (IsNumber 1 most_shards) (λ n. n ≡ 4) (range_once 1 most_shards) (λ x y e f. e ∙ sym f) a.shards b.shards p.shards q.shards in
+    let terms : a.terms ≡ b.terms = one_or (IsNumber fewest_terms most_terms) (λ n. n ≡ 8192) (range_once fewest_terms most_terms) (λ x y e f. e ∙ sym f) a.terms b.terms p.terms q.terms in
     let services : a.services ≡ b.services = one_or AreServices (λ s. s.items ≡ []) services_once (λ x y e f. same_items x y (e ∙ sym f)) a.services b.services p.services q.services in
     let kinds : a.auth ≡ b.auth = one_or AreKinds (λ k. k.items ≡ Chap ∷ Pap ∷ []) kinds_once (λ x y e f. same_items x y (e ∙ sym f)) a.auth b.auth p.auth q.auth in
     let echos : a.echo ≡ b.echo = one_or (IsNumber 0 longest_echo) (λ n. n ≡ 30) (range_once 0 longest_echo) (λ x y e f. e ∙ sym f) a.echo b.echo p.echo q.echo in
@@ -161,6 +162,8 @@ one_configuration document a b p q =
     let nas : a.nas_ip ≡ b.nas_ip = one_at IsAddress address_at_once a.nas_ip b.nas_ip p.nas_ip q.nas_ip in
     let auths : a.auth_local ≡ b.auth_local = one_at IsPeer peer_once a.auth_local b.auth_local p.auth_local q.auth_local in
     let servers : a.auth_server ≡ b.auth_server = one_at IsPeer peer_once a.auth_server b.auth_server p.auth_server q.auth_server in
+    let accounts : a.acct_local ≡ b.acct_local = one_at IsPeer peer_once a.acct_local b.acct_local p.acct_local q.acct_local in
+    let accountants : a.acct_server ≡ b.acct_server = one_at IsPeer peer_once a.acct_server b.acct_server p.acct_server q.acct_server in
     let secrets : a.secret ≡ b.secret = one_at IsSecret secret_once a.secret b.secret p.secret q.secret in
     let tries : a.tries ≡ b.tries = one_or (IsNumber 1 most_tries) (λ n. n ≡ 4) (range_once 1 most_tries) (λ x y e f. e ∙ sym f) a.tries b.tries p.tries q.tries in
     λ i. record {
@@ -179,6 +182,9 @@ one_configuration document a b p q =
       auth_server = servers i;
       secret = secrets i;
       tries = tries i;
+      terms = terms i;
+      acct_local = accounts i;
+      acct_server = accountants i;
     }
 
 -- a text says one configuration

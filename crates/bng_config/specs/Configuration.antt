@@ -15,14 +15,14 @@ use Rattle.bng_base.specs.declared.settings.AuthKind.TheVariants.{Chap, Pap}
 use Rattle.bng_base.specs.declared.settings.Static.{Static}
 use Rattle.bng_config.specs.declared.config.Config.{Config}
 use Rattle.bng_config.specs.declared.fault.Key.{Key}
-use Rattle.bng_config.specs.declared.fault.Key.TheVariants.{GatewayName, GatewayShards, GatewayServices, GatewayAuth, GatewayEcho, ControlLocal, CoreLocal, CorePeer, Access, AccessLocal, AccessPeer, AccessMac, Statics, StaticPort, StaticMac, StaticSession, StaticAddress, GatewayNasIp, RadiusAuthLocal, RadiusAuthServer, RadiusSecret, RadiusTries}
+use Rattle.bng_config.specs.declared.fault.Key.TheVariants.{GatewayName, GatewayShards, GatewayTerms, GatewayServices, GatewayAuth, GatewayEcho, ControlLocal, CoreLocal, CorePeer, Access, AccessLocal, AccessPeer, AccessMac, Statics, StaticPort, StaticMac, StaticSession, StaticAddress, StaticUser, GatewayNasIp, RadiusAuthLocal, RadiusAuthServer, RadiusAcctLocal, RadiusAcctServer, RadiusSecret, RadiusTries}
 use Rattle.bng_config.specs.declared.fault.Fault.{Fault}
 use Rattle.bng_config.specs.declared.fault.Fault.TheVariants.{TooLong, NotToml, OutsideForm}
 use Rattle.bng_config.specs.declared.fault.ConfigError.{ConfigError}
 use Rattle.bng_config.specs.declared.fault.ConfigError.TheVariants.{Refused, OutOfMemory}
 use Rattle.bng_config.specs.Address.{address_text, peer_text, mac_text}
 use Rattle.bng_config.specs.Keys.{Step, named, placed, path_of, gateway_keys, end_keys, access_keys, static_keys, radius_keys, of_entries}
-use Rattle.bng_config.specs.Rules.{IsGatewayName, IsServiceName, IsSharedSecret, IsSessionOf}
+use Rattle.bng_config.specs.Rules.{IsGatewayName, IsServiceName, IsSharedSecret, IsUserName, IsSessionOf}
 
 -- the longest text that is read, in octets
 abbrev pub longest_text : ℕ
@@ -34,6 +34,13 @@ most_shards = 64
 
 abbrev pub longest_echo : ℕ
 longest_echo = 3600
+
+-- the fewest terms for which there is room, and the most
+abbrev pub fewest_terms : ℕ
+fewest_terms = 64
+
+abbrev pub most_terms : ℕ
+most_terms = 262144
 
 -- the most sends of an Access-Request
 abbrev pub most_tries : ℕ
@@ -75,6 +82,10 @@ natural_or n (Some (negsuc m)) = n
 abbrev pub shards_of : Data → ℕ
 shards_of document = natural_or 4 (option_and_then as_integer (value_at (path_of GatewayShards) document))
 
+-- for how many terms there is room: 8,192 where the document does not say
+abbrev pub terms_of : Data → ℕ
+terms_of document = natural_or 8192 (option_and_then as_integer (value_at (path_of GatewayTerms) document))
+
 -- the keys of the access ports, and of the circuits, each after that of the list
 abbrev pub port_keys : Data → List Key
 port_keys document = Access ∷ of_entries access_keys (entries document Access)
@@ -102,6 +113,11 @@ pub record IsName (d : Data) (name : ArrayVec ℕ) : Type 0 where
 pub record IsSecret (d : Data) (secret : ArrayVec ℕ) : Type 0 where
   pub text : d ≡ string secret.items
   pub is : IsSharedSecret secret.items
+
+-- a text that names a user
+pub record IsUser (d : Data) (user : ArrayVec ℕ) : Type 0 where
+  pub text : d ≡ string user.items
+  pub is : IsUserName user.items
 
 -- a number of this range
 pub record IsNumber (least most : ℕ) (d : Data) (n : ℕ) : Type 0 where
@@ -168,6 +184,7 @@ pub record IsPortNumber (ports : ℕ) (d : Data) (n : ℕ) : Type 0 where
 abbrev pub HasForm : Data → Key → Data → Type 0
 HasForm document GatewayName d = (n : ArrayVec ℕ) × IsName d n
 HasForm document GatewayShards d = (n : ℕ) × IsNumber 1 most_shards d n
+HasForm document GatewayTerms d = (n : ℕ) × IsNumber fewest_terms most_terms d n
 HasForm document GatewayServices d = (s : ArrayVec (ArrayVec ℕ)) × AreServices d s
 HasForm document GatewayAuth d = (k : ArrayVec AuthKind) × AreKinds d k
 HasForm document GatewayEcho d = (n : ℕ) × IsNumber 0 longest_echo d n
@@ -178,14 +195,17 @@ HasForm document Access d = IsList 1 most_ports d
 HasForm document (AccessLocal place) d = (p : Peer) × IsPeer d p
 HasForm document (AccessPeer place) d = (p : Peer) × IsPeer d p
 HasForm document (AccessMac place) d = (m : Mac) × IsMac d m
-HasForm document Statics d = IsList 0 most_circuits d
+HasForm document Statics d = IsList 0 most_circuits d × IsList 0 (terms_of document) d
 HasForm document (StaticPort place) d = (n : ℕ) × IsPortNumber (entries document Access) d n
 HasForm document (StaticMac place) d = (m : Mac) × IsMac d m
 HasForm document (StaticSession place) d = (s : SessionNo) × IsSession (shards_of document) d s
 HasForm document (StaticAddress place) d = (a : Ip4) × IsAddress d a
+HasForm document (StaticUser place) d = (u : ArrayVec ℕ) × IsUser d u
 HasForm document GatewayNasIp d = (a : Ip4) × IsAddress d a
 HasForm document RadiusAuthLocal d = (p : Peer) × IsPeer d p
 HasForm document RadiusAuthServer d = (p : Peer) × IsPeer d p
+HasForm document RadiusAcctLocal d = (p : Peer) × IsPeer d p
+HasForm document RadiusAcctServer d = (p : Peer) × IsPeer d p
 HasForm document RadiusSecret d = (s : ArrayVec ℕ) × IsSecret d s
 HasForm document RadiusTries d = (n : ℕ) × IsNumber 1 most_tries d n
 
@@ -203,6 +223,7 @@ abbrev pub IsNew : Data → Key → Data → Type 0
 IsNew document CoreLocal d = Differs document ControlLocal d
 IsNew document (AccessLocal place) d = IsFreeEnd document place d
 IsNew document RadiusAuthLocal d = IsFreeEnd document (entries document Access) d
+IsNew document RadiusAcctLocal d = Differs document RadiusAuthLocal d × IsFreeEnd document (entries document Access) d
 IsNew document (StaticSession place) d = (i : ℕ) → i < place → Differs document (StaticSession i) d
 IsNew document (StaticAddress place) d = (i : ℕ) → i < place → Differs document (StaticAddress i) d
 IsNew document key d = ⊤
@@ -226,9 +247,10 @@ pub record IsFit (document : Data) (key : Key) (d : Data) : Type 0 where
 abbrev pub IsFitOrAbsent : Data → Key → Type 0
 IsFitOrAbsent document key = (value_at (path_of key) document ≡ None) ⊎ StandsAt document key (IsFit document key)
 
--- the key is there, and in its form; four keys of the gateway, the list of circuits and the tries may be absent
+-- the key is there, and in its form; five keys of the gateway, the list of circuits and the tries may be absent
 abbrev pub IsSound : Data → Key → Type 0
 IsSound document GatewayShards = IsFitOrAbsent document GatewayShards
+IsSound document GatewayTerms = IsFitOrAbsent document GatewayTerms
 IsSound document GatewayServices = IsFitOrAbsent document GatewayServices
 IsSound document GatewayAuth = IsFitOrAbsent document GatewayAuth
 IsSound document GatewayEcho = IsFitOrAbsent document GatewayEcho
@@ -257,13 +279,13 @@ pub record IsPort (document : Data) (place : ℕ) (port : AccessPort) : Type 0 w
   pub peer : StandsAt document (AccessPeer place) (λ d. IsPeer d port.peer)
   pub mac : StandsAt document (AccessMac place) (λ d. IsMac d port.mac)
 
--- the circuit is what stands at the entry of this place, with no name and the first profile
+-- the circuit is what stands at the entry of this place, with the first profile
 pub record IsCircuit (document : Data) (place : ℕ) (circuit : Static) : Type 0 where
   pub port : StandsAt document (StaticPort place) (λ d. IsPortNumber (entries document Access) d circuit.port)
   pub mac : StandsAt document (StaticMac place) (λ d. IsMac d circuit.mac)
   pub session : StandsAt document (StaticSession place) (λ d. IsSession (shards_of document) d circuit.session)
   pub address : StandsAt document (StaticAddress place) (λ d. IsAddress d circuit.address)
-  pub user : circuit.user.items ≡ []
+  pub user : StandsAt document (StaticUser place) (λ d. IsUser d circuit.user)
   pub profile : circuit.profile ≡ 0
 
 -- what is said of a place holds of each item at its place
@@ -275,6 +297,7 @@ pub record Configures (document : Data) (c : Config) : Type 0 where
   pub sound : AreSound document (keys document)
   pub name : StandsAt document GatewayName (λ d. IsName d c.name)
   pub shards : StandsOr document GatewayShards (λ d. IsNumber 1 most_shards d c.shards) (c.shards ≡ 4)
+  pub terms : StandsOr document GatewayTerms (λ d. IsNumber fewest_terms most_terms d c.terms) (c.terms ≡ 8192)
   pub services : StandsOr document GatewayServices (λ d. AreServices d c.services) (c.services.items ≡ [])
   pub auth : StandsOr document GatewayAuth (λ d. AreKinds d c.auth) (c.auth.items ≡ Chap ∷ Pap ∷ [])
   pub echo : StandsOr document GatewayEcho (λ d. IsNumber 0 longest_echo d c.echo) (c.echo ≡ 30)
@@ -288,6 +311,8 @@ pub record Configures (document : Data) (c : Config) : Type 0 where
   pub nas_ip : StandsAt document GatewayNasIp (λ d. IsAddress d c.nas_ip)
   pub auth_local : StandsAt document RadiusAuthLocal (λ d. IsPeer d c.auth_local)
   pub auth_server : StandsAt document RadiusAuthServer (λ d. IsPeer d c.auth_server)
+  pub acct_local : StandsAt document RadiusAcctLocal (λ d. IsPeer d c.acct_local)
+  pub acct_server : StandsAt document RadiusAcctServer (λ d. IsPeer d c.acct_server)
   pub secret : StandsAt document RadiusSecret (λ d. IsSecret d c.secret)
   pub tries : StandsOr document RadiusTries (λ d. IsNumber 1 most_tries d c.tries) (c.tries ≡ 4)
 

@@ -3,7 +3,7 @@ use Rattle.std.specs.Prelude.{ℕ, zero, suc, ◌+◌, List, [], ◌∷◌, ◌+
 use Rattle.std.specs.Fmt.{decimal}
 use Rattle.std.specs.List.{join_with_byte}
 use Rattle.bng_config.specs.declared.fault.Key.{Key}
-use Rattle.bng_config.specs.declared.fault.Key.TheVariants.{GatewayName, GatewayShards, GatewayServices, GatewayAuth, GatewayEcho, ControlLocal, CoreLocal, CorePeer, Access, AccessLocal, AccessPeer, AccessMac, Statics, StaticPort, StaticMac, StaticSession, StaticAddress, GatewayNasIp, RadiusAuthLocal, RadiusAuthServer, RadiusSecret, RadiusTries}
+use Rattle.bng_config.specs.declared.fault.Key.TheVariants.{GatewayName, GatewayShards, GatewayTerms, GatewayServices, GatewayAuth, GatewayEcho, ControlLocal, CoreLocal, CorePeer, Access, AccessLocal, AccessPeer, AccessMac, Statics, StaticPort, StaticMac, StaticSession, StaticAddress, StaticUser, GatewayNasIp, RadiusAuthLocal, RadiusAuthServer, RadiusAcctLocal, RadiusAcctServer, RadiusSecret, RadiusTries}
 use Rattle.bng_config.specs.declared.fault.Fault.{Fault}
 use Rattle.bng_config.specs.declared.fault.Fault.TheVariants.{TooLong, NotToml, OutsideForm}
 
@@ -20,6 +20,7 @@ in_entry list place name = named list ∷ placed place ∷ named name ∷ []
 abbrev pub path_of : Key → List Step
 path_of GatewayName = named (codes "gateway") ∷ named (codes "name") ∷ []
 path_of GatewayShards = named (codes "gateway") ∷ named (codes "shards") ∷ []
+path_of GatewayTerms = named (codes "gateway") ∷ named (codes "terms") ∷ []
 path_of GatewayServices = named (codes "gateway") ∷ named (codes "services") ∷ []
 path_of GatewayAuth = named (codes "gateway") ∷ named (codes "auth") ∷ []
 path_of GatewayEcho = named (codes "gateway") ∷ named (codes "echo") ∷ []
@@ -35,15 +36,18 @@ path_of (StaticPort place) = in_entry (codes "static") place (codes "port")
 path_of (StaticMac place) = in_entry (codes "static") place (codes "mac")
 path_of (StaticSession place) = in_entry (codes "static") place (codes "session")
 path_of (StaticAddress place) = in_entry (codes "static") place (codes "address")
+path_of (StaticUser place) = in_entry (codes "static") place (codes "user")
 path_of GatewayNasIp = named (codes "gateway") ∷ named (codes "nas_ip") ∷ []
 path_of RadiusAuthLocal = named (codes "radius") ∷ named (codes "auth_local") ∷ []
 path_of RadiusAuthServer = named (codes "radius") ∷ named (codes "auth_server") ∷ []
+path_of RadiusAcctLocal = named (codes "radius") ∷ named (codes "acct_local") ∷ []
+path_of RadiusAcctServer = named (codes "radius") ∷ named (codes "acct_server") ∷ []
 path_of RadiusSecret = named (codes "radius") ∷ named (codes "secret") ∷ []
 path_of RadiusTries = named (codes "radius") ∷ named (codes "tries") ∷ []
 
 -- the keys of the gateway itself, which are looked at first
 abbrev pub gateway_keys : List Key
-gateway_keys = GatewayName ∷ GatewayShards ∷ GatewayServices ∷ GatewayAuth ∷ GatewayEcho ∷ []
+gateway_keys = GatewayName ∷ GatewayShards ∷ GatewayTerms ∷ GatewayServices ∷ GatewayAuth ∷ GatewayEcho ∷ []
 
 -- the keys of the ends that there are once
 abbrev pub end_keys : List Key
@@ -54,11 +58,11 @@ abbrev pub access_keys : ℕ → List Key
 access_keys place = AccessLocal place ∷ AccessPeer place ∷ AccessMac place ∷ []
 
 abbrev pub static_keys : ℕ → List Key
-static_keys place = StaticPort place ∷ StaticMac place ∷ StaticSession place ∷ StaticAddress place ∷ []
+static_keys place = StaticPort place ∷ StaticMac place ∷ StaticSession place ∷ StaticAddress place ∷ StaticUser place ∷ []
 
--- the keys of authentication, which are looked at last
+-- the keys of authentication and accounting, which are looked at last
 abbrev pub radius_keys : List Key
-radius_keys = GatewayNasIp ∷ RadiusAuthLocal ∷ RadiusAuthServer ∷ RadiusSecret ∷ RadiusTries ∷ []
+radius_keys = GatewayNasIp ∷ RadiusAuthLocal ∷ RadiusAuthServer ∷ RadiusAcctLocal ∷ RadiusAcctServer ∷ RadiusSecret ∷ RadiusTries ∷ []
 
 -- the keys of this many entries
 abbrev pub of_entries : (ℕ → List Key) → ℕ → List Key

@@ -26,6 +26,11 @@ pub record IsSharedSecret (secret : List ℕ) : Type 0 where
   pub some : 1 ≤ length secret
   pub short : length secret ≤ 64
 
+-- the User-Name of a circuit: 1 to 128 octets (RFC 2865 section 5.1)
+pub record IsUserName (name : List ℕ) : Type 0 where
+  pub some : 1 ≤ length name
+  pub short : length name ≤ 128
+
 -- a number of a session of one of this many shards: the shard, from 0, times 1,024, and an index of 1 to 1,022
 pub record IsSessionOf (shards number : ℕ) : Type 0 where
   pub shard : number / 1024 < shards
@@ -38,7 +43,7 @@ IsSessionNumber number = IsSessionOf 64 number
 
 -- the gateway's ends of the sockets
 abbrev pub ends_of : Config → List Peer
-ends_of c = c.control_local ∷ c.core_local ∷ c.auth_local ∷ map (λ a. a.local) c.access
+ends_of c = c.control_local ∷ c.core_local ∷ c.auth_local ∷ c.acct_local ∷ map (λ a. a.local) c.access
 
 -- the circuit is on one of this many ports, with a number that a session may have
 pub record IsPlaced (ports : ℕ) (s : Static) : Type 0 where
@@ -46,13 +51,16 @@ pub record IsPlaced (ports : ℕ) (s : Static) : Type 0 where
   pub high : s.port ≤ ports
   pub number : IsSessionNumber s.session.0
 
--- a name, 1 to 64 shards, at most 8 services, one or two ways to authenticate, none twice, and at most 3,600 s between
--- Echo-Requests; 1 to 16 ports, at most 1,024 circuits, each on a port and with a session of one of the shards; a secret,
--- and 1 to 10 sends of an Access-Request; no two sockets have one end, and no two circuits one session or one address
+-- a name, 1 to 64 shards, room for 64 to 262,144 terms, at most 8 services, one or two ways to authenticate, none twice,
+-- and at most 3,600 s between Echo-Requests; 1 to 16 ports, at most 1,024 circuits and no more than there is room for
+-- terms, each on a port, with a session of one of the shards and with a name of its user; a secret, and 1 to 10 sends of
+-- an Access-Request; no two sockets have one end, and no two circuits one session or one address
 pub record KeepsRules (c : Config) : Type 0 where
   pub name : IsGatewayName c.name.items
   pub some_shard : 1 ≤ c.shards
   pub few_shards : c.shards ≤ 64
+  pub some_terms : 64 ≤ c.terms
+  pub few_terms : c.terms ≤ 262144
   pub few_services : length c.services.items ≤ 8
   pub services : All (λ s. IsServiceName s.items) c.services.items
   pub some_auth : 1 ≤ length c.auth.items
@@ -62,8 +70,10 @@ pub record KeepsRules (c : Config) : Type 0 where
   pub some_port : 1 ≤ length c.access
   pub few_ports : length c.access ≤ 16
   pub few_statics : length c.statics ≤ 1024
+  pub enough_terms : length c.statics ≤ c.terms
   pub placed : All (IsPlaced (length c.access)) c.statics
   pub sharded : All (λ s. IsSessionOf c.shards s.session.0) c.statics
+  pub users : All (λ s. IsUserName s.user.items) c.statics
   pub secret : IsSharedSecret c.secret.items
   pub some_tries : 1 ≤ c.tries
   pub few_tries : c.tries ≤ 10

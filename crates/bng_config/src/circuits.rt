@@ -3,12 +3,11 @@ ghost use Rattle.std.specs.Prelude.{◌≡◌, ◌≤◌, ◌↔◌, ℕ, IsTrue
 ghost use Rattle.std.specs.List.{Any};
 ghost use Rattle.toml.specs.View.{view};
 ghost use Rattle.bng_config.specs.Keys.{static_keys};
-ghost use Rattle.bng_config.specs.Configuration.{StandsAt, IsSession, IsAddress, IsCircuit, IsSound, AreSound, IsFirstOf, EachPlace, circuit_keys, entries, shards_of, IsKeyOrMemory};
+ghost use Rattle.bng_config.specs.Configuration.{StandsAt, IsSession, IsAddress, IsCircuit, IsSound, AreSound, IsFirstOf, EachPlace, circuit_keys, entries, shards_of, terms_of, IsKeyOrMemory};
 
 use crate::fault::{ConfigError, Key};
 use crate::find::{count_at, value_of};
-use crate::values::{address_at, mac_at, port_number_at, session_at};
-use arrayvec::ArrayVec;
+use crate::values::{address_at, mac_at, port_number_at, session_at, user_at};
 use bng_base::{Ip4, SessionNo, Static};
 use std::alloc::Global;
 use toml::Value;
@@ -17,14 +16,16 @@ use toml::Value;
 const MOST: usize = 1024;
 
 /// The circuits of the document, or the first of their keys that is missing or outside its form. `shards` is the number
-/// of shards, and `ports` that of access ports.
+/// of shards, `terms` that of terms for which there is room, and `ports` that of access ports.
 pub(crate) fn circuits_of(
     alloc: Global,
     document: &Value,
     shards: u16,
+    terms: u32,
     ports: usize,
 ) -> Result<Vec<Static>, ConfigError>
     requires shards { shards ≡ shards_of (view document.now) }
+    requires terms { terms ≡ terms_of (view document.now) }
     requires few_shards { shards ≤ 64 }
     requires all { ports ≡ entries (view document.now) Key.Access }
     requires few { ports ≤ 16 }
@@ -33,7 +34,7 @@ pub(crate) fn circuits_of(
     ensures sound { OnOk result (AreSound (view document.now) (circuit_keys (view document.now))) }
     ensures refused { IfErr result (IsKeyOrMemory (IsFirstOf (view document.now) (circuit_keys (view document.now)))) }
 {
-    let count = count_of(document)?;
+    let count = count_of(document, terms)?;
     let mut circuits = Vec::new(alloc);
     for place in 0..count {
         let circuit = circuit_at(document, place, shards, ports, circuits.as_slice())?;
@@ -42,8 +43,10 @@ pub(crate) fn circuits_of(
     Ok(circuits)
 }
 
-// How many circuits the document has: up to 1,024, and none where it has no list of them.
-fn count_of(document: &Value) -> Result<u16, Key>
+// How many circuits the document has: up to 1,024 and no more than there is room for terms, and none where it has no list
+// of them.
+fn count_of(document: &Value, terms: u32) -> Result<u16, Key>
+    requires { terms ≡ terms_of (view document.now) }
     ensures found { IfOk result (λ n. n ≡ entries (view document.now) Key.Statics) }
     ensures sound { OnOk result (IsSound (view document.now) Key.Statics) }
     ensures refused { IfErr result (λ key. key ≡ Key.Statics) }
@@ -54,7 +57,7 @@ fn count_of(document: &Value) -> Result<u16, Key>
     }
     match count_at(document, Key::Statics) {
         Some(count) => {
-            if count > MOST {
+            if count > MOST || count > terms as usize {
                 Err(Key::Statics)
             } else {
                 Ok(count as u16)
@@ -86,12 +89,13 @@ fn circuit_at(
     let mac = mac_at(document, Key::StaticMac(place))?;
     let session = new_session_at(document, place, shards, earlier)?;
     let address = new_address_at(document, place, earlier)?;
+    let user = user_at(document, Key::StaticUser(place))?;
     Ok(Static {
         port,
         mac,
         session,
         address,
-        user: ArrayVec::new(),
+        user,
         profile: 0,
     })
 }

@@ -5,9 +5,12 @@ use bng_base::{AccessPort, AuthKind, Ip4, Listed, Peer, Static};
 /// 64; the services that it offers beside any, at most 8 of 1 to 64 octets each; the ways to authenticate that it asks
 /// for, the first one first; the seconds between two Echo-Requests of a link, 0 to 3,600, where 0 asks for none (RFC 1661
 /// section 5.8); its ends of the sockets to Control and the core, the core's other end, the access ports, whose numbers
-/// count from 1, and the provisioned circuits on them; and of RADIUS the address that it gives itself in its requests
-/// (NAS-IP-Address, RFC 2865 section 5.4), its end of the socket for authentication, the server's end, the secret of 1 to
-/// 64 octets that the two share (section 3), and how often an Access-Request is sent in all, 1 to 10.
+/// count from 1, and the provisioned circuits on them, at most as many as there is room for terms; and of RADIUS the
+/// address that it gives itself in its requests (NAS-IP-Address, RFC 2865 section 5.4), its end of the socket for
+/// authentication, the server's end, the secret of 1 to 64 octets that the two share (section 3), and how often an
+/// Access-Request is sent in all, 1 to 10. Of accounting it is for how many terms there is room that are live or have a
+/// record that the server has not yet acknowledged, 64 to 262,144 (RFC 2866 section 4.1), the gateway's end of the
+/// socket for accounting, which no other of its sockets has, and the server's end (section 3); the secret is the same.
 #[derive(Drop)]
 pub struct Config {
     pub name: ArrayVec<u8, 64>,
@@ -25,4 +28,7 @@ pub struct Config {
     pub auth_server: Peer,
     pub secret: ArrayVec<u8, 64>,
     pub tries: u8,
+    pub terms: u32,
+    pub acct_local: Peer,
+    pub acct_server: Peer,
 }

@@ -7,6 +7,8 @@ pub enum Key {
     GatewayName,
     /// `gateway.shards`
     GatewayShards,
+    /// `gateway.terms`
+    GatewayTerms,
     /// `gateway.services`
     GatewayServices,
     /// `gateway.auth`
@@ -37,12 +39,18 @@ pub enum Key {
     StaticSession(u16),
     /// `static.1.address` at place 0
     StaticAddress(u16),
+    /// `static.1.user` at place 0
+    StaticUser(u16),
     /// `gateway.nas_ip`
     GatewayNasIp,
     /// `radius.auth_local`
     RadiusAuthLocal,
     /// `radius.auth_server`
     RadiusAuthServer,
+    /// `radius.acct_local`
+    RadiusAcctLocal,
+    /// `radius.acct_server`
+    RadiusAcctServer,
     /// `radius.secret`
     RadiusSecret,
     /// `radius.tries`

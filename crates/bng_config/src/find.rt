@@ -56,6 +56,7 @@ pub(crate) fn value_of(document: &Value, key: Key) -> Option<&Value>
     match key {
         Key::GatewayName => in_table(document, "gateway", "name"),
         Key::GatewayShards => in_table(document, "gateway", "shards"),
+        Key::GatewayTerms => in_table(document, "gateway", "terms"),
         Key::GatewayServices => in_table(document, "gateway", "services"),
         Key::GatewayAuth => in_table(document, "gateway", "auth"),
         Key::GatewayEcho => in_table(document, "gateway", "echo"),
@@ -71,9 +72,12 @@ pub(crate) fn value_of(document: &Value, key: Key) -> Option<&Value>
         Key::StaticMac(place) => in_list(document, "static", place, "mac"),
         Key::StaticSession(place) => in_list(document, "static", place, "session"),
         Key::StaticAddress(place) => in_list(document, "static", place, "address"),
+        Key::StaticUser(place) => in_list(document, "static", place, "user"),
         Key::GatewayNasIp => in_table(document, "gateway", "nas_ip"),
         Key::RadiusAuthLocal => in_table(document, "radius", "auth_local"),
         Key::RadiusAuthServer => in_table(document, "radius", "auth_server"),
+        Key::RadiusAcctLocal => in_table(document, "radius", "acct_local"),
+        Key::RadiusAcctServer => in_table(document, "radius", "acct_server"),
         Key::RadiusSecret => in_table(document, "radius", "secret"),
         Key::RadiusTries => in_table(document, "radius", "tries"),
     }

@@ -12,15 +12,20 @@ use bng_base::AuthKind;
 use toml::Value;
 
 /// The most shards.
-const MOST_SHARDS: u16 = 64;
+const MOST_SHARDS: u32 = 64;
+/// The fewest terms for which there is room.
+const FEWEST_TERMS: u32 = 64;
+/// The most terms for which there is room.
+const MOST_TERMS: u32 = 262_144;
 /// The most seconds between two Echo-Requests.
-const LONGEST_ECHO: u16 = 3600;
+const LONGEST_ECHO: u32 = 3600;
 
 /// What stands at the keys of the gateway, and the defaults of those at which nothing stands.
 #[derive(Drop)]
 pub(crate) struct Gateway {
     pub name: ArrayVec<u8, 64>,
     pub shards: u16,
+    pub terms: u32,
     pub services: ArrayVec<ArrayVec<u8, 64>, 12>,
     pub auth: ArrayVec<AuthKind, 2>,
     pub echo: u16,
@@ -34,14 +39,16 @@ pub(crate) fn gateway_of(document: &Value) -> Result<Gateway, Key>
 {
     let name = name_at(document, Key::GatewayName)?;
     let shards = number_or(document, Key::GatewayShards, 1, MOST_SHARDS, 4)?;
+    let terms = number_or(document, Key::GatewayTerms, FEWEST_TERMS, MOST_TERMS, 8192)?;
     let services = services_or_none(document, Key::GatewayServices)?;
     let auth = kinds_or_both(document, Key::GatewayAuth)?;
     let echo = number_or(document, Key::GatewayEcho, 0, LONGEST_ECHO, 30)?;
     Ok(Gateway {
         name,
-        shards,
+        shards: shards as u16,
+        terms,
         services,
         auth,
-        echo,
+        echo: echo as u16,
     })
 }

@@ -1,4 +1,4 @@
-//! The names of the gateway and of its services.
+//! The names of the gateway and of its services, and other texts of a few octets.
 ghost use Rattle.std.specs.Prelude.{◌≡◌, ◌≤◌, ◌↔◌, ℕ, All, IsTrue, IfSome, IfNone, length};
 ghost use Rattle.arrayvec.specs.ArrayVec.{ArrayVec as Few};
 ghost use Rattle.toml.specs.Data.{array};
@@ -68,10 +68,10 @@ fn service_of(value: &Value) -> Option<ArrayVec<u8, 64>>
     }
 }
 
-/// The octets of a text of 1 to 64.
-pub(crate) fn octets_of(text: &[u8]) -> Option<ArrayVec<u8, 64>>
-    ensures found { IfSome result (λ o. (o.items ≡ text.now) × (1 ≤ length text.now) × (length text.now ≤ 64)) }
-    ensures none { IfNone result (1 ≤ length text.now → ¬ (length text.now ≤ 64)) }
+/// The octets of a text of 1 to this many.
+pub(crate) fn octets_of<const MANY: usize>(text: &[u8]) -> Option<ArrayVec<u8, MANY>>
+    ensures found { IfSome result (λ o. (o.items ≡ text.now) × (1 ≤ length text.now) × (length text.now ≤ MANY)) }
+    ensures none { IfNone result (1 ≤ length text.now → ¬ (length text.now ≤ MANY)) }
 {
     if text.is_empty() {
         return None;

@@ -1,4 +1,4 @@
-//! The keys of authentication.
+//! The keys of authentication and accounting.
 ghost use Rattle.std.specs.Prelude.{◌≡◌, ℕ, length, IfOk, IfErr, OnOk, OnErr, IsErr};
 ghost use Rattle.toml.specs.View.{view};
 ghost use Rattle.bng_config.specs.Keys.{radius_keys};
@@ -13,20 +13,22 @@ use bng_base::{AccessPort, Ip4, Peer};
 use toml::Value;
 
 /// The most sends of an Access-Request.
-const MOST_TRIES: u16 = 10;
+const MOST_TRIES: u32 = 10;
 
-/// What stands at the keys of authentication, and the default of the tries where nothing stands there.
+/// What stands at the keys of authentication and accounting, and the default of the tries where nothing stands there.
 #[derive(Drop)]
 pub(crate) struct Radius {
     pub nas_ip: Ip4,
     pub auth_local: Peer,
     pub auth_server: Peer,
+    pub acct_local: Peer,
+    pub acct_server: Peer,
     pub secret: ArrayVec<u8, 64>,
     pub tries: u8,
 }
 
-/// What the document says of authentication, or the first of its keys that is missing or outside its form. `control` and
-/// `core` are the gateway's ends of the sockets to Control and the core, and `ports` all access ports.
+/// What the document says of authentication and accounting, or the first of these keys that is missing or outside its
+/// form. `control` and `core` are the gateway's ends of the sockets to Control and the core, and `ports` all access ports.
 pub(crate) fn radius_of(
     document: &Value,
     control: Peer,
@@ -44,12 +46,16 @@ pub(crate) fn radius_of(
     let nas_ip = address_at(document, Key::GatewayNasIp)?;
     let auth_local = auth_end_at(document, control, core, ports)?;
     let auth_server = peer_at(document, Key::RadiusAuthServer)?;
+    let acct_local = acct_end_at(document, control, core, ports, auth_local)?;
+    let acct_server = peer_at(document, Key::RadiusAcctServer)?;
     let secret = secret_at(document, Key::RadiusSecret)?;
     let tries = tries_of(document)?;
     Ok(Radius {
         nas_ip,
         auth_local,
         auth_server,
+        acct_local,
+        acct_server,
         secret,
         tries,
     })
@@ -75,6 +81,36 @@ fn auth_end_at(
         Ok(local) => {
             if is_taken(local, control, core, ports) {
                 Err(Key::RadiusAuthLocal)
+            } else {
+                Ok(local)
+            }
+        }
+        Err(key) => Err(key),
+    }
+}
+
+// The gateway's end of the socket for accounting, which no other socket has: `auth` is that of the one for authentication.
+fn acct_end_at(
+    document: &Value,
+    control: Peer,
+    core: Peer,
+    ports: &[AccessPort],
+    auth: Peer,
+) -> Result<Peer, Key>
+    requires control { StandsAt (view document.now) Key.ControlLocal (λ d. IsPeer d control) }
+    requires core { StandsAt (view document.now) Key.CoreLocal (λ d. IsPeer d core) }
+    requires all { length ports.now ≡ entries (view document.now) Key.Access }
+    requires ports { EachPlace (IsPort (view document.now)) ports.now }
+    requires auth { StandsAt (view document.now) Key.RadiusAuthLocal (λ d. IsPeer d auth) }
+    ensures found { IfOk result (λ p. StandsAt (view document.now) Key.RadiusAcctLocal (λ d. IsPeer d p)) }
+    ensures sound { OnOk result (IsSound (view document.now) Key.RadiusAcctLocal) }
+    ensures refused { IfErr result (λ key. key ≡ Key.RadiusAcctLocal) }
+    ensures faulty { OnErr result (¬ IsSound (view document.now) Key.RadiusAcctLocal) }
+{
+    match peer_at(document, Key::RadiusAcctLocal) {
+        Ok(local) => {
+            if local == auth || is_taken(local, control, core, ports) {
+                Err(Key::RadiusAcctLocal)
             } else {
                 Ok(local)
             }

@@ -58,7 +58,7 @@ fn configuration_of(alloc: Global, document: &Value) -> Result<Config, ConfigErr
     let gateway = gateway_of(document)?;
     let ends = ends_of(document)?;
     let access = ports_of(alloc, document, ends.control_local, ends.core_local)?;
-    let statics = circuits_of(alloc, document, gateway.shards, access.len())?;
+    let statics = circuits_of(alloc, document, gateway.shards, gateway.terms, access.len())?;
     let radius = radius_of(
         document,
         ends.control_local,
@@ -81,5 +81,8 @@ fn configuration_of(alloc: Global, document: &Value) -> Result<Config, ConfigErr
         auth_server: radius.auth_server,
         secret: radius.secret,
         tries: radius.tries,
+        terms: gateway.terms,
+        acct_local: radius.acct_local,
+        acct_server: radius.acct_server,
     })
 }

@@ -4,6 +4,7 @@ use std::alloc::{AllocError, Global};
 use std::process::Abort;
 use std::test::Fail;
 
+mod circuits;
 mod gateway;
 mod radius;
 
@@ -44,7 +45,7 @@ user = "fixed1"
 const LISTS: &str = r#"gateway = { name = "bng1", nas_ip = "192.168.1.16", shards = 64 }
 control.local = "127.0.0.1:9002"
 core = { local = "127.0.0.1:9000", peer = "127.0.0.1:9001" }
-radius = { auth_local = "127.0.0.1:9003", auth_server = "127.0.0.1:1812", secret = "xyzzy5461" }
+radius = { auth_local = "127.0.0.1:9003", auth_server = "127.0.0.1:1812", acct_local = "127.0.0.1:9004", acct_server = "127.0.0.1:1813", secret = "xyzzy5461" }
 [[access]]
 local = "127.0.0.1:9010"
 peer = "127.0.0.1:9011"
@@ -58,22 +59,25 @@ port = 1
 mac = "02:00:00:00:00:01"
 session = 1025
 address = "10.0.0.2"
+user = "fixed1"
 [[static]]
 port = 2
 mac = "02:00:00:00:00:02"
 session = 65534
 address = "10.0.0.3"
+user = "fixed2"
 [[static]]
 port = 2
 mac = "02:00:00:00:00:03"
 session = 1
 address = "255.255.255.255"
+user = "fixed3"
 "#;
 
 const ENDS: &str = r#"gateway = { name = "bng1", nas_ip = "192.168.1.16" }
 control.local = "127.0.0.1:9002"
 core = { local = "127.0.0.1:9000", peer = "127.0.0.1:9001" }
-radius = { auth_local = "127.0.0.1:9003", auth_server = "127.0.0.1:1812", secret = "xyzzy5461" }
+radius = { auth_local = "127.0.0.1:9003", auth_server = "127.0.0.1:1812", acct_local = "127.0.0.1:9004", acct_server = "127.0.0.1:1813", secret = "xyzzy5461" }
 "#;
 
 const fn loopback(port: u16) -> Peer {
@@ -116,13 +120,16 @@ fn a_whole_configuration_is_read(rt: HostRuntime) {
     assert_eq!(rt; statics[0].mac, Mac([2, 0, 0, 0, 0, 1]));
     assert_eq!(rt; statics[0].session, SessionNo(1025));
     assert_eq!(rt; statics[0].address, Ip4(0x0a00_0002));
-    assert_eq!(rt; statics[0].user.len(), 0);
+    assert_eq!(rt; statics[0].user.as_slice(), b"fixed1".as_slice());
     assert_eq!(rt; statics[0].profile, 0);
     assert_eq!(rt; config.nas_ip, Ip4(0xc0a8_0110));
     assert_eq!(rt; config.auth_local, loopback(9003));
     assert_eq!(rt; config.auth_server, loopback(1812));
     assert_eq!(rt; config.secret.as_slice(), b"xyzzy5461".as_slice());
     assert_eq!(rt; config.tries, 4);
+    assert_eq!(rt; config.terms, 8192);
+    assert_eq!(rt; config.acct_local, loopback(9004));
+    assert_eq!(rt; config.acct_server, loopback(1813));
 }
 
 #[test]
@@ -136,18 +143,19 @@ fn all_entries_are_read_in_order(rt: HostRuntime) {
         assert_eq!(rt; port.peer, loopback(peer));
         assert_eq!(rt; port.mac, Mac([2, 0, 0, 0, 0, mac]));
     }
-    let rows = [
-        (1, 1, 1025, 0x0a00_0002),
-        (2, 2, 65_534, 0x0a00_0003),
-        (2, 3, 1, 0xffff_ffff),
+    let rows: [(u8, u8, u16, u32, &[u8]); 3] = [
+        (1, 1, 1025, 0x0a00_0002, b"fixed1"),
+        (2, 2, 65_534, 0x0a00_0003, b"fixed2"),
+        (2, 3, 1, 0xffff_ffff, b"fixed3"),
     ];
     let statics = config.statics.as_slice();
     assert_eq!(rt; statics.len(), rows.len());
-    for (circuit, (port, mac, session, address)) in statics.iter().zip(rows) {
+    for (circuit, (port, mac, session, address, user)) in statics.iter().zip(rows) {
         assert_eq!(rt; circuit.port, port);
         assert_eq!(rt; circuit.mac, Mac([2, 0, 0, 0, 0, mac]));
         assert_eq!(rt; circuit.session, SessionNo(session));
         assert_eq!(rt; circuit.address, Ip4(address));
+        assert_eq!(rt; circuit.user.as_slice(), user);
     }
 }
 
@@ -206,6 +214,9 @@ fn each_rule_is_told_at_its_key(rt: HostRuntime) -> Result<(), Fail> {
         ("session = 1\n", "session = 1025\n", "C5 static.3.session"),
         ("255.255.255.255", "10.0.0.2", "C5 static.3.address"),
         ("255.255.255.255", "255.255.255.256", "C5 static.3.address"),
+        ("user = \"fixed1\"", "", "C5 static.1.user"),
+        ("\"fixed2\"", "\"\"", "C5 static.2.user"),
+        ("\"fixed3\"", "3", "C5 static.3.user"),
     ];
     let alloc = rt.alloc();
     for (line, other, wanted) in rows {
@@ -237,50 +248,6 @@ fn the_lists_have_their_forms(rt: HostRuntime) -> Result<(), Fail> {
     for (line, wanted) in rows {
         let mut text = String::from_str(alloc, ENDS)?;
         text.push_str(line)?;
-        let fault = told(&rt, alloc, text.as_bytes());
-        assert_eq!(rt; fault_text(fault).as_str(), wanted);
-    }
-    Ok(())
-}
-
-/// One access port, and a list of this many numbers in the place of the circuits.
-fn with_circuits(alloc: Global, count: usize) -> Result<String, AllocError> {
-    let mut text = String::from_str(alloc, ENDS)?;
-    text.push_str("static = [")?;
-    for _ in 0..count {
-        text.push_str("1, ")?;
-    }
-    text.push_str("]\n[[access]]\nlocal = \"127.0.0.1:9010\"\npeer = \"127.0.0.1:9011\"\n")?;
-    text.push_str("mac = \"02:00:00:00:00:fe\"\n")?;
-    Ok(text)
-}
-
-#[test]
-fn there_may_be_no_circuits_and_1024(rt: HostRuntime) -> Result<(), Fail> {
-    let alloc = rt.alloc();
-    let none = with_circuits(alloc, 0)?;
-    assert_eq!(rt;
-        config_of(&rt, alloc, none.as_str())
-            .statics
-            .as_slice()
-            .len(),
-        0
-    );
-    let absent = changed(alloc, none.as_str(), "static = []\n", "")?;
-    assert_eq!(rt;
-        config_of(&rt, alloc, absent.as_str())
-            .statics
-            .as_slice()
-            .len(),
-        0
-    );
-    let other = changed(alloc, none.as_str(), "static = []\n", "static = {}\n")?;
-    let rows = [
-        (other, "C5 static"),
-        (with_circuits(alloc, 1024)?, "C5 static.1.port"),
-        (with_circuits(alloc, 1025)?, "C5 static"),
-    ];
-    for (text, wanted) in rows {
         let fault = told(&rt, alloc, text.as_bytes());
         assert_eq!(rt; fault_text(fault).as_str(), wanted);
     }

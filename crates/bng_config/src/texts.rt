@@ -35,6 +35,7 @@ fn push_key(text: &mut ArrayString<32>, key: Key)
     match key {
         Key::GatewayName => text.push_str("gateway.name"),
         Key::GatewayShards => text.push_str("gateway.shards"),
+        Key::GatewayTerms => text.push_str("gateway.terms"),
         Key::GatewayServices => text.push_str("gateway.services"),
         Key::GatewayAuth => text.push_str("gateway.auth"),
         Key::GatewayEcho => text.push_str("gateway.echo"),
@@ -50,9 +51,12 @@ fn push_key(text: &mut ArrayString<32>, key: Key)
         Key::StaticMac(place) => push_entry(text, "static", place, "mac"),
         Key::StaticSession(place) => push_entry(text, "static", place, "session"),
         Key::StaticAddress(place) => push_entry(text, "static", place, "address"),
+        Key::StaticUser(place) => push_entry(text, "static", place, "user"),
         Key::GatewayNasIp => text.push_str("gateway.nas_ip"),
         Key::RadiusAuthLocal => text.push_str("radius.auth_local"),
         Key::RadiusAuthServer => text.push_str("radius.auth_server"),
+        Key::RadiusAcctLocal => text.push_str("radius.acct_local"),
+        Key::RadiusAcctServer => text.push_str("radius.acct_server"),
         Key::RadiusSecret => text.push_str("radius.secret"),
         Key::RadiusTries => text.push_str("radius.tries"),
     }

@@ -7,7 +7,7 @@ ghost use Rattle.bng_base.specs.declared.address.Mac.{Mac as Hardware};
 ghost use Rattle.bng_base.specs.declared.address.Peer.{Peer as End};
 ghost use Rattle.bng_base.specs.declared.address.SessionNo.{SessionNo as Number};
 ghost use Rattle.bng_base.specs.declared.settings.AuthKind.{AuthKind as Kind};
-ghost use Rattle.bng_config.specs.Configuration.{StandsAt, StandsOr, IsName, IsNumber, IsSecret, AreServices, AreKinds, IsPeer, IsAddress, IsMac, IsSession, IsPortNumber};
+ghost use Rattle.bng_config.specs.Configuration.{StandsAt, StandsOr, IsName, IsNumber, IsSecret, IsUser, AreServices, AreKinds, IsPeer, IsAddress, IsMac, IsSession, IsPortNumber};
 
 use crate::fault::Key;
 use crate::find::{integer_at, text_at, value_of};
@@ -39,10 +39,10 @@ pub(crate) fn name_at(document: &Value, key: Key) -> Result<ArrayVec<u8, 64>, Ke
 pub(crate) fn number_or(
     document: &Value,
     key: Key,
-    low: u16,
-    high: u16,
-    default: u16,
-) -> Result<u16, Key>
+    low: u32,
+    high: u32,
+    default: u32,
+) -> Result<u32, Key>
     ensures found { IfOk result (λ n. StandsOr (view document.now) key (λ d. IsNumber low high d n) (n ≡ default)) }
     ensures refused { IfErr result (λ k. k ≡ key) }
     ensures none { IsErr result → (n : ℕ) → ¬ StandsOr (view document.now) key (λ d. IsNumber low high d n) (n ≡ default) }
@@ -113,6 +113,21 @@ pub(crate) fn secret_at(document: &Value, key: Key) -> Result<ArrayVec<u8, 64>, 
     match text_at(document, key) {
         Some(text) => match octets_of(text.as_bytes()) {
             Some(secret) => Ok(secret),
+            None => Err(key),
+        },
+        None => Err(key),
+    }
+}
+
+/// The name of a user at the key, or the key where there is none.
+pub(crate) fn user_at(document: &Value, key: Key) -> Result<ArrayVec<u8, 128>, Key>
+    ensures found { IfOk result (λ u. StandsAt (view document.now) key (λ d. IsUser d u)) }
+    ensures refused { IfErr result (λ k. k ≡ key) }
+    ensures none { IsErr result → (u : Few ℕ) → ¬ StandsAt (view document.now) key (λ d. IsUser d u) }
+{
+    match text_at(document, key) {
+        Some(text) => match octets_of(text.as_bytes()) {
+            Some(user) => Ok(user),
             None => Err(key),
         },
         None => Err(key),
@@ -194,7 +209,7 @@ fn port_of(number: i64, ports: usize) -> Option<u8>
 }
 
 // The number, where the value is one of this range.
-fn number_of(value: &Value, low: u16, high: u16) -> Option<u16>
+fn number_of(value: &Value, low: u32, high: u32) -> Option<u32>
     ensures found { IfSome result (λ n. IsNumber low high (view value.now) n) }
     ensures none { IfNone result ((n : ℕ) → ¬ IsNumber low high (view value.now) n) }
 {
@@ -204,12 +219,12 @@ fn number_of(value: &Value, low: u16, high: u16) -> Option<u16>
     }
 }
 
-fn within(number: i64, low: u16, high: u16) -> Option<u16>
+fn within(number: i64, low: u32, high: u32) -> Option<u32>
     ensures found { IfSome result (λ n. (number ≡ pos n) × (low ≤ n) × (n ≤ high)) }
     ensures none { IfNone result ((n : ℕ) → low ≤ n → n ≤ high → number ≢ pos n) }
 {
     if number < i64::from(low) || number > i64::from(high) {
         return None;
     }
-    Some(number as u16)
+    Some(number as u32)
 }

@@ -8,7 +8,7 @@ use std::test::Fail;
 const REST: &str = r#"
 control.local = "127.0.0.1:9002"
 core = { local = "127.0.0.1:9000", peer = "127.0.0.1:9001" }
-radius = { auth_local = "127.0.0.1:9003", auth_server = "127.0.0.1:1812", secret = "xyzzy5461" }
+radius = { auth_local = "127.0.0.1:9003", auth_server = "127.0.0.1:1812", acct_local = "127.0.0.1:9004", acct_server = "127.0.0.1:1813", secret = "xyzzy5461" }
 access = [{ local = "127.0.0.1:9010", peer = "127.0.0.1:9011", mac = "02:00:00:00:00:fe" }]
 "#;
 
@@ -41,6 +41,7 @@ fn a_gateway_needs_no_more_than_its_name(rt: HostRuntime) -> Result<(), Fail> {
         [AuthKind::Chap, AuthKind::Pap].as_slice()
     );
     assert_eq!(rt; config.echo, 30);
+    assert_eq!(rt; config.terms, 8192);
     Ok(())
 }
 
@@ -50,19 +51,21 @@ fn the_ends_of_each_range_are_in_it(rt: HostRuntime) -> Result<(), Fail> {
     let lowest = gateway_of(
         &rt,
         alloc,
-        "gateway = { name = \"n\", nas_ip = \"0.0.0.0\", shards = 1, echo = 0 }",
+        "gateway = { name = \"n\", nas_ip = \"0.0.0.0\", shards = 1, terms = 64, echo = 0 }",
     )?;
     assert_eq!(rt; lowest.shards, 1);
+    assert_eq!(rt; lowest.terms, 64);
     assert_eq!(rt; lowest.echo, 0);
     let line = changed(
         alloc,
-        "gateway = { name = \"LONGEST\", nas_ip = \"255.255.255.255\", shards = 64, echo = 3600 }",
+        "gateway = { name = \"LONGEST\", nas_ip = \"255.255.255.255\", shards = 64, terms = 262144, echo = 3600 }",
         "LONGEST",
         LONGEST,
     )?;
     let highest = gateway_of(&rt, alloc, line.as_str())?;
     assert_eq!(rt; highest.name.as_slice(), LONGEST.as_bytes());
     assert_eq!(rt; highest.shards, 64);
+    assert_eq!(rt; highest.terms, 262_144);
     assert_eq!(rt; highest.echo, 3600);
     Ok(())
 }
@@ -153,6 +156,20 @@ fn each_broken_value_is_told_at_its_key(rt: HostRuntime) -> Result<(), Fail> {
             "gateway = { name = \"n\", shards = 4.0 }",
             "C5 gateway.shards",
         ),
+        ("gateway = { name = \"n\", terms = 63 }", "C5 gateway.terms"),
+        (
+            "gateway = { name = \"n\", terms = 262145 }",
+            "C5 gateway.terms",
+        ),
+        ("gateway = { name = \"n\", terms = -1 }", "C5 gateway.terms"),
+        (
+            "gateway = { name = \"n\", terms = 4294967360 }",
+            "C5 gateway.terms",
+        ),
+        (
+            "gateway = { name = \"n\", terms = \"64\" }",
+            "C5 gateway.terms",
+        ),
         (
             "gateway = { name = \"n\", services = \"inet\" }",
             "C5 gateway.services",
@@ -235,12 +252,16 @@ fn the_keys_of_the_gateway_are_looked_at_first(rt: HostRuntime) -> Result<(), Fa
     let alloc = rt.alloc();
     let rows = [
         (
-            "gateway = { name = \"\", shards = 0, services = 0, auth = 0, echo = -1 }",
+            "gateway = { name = \"\", shards = 0, terms = 0, services = 0, auth = 0, echo = -1 }",
             "C5 gateway.name",
         ),
         (
-            "gateway = { name = \"n\", shards = 0, services = 0, auth = 0, echo = -1 }",
+            "gateway = { name = \"n\", shards = 0, terms = 0, services = 0, auth = 0, echo = -1 }",
             "C5 gateway.shards",
+        ),
+        (
+            "gateway = { name = \"n\", terms = 0, services = 0, auth = 0, echo = -1 }",
+            "C5 gateway.terms",
         ),
         (
             "gateway = { name = \"n\", services = 0, auth = 0, echo = -1 }",

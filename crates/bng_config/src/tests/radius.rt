@@ -18,9 +18,12 @@ port = 1
 mac = "02:00:00:00:00:01"
 session = 1025
 address = "10.0.0.2"
+user = "fixed1"
 [radius]
 auth_local = "127.0.0.1:9003"
 auth_server = "127.0.0.1:1812"
+acct_local = "127.0.0.1:9004"
+acct_server = "127.0.0.1:1813"
 secret = "xyzzy5461"
 tries = 3
 "#;
@@ -58,15 +61,15 @@ fn a_secret_has_any_octets_of_a_text(rt: HostRuntime) -> Result<(), Fail> {
 fn the_server_may_have_the_end_of_a_socket(rt: HostRuntime) -> Result<(), Fail> {
     let alloc = rt.alloc();
     let text = changed(alloc, WHOLE, "127.0.0.1:1812", "127.0.0.1:9000")?;
-    assert_eq!(rt;
-        config_of(&rt, alloc, text.as_str()).auth_server,
-        loopback(9000)
-    );
+    let text = changed(alloc, text.as_str(), "127.0.0.1:1813", "127.0.0.1:9000")?;
+    let config = config_of(&rt, alloc, text.as_str());
+    assert_eq!(rt; config.auth_server, loopback(9000));
+    assert_eq!(rt; config.acct_server, loopback(9000));
     Ok(())
 }
 
 #[test]
-fn each_broken_value_of_authentication_is_told_at_its_key(rt: HostRuntime) -> Result<(), Fail> {
+fn each_broken_value_of_radius_is_told_at_its_key(rt: HostRuntime) -> Result<(), Fail> {
     let rows = [
         (", nas_ip = \"192.168.1.16\"", "", "C5 gateway.nas_ip"),
         ("192.168.1.16", "192.168.1", "C5 gateway.nas_ip"),
@@ -74,14 +77,23 @@ fn each_broken_value_of_authentication_is_told_at_its_key(rt: HostRuntime) -> Re
         ("192.168.1.16", "192.168.1.16:1", "C5 gateway.nas_ip"),
         ("\"192.168.1.16\"", "3232235792", "C5 gateway.nas_ip"),
         ("[radius]", "[radios]", "C5 radius.auth_local"),
-        ("auth_local", "acct_local", "C5 radius.auth_local"),
+        ("auth_local", "auth_locals", "C5 radius.auth_local"),
         ("127.0.0.1:9003", "127.0.0.1", "C5 radius.auth_local"),
         ("127.0.0.1:9003", "127.0.0.1:9002", "C5 radius.auth_local"),
         ("127.0.0.1:9003", "127.0.0.1:9000", "C5 radius.auth_local"),
         ("127.0.0.1:9003", "127.0.0.1:9010", "C5 radius.auth_local"),
         ("127.0.0.1:9003", "127.0.0.1:9020", "C5 radius.auth_local"),
-        ("auth_server", "acct_server", "C5 radius.auth_server"),
+        ("auth_server", "auth_servers", "C5 radius.auth_server"),
         ("127.0.0.1:1812", "127.0.0.1:0", "C5 radius.auth_server"),
+        ("acct_local", "acct_locals", "C5 radius.acct_local"),
+        ("127.0.0.1:9004", "127.0.0.1", "C5 radius.acct_local"),
+        ("127.0.0.1:9004", "127.0.0.1:9003", "C5 radius.acct_local"),
+        ("127.0.0.1:9004", "127.0.0.1:9002", "C5 radius.acct_local"),
+        ("127.0.0.1:9004", "127.0.0.1:9000", "C5 radius.acct_local"),
+        ("127.0.0.1:9004", "127.0.0.1:9010", "C5 radius.acct_local"),
+        ("127.0.0.1:9004", "127.0.0.1:9020", "C5 radius.acct_local"),
+        ("acct_server", "acct_servers", "C5 radius.acct_server"),
+        ("127.0.0.1:1813", "127.0.0.1:0", "C5 radius.acct_server"),
         ("secret", "secrets", "C5 radius.secret"),
         ("xyzzy5461", "", "C5 radius.secret"),
         ("\"xyzzy5461\"", "5461", "C5 radius.secret"),
@@ -110,22 +122,29 @@ fn a_secret_of_65_octets_is_too_long(rt: HostRuntime) -> Result<(), Fail> {
     Ok(())
 }
 
-/// A circuit and all that stands at the keys of authentication are broken.
+/// A circuit and all that stands at the keys of authentication and accounting are broken.
 const BROKEN: &str = r#"gateway = { name = "bng1", nas_ip = "192.168.1" }
 control.local = "127.0.0.1:9002"
 core = { local = "127.0.0.1:9000", peer = "127.0.0.1:9001" }
 access = [{ local = "127.0.0.1:9010", peer = "127.0.0.1:9011", mac = "02:00:00:00:00:fe" }]
-static = [{ port = 1, mac = "02:00:00:00:00:01", session = 1025, address = "10.0.0" }]
-radius = { auth_local = "127.0.0.1:9010", auth_server = "127.0.0.1", secret = "", tries = 0 }
+static = [{ port = 1, mac = "02:00:00:00:00:01", session = 1025, address = "10.0.0", user = "" }]
+radius = { auth_local = "127.0.0.1:9010", auth_server = "127.0.0.1", acct_local = "127.0.0.1:9003", acct_server = "127.0.0.2", secret = "", tries = 0 }
 "#;
 
 #[test]
-fn the_keys_of_authentication_are_looked_at_last(rt: HostRuntime) -> Result<(), Fail> {
+fn the_keys_of_radius_are_looked_at_last(rt: HostRuntime) -> Result<(), Fail> {
     let rows = [
         ("C5 static.1.address", "10.0.0", "10.0.0.2"),
+        ("C5 static.1.user", "user = \"\"", "user = \"fixed1\""),
         ("C5 gateway.nas_ip", "192.168.1", "192.168.1.16"),
-        ("C5 radius.auth_local", "127.0.0.1:9010", "127.0.0.1:9003"),
+        (
+            "C5 radius.auth_local",
+            "auth_local = \"127.0.0.1:9010\"",
+            "auth_local = \"127.0.0.1:9003\"",
+        ),
         ("C5 radius.auth_server", "127.0.0.1\"", "127.0.0.1:1812\""),
+        ("C5 radius.acct_local", "127.0.0.1:9003", "127.0.0.1:9004"),
+        ("C5 radius.acct_server", "127.0.0.2\"", "127.0.0.2:1813\""),
         ("C5 radius.secret", "secret = \"\"", "secret = \"s\""),
         ("C5 radius.tries", "tries = 0", "tries = 1"),
     ];

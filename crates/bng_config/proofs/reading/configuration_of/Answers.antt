@@ -2,7 +2,7 @@ use Rattle.std.proofs.Common.{◌≡◌, arith}
 use Rattle.std.proofs.lemmas.Result.{err_from_is_err_and}
 use Rattle.toml.specs.View.{view}
 use Rattle.bng_config.specs.Configuration.{IsFirstOf, IsFirstFault, port_keys, circuit_keys, most_shards}
-use Rattle.bng_config.proofs.Defaults.{known_shards, range_or}
+use Rattle.bng_config.proofs.Defaults.{known_shards, known_terms, range_or}
 use Rattle.bng_config.proofs.Parts.{first_of_gateway, first_of_ends, first_of_ports, first_of_circuits, first_of_radius, sound_keys, told_of}
 use Rattle.bng_config.proofs.reading.configuration_of.Goals as goal
 
@@ -41,6 +41,9 @@ circuits_of-requires-clause-shards c = known_shards (view c.args.document.now) c
 pub circuits_of-requires-clause-few_shards : goal.circuits_of-requires-clause-few_shards
 circuits_of-requires-clause-few_shards c = (range_or 1 most_shards 4 c.in_ok-gateway.gateway.shards (omega arith) (omega arith) c.in_ok-gateway.ensures.found.shards).1
 
+pub circuits_of-requires-clause-terms : goal.circuits_of-requires-clause-terms
+circuits_of-requires-clause-terms c = known_terms (view c.args.document.now) c.in_ok-gateway.gateway.terms c.in_ok-gateway.ensures.found.terms
+
 pub returns-clause-found : goal.returns-clause-found
 returns-clause-found c =
     let document = view c.args.document.now in
@@ -53,6 +56,7 @@ returns-clause-found c =
       sound = sound_keys document c.in_ok-gateway.ensures.sound c.in_ok-ends.ensures.sound c.in_ok-access.ensures.sound c.in_ok-statics.ensures.sound c.in_ok-radius.ensures.sound;
       name = gateway.name;
       shards = gateway.shards;
+      terms = gateway.terms;
       services = gateway.services;
       auth = gateway.auth;
       echo = gateway.echo;
@@ -66,6 +70,8 @@ returns-clause-found c =
       nas_ip = radius.nas_ip;
       auth_local = radius.auth_local;
       auth_server = radius.auth_server;
+      acct_local = radius.acct_local;
+      acct_server = radius.acct_server;
       secret = radius.secret;
       tries = radius.tries;
     }
