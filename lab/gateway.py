@@ -27,6 +27,8 @@ local = "127.0.0.1:{control}"
 [radius]
 auth_local = "127.0.0.1:{auth}"
 auth_server = "127.0.0.1:{auth_server}"
+acct_local = "127.0.0.1:{acct}"
+acct_server = "127.0.0.1:{acct_server}"
 secret = "xyzzy5461"
 [[access]]
 local = "127.0.0.1:{access}"
@@ -37,6 +39,7 @@ port = 1
 mac = "02:00:00:00:00:01"
 session = 1025
 address = "10.0.0.2"
+user = "fixed1"
 """
 
 USAGE = "usage: bng serve CONFIG [--trace FILE] [--rounds N] | check CONFIG | exercise N [--workers W] | audit FILE"
@@ -121,10 +124,11 @@ def bound_ports():
 
 
 class Lab:
-    """A folder and the sockets of all parties. `access`, `core`, `control`, `radius` and `stranger` are ours; `ports`
-    has the gateway's ends. Leaving it ends what it started. `keys` are lines more of the configuration's table
-    `gateway`, `radius_keys` of its table `radius`, and `session` is the SESSION_ID of the circuit. Where `server` is a
-    port of the loopback, it is that of another RADIUS server than ours."""
+    """A folder and the sockets of all parties. `access`, `core`, `control`, `radius`, `accounting` and `stranger` are
+    ours, and nobody reads `accounting`; `ports` has the gateway's ends. Leaving it ends what it started. `keys` are
+    lines more of the configuration's table `gateway`, `radius_keys` of its table `radius`, and `session` is the
+    SESSION_ID of the circuit. Where `server` is a port of the loopback, it is that of another RADIUS server than
+    ours, for authentication."""
 
     def __init__(self, keys="", session=1025, radius_keys="", server=None):
         self.keys, self.session = keys, session
@@ -132,8 +136,8 @@ class Lab:
 
     def __enter__(self):
         self.folder = tempfile.mkdtemp(prefix="bng-lab-")
-        self.access, self.core, self.control, self.radius, self.stranger = (udp() for _ in range(5))
-        held = {name: udp() for name in ("access", "core", "control", "auth")}
+        self.access, self.core, self.control, self.radius, self.accounting, self.stranger = (udp() for _ in range(6))
+        held = {name: udp() for name in ("access", "core", "control", "auth", "acct")}
         self.ports = {name: end.getsockname()[1] for name, end in held.items()}
         for end in held.values():
             end.close()
@@ -145,6 +149,7 @@ class Lab:
                 core_peer=self.core.getsockname()[1],
                 access_peer=self.access.getsockname()[1],
                 auth_server=self.server or self.radius.getsockname()[1],
+                acct_server=self.accounting.getsockname()[1],
             )
             .replace("[core]", self.keys + "[core]")
             .replace("[[access]]", self.radius_keys + "[[access]]")
@@ -154,7 +159,7 @@ class Lab:
 
     def __exit__(self, *_):
         self.end_early()
-        for end in (self.access, self.core, self.control, self.radius, self.stranger):
+        for end in (self.access, self.core, self.control, self.radius, self.accounting, self.stranger):
             end.close()
         shutil.rmtree(self.folder, ignore_errors=True)
 
@@ -177,12 +182,12 @@ class Lab:
             file.write(text)
         return path
 
-    def start(self, command, patience=10, roles=None, **streams):
-        """Starts `command`, and waits until it has its sockets: those of all roles, or of these."""
+    def start(self, command, patience=10, roles=("access", "core", "control", "auth"), **streams):
+        """Starts `command`, and waits until it has its sockets of these roles."""
         pipes = {"stdin": subprocess.DEVNULL, "stdout": subprocess.PIPE, "stderr": subprocess.PIPE, **streams}
         self.program = subprocess.Popen(command, start_new_session=True, **pipes)
         end = time.monotonic() + patience
-        wanted = [self.ports[role] for role in roles or self.ports]
+        wanted = [self.ports[role] for role in roles]
         while not bound_ports().issuperset(wanted):
             if self.program.poll() is not None:
                 text = self.program.stderr.read().decode(errors="replace") if self.program.stderr else ""

@@ -143,7 +143,9 @@ def refuses_bad_configurations(checks):
             "static.1.address": ("10.0.0.2", "10.0.0.256"),
             "gateway.nas_ip": ("192.168.1.16", "192.168.1"),
             "radius.auth_local": (f":{lab.ports['auth']}\"", f":{lab.ports['core']}\""),
+            "radius.acct_local": (f":{lab.ports['acct']}\"", f":{lab.ports['auth']}\""),
             "radius.secret": ('"xyzzy5461"', '""'),
+            "static.1.user": ('"fixed1"', '""'),
         }
         for key, (right, wrong) in faults.items():
             bad = lab.write("bad.toml", good.replace(right, wrong))

@@ -28,6 +28,8 @@ local = "127.0.0.1:9002"
 [radius]
 auth_local = "127.0.0.1:9003"
 auth_server = "127.0.0.1:1812"
+acct_local = "127.0.0.1:9004"
+acct_server = "127.0.0.1:1813"
 secret = "xyzzy5461"
 [[access]]
 local = "127.0.0.1:9010"
@@ -38,6 +40,7 @@ port = 1
 mac = "02:00:00:00:00:01"
 session = 1025
 address = "10.0.0.2"
+user = "fixed1"
 "#;
 
 /// Two access ports with a circuit each.
@@ -52,6 +55,8 @@ local = "127.0.0.1:9002"
 [radius]
 auth_local = "127.0.0.1:9003"
 auth_server = "127.0.0.1:1812"
+acct_local = "127.0.0.1:9004"
+acct_server = "127.0.0.1:1813"
 secret = "xyzzy5461"
 [[access]]
 local = "127.0.0.1:9010"
@@ -66,11 +71,13 @@ port = 1
 mac = "02:00:00:00:00:01"
 session = 1025
 address = "10.0.0.2"
+user = "fixed1"
 [[static]]
 port = 2
 mac = "02:00:00:00:00:02"
 session = 1026
 address = "10.0.0.3"
+user = "fixed2"
 "#;
 
 /// Ethernet, PPPoE and PPP before an 84-octet packet of the circuit.

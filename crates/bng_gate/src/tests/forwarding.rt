@@ -61,6 +61,8 @@ local = "127.0.0.1:9002"
 [radius]
 auth_local = "127.0.0.1:9003"
 auth_server = "127.0.0.1:1812"
+acct_local = "127.0.0.1:9004"
+acct_server = "127.0.0.1:1813"
 secret = "xyzzy5461"
 [[access]]
 local = "127.0.0.1:9010"
@@ -75,11 +77,13 @@ port = 1
 mac = "02:00:00:00:00:01"
 session = 1026
 address = "10.0.0.2"
+user = "fixed1"
 [[static]]
 port = 2
 mac = "02:00:00:00:00:02"
 session = 1025
 address = "10.0.0.3"
+user = "fixed2"
 "#;
 
 /// A PADT of the circuit's session.

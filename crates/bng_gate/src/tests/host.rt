@@ -19,6 +19,8 @@ local = "127.0.0.1:9002"
 [radius]
 auth_local = "127.0.0.1:9003"
 auth_server = "127.0.0.1:1812"
+acct_local = "127.0.0.1:9004"
+acct_server = "127.0.0.1:1813"
 secret = "xyzzy5461"
 [[access]]
 local = "127.0.0.1:9010"

@@ -17,6 +17,8 @@ local = "127.0.0.1:9002"
 [radius]
 auth_local = "127.0.0.1:9003"
 auth_server = "127.0.0.1:1812"
+acct_local = "127.0.0.1:9004"
+acct_server = "127.0.0.1:1813"
 secret = "xyzzy5461"
 [[access]]
 local = "127.0.0.1:9010"
@@ -27,6 +29,7 @@ port = 1
 mac = "02:00:00:00:00:01"
 session = 1023
 address = "10.0.0.2"
+user = "fixed1"
 "#;
 
 const USAGE: &str =
