@@ -125,10 +125,9 @@ def bound_ports():
 
 class Lab:
     """A folder and the sockets of all parties. `access`, `core`, `control`, `radius`, `accounting` and `stranger` are
-    ours, and nobody reads `accounting`; `ports` has the gateway's ends. Leaving it ends what it started. `keys` are
-    lines more of the configuration's table `gateway`, `radius_keys` of its table `radius`, and `session` is the
-    SESSION_ID of the circuit. Where `server` is a port of the loopback, it is that of another RADIUS server than
-    ours, for authentication."""
+    ours; `ports` has the gateway's ends. Leaving it ends what it started. `keys` are lines more of the configuration's
+    table `gateway`, `radius_keys` of its table `radius`, and `session` is the SESSION_ID of the circuit. Where `server`
+    is a port of the loopback, it is that of another RADIUS server than ours, for authentication."""
 
     def __init__(self, keys="", session=1025, radius_keys="", server=None):
         self.keys, self.session = keys, session
@@ -182,12 +181,12 @@ class Lab:
             file.write(text)
         return path
 
-    def start(self, command, patience=10, roles=("access", "core", "control", "auth"), **streams):
-        """Starts `command`, and waits until it has its sockets of these roles."""
+    def start(self, command, patience=10, roles=None, **streams):
+        """Starts `command`, and waits until it has its sockets: those of all roles, or of these."""
         pipes = {"stdin": subprocess.DEVNULL, "stdout": subprocess.PIPE, "stderr": subprocess.PIPE, **streams}
         self.program = subprocess.Popen(command, start_new_session=True, **pipes)
         end = time.monotonic() + patience
-        wanted = [self.ports[role] for role in roles]
+        wanted = [self.ports[role] for role in roles or self.ports]
         while not bound_ports().issuperset(wanted):
             if self.program.poll() is not None:
                 text = self.program.stderr.read().decode(errors="replace") if self.program.stderr else ""

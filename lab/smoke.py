@@ -8,6 +8,7 @@ import time
 
 from gateway import CRATE, PROGRAM, USAGE, Lab, delivery, frame, is_built, packet, report, run, tried, udp
 from logins import authenticates, gives_up_on_a_silent_server
+from records import records_a_circuit
 from sessions import serves_sessions
 
 PACKET = packet()
@@ -193,6 +194,7 @@ def try_all(checks):
         serves_sessions(checks, built, 10)
         authenticates(checks, built, 10)
         gives_up_on_a_silent_server(checks, built, 10)
+        records_a_circuit(checks, built, 10)
         goes_on_after_memory_was_refused(checks)
         refuses_bad_beginnings(checks)
         refuses_bad_configurations(checks)

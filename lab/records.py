@@ -1,0 +1,111 @@
+"""A scripted RADIUS server of accounting, and the records of a provisioned circuit that the gateway sends it.
+
+What is wanted is what RFC 2866 and RFC 2869 ask, and what docs/ says where they leave a choice."""
+
+import hashlib
+import time
+
+import radius
+from gateway import LOOPBACK, Lab, frame, packet
+from radius import ACCOUNTING_REQUEST, ACCOUNTING_RESPONSE, FRAMED, SECRET, Radius
+from sessions import is_three_seconds
+
+START, STOP, NAS_REQUEST = 1, 2, 10
+
+
+def number(value):
+    """A value of four octets (RFC 2865 section 5)."""
+    return value.to_bytes(4, "big")
+
+
+def hear_record(lab):
+    """The next Accounting-Request, with its octets, or None where none comes."""
+    octets, sender = lab.receive(lab.accounting)
+    if octets is None:
+        return None, None
+    if sender != lab.ports["acct"]:
+        raise RuntimeError("a record came from another socket than that of Acct")
+    return radius.read(octets), octets
+
+
+def is_digest(octets, secret=SECRET):
+    """Whether the Request Authenticator of an Accounting-Request is right (RFC 2866 section 3)."""
+    return octets[4:20] == hashlib.md5(octets[:4] + bytes(16) + octets[20:] + secret).digest()
+
+
+def acknowledge(lab, request, end=None, secret=SECRET, other=0):
+    """Answers a record, or another identifier where `other` says so (RFC 2866 section 4.2)."""
+    named = request._replace(identifier=request.identifier ^ other)
+    octets = radius.sign(Radius(ACCOUNTING_RESPONSE, 0, bytes(16), []), named, secret)
+    (end or lab.accounting).sendto(octets, (LOOPBACK, lab.ports["acct"]))
+
+
+def wanted(status, opened, second, *sums):
+    """The attributes of a record of the lab's circuit, by rising type."""
+    return sorted([
+        (radius.USER_NAME, b"fixed1"), (radius.NAS_IP_ADDRESS, bytes([192, 168, 1, 16])), (radius.NAS_PORT, number(1025)),
+        FRAMED, (radius.FRAMED_PROTOCOL, number(1)), (radius.FRAMED_IP_ADDRESS, bytes([10, 0, 0, 2])),
+        (radius.CALLING_STATION_ID, b"02:00:00:00:00:01"), (radius.NAS_IDENTIFIER, b"bng1"),
+        (radius.ACCT_STATUS_TYPE, number(status)), (radius.ACCT_SESSION_ID, b"%08x0401000000000001" % opened),
+        (radius.EVENT_TIMESTAMP, number(second)), (radius.NAS_PORT_TYPE, number(5)),
+        (radius.NAS_PORT_ID, b"p1/020000000001/1025"), *sums,
+    ])
+
+
+def sums(seconds, octets, packets):
+    """What a Stop says of a term of which so much went to the core and nothing to the subscriber."""
+    return [
+        (radius.ACCT_INPUT_OCTETS, number(octets)), (radius.ACCT_OUTPUT_OCTETS, number(0)),
+        (radius.ACCT_SESSION_TIME, number(seconds)),
+        (radius.ACCT_INPUT_PACKETS, number(packets)), (radius.ACCT_OUTPUT_PACKETS, number(0)),
+        (radius.ACCT_TERMINATE_CAUSE, number(NAS_REQUEST)),
+        (radius.ACCT_INPUT_GIGAWORDS, number(0)), (radius.ACCT_OUTPUT_GIGAWORDS, number(0)),
+    ]
+
+
+def value(request, kind):
+    """The number that an attribute says."""
+    return int.from_bytes(dict(request.attributes)[kind], "big")
+
+
+def starts(checks, lab, began):
+    """The Start of the circuit, sent again until the server acknowledges it. When it was opened, by its records."""
+    start, octets = hear_record(lab)
+    first = time.monotonic()
+    opened = value(start, radius.EVENT_TIMESTAMP)
+    checks.same("a circuit has a Start", (start.code, start.attributes), (ACCOUNTING_REQUEST, wanted(START, opened, opened)))
+    checks.same("its second is that of the opening", began <= opened <= time.time(), True)
+    checks.same("a record has a right authenticator", is_digest(octets), True)
+    again = hear_record(lab)[1]
+    second = time.monotonic()
+    checks.same("a record that is not acknowledged comes again, octet by octet", again, octets)
+    checks.same("a record comes again after 3 s", is_three_seconds(first, second), True)
+    acknowledge(lab, start, end=lab.stranger)
+    acknowledge(lab, start, secret=b"other")
+    acknowledge(lab, start, other=1)
+    checks.same("bad acknowledgements do not count", hear_record(lab)[1], octets)
+    acknowledge(lab, start)
+    lab.accounting.settimeout(3.5)
+    checks.same("an acknowledged record comes no more", hear_record(lab), (None, None))
+    return opened
+
+
+def records_a_circuit(checks, command, patience):
+    """A provisioned circuit has a Start at the opening and a Stop at the end, with what was sent for it."""
+    with Lab() as lab:
+        began = int(time.time())
+        lab.start(command(lab.configuration), patience)
+        opened = starts(checks, lab, began)
+        lab.send(frame(packet()))
+        lab.send(frame(packet("10.0.0.3")))
+        lab.receive(lab.core)
+        lab.stop()
+        stop, octets = hear_record(lab)
+        said = value(stop, radius.ACCT_SESSION_TIME)
+        ended = value(stop, radius.EVENT_TIMESTAMP)
+        want = wanted(STOP, opened, ended, *sums(said, 84, 1))
+        checks.same("at the end it has a Stop with what was sent", (stop.code, stop.attributes), (ACCOUNTING_REQUEST, want))
+        checks.same("its time is that since the Start", abs(ended - opened - said) <= 1, True)
+        checks.same("a Stop has a right authenticator", is_digest(octets), True)
+        acknowledge(lab, stop)
+        checks.same("the status is 0 with records", lab.end()[0], 0)
