@@ -31,6 +31,7 @@ pub mod OneEffect
 pub mod Serves
 pub mod Settling
 pub mod Done
+pub mod OfSession
 pub mod Reaping
 pub mod Earliest
 pub mod Opened
@@ -47,3 +48,5 @@ pub mod Listing
 pub mod Waiting
 pub mod Telling
 pub mod ClaimLaws
+pub mod Splitting
+pub mod OpenedKeys

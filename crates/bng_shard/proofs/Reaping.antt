@@ -1,5 +1,5 @@
 -- The term that has ended and has the lowest session number leaves, and its row with it.
-use Rattle.std.proofs.Common.{◌≡◌, inl, inr, ℕ, zero, suc, ◌+◌, ◌<◌, ◌≤◌, ◌==◌, Bool, true, false, not, cond, List, [], ◌∷◌, ◌++◌, length, filter, find, flat_map, sum_by, count_by, Option, Some, None, option_map, is_some, Contains, refl, sym, ap, subst, ◌∙◌, arith}
+use Rattle.std.proofs.Common.{◌≡◌, inl, inr, ℕ, suc, ◌+◌, ◌<◌, ◌≤◌, ◌==◌, Bool, true, false, not, cond, List, [], ◌∷◌, ◌++◌, length, filter, find, flat_map, sum_by, Option, Some, None, is_some, Contains, refl, sym, ap, subst, ◌∙◌, arith}
 use Rattle.std.specs.List.{AllByRecursion}
 use Rattle.std.proofs.lemmas.Bool.{cases_eq, eq-eqb, ne_eqb}
 use Rattle.std.proofs.lemmas.Bool.Decides.{nat_tests}
@@ -13,8 +13,8 @@ use Rattle.bng_engine.specs.Lists.{AnyOf}
 use Rattle.bng_engine.specs.Quantities.{Quantity, in_book}
 use Rattle.bng_engine.specs.Sums.{stopped_where}
 use Rattle.bng_engine.specs.Terms.{Key, Stop, Term, ComesBefore, is_ended, keys}
-use Rattle.bng_engine.specs.Views.{Row, row_keys, rows_where}
-use Rattle.bng_engine.proofs.Everywhere.{all_append, any_left, any_right}
+use Rattle.bng_engine.specs.Views.{row_keys, rows_where}
+use Rattle.bng_engine.proofs.Everywhere.{all_append}
 use Rattle.bng_slots.specs.Sessions.{Sessions, value_at, without}
 use Rattle.bng_slots.specs.Listed.{values}
 use Rattle.bng_slots.proofs.SessionLaws.{sum-without, value_at-without, value_at-without_other}
@@ -31,6 +31,8 @@ use Rattle.bng_shard.specs.Running.{row_from, rows_in}
 use Rattle.bng_shard.specs.Serving.{AreOwn}
 use Rattle.bng_shard.specs.State.{State, circuit_of, leaves, settled}
 use Rattle.bng_shard.proofs.Done.{done_leaves}
+use Rattle.bng_shard.proofs.OfSession.{is_of, key_of, others, keys_of_kept, rows_kept, option_carried, found_one, only_one, any_passing, key_among, hits_in, hits_sum, no_hits}
+use Rattle.bng_shard.proofs.Splitting.{SplitsAt, one_splits}
 use Rattle.bng_shard.proofs.Stepping.{view}
 use Rattle.bng_shard.proofs.Terms.{all_live, settled_terms, terms_there}
 use Rattle.bng_shard.proofs.Values.{kept, none_kept, none_some, numbered, same_sessions, same_some, stands, sum_nothing, value_at-kept, values-kept}
@@ -95,118 +97,6 @@ done_first_in k (Provisioned p) x first =
     comes_first : (i j : Key) → i.term.session.0 < j.term.session.0 → ComesBefore i j
     comes_first i j lt = grind (arith, nat_tests, lt)
 done_first_in k (Discovered m) x first = tt
-
--- Rows and keys by session --------------------------------------------------------------------------------------------------
-
--- the row is of the session with this number, and the key
-abbrev pub is_of : ℕ → Running → Bool
-is_of n r = r.term.session.0 == n
-
-abbrev key_of : ℕ → Key → Bool
-key_of n k = k.term.session.0 == n
-
-session_keys : (n : ℕ) (v : Service) (x : Session) → filter (λ (k : Key). not (key_of n k)) (keys (terms_in x v)) ≡ cond (not (x.number.0 == n)) (keys (terms_in x v)) []
-session_keys n (Provisioned p) x = refl
-session_keys n (Discovered m) x = elim (x.number.0 == n) as (λ b. ◌≡◌ {A = List Key} [] (cond (not b) [] [])) [ true ↦ refl | false ↦ refl ]
-
-keys-append : (ts us : List Term) → keys (ts ++ us) ≡ keys ts ++ keys us
-keys-append [] us = refl
-keys-append (t ∷ ts) us = ap (λ (ks : List Key). t.key ∷ ks) (keys-append ts us)
-
-keys_kept : (b : Bool) (x : Session) (ys : List Session) → keys (flat_map terms_at (cond b (x ∷ ys) ys)) ≡ cond b (keys (terms_at x)) [] ++ keys (flat_map terms_at ys)
-keys_kept true x ys = keys-append (terms_at x) (flat_map terms_at ys)
-keys_kept false x ys = refl
-
--- the keys of the terms of the other sessions
-others : (n : ℕ) (xs : List Session) → keys (flat_map terms_at (filter (λ (x : Session). not (x.number.0 == n)) xs)) ≡ filter (λ (k : Key). not (key_of n k)) (keys (flat_map terms_at xs))
-others n [] = refl
-others n (x ∷ xs) =
-    keys_kept (not (x.number.0 == n)) x (filter (λ (y : Session). not (y.number.0 == n)) xs)
-    ∙ ap (λ (ks : List Key). ks ++ keys (flat_map terms_at (filter (λ (y : Session). not (y.number.0 == n)) xs))) (sym (session_keys n x.service x))
-    ∙ ap (λ (ks : List Key). filter (λ (k : Key). not (key_of n k)) (keys (terms_at x)) ++ ks) (others n xs)
-    ∙ sym (ap (filter (λ (k : Key). not (key_of n k))) (keys-append (terms_at x) (flat_map terms_at xs)) ∙ filter-append (λ (k : Key). not (key_of n k)) (keys (terms_at x)) (keys (flat_map terms_at xs)))
-
--- rows that pass by their keys
-keys_of_kept : (p : Key → Bool) (rs : List Running) → row_keys (rows_in (filter (λ (r : Running). p (row_from r).key) rs)) ≡ filter p (row_keys (rows_in rs))
-keys_of_kept p [] = refl
-keys_of_kept p (r ∷ rs) =
-    elim (p (row_from r).key) as (λ b. row_keys (rows_in (cond b (r ∷ filter (λ (q : Running). p (row_from q).key) rs) (filter (λ (q : Running). p (row_from q).key) rs)))
-    ≡ cond b ((row_from r).key ∷ filter p (row_keys (rows_in rs))) (filter p (row_keys (rows_in rs)))) [
-      | true ↦ ap (λ (ks : List Key). (row_from r).key ∷ ks) (keys_of_kept p rs)
-      | false ↦ keys_of_kept p rs
-    ]
-
--- what rows say is what the rows say that pass and those that fail
-rows_kept : (p : Running → Bool) (q : Quantity) (pick : Key → Bool) (input : Bool) (rs : List Running) → rows_where q pick input (rows_in (filter p rs)) + rows_where q pick input (rows_in (filter (λ (r : Running). not (p r)) rs)) ≡ rows_where q pick input (rows_in rs)
-rows_kept p q pick input [] = refl
-rows_kept p q pick input (r ∷ rs) =
-    let one : Row → ℕ = λ x. cond (pick x.key) (in_book q input x.carried) 0 in
-    let rest = rows_kept p q pick input rs in
-    let all = sum_by-cons one (row_from r) (rows_in rs) in
-    let passing = sum_by-cons one (row_from r) (rows_in (filter p rs)) in
-    let failing = sum_by-cons one (row_from r) (rows_in (filter (λ (x : Running). not (p x)) rs)) in
-    elim (p r) as (λ b. rows_where q pick input (rows_in (cond b (r ∷ filter p rs) (filter p rs))) + rows_where q pick input (rows_in (cond (not b) (r ∷ filter (λ (x : Running). not (p x)) rs) (filter (λ (x : Running). not (p x)) rs)))
-    ≡ rows_where q pick input (rows_in (r ∷ rs))) [
-      | true ↦ omega (arith, rest, all, passing)
-      | false ↦ omega (arith, rest, all, failing)
-    ]
-
-abbrev pub option_carried : Option Running → Option Book
-option_carried o = option_map (λ (r : Running). r.carried) o
-
--- one that passes is found
-found_one : (p : Running → Bool) (rs : List Running) (r : Running) → filter p rs ≡ r ∷ [] → find p rs ≡ Some r
-found_one p [] r e = absurd (let never : ⊥ = cc in never)
-found_one p (x ∷ rs) r e =
-    elim (p x) as (λ b. cond b (x ∷ filter p rs) (filter p rs) ≡ r ∷ [] → cond b (Some x) (find p rs) ≡ Some r) [
-      | true ↦ λ f. head_is x r (filter p rs) f
-      | false ↦ λ f. found_one p rs r f
-    ] e
-  where
-    head_is : (a b : Running) (more : List Running) → a ∷ more ≡ b ∷ [] → Some a ≡ Some b
-    head_is a b more f = cc
-
-only_one : (rs : List Running) → length rs ≡ 1 → (r : Running) × (rs ≡ r ∷ [])
-only_one [] e = absurd (omega (arith, e))
-only_one (r ∷ []) e = (r, refl)
-only_one (r ∷ (q ∷ rs)) e = absurd (omega (arith, e))
-
-any_passing : (p : Key → Bool) (k : Key) (ks : List Key) → p k ≡ true → AnyOf (λ (j : Key). j ≡ k) ks → AnyOf (λ (j : Key). j ≡ k) (filter p ks)
-any_passing p k [] passes any = absurd any
-any_passing p k (j ∷ ks) passes (inl is) =
-    subst (λ b. AnyOf (λ (i : Key). i ≡ k) (cond b (j ∷ filter p ks) (filter p ks))) (sym (ap p is ∙ passes)) (inl is)
-any_passing p k (j ∷ ks) passes (inr later) =
-    elim (p j) as (λ b. AnyOf (λ (i : Key). i ≡ k) (cond b (j ∷ filter p ks) (filter p ks))) [
-      | true ↦ inr (any_passing p k ks passes later)
-      | false ↦ any_passing p k ks passes later
-    ]
-
-key_among : (xs : List Session) (x : Session) (t : Term) → terms_at x ≡ t ∷ [] → Contains xs x → AnyOf (λ (k : Key). k ≡ t.key) (keys (flat_map terms_at xs))
-key_among [] x t one (i, l, is) = absurd (omega arith)
-key_among (y ∷ xs) x t one (zero, l, is) =
-    subst (AnyOf (λ (k : Key). k ≡ t.key)) (sym (keys-append (terms_at y) (flat_map terms_at xs)))
-    (any_left (λ (k : Key). k ≡ t.key) (keys (terms_at y)) (keys (flat_map terms_at xs))
-    (subst (λ (ts : List Term). AnyOf (λ (k : Key). k ≡ t.key) (keys ts)) (sym (ap terms_at is ∙ one)) (inl refl)))
-key_among (y ∷ xs) x t one (suc i, l, is) =
-    subst (AnyOf (λ (k : Key). k ≡ t.key)) (sym (keys-append (terms_at y) (flat_map terms_at xs)))
-    (any_right (λ (k : Key). k ≡ t.key) (keys (terms_at y)) (keys (flat_map terms_at xs)) (key_among xs x t one (i, omega arith, is)))
-
--- How many terms a session has by its number
-abbrev hits_in : ℕ → List Term → ℕ
-hits_in n ts = count_by (key_of n) (keys ts)
-
-hits_sum : (n : ℕ) (xs : List Session) → hits_in n (flat_map terms_at xs) ≡ sum_by (λ (x : Session). hits_in n (terms_at x)) xs
-hits_sum n [] = refl
-hits_sum n (x ∷ xs) =
-    let one : Key → ℕ = λ k. cond (key_of n k) 1 0 in
-    let rest = hits_sum n xs in
-    let split = ap (sum_by one) (keys-append (terms_at x) (flat_map terms_at xs)) ∙ sum_by-append one (keys (terms_at x)) (keys (flat_map terms_at xs)) in
-    let cons = sum_by-cons (λ (y : Session). hits_in n (terms_at y)) x xs in
-    omega (arith, rest, split, cons)
-
-no_hits : (n : ℕ) (v : Service) (x : Session) → (x.number.0 == n) ≡ false → hits_in n (terms_in x v) ≡ 0
-no_hits n (Provisioned p) x other = ap {B = ℕ} (λ (b : Bool). 0 + cond b 1 0) other
-no_hits n (Discovered m) x other = refl
 
 -- The one that leaves -------------------------------------------------------------------------------------------------------
 
@@ -293,6 +183,19 @@ module _ (s : Sessions Session) (x : Session) (d : Done) (own : AreOwn s) (here 
         only : (k : Key) → AnyOf (λ (j : Key). j ≡ (done_term x d).key) (k ∷ []) → k ≡ (done_term x d).key
         only k (inl is) = is
         only k (inr never) = absurd never
+
+    -- its key stands between those before it and those after it
+    abbrev its_place : Type 0
+    its_place = SplitsAt (key_of x.number.0) (row_keys (rows_in rs)) (done_term x d).key
+
+    pub left_place : its_place
+    left_place =
+        let row = its_row in
+        one_splits (key_of x.number.0) (row_keys (rows_in rs)) (done_term x d).key
+        (sym (keys_of_kept (key_of x.number.0) rs) ∙ ap (λ (qs : List Running). row_keys (rows_in qs)) row.3 ∙ ap (λ (k : Key). k ∷ []) row.2)
+
+    pub others_place : row_keys (rows_in others_left) ≡ left_place.before ++ left_place.after
+    others_place = keys_of_kept (λ (k : Key). not (key_of x.number.0 k)) rs ∙ left_place.are
 
     -- its Stop says what its row said
     pub left_rows : (stop : Stop) (carried : Book) → stop.key ≡ (done_term x d).key → stop.carried ≡ carried → Some carried ≡ option_carried (find (is_of x.number.0) rs) → (q : Quantity) (pick : Key → Bool) (input : Bool)
@@ -382,6 +285,10 @@ module _ (r : Rules) (s : State) (rs : List Running) (passed : Book) (allowance 
     least = left_least s.sessions x d own first.there first.done first.first;
     rows = left_rows s.sessions x d own first.there first.done rs fit (stop (circuit_of x)) carried refl refl is;
     fit = left_fit s.sessions x d own first.there first.done rs fit;
+    before = (left_place s.sessions x d own first.there first.done rs fit).before;
+    after = (left_place s.sessions x d own first.there first.done rs fit).after;
+    were = (left_place s.sessions x d own first.there first.done rs fit).were;
+    are = others_place s.sessions x d own first.there first.done rs fit;
     rules = refl;
     slots = ap (λ (ss : Sessions Session). let t : State = record s { sessions = ss } in t) (left_settled s.sessions x d own first.there first.done);
     number = refl;

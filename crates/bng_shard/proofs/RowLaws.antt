@@ -1,8 +1,9 @@
 -- The rows that are kept for the terms of a shard, as a caller sees them.
 use Rattle.std.proofs.Common.{◌≡◌, ℕ, ◌==◌, Bool, true, false, cond, List, [], ◌∷◌, ◌++◌, map, Option, Some, None, refl, sym, ap, ◌∙◌, append-nil}
 use Rattle.std.proofs.lemmas.List.{map-append}
-use Rattle.std.specs.Prelude.{find, option_map}
-use Rattle.bng_engine.specs.Views.{Row, new_row}
+use Rattle.std.specs.Prelude.{find, option_map, slice_get}
+use Rattle.std.proofs.lemmas.Option.{slice_get-map}
+use Rattle.bng_engine.specs.Views.{Row, new_row, row_keys}
 use Rattle.bng_engine.specs.Terms.{Key, keys}
 use Rattle.bng_shard.specs.declared.running.Running.{Running}
 use Rattle.bng_shard.specs.declared.session.Lease.{Lease}
@@ -56,3 +57,14 @@ pub traffic_at : (rs : List Running) (session : ℕ) → option_map (λ (r : Run
 traffic_at rs session =
     let both : (m : Option Running) → option_map (λ (r : Running). traffic_in (row_from r)) m ≡ option_map traffic_in (option_map row_from m) = λ m. elim m as (λ o. option_map (λ (r : Running). traffic_in (row_from r)) o ≡ option_map traffic_in (option_map row_from o)) [ None ↦ refl | Some r ↦ refl ] in
     both (find (λ (r : Running). r.term.session.0 == session) rs) ∙ ap (option_map traffic_in) (row_at_same rs session)
+
+-- the key at a place is that of the row there
+pub key_at : (rs : List Running) (place : ℕ) → slice_get (row_keys (rows_in rs)) place ≡ option_map (λ (r : Running). (row_from r).key) (slice_get rs place)
+key_at rs place =
+    slice_get-map (λ (r : Row). r.key) (rows_in rs) place
+    ∙ ap (option_map (λ (r : Row). r.key)) (slice_get-map row_from rs place)
+    ∙ keys_in (slice_get rs place)
+  where
+    keys_in : (o : Option Running) → option_map (λ (r : Row). r.key) (option_map row_from o) ≡ option_map (λ (r : Running). (row_from r).key) o
+    keys_in None = refl
+    keys_in (Some r) = refl

@@ -1,5 +1,5 @@
 -- The protocol of a shard, as the engine reads it.
-use Rattle.std.specs.Prelude.{◌≡◌, ◌⊎◌, ℕ, ◌+◌, ◌≤◌, ◌==◌, Bool, true, false, List, [], ◌∷◌, Option, Some, None, filter, is_some, length, map, find, sum_by}
+use Rattle.std.specs.Prelude.{◌≡◌, ◌⊎◌, ℕ, ◌+◌, ◌≤◌, ◌==◌, Bool, true, false, List, [], ◌∷◌, ◌++◌, Option, Some, None, filter, is_some, length, map, find, sum_by}
 use Rattle.std.specs.List.{flat_map, AllByRecursion}
 use Rattle.bng_base.specs.declared.book.Book.{Book}
 use Rattle.bng_base.specs.declared.fate.Fate.{Fate}
@@ -22,6 +22,7 @@ use Rattle.bng_shard.specs.declared.session.Service.{Service}
 use Rattle.bng_shard.specs.declared.session.Service.TheVariants.{Provisioned, Discovered}
 use Rattle.bng_shard.specs.declared.session.Session.{Session}
 use Rattle.bng_shard.specs.declared.term.EndedTerm.{EndedTerm}
+use Rattle.bng_shard.specs.declared.term.LiveTerm.{LiveTerm}
 use Rattle.bng_shard.specs.State.{State, circuit_of, count_in, settled}
 use Rattle.bng_shard.specs.Deed.{Deed}
 use Rattle.bng_shard.specs.Due.{due_of}
@@ -159,17 +160,25 @@ row_at rows session = find (λ (r : Row). r.key.term.session.0 == session) rows
 abbrev pub stop_of : EndedTerm → Stop
 stop_of e = record { key = record { term = e.term; circuit = e.circuit; lease = e.address }; cause = e.cause; carried = e.carried }
 
+-- the key of a term that is there
+abbrev pub key_of : LiveTerm → Key
+key_of t = record { term = t.term; circuit = t.circuit; lease = t.address }
+
 -- the terms that have ended and are still there
 abbrev pub ended_terms : ShardState → List Term
 ended_terms s = filter is_ended (terms_of s)
 
--- One of the terms that have ended has left, the first in order: this Stop is formed of it, with what its row said. What the shard is
--- once all of them have left is the same.
+-- One of the terms that have ended has left, the first in order: this Stop is formed of it, with what its row said. Its row has left,
+-- and the rows before it and after it stand as they were. What the shard is once all of them have left is the same.
 pub record Leaves (v v' : ShardView ShardState Entry) (s : Stop) : Type 0 where
   pub one : (f : Key → ℕ → ℕ) → f s.key s.cause + sum_by (λ t. f t.key t.cause) (ended_terms v'.state) ≡ sum_by (λ t. f t.key t.cause) (ended_terms v.state)
   pub least : AllByRecursion (λ t. ComesBefore s.key t.key) (ended_terms v'.state)
   pub rows : (q : Quantity) (pick : Key → Bool) (input : Bool) → stopped_where q pick input (s ∷ []) + rows_where q pick input v'.rows ≡ rows_where q pick input v.rows
   pub fit : row_keys v'.rows ≡ keys (terms_of v'.state)
+  pub before : List Key
+  pub after : List Key
+  pub were : row_keys v.rows ≡ before ++ s.key ∷ after
+  pub are : row_keys v'.rows ≡ before ++ after
   pub rules : v'.state.rules ≡ v.state.rules
   pub slots : settled v'.state.slots ≡ settled v.state.slots
   pub number : v'.number ≡ v.number

@@ -1,7 +1,8 @@
 //! The laws that the steps of a shard meet.
-ghost use Rattle.std.specs.Prelude.{◌≡◌, ◌≢◌, ◌⊎◌, ◌+◌, ◌-◌, ◌^◌, ◌<◌, ◌≤◌, ℕ, List, [], Some, count_by, is_some, length, if◌then◌else◌};
+ghost use Rattle.std.specs.Prelude.{◌≡◌, ◌≢◌, ◌⊎◌, ◌+◌, ◌-◌, ◌^◌, ◌/◌, ◌<◌, ◌≤◌, ℕ, List, [], Some, count_by, is_some, length, if◌then◌else◌};
 ghost use Rattle.bng_base.specs.declared.item.ItemKind.TheVariants.{End};
 ghost use Rattle.bng_engine.specs.Protocol.{Alike, StepLaws};
+ghost use Rattle.bng_engine.specs.Views.{row_keys};
 ghost use Rattle.std.specs.List.{All, AllByRecursion, AllPairs, AllZip, Contains};
 ghost use Rattle.bng_base.specs.declared.address.Mac.{Mac};
 ghost use Rattle.bng_base.specs.declared.item.OutRecord.{OutRecord};
@@ -9,7 +10,7 @@ ghost use Rattle.bng_base.specs.declared.settings.Static.{Static};
 ghost use Rattle.bng_slots.specs.Sessions.{IsNumberOf};
 ghost use Rattle.bng_shard.specs.declared.rules.Rules.{Rules};
 ghost use Rattle.bng_shard.specs.Deed.{Deed, is_forwarded};
-ghost use Rattle.bng_shard.specs.Protocol.{ShardState, Handled, StaysOrEnds, pppoe, packet_octets, sessions_of, terms_of};
+ghost use Rattle.bng_shard.specs.Protocol.{ShardState, Handled, StaysOrEnds, opened, pppoe, packet_octets, sessions_of, terms_of};
 ghost use Rattle.bng_shard.specs.Claiming.{IsAskedBy};
 ghost use Rattle.bng_shard.specs.Granting.{IsGranted, IsGrantedOn, IsSound, IsYesOn, accepted_ask_at};
 ghost use Rattle.bng_shard.specs.Opening.{opened_slots};
@@ -68,4 +69,13 @@ pub fn questions_are_heard()
         → (last_asking_at s n ≡ Some a) ⊎ IsAskedBy r s d n a }
     ensures same { (r : Rules) (s : State) (d : Deed) → Step r s d → d.next.asked < 2 ^ 64 - 1 → (n : ℕ) (a b : Asking) → last_asking_at s n ≡ Some a → a.number.ask ≤ s.asked
         → last_asking_at d.next n ≡ Some b → b.number ≡ a.number → b ≡ a }
+{}
+
+/// The terms of a shard's circuits, as they are at its opening: each has a session number of the shard, 1,024 times the shard's own
+/// number and an index, and no two are of one session. So a session number tells of which shard a term is, and which one it is.
+pub fn terms_of_circuits_are_apart()
+    ensures own { (number : ℕ) (rules : Rules) (circuits : List Static) → number < 64 → All (λ c. IsNumberOf number c.session.0) circuits → AllPairs (λ a b. a.session ≢ b.session) circuits
+        → All (λ k. k.term.session.0 / 1024 ≡ number) (row_keys (opened number rules circuits).rows) }
+    ensures apart { (number : ℕ) (rules : Rules) (circuits : List Static) → number < 64 → All (λ c. IsNumberOf number c.session.0) circuits → AllPairs (λ a b. a.session ≢ b.session) circuits
+        → AllPairs (λ j k. j.term.session ≢ k.term.session) (row_keys (opened number rules circuits).rows) }
 {}

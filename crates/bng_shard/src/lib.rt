@@ -29,13 +29,15 @@ mod verdicts;
 mod whose;
 mod young;
 
-pub use crate::laws::{questions_are_heard, steps_meet_laws, yeses_are_granted};
+pub use crate::laws::{
+    questions_are_heard, steps_meet_laws, terms_of_circuits_are_apart, yeses_are_granted,
+};
 pub use crate::pool::{Holder, PlainPool};
 pub use crate::questions::Handed;
 pub use crate::rules::Rules;
 pub use crate::shard::{Shard, ShardError};
 pub use crate::sums::{Charged, Traffic};
-pub use crate::term::EndedTerm;
+pub use crate::term::{EndedTerm, LiveTerm};
 pub use crate::whose::{Whose, whose_is};
 
 #[cfg(test)]

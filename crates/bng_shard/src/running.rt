@@ -1,5 +1,5 @@
 // The sums that a shard keeps for its terms.
-ghost use Rattle.std.specs.Prelude.{◌≡◌, ◌+◌, ◌==◌, ◌^◌, ◌<◌, ◌≤◌, ◌++◌, ◌∷◌, [], ℕ, Some, true, not, filter, find, length, vec_capacity, map, option_map, IfOk, IfSome, IfNone};
+ghost use Rattle.std.specs.Prelude.{◌≡◌, ◌+◌, ◌==◌, ◌^◌, ◌<◌, ◌≤◌, ◌++◌, ◌∷◌, [], ℕ, Some, true, not, filter, find, length, slice_get, vec_capacity, map, option_map, IfOk, IfSome, IfNone};
 ghost use Rattle.bng_base.specs.declared.item.OutRecord.{OutRecord as Out};
 ghost use Rattle.bng_engine.specs.Books.{BooksFall, BooksRise};
 ghost use Rattle.bng_engine.specs.Calls.{SayMore};
@@ -7,7 +7,7 @@ ghost use Rattle.bng_engine.specs.Lists.{AnyOf};
 ghost use Rattle.bng_engine.specs.Protocol.{HasKey, IsOwned};
 ghost use Rattle.bng_engine.specs.Terms.{keys};
 ghost use Rattle.bng_engine.specs.Views.{new_row, row_keys};
-ghost use Rattle.bng_shard.specs.Protocol.{row_at, terms_of};
+ghost use Rattle.bng_shard.specs.Protocol.{key_of, row_at, terms_of};
 ghost use Rattle.bng_shard.specs.declared.rules.Rules.{Rules as Ways};
 ghost use Rattle.bng_shard.specs.Running.{begun, row_from, rows_at, rows_in, AreRising, HasSerial, IsPlaceOf};
 ghost use Rattle.std.specs.Option.{option_copied};
@@ -16,6 +16,7 @@ ghost use Rattle.bng_shard.specs.Sums.{charged_as, traffic_in, AreCovered, Has, 
 use crate::served::Served;
 use crate::session::{Lease, Session};
 use crate::sums::{Charged, Traffic};
+use crate::term::LiveTerm;
 use bng_base::{Book, Charge, Circuit, Ip4, OutRecord, SessionNo, TermId};
 use std::alloc::{AllocError, Global};
 
@@ -77,6 +78,18 @@ pub(crate) fn rows_of(alloc: Global, served: &Served) -> Result<Vec<Running>, Al
 
 /// The most sessions of a shard.
 const NUMBERS: usize = 1022;
+
+/// The term whose row stands at this place, from 0; none exactly past the last.
+pub(crate) fn term_at(rows: &[Running], place: usize) -> Option<LiveTerm>
+    ensures { option_map key_of result ≡ slice_get (row_keys (rows_in rows.now)) place }
+{
+    let row = rows.get(place)?;
+    Some(LiveTerm {
+        term: row.term,
+        circuit: row.circuit,
+        address: row.lease,
+    })
+}
 
 // The row with this session number.
 fn row_at(rows: &[Running], session: SessionNo) -> Option<Running>

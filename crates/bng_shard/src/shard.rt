@@ -6,7 +6,7 @@ ghost use Rattle.bng_engine.specs.Protocol.{IsOwned};
 ghost use Rattle.bng_engine.specs.Showing.{ChargesShown};
 ghost use Rattle.bng_engine.specs.Terms.{keys};
 ghost use Rattle.bng_engine.specs.Views.{row_keys};
-ghost use Rattle.bng_shard.specs.Protocol.{Handles, Leaves, deadline_of, ended_terms, entry_of, opened, pppoe, profiles_there, row_at, sessions_of, stop_of, terms_of};
+ghost use Rattle.bng_shard.specs.Protocol.{Handles, Leaves, deadline_of, ended_terms, entry_of, key_of, opened, pppoe, profiles_there, row_at, sessions_of, stop_of, terms_of};
 ghost use Rattle.bng_shard.specs.Questions.{asking_from, handed_after, waiting};
 ghost use Rattle.bng_shard.specs.Room.{Admits};
 ghost use Rattle.bng_slots.specs.Sessions.{IsNumberOf};
@@ -19,11 +19,13 @@ use crate::hear::hear;
 use crate::pool::PlainPool;
 use crate::questions::Handed;
 use crate::rules::Rules;
-use crate::running::{Running, book, carried_by, charged_as, leave, rows_of, settle, tally};
+use crate::running::{
+    Running, book, carried_by, charged_as, leave, rows_of, settle, tally, term_at,
+};
 use crate::sending::At;
 use crate::served::Served;
 use crate::sums::{Charged, Traffic};
-use crate::term::EndedTerm;
+use crate::term::{EndedTerm, LiveTerm};
 use bng_base::{Book, Claim, Entry, Fate, Item, LONGEST, OutRecord, SessionNo, Static, TermId};
 use bng_verdict::AuthAsk;
 use std::alloc::{AllocError, Global};
@@ -334,5 +336,13 @@ impl Shard {
         ensures { result ≡ option_map traffic_in (row_at self.now.rows session.0) }
     {
         carried_by(&self.rows, session)
+    }
+
+    /// The term at this place, from 0, of those that are there, by their numbers: which it is, its circuit and its address. One that
+    /// has ended is there until it is handed out by `reap`. None exactly past the last.
+    pub fn term(&self, place: usize) -> Option<LiveTerm>
+        ensures { option_map key_of result ≡ slice_get (row_keys self.now.rows) place }
+    {
+        term_at(&self.rows, place)
     }
 }

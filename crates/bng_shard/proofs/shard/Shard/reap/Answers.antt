@@ -6,7 +6,8 @@ use Rattle.bng_shard.specs.declared.session.Session.{Session}
 use Rattle.bng_shard.specs.Fits.{ArePlaced}
 use Rattle.bng_shard.specs.Running.{AreRising, rows_in}
 use Rattle.bng_shard.specs.State.{State, leaves, settled}
-use Rattle.bng_shard.proofs.Reaping.{is_of, its_row, leaves_so, left_fit, left_placed, none_ended, none_settled, option_carried}
+use Rattle.bng_shard.proofs.OfSession.{is_of, option_carried}
+use Rattle.bng_shard.proofs.Reaping.{its_row, leaves_so, left_fit, left_placed, none_ended, none_settled}
 use Rattle.bng_shard.proofs.RowSums.{rising_kept}
 use Rattle.bng_shard.proofs.Stepping.{view}
 use Rattle.bng_shard.proofs.Terms.{terms_there}
