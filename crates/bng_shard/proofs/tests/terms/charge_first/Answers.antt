@@ -5,7 +5,7 @@ use Rattle.bng_engine.specs.Views.{ShardView, row_keys}
 use Rattle.bng_shard.specs.Protocol.{ShardState}
 use Rattle.bng_shard.specs.Sums.{RowsAreLow}
 use Rattle.bng_shard.proofs.OneCircuit.{row_low, row_owned}
-use Rattle.bng_shard.proofs.tests.charge_first.Goals as goal
+use Rattle.bng_shard.proofs.tests.terms.charge_first.Goals as goal
 
 pub charge-requires-clause-low : goal.charge-requires-clause-low
 charge-requires-clause-low c =
