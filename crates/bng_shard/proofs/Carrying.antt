@@ -1,5 +1,5 @@
 -- What was done with a packet of a term, of what is known of its parts.
-use Rattle.std.proofs.Common.{◌≡◌, ℕ, true, false, List, [], ◌∷◌, ◌++◌, Option, Some, None, length, inl, inr, refl, sym, ap, subst, ◌∙◌, arith}
+use Rattle.std.proofs.Common.{◌≡◌, ℕ, Bool, true, false, not, is_some, List, [], ◌∷◌, ◌++◌, Option, Some, None, length, inl, inr, refl, sym, ap, subst, ◌∙◌, arith}
 use Rattle.std.specs.Prelude.{◌≢◌, ◌==◌, option_map}
 use Rattle.std.proofs.lemmas.Bool.Decides.{nat_tests}
 use Rattle.std.proofs.lemmas.List.{append-nil}
@@ -24,7 +24,7 @@ use Rattle.bng_shard.specs.declared.session.Lease.{Lease}
 use Rattle.bng_shard.specs.declared.session.Service.{Service}
 use Rattle.bng_shard.specs.declared.session.Service.TheVariants.{Provisioned, Discovered}
 use Rattle.bng_shard.specs.declared.session.Session.{Session}
-use Rattle.bng_shard.specs.State.{State, port_at, session_of, holder_of, lease_in, lease_of, live_lease, view_from, view_of, leases, leases_in}
+use Rattle.bng_shard.specs.State.{State, port_at, session_of, holder_of, lease_in, lease_of, live_lease, view_in, view_of, leases, leases_in}
 use Rattle.bng_shard.specs.Deed.{Deed, at_of, out, only}
 use Rattle.bng_shard.specs.Doing.{DoesWith}
 use Rattle.bng_shard.specs.Frames.{HearsData, HearsPacket, charge_of, forwarded, found_up, found_down}
@@ -48,6 +48,16 @@ leased_address (Provisioned p) a l passes is =
       | Some c ↦ λ e. absurd (none_some l e)
     ] is
 leased_address (Discovered m) a l passes is = absurd (none_some l is)
+
+-- a live term is open
+live_view : (v : Service) (l : Lease) → lease_in v ≡ Some l → view_in v ≡ Some (record { lease = l.address; opened = true })
+live_view (Provisioned p) l is =
+    let seen : Lease → Bool → Option TermView = λ k opened. Some (record { lease = k.address; opened = opened }) in
+    elim p.cause as (λ o. live_lease o p.lease ≡ Some l → seen p.lease (not (is_some o)) ≡ seen l true) [
+      | None ↦ λ e. ap (λ (k : Lease). seen k true) (same_some p.lease l e)
+      | Some c ↦ λ e. absurd (none_some l e)
+    ] is
+live_view (Discovered m) l is = absurd (none_some l is)
 
 -- the holder of an address leases it
 held_address : (s : State) (a : Ip4) (x : Session) (l : Lease) → holder_of s a ≡ Some x → lease_of x ≡ Some l → a ≡ l.address
@@ -87,7 +97,7 @@ module _ (r : Rules) (s : State) (a : At) (item : Item) (outs : List OutRecord) 
       let total : octets ≡ v.total = sym count ∙ passed.whole in
       let its_view : TermView = record { lease = l.address; opened = true } in
       let view : Some (Some may.view) ≡ Some (Some its_view) =
-      sym may.term ∙ is ∙ ap (λ (o : Option Session). option_map view_of o) at ∙ ap (λ (o : Option Lease). Some (option_map view_from o)) leased in
+      sym may.term ∙ is ∙ ap (λ (o : Option Session). option_map view_of o) at ∙ ap (λ (o : Option TermView). Some o) (live_view x.service l leased) in
       let same : may.view ≡ its_view = same_some may.view its_view (same_some (Some may.view) (Some its_view) view) in
       record {
         deed = forwarded s e (sent (at_of s e) v.total);

@@ -22,7 +22,7 @@ use Rattle.bng_shard.specs.declared.session.Lease.{Lease}
 use Rattle.bng_shard.specs.declared.session.Service.TheVariants.{Provisioned, Discovered}
 use Rattle.bng_shard.specs.declared.session.Service.{Service}
 use Rattle.bng_shard.specs.declared.session.Session.{Session}
-use Rattle.bng_shard.specs.State.{State, address_view, circuit_of, session_of, holder_of, lease_of, view_of, with_session, with_driven, port_at}
+use Rattle.bng_shard.specs.State.{State, circuit_of, session_of, holder_of, lease_of, view_of, with_session, with_driven, port_at}
 use Rattle.bng_shard.specs.Deed.{Deed, at_of, out, only, ignored, dropped, handled, arrival_in}
 use Rattle.bng_shard.specs.Link.{Drives, ended, hears}
 use Rattle.bng_shard.specs.Discovery.{Discovers}
@@ -41,13 +41,13 @@ charge_of x l input octets = record {
 abbrev pub forwarded : State → Entry → OutRecord → Deed
 forwarded s e o = record { entry = e; fate = Forwarded; outs = o ∷ []; next = s }
 
--- what is known of the session of a frame: whether there is one, and its term's view, where a term is live
+-- what is known of the session of a frame: whether there is one, and the view of its term, whether that has ended or not
 abbrev pub found_up : State → ℕ → PppoeFrame → Option (Option TermView)
 found_up s number p = option_map view_of (session_of s number p.src p.session)
 
 -- the view of the term whose address this is, whether it has ended or not
 abbrev pub found_down : State → Ip4 → Option TermView
-found_down s a = option_and_then address_view (holder_of s a)
+found_down s a = option_and_then view_of (holder_of s a)
 
 -- the packet of a session's frame goes to the core
 pub record GoesUp (r : Rules) (s : State) (e : Entry) (number : ℕ) (p : PppoeFrame) (info : List ℕ) (d : Deed) : Type 0 where

@@ -1,6 +1,5 @@
 -- What a shard serves: its sessions by number, each on a provisioned circuit or made by discovery.
-use Rattle.std.specs.Prelude.{ℕ, ◌-◌, ◌==◌, Bool, true, false, not, ◌&&◌, List, Option, Some, None, filter, find, is_some, length, slice_get, if◌then◌else◌}
-use Rattle.std.specs.Option.{option_map}
+use Rattle.std.specs.Prelude.{ℕ, ◌-◌, ◌==◌, Bool, false, not, ◌&&◌, List, Option, Some, None, filter, find, is_some, length, slice_get, if◌then◌else◌}
 use Rattle.std.specs.FinMap as map
 use Rattle.std.specs.Str.{bytes_eq}
 use Rattle.bng_base.specs.declared.address.Ip4.{Ip4}
@@ -64,20 +63,14 @@ abbrev pub held_in : Service → Option Lease
 held_in (Provisioned p) = Some p.lease
 held_in (Discovered m) = None
 
--- what forwarding looks at of a session's live term; a provisioned circuit has no LCP and counts as Opened
-abbrev pub view_from : Lease → TermView
-view_from l = record { lease = l.address; opened = true }
+-- what forwarding looks at of a session's term, until that has its Stop: a provisioned circuit has no LCP, and counts as Opened as
+-- long as its term is live
+abbrev pub view_in : Service → Option TermView
+view_in (Provisioned p) = Some (record { lease = p.lease.address; opened = not (is_some p.cause) })
+view_in (Discovered m) = None
 
 abbrev pub view_of : Session → Option TermView
-view_of x = option_map view_from (lease_of x)
-
--- what forwarding looks at of the address that a session holds, which is open as long as the session's term is live
-abbrev pub address_view_in : Service → Option TermView
-address_view_in (Provisioned p) = Some (record { lease = p.lease.address; opened = not (is_some p.cause) })
-address_view_in (Discovered m) = None
-
-abbrev pub address_view : Session → Option TermView
-address_view x = address_view_in x.service
+view_of x = view_in x.service
 
 -- the session holds this address
 abbrev pub leases_in : Service → Ip4 → Bool

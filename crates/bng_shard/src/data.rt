@@ -7,7 +7,7 @@ ghost use Rattle.bng_forward.specs.Fates.{Carries, IsCorePacket, IsFrame};
 ghost use Rattle.bng_shard.specs.Doing.{DoesWith};
 ghost use Rattle.bng_shard.specs.Fits.{ArePlaced};
 ghost use Rattle.bng_shard.specs.Frames.{charge_of as charged_to, HearsCore, HearsData, HearsPacket};
-ghost use Rattle.bng_shard.specs.State.{address_view as address_viewed, view_of as viewed};
+ghost use Rattle.bng_shard.specs.State.{view_of as viewed};
 
 use crate::drive::port_of;
 use crate::rules::Rules;
@@ -52,7 +52,7 @@ fn charge_of(session: &Session, lease: Lease, input: bool, octets: u16) -> Charg
     }
 }
 
-// The view of a session's term, if there is a session.
+// The view of the term of a frame's session, if there is a session.
 fn view_of(session: Option<&Session>) -> Option<Option<TermView>>
     ensures { result ≡ option_map viewed (option_copied session.entry) }
 {
@@ -62,11 +62,11 @@ fn view_of(session: Option<&Session>) -> Option<Option<TermView>>
     }
 }
 
-// The view of the address that a session holds, if there is a session that holds one.
-fn address_view(session: Option<&Session>) -> Option<TermView>
-    ensures { result ≡ option_and_then address_viewed (option_copied session.entry) }
+// The view of the term of an address's holder, if it has a holder.
+fn holder_view(holder: Option<&Session>) -> Option<TermView>
+    ensures { result ≡ option_and_then viewed (option_copied holder.entry) }
 {
-    session?.address_view()
+    holder?.view()
 }
 
 /// Handles a frame that came to the port with this number and carries an IPv4 packet of so many octets.
@@ -126,7 +126,7 @@ fn hear_packet(
 {
     let holder = served.holder_of(header.dst);
     let mut packet = copied(&item.frame);
-    let fate = down(address_view(holder), header, &mut packet);
+    let fate = down(holder_view(holder), header, &mut packet);
     let Fate::Forwarded = fate else {
         return fate;
     };

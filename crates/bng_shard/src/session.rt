@@ -10,7 +10,7 @@ ghost use Rattle.bng_shard.specs.Questions.{open_of};
 ghost use Rattle.bng_shard.specs.Made.{Made as DiscoveredMade};
 ghost use Rattle.bng_shard.specs.Serving.{is_young};
 ghost use Rattle.bng_shard.specs.Ending.{done_from, done_of};
-ghost use Rattle.bng_shard.specs.State.{address_view, circuit_of, held_in, is_on, leaves, lease_of, live_lease, made_one, view_of};
+ghost use Rattle.bng_shard.specs.State.{circuit_of, held_in, is_on, leaves, lease_of, live_lease, made_one, view_of};
 ghost use Rattle.bng_shard.specs.Timers.{deadline_of, lives_in};
 ghost use Rattle.bng_shard.specs.Indexed.{address_of, term_of};
 
@@ -356,9 +356,10 @@ impl Session {
         }
     }
 
-    /// What forwarding looks at of the address that it holds, which is open as long as its term is live.
-    pub(crate) fn address_view(&self) -> Option<TermView>
-        ensures { result ≡ address_view self.now }
+    /// What forwarding looks at of its term, until that has its Stop. A provisioned circuit has no LCP, and counts as Opened as long
+    /// as its term is live.
+    pub(crate) fn view(&self) -> Option<TermView>
+        ensures { result ≡ view_of self.now }
     {
         match &self.service {
             Service::Provisioned(provision) => Some(TermView {
@@ -367,16 +368,5 @@ impl Session {
             }),
             Service::Discovered(_) => None,
         }
-    }
-
-    /// What forwarding looks at of its term. A provisioned circuit has no LCP, and counts as Opened.
-    pub(crate) fn view(&self) -> Option<TermView>
-        ensures { result ≡ view_of self.now }
-    {
-        let lease = self.lease()?;
-        Some(TermView {
-            lease: lease.address,
-            opened: true,
-        })
     }
 }

@@ -8,15 +8,15 @@ use Rattle.bng_forward.specs.Fates.{DownFate}
 use Rattle.bng_forward.specs.Packets.{IsPassedOn}
 use Rattle.bng_shard.specs.Deed.{out}
 use Rattle.bng_shard.specs.Frames.{found_down}
-use Rattle.bng_shard.specs.State.{address_view, leases}
+use Rattle.bng_shard.specs.State.{leases, view_of}
 use Rattle.bng_shard.proofs.Carrying.{drops_down, goes_down}
 use Rattle.bng_shard.proofs.Values.{found_at, none_some}
 use Rattle.bng_shard.proofs.data.hear_packet.Goals as goal
 use Rattle.bng_shard.proofs.data.hear_packet.Goals.{After-down-fate}
 
 -- the view of the holder
-found : (c : After-down-fate) → c.address_view.result ≡ found_down c.args.served.now c.args.header.dst
-found c = c.address_view.ensures ∙ ap (option_and_then address_view) c.holder_of-holder.ensures
+found : (c : After-down-fate) → c.holder_view.result ≡ found_down c.args.served.now c.args.header.dst
+found c = c.holder_view.ensures ∙ ap (option_and_then view_of) c.holder_of-holder.ensures
 
 fated : (c : After-down-fate) → DownFate (found_down c.args.served.now) c.args.item.now.frame.payload c.down-fate.result
 fated c =
