@@ -67,7 +67,7 @@ other_protocol n c info e = ap (λ (m : ℕ). eqb m 33) (big_number-reads_back 2
 
 -- what goes out on an access port and is no session data is no packet
 no_data : (a : At) (number : ℕ) (port : AccessPort) (octets : List ℕ) → is_session_data octets ≡ false → IsControl a.seat (out a (Access number) port.peer octets None)
-no_data a number port octets h = record { seat_is = refl; charge = refl; unsent = refl; no_packet = record { not_core = refl; not_data = λ e. h } }
+no_data a number port octets h = record { seat_is = refl; charge = refl; unsent = refl; no_packet = record { on_port = refl; not_core = refl; not_data = λ e. h } }
 
 where_fits : (seat : ℕ) (b c d : Bool) (o : OutRecord) → (b ≡ true → c ≡ true → IsControl seat o) → AreControl seat (if (b && c) && d then o ∷ [] else [])
 where_fits seat false c d o h = tt

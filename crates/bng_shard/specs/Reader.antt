@@ -78,8 +78,9 @@ abbrev pub IsInDirection : Bool → Charge → Role → List ℕ → Type 0
 IsInDirection true c role octets = IsInputOf c role octets
 IsInDirection false c role octets = IsOutputOf c role octets
 
--- no packet of a subscriber
+-- on an access port, and no packet of a subscriber
 pub record IsNoPacket (role : Role) (octets : List ℕ) : Type 0 where
+  pub on_port : is_access role ≡ true
   pub not_core : is_core role ≡ false
   pub not_data : is_access role ≡ true → is_session_data octets ≡ false
 
