@@ -1,5 +1,6 @@
 -- A round that was held or refused, as a turn of the desk has it.
 use Rattle.std.proofs.Common.{◌≡◌, inl, inr, ℕ, ◌+◌, ◌&&◌, Bool, List, [], ◌∷◌, Option, None, Some, map, length, refl, sym, ap, subst, ◌∙◌}
+use Rattle.std.specs.List.{AllZip}
 use Rattle.std.proofs.lemmas.List.{length-map}
 use Rattle.bng_base.specs.declared.book.Book.{Book}
 use Rattle.bng_base.specs.declared.item.Entry.{Entry}
@@ -8,34 +9,38 @@ use Rattle.bng_base.specs.declared.round.RoundRecord.{RoundRecord}
 use Rattle.bng_base.specs.Stretch.{ExtendsPlant, PlantStretch, plant_none, plant_joined}
 use Rattle.bng_base.specs.Told.{PlantTold}
 use Rattle.bng_base.proofs.StretchLaws.{plant_assoc, plant_more, plant_stays}
+use Rattle.bng_billing.specs.State.{BillingState}
 use Rattle.bng_engine.specs.Views.{ShardView}
 use Rattle.bng_ppp.specs.LinkRelation.{earliest}
 use Rattle.bng_shard.specs.declared.pool.Holder.{Holder}
-use Rattle.bng_shard.specs.declared.rules.Rules.{Rules}
 use Rattle.bng_shard.specs.Protocol.{ShardState}
 use Rattle.bng_desk.specs.declared.drops.Drops.{Drops}
 use Rattle.bng_desk.specs.declared.holding.Named.{Named}
 use Rattle.bng_desk.specs.declared.line.Line.{Line}
+use Rattle.bng_desk.specs.Accounting.{FormedRecord, Forms, IsStopOf, acct_reading, records_stretch}
 use Rattle.bng_desk.specs.Control.{control_stretch}
-use Rattle.bng_desk.specs.Items.{kept_of}
 use Rattle.bng_desk.specs.Kept.{rested}
 use Rattle.bng_desk.specs.Logins.{requests_stretch}
 use Rattle.bng_desk.specs.Model.{Desk}
 use Rattle.bng_desk.specs.Round.{Round, IsRound, record_of, refused_record}
-use Rattle.bng_desk.specs.Taking.{Holds}
-use Rattle.bng_desk.specs.Turn.{Turn, RoundOf, after_round, is_opened, round_stretch, round_told, after, auth_stretch, plant_stretch, data_stretch, waiting_stretch, is_idle, wait_for, deadline_in}
+use Rattle.bng_desk.specs.Taking.{Accounts, Holds}
+use Rattle.bng_desk.specs.Turn.{Turn, RoundOf, after_round, is_opened, round_stretch, round_told, after, auth_stretch, plant_stretch, data_stretch, reading_stretch, stops_in, waiting_stretch, is_idle, wait_for, deadline_in}
 use Rattle.bng_desk.proofs.Resting.{kept_rested, left_rested, round_rested}
 
 abbrev Shards : Type 0
 Shards = List (ShardView ShardState Entry)
 
--- what a turn has of its round
-pub record RoundDone (d : Desk) (moment wall : ℕ) (items : List Item) (old new : PlantTold) (shards : Shards) (holders : List Holder) (lines : List Line) (drops : Drops) (tally : Book) (told_is : RoundRecord) (opened : Bool) (kept : List Item) : Type 0 where
+-- what a turn has of its round, before which accounting stood so
+pub record RoundDone (d : Desk) (heard : BillingState) (moment wall : ℕ) (items : List Item) (old new : PlantTold) (shards : Shards) (holders : List Holder) (accounts : Accounts) (drops : Drops) (tally : Book) (told_is : RoundRecord) (opened : Bool) (kept : List Item) : Type 0 where
   pub round : Option Round
   pub is : RoundOf d moment items round
   pub shards_are : shards ≡ (after_round d items round).shards
   pub holders_are : holders ≡ (after_round d items round).holders
-  pub lines_are : lines ≡ (after_round d items round).lines
+  pub lines_are : accounts.lines ≡ (after_round d items round).lines
+  pub formed : List FormedRecord
+  pub forms : Forms heard formed accounts.billing
+  pub stops : AllZip (IsStopOf d.lines d.began moment wall) (stops_in round) formed
+  pub began_is : accounts.began ≡ d.began
   pub drops_are : drops ≡ (after_round d items round).drops
   pub tallies_are : tally ∷ [] ≡ (after_round d items round).tallies
   pub told : ExtendsPlant old new (round_stretch round)
@@ -43,9 +48,12 @@ pub record RoundDone (d : Desk) (moment wall : ℕ) (items : List Item) (old new
   pub opened_is : opened ≡ is_opened round
   pub kept_is : kept ≡ (after_round d items round).kept
 
-pub round_done : (d : Desk) (named : Named) (items : List Item) (p p' : PlantTold) (vs ws : Shards) (holders' : List Holder) (lines' : List Line) (drops' : Drops) (tally tally' : Book) (told_is : RoundRecord) (opened : Bool) (kept : List Item) → Holds d.rules d.holders holders' d.lines lines' named items p p' vs ws d.drops drops' tally tally' told_is opened kept
-    → d.shards ≡ map rested vs → d.tallies ≡ tally ∷ [] → named.number ≡ d.told + 1 → RoundDone d named.moment named.wall items p p' (map rested ws) holders' lines' drops' tally' told_is opened kept
-round_done d named items p p' vs ws holders' lines' drops' tally tally' told_is opened kept (inl (opened_is, kept_is, h)) shards tallies number =
+abbrev accounts_of : Desk → BillingState → Accounts
+accounts_of d heard = record { lines = d.lines; billing = heard; began = d.began }
+
+pub round_done : (d : Desk) (heard : BillingState) (named : Named) (items : List Item) (p p' : PlantTold) (vs ws : Shards) (holders' : List Holder) (accounts' : Accounts) (drops' : Drops) (tally tally' : Book) (told_is : RoundRecord) (opened : Bool) (kept : List Item) → Holds d.rules d.holders holders' (accounts_of d heard) accounts' named items p p' vs ws d.drops drops' tally tally' told_is opened kept
+    → d.shards ≡ map rested vs → d.tallies ≡ tally ∷ [] → named.number ≡ d.told + 1 → RoundDone d heard named.moment named.wall items p p' (map rested ws) holders' accounts' drops' tally' told_is opened kept
+round_done d heard named items p p' vs ws holders' accounts' drops' tally tally' told_is opened kept (inl (opened_is, kept_is, h)) shards tallies number =
     let same : map rested h.ready ≡ d.shards = kept_rested vs h.ready h.kept ∙ sym shards in
     let lists : List (List Item) = items ∷ [] in
     record {
@@ -54,7 +62,11 @@ round_done d named items p p' vs ws holders' lines' drops' tally tally' told_is 
           (subst (λ (xs : Shards). IsRound d.rules xs d.holders (tally ∷ []) named.moment lists h.held.round) same (round_rested d.rules h.ready d.holders (tally ∷ []) named.moment lists h.held.round h.held.is));
       shards_are = left_rested ws h.held.round.shards h.held.shards_are;
       holders_are = h.held.holders_are;
-      lines_are = h.held.lines_are;
+      lines_are = h.held.booked.lines_are;
+      formed = h.held.booked.formed;
+      forms = h.held.booked.forms;
+      stops = h.held.booked.are_stops;
+      began_is = h.held.booked.began;
       drops_are = h.held.drops_are;
       tallies_are = sym h.held.tallies_are;
       told = h.held.told;
@@ -62,14 +74,18 @@ round_done d named items p p' vs ws holders' lines' drops' tally tally' told_is 
       opened_is = opened_is;
       kept_is = kept_is;
     }
-round_done d named items p p' vs ws holders' lines' drops' tally tally' told_is opened kept (inr (opened_is, kept_is, h)) shards tallies number =
+round_done d heard named items p p' vs ws holders' accounts' drops' tally tally' told_is opened kept (inr (opened_is, kept_is, h)) shards tallies number =
     let count : length vs ≡ length d.shards = sym (length-map vs rested) ∙ ap (λ (xs : Shards). length xs) (sym shards) in
     record {
       round = None;
       is = tt;
       shards_are = kept_rested vs ws h.kept ∙ sym shards;
       holders_are = h.holders_are;
-      lines_are = h.lines_are;
+      lines_are = ap (λ (a : Accounts). a.lines) h.accounts_are;
+      formed = [];
+      forms = ap (λ (a : Accounts). a.billing) h.accounts_are;
+      stops = tt;
+      began_is = ap (λ (a : Accounts). a.began) h.accounts_are;
       drops_are = h.drops_are;
       tallies_are = ap (λ (b : Book). let bs : List Book = b ∷ [] in bs) h.tally_is ∙ sym tallies;
       told = subst (λ (q : PlantTold). ExtendsPlant p q plant_none) (sym h.told) (plant_stays p);
@@ -109,23 +125,22 @@ module _ (d : Desk) (items : List Item) (round : Option Round) (shards : Shards)
       ∙ ap (λ (is : List Item). with_round d r.shards r.holders r.lines r.drops r.tallies is) kept_is
       ∙ after_parts d items round
 
--- what stays is nothing, or what the items keep
-pub kept_as : (P : List Item → Type 0) (r : Rules) (holders holders' : List Holder) (lines lines' : List Line) (named : Named) (items : List Item) (p p' : PlantTold) (vs ws : Shards) (drops drops' : Drops) (tally tally' : Book) (told_is : RoundRecord) (opened : Bool) (kept : List Item)
-    → Holds r holders holders' lines lines' named items p p' vs ws drops drops' tally tally' told_is opened kept → P [] → P (kept_of items) → P kept
-kept_as P r holders holders' lines lines' named items p p' vs ws drops drops' tally tally' told_is opened kept (inl h) none some = subst P (sym h.1) none
-kept_as P r holders holders' lines lines' named items p p' vs ws drops drops' tally tally' told_is opened kept (inr h) none some = subst P (sym h.1) some
-
 -- the phases of a turn, one after the other
-pub phases : (d : Desk) (t : Turn) (p₀ p₁ p₂ p₃ p₄ p₅ : PlantTold) → ExtendsPlant p₀ p₁ (control_stretch t.control t.control_end) → ExtendsPlant p₁ p₂ (plant_joined (auth_stretch t.answers t.auth_end) (data_stretch t.readings)) → ExtendsPlant p₂ p₃ (round_stretch t.round)
-    → ExtendsPlant p₃ p₄ (requests_stretch d.lane.client.auth_server t.requests) → ExtendsPlant p₄ p₅ (waiting_stretch (is_idle t && t.noted) (wait_for (earliest (deadline_in (after d t).shards) t.deadline) t.moment)) → ExtendsPlant p₀ p₅ (plant_stretch d t)
-phases d t p₀ p₁ p₂ p₃ p₄ p₅ control readings round requests waiting =
-    let w = waiting_stretch (is_idle t && t.noted) (wait_for (earliest (deadline_in (after d t).shards) t.deadline) t.moment) in
-    let q = requests_stretch d.lane.client.auth_server t.requests in
+pub phases : (d : Desk) (t : Turn) (p₀ p₁ p₂ p₃ p₄ p₅ : PlantTold) → ExtendsPlant p₀ p₁ (control_stretch t.control t.control_end) → ExtendsPlant p₁ p₂ (reading_stretch (acct_reading t.acknowledged t.acct_end))
+    → ExtendsPlant p₂ p₃ (plant_joined (auth_stretch t.answers t.auth_end) (data_stretch t.readings))
+    → ExtendsPlant p₃ p₄ (plant_joined (round_stretch t.round) (plant_joined (requests_stretch d.lane.client.auth_server t.requests) (records_stretch d.billing.client.acct_server t.records)))
+    → ExtendsPlant p₄ p₅ (waiting_stretch (is_idle t && t.noted) (wait_for (earliest (deadline_in (after d t).shards) (earliest t.deadline t.record_deadline)) t.moment)) → ExtendsPlant p₀ p₅ (plant_stretch d t)
+phases d t p₀ p₁ p₂ p₃ p₄ p₅ control acct readings settlement waiting =
+    let w = waiting_stretch (is_idle t && t.noted) (wait_for (earliest (deadline_in (after d t).shards) (earliest t.deadline t.record_deadline)) t.moment) in
     let r = round_stretch t.round in
+    let q = requests_stretch d.lane.client.auth_server t.requests in
+    let b = records_stretch d.billing.client.acct_server t.records in
     let told = auth_stretch t.answers t.auth_end in
     let rs = data_stretch t.readings in
-    let rest = plant_joined r (plant_joined q w) in
-    let after_control : ExtendsPlant p₁ p₅ (plant_joined told (plant_joined rs rest)) =
-    subst (λ (s : PlantStretch). ExtendsPlant p₁ p₅ s) (plant_assoc told rs rest)
-    (plant_more p₁ p₂ p₅ (plant_joined told rs) rest readings (plant_more p₂ p₃ p₅ r (plant_joined q w) round (plant_more p₃ p₄ p₅ q w requests waiting))) in
-    plant_more p₀ p₁ p₅ (control_stretch t.control t.control_end) (plant_joined told (plant_joined rs rest)) control after_control
+    let rest = plant_joined r (plant_joined q (plant_joined b w)) in
+    let after_readings : ExtendsPlant p₃ p₅ rest =
+    subst (λ (s : PlantStretch). ExtendsPlant p₃ p₅ s) (plant_assoc r (plant_joined q b) w ∙ ap (plant_joined r) (plant_assoc q b w)) (plant_more p₃ p₄ p₅ (plant_joined r (plant_joined q b)) w settlement waiting) in
+    let after_acct : ExtendsPlant p₂ p₅ (plant_joined told (plant_joined rs rest)) =
+    subst (λ (s : PlantStretch). ExtendsPlant p₂ p₅ s) (plant_assoc told rs rest) (plant_more p₂ p₃ p₅ (plant_joined told rs) rest readings after_readings) in
+    let a = reading_stretch (acct_reading t.acknowledged t.acct_end) in
+    plant_more p₀ p₁ p₅ (control_stretch t.control t.control_end) (plant_joined a (plant_joined told (plant_joined rs rest))) control (plant_more p₁ p₂ p₅ a (plant_joined told (plant_joined rs rest)) acct after_acct)

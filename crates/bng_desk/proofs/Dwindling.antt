@@ -33,12 +33,11 @@ use Rattle.bng_shard.proofs.Values.{sum_by-replaced}
 use Rattle.bng_verdict.specs.Verdicts.{Saying}
 use Rattle.bng_desk.specs.declared.drops.Drops.{Drops}
 use Rattle.bng_desk.specs.declared.holding.Named.{Named}
-use Rattle.bng_desk.specs.declared.line.Line.{Line}
 use Rattle.bng_desk.specs.Items.{entries_in, for_shard, stands_in}
 use Rattle.bng_desk.specs.Kept.{rested, undrawn, AreEndsOf, is_verdict}
 use Rattle.bng_desk.specs.Model.{sessions_in, unopened_most}
 use Rattle.bng_desk.specs.Round.{AreParts, entries_of, views_of}
-use Rattle.bng_desk.specs.Taking.{IsLeftBy, IsHeld, Holds}
+use Rattle.bng_desk.specs.Taking.{Accounts, IsLeftBy, IsHeld, Holds}
 use Rattle.bng_desk.proofs.Dealing.{Seens}
 use Rattle.bng_desk.proofs.Joining.{OfSeat, all_kept}
 use Rattle.bng_desk.proofs.Readying.{Shards, all_onward}
@@ -254,15 +253,15 @@ abbrev pub Nears : Bool → ℕ → ℕ → Type 0
 Nears true was now = Less was now
 Nears false was now = now ≡ was
 
-module _ (r : Rules) (holders holders' : List Holder) (lines lines' : List Line) (named : Named) (items : List Item) (old new : PlantTold) (vs ws : Shards) (drops drops' : Drops) (tally tally' : Book) (record_is : RoundRecord) where
+module _ (r : Rules) (holders holders' : List Holder) (accounts accounts' : Accounts) (named : Named) (items : List Item) (old new : PlantTold) (vs ws : Shards) (drops drops' : Drops) (tally tally' : Book) (record_is : RoundRecord) where
   kept_works : (by : Rules) (ready : Shards) → AllZip Kept vs ready → All (WorksBy by) vs → All (WorksBy by) ready
   kept_works by ready kept works = all_onward Kept (WorksBy by) (λ x y k here. ap (λ (s : ShardState). s.rules) k.state ∙ here) vs ready kept works
 
-  held_works : (by : Rules) → IsHeld r holders holders' lines lines' named items old new vs ws drops drops' tally tally' record_is → All (WorksBy by) vs → All (WorksBy by) ws
+  held_works : (by : Rules) → IsHeld r holders holders' accounts accounts' named items old new vs ws drops drops' tally tally' record_is → All (WorksBy by) vs → All (WorksBy by) ws
   held_works by h works =
       All-from_recursion (WorksBy by) ws (moved_rules by h.ready ws h.held.round.shards h.held.is.turn.shards h.held.shards_are (recursion_from_All (WorksBy by) h.ready (kept_works by h.ready h.kept works)))
 
-  pub all_work : (by : Rules) (opened : Bool) (kept : List Item) → Holds r holders holders' lines lines' named items old new vs ws drops drops' tally tally' record_is opened kept → All (WorksBy by) vs → All (WorksBy by) ws
+  pub all_work : (by : Rules) (opened : Bool) (kept : List Item) → Holds r holders holders' accounts accounts' named items old new vs ws drops drops' tally tally' record_is opened kept → All (WorksBy by) vs → All (WorksBy by) ws
   all_work by opened kept (inl h) works = held_works by h.2 works
   all_work by opened kept (inr h) works = kept_works by ws h.2.kept works
 
@@ -277,14 +276,14 @@ module _ (r : Rules) (holders holders' : List Holder) (lines lines' : List Line)
       (subst (λ (is : List Item). AreParts (is ∷ []) (w ∷ []) 0 named.moment xs) e.are parts) moves left
   dwindled (w ∷ x ∷ more) xs ready n few e within are parts moves left = absurd are.1
 
-  held_dwindles : IsHeld r holders holders' lines lines' named items old new vs ws drops drops' tally tally' record_is → length vs ≡ r.shards → AreEnds (length vs) items → Less (sessions_in vs) (sessions_in ws)
+  held_dwindles : IsHeld r holders holders' accounts accounts' named items old new vs ws drops drops' tally tally' record_is → length vs ≡ r.shards → AreEnds (length vs) items → Less (sessions_in vs) (sessions_in ws)
   held_dwindles h count ends =
       let is = h.held.is in
       let same : length vs ≡ length h.ready = zip_length Kept vs h.ready h.kept in
       subst (λ (n : ℕ). Less n (sessions_in ws)) (same_sessions h.ready h.kept)
       (dwindled h.held.round.whose h.held.round.shards h.ready (length vs) (omega (arith, count)) ends (omega (arith, same)) is.dealt.whose is.dealt.parts is.turn.shards h.held.shards_are)
 
-  pub nears : (opened : Bool) (kept : List Item) → Holds r holders holders' lines lines' named items old new vs ws drops drops' tally tally' record_is opened kept → length vs ≡ r.shards → AreEnds (length vs) items → Nears opened (sessions_in vs) (sessions_in ws)
+  pub nears : (opened : Bool) (kept : List Item) → Holds r holders holders' accounts accounts' named items old new vs ws drops drops' tally tally' record_is opened kept → length vs ≡ r.shards → AreEnds (length vs) items → Nears opened (sessions_in vs) (sessions_in ws)
   nears opened kept (inl h) count ends = subst (λ (b : Bool). Nears b (sessions_in vs) (sessions_in ws)) (sym h.0) (held_dwindles h.2 count ends)
   nears opened kept (inr h) count ends = subst (λ (b : Bool). Nears b (sessions_in vs) (sessions_in ws)) (sym h.0) (same_sessions ws h.2.kept)
 

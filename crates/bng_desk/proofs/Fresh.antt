@@ -20,9 +20,10 @@ use Rattle.bng_shard.specs.declared.rules.Rules.{Rules}
 use Rattle.bng_base.specs.declared.item.Item.{Item}
 use Rattle.bng_desk.specs.declared.drops.Drops.{Drops}
 use Rattle.bng_desk.specs.declared.line.Line.{Line}
+use Rattle.bng_desk.specs.Accounting.{AreBilled}
 use Rattle.bng_desk.specs.Counting.{Within, no_drops}
 use Rattle.bng_desk.specs.Kept.{IsKept, IsUnended, is_verdict, all_turns, rested, octets_most, drops_most}
-use Rattle.bng_desk.specs.Model.{Desk, is_of}
+use Rattle.bng_desk.specs.Model.{Desk, keys_in, is_of}
 use Rattle.bng_desk.specs.Opening.{line_of}
 use Rattle.bng_desk.specs.Taking.{IsEmpty, HasFewSessions, AreInOrder, AreTallied, CarriesWithin, kept_in, stopped_in}
 use Rattle.bng_desk.proofs.Dwindling.{WorksBy}
@@ -92,8 +93,8 @@ fresh_tallied rules statics tally ns cs =
 
 -- a desk with such shards, in which nothing has happened
 pub kept_fresh : (d : Desk) (statics : ℕ → List Static) (cs : List Static) → d.shards ≡ map (λ n. opened n d.rules (statics n)) (range_with_len 0 d.rules.shards) → All HasFewSessions d.shards → d.lines ≡ map line_of cs → 1 ≤ length d.rules.access → length d.rules.access ≤ 16 → 1 ≤ d.rules.shards → d.rules.shards ≤ 64
-    → All (λ (h : Holder). h.shard < d.rules.shards) d.holders → d.rounds ≤ 2 ^ 40 → d.turns ≡ 0 → d.endings ≡ 0 → d.unopened ≡ 0 → d.closed ≡ false → d.told ≡ 0 → d.drawn ≡ 1 → d.drops ≡ no_drops → d.tallies ≡ empty_book ∷ [] → d.kept ≡ [] → d.handed ≡ map (λ n. none_handed) (range_with_len 0 d.rules.shards) → IsKept d
-kept_fresh d statics cs shards few lines some_port few_ports some_shard few_shards holders most turns endings unopened closed told drawn drops tallies kept handed =
+    → All (λ (h : Holder). h.shard < d.rules.shards) d.holders → d.rounds ≤ 2 ^ 40 → d.turns ≡ 0 → d.endings ≡ 0 → d.unopened ≡ 0 → d.closed ≡ false → d.told ≡ 0 → d.drawn ≡ 1 → d.drops ≡ no_drops → d.tallies ≡ empty_book ∷ [] → d.kept ≡ [] → d.handed ≡ map (λ n. none_handed) (range_with_len 0 d.rules.shards) → d.began ≡ d.moment → AreBilled (keys_in d.shards) d.billing → IsKept d
+kept_fresh d statics cs shards few lines some_port few_ports some_shard few_shards holders most turns endings unopened closed told drawn drops tallies kept handed began billed =
     let staying = subst (λ (is : List Item). AreKept d is) (sym kept) (none_kept d) in
     let unended : IsUnended d = record { endings = endings; unopened = unopened; closed = closed } in
     let count = ap (λ (xs : List (ShardView ShardState Entry)). length xs) shards ∙ length-map-range_with_len (λ (n : ℕ). opened n d.rules (statics n)) 0 d.rules.shards in
@@ -127,4 +128,6 @@ kept_fresh d statics cs shards few lines some_port few_ports some_shard few_shar
       stays = staying.stays;
       while_serving = λ _. subst (λ (is : List Item). All is_verdict is) (sym kept) (λ k e l. absurd (omega arith));
       handed = ap (λ (hs : List (List ℕ)). length hs) handed ∙ length-map-range_with_len (λ (n : ℕ). none_handed) 0 d.rules.shards ∙ sym count;
+      began = omega (arith, began);
+      billed = billed;
     }

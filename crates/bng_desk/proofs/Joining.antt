@@ -34,12 +34,10 @@ use Rattle.bng_shard.specs.Sums.{AreLow, RowsAreLow}
 use Rattle.bng_shard.proofs.StepLaws.{pppoe_laws}
 use Rattle.bng_desk.specs.declared.drops.Drops.{Drops}
 use Rattle.bng_desk.specs.declared.holding.Named.{Named}
-use Rattle.bng_desk.specs.declared.line.Line.{Line}
 use Rattle.bng_desk.specs.Counting.{plus, drops_of}
 use Rattle.bng_desk.specs.Items.{entries_in, loose_in, all_loose, stands_in}
-use Rattle.bng_desk.specs.Model.{line_after}
 use Rattle.bng_desk.specs.Round.{Round, AreParts, StandsWithin, views_of, held_by, stops_of, holders_after, entries_of, of_seat, is_failed, with_failed, fates_in, sends_stretch}
-use Rattle.bng_desk.specs.Taking.{HasFewSessions, AreDealt, Deals, Falls, IsPlain, IsTurning, AllTurn, SendsAll, ReapsAll, RoundHeld}
+use Rattle.bng_desk.specs.Taking.{Accounts, BooksStops, HasFewSessions, AreDealt, Deals, Falls, IsPlain, IsTurning, AllTurn, SendsAll, ReapsAll, RoundHeld}
 use Rattle.bng_desk.proofs.Dealing.{Seens}
 use Rattle.bng_desk.proofs.DropLaws.{same}
 use Rattle.bng_desk.proofs.OneMore.{dealt_count}
@@ -246,11 +244,11 @@ pub told_as : (named : Named) (n : ℕ) (allowances : List ℕ) (journals : List
 told_as named n allowances journals loose outs refused none_begin none =
     ap (λ (zs : List ℕ). made named zs journals loose outs refused) none_begin ∙ ap (λ (rs : List Item). made named (replicate n 0) journals loose outs rs) none
 
-pub round_held : (r : Rules) (holders holders' : List Holder) (lines lines' : List Line) (named : Named) (items : List Item) (p p' : PlantTold) (vs ws us left : Shards) (loose : List Loose) (outs : List OutRecord) (journals : List (List Entry)) (d d' d'' : Drops) (t t' t'' : Book) (told : RoundRecord)
+pub round_held : (r : Rules) (holders holders' : List Holder) (accounts accounts' : Accounts) (named : Named) (items : List Item) (p p' : PlantTold) (vs ws us left : Shards) (loose : List Loose) (outs : List OutRecord) (journals : List (List Entry)) (d d' d'' : Drops) (t t' t'' : Book) (told : RoundRecord)
     → (deals : Deals r holders named.moment items vs ws loose d d' t t')
-    → SendsAll ws us p p' outs journals d' d'' t' t'' → ReapsAll us left holders holders' lines lines'
-    → told ≡ told_of named (length vs) journals loose outs → RoundHeld r holders holders' lines lines' named items p p' vs left d d'' t t'' told
-round_held r holders holders' lines lines' named items p p' vs ws us left loose outs journals d d' d'' t t' t'' told deals s y is =
+    → SendsAll ws us p p' outs journals d' d'' t' t'' → ReapsAll named.moment named.wall us left holders holders' accounts accounts'
+    → told ≡ told_of named (length vs) journals loose outs → RoundHeld r holders holders' accounts accounts' named items p p' vs left d d'' t t'' told
+round_held r holders holders' accounts accounts' named items p p' vs ws us left loose outs journals d d' d'' t t' t'' told deals s y is =
     let reaped = as_seen ws (views_of vs) deals.seen us s.sends left y.stops (all_turning r holders named.moment items vs ws loose d d' t t' deals) s.each y.each in
     let xs = reaped.settled in
     let seen = reaped.is in
@@ -279,7 +277,7 @@ round_held r holders holders' lines lines' named items p p' vs ws us left loose 
       };
       shards_are = seen.left;
       holders_are = y.holders_are ∙ ap (λ (ss : List Stop). holders_after ss holders) seen.stops;
-      lines_are = y.lines_are ∙ ap (λ (ss : List Stop). map (line_after ss) lines) seen.stops;
+      booked = subst (λ (ss : List Stop). BooksStops named.moment named.wall ss accounts accounts') seen.stops y.booked;
       tallies_are = refl;
       drops_are = s.drops_are
           ∙ ap (λ (os : List OutRecord). plus d' (with_failed (count_by is_failed os))) seen.sends

@@ -1,6 +1,6 @@
 -- What a desk keeps from turn to turn.
 use Rattle.std.proofs.Common.{◌≡◌, ◌≢◌, ◌⊎◌, inl, inr, ℕ, zero, suc, ◌+◌, ◌-◌, ◌*◌, ◌<◌, ◌≤◌, Bool, true, false, not, ◌&&◌, ◌||◌, cond, List, [], ◌∷◌, Option, None, Some, length, eqb, refl, sym, ap, subst, ◌∙◌, arith}
-use Rattle.std.specs.List.{All, list_any}
+use Rattle.std.specs.List.{All}
 use Rattle.std.proofs.lemmas.Bool.{false≢true, or_parts, leb-false}
 use Rattle.std.proofs.lemmas.Bool.Decides.{nat_tests}
 use Rattle.std.proofs.lemmas.List.{length-append}
@@ -11,11 +11,9 @@ use Rattle.bng_base.specs.declared.book.Book.{Book}
 use Rattle.bng_base.specs.declared.item.Item.{Item}
 use Rattle.bng_desk.specs.declared.desk.DeskState.{DeskState}
 use Rattle.bng_desk.specs.declared.desk.DeskState.TheVariants.{Serving, Ending, Ended, Starved}
-use Rattle.bng_base.specs.declared.round.RoundRecord.{RoundRecord}
 use Rattle.bng_base.specs.Told.{PlantTold}
-use Rattle.bng_desk.specs.declared.drops.Drops.{Drops}
-use Rattle.bng_desk.specs.declared.holding.Named.{Named}
-use Rattle.bng_desk.specs.declared.line.Line.{Line}
+use Rattle.bng_desk.specs.declared.settlement.Works.{Works}
+use Rattle.bng_desk.specs.Accounting.{AreBilled}
 use Rattle.bng_desk.specs.Counting.{Within}
 use Rattle.bng_base.specs.FateOf.{Arrival}
 use Rattle.bng_lane.specs.State.{LaneState}
@@ -25,12 +23,11 @@ use Rattle.bng_desk.specs.declared.reading.Ended.TheVariants.{Full, Dry, Broken}
 use Rattle.bng_desk.specs.Intake.{Gathers}
 use Rattle.bng_desk.specs.Kept.{IsKept, IsUnended, Stays, is_verdict, all_turns, octets_most, drops_most}
 use Rattle.bng_desk.specs.Logins.{Answered, reply_in, reply_items}
-use Rattle.bng_desk.specs.Model.{Desk, is_over, has_ended, has_starved, left_of, rounds_left, sessions_in, state_of, unopened_most}
+use Rattle.bng_desk.specs.Model.{Desk, keys_in, is_over, has_ended, has_starved, left_of, rounds_left, sessions_in, state_of, unopened_most}
 use Rattle.bng_desk.specs.Items.{kept_of, stays}
 use Rattle.bng_desk.specs.Random.{Drawn}
 use Rattle.bng_desk.specs.Reading.{EndsRight, is_empty}
-use Rattle.bng_desk.specs.Round.{stops_of}
-use Rattle.bng_desk.specs.Taking.{IsEmpty, HasFewSessions, Holds, AreInOrder, AreItems, AreTallied}
+use Rattle.bng_desk.specs.Taking.{IsEmpty, HasFewSessions, AreInOrder, AreItems, AreTallied}
 use Rattle.bng_desk.proofs.Readying.{Shards}
 use Rattle.bng_desk.specs.Turn.{ending_items, ending_draws, has_end, told_after, ReadsWhere}
 use Rattle.bng_desk.proofs.DropLaws.{within_wider}
@@ -40,13 +37,13 @@ use Rattle.bng_shard.specs.declared.pool.Holder.{Holder}
 use Rattle.bng_shard.specs.Protocol.{ShardState, sessions_of}
 use Rattle.bng_shard.specs.Sums.{IsLow, AreLow}
 use Rattle.bng_engine.specs.Books.{book_at}
-use Rattle.bng_engine.specs.Terms.{Stop}
 use Rattle.bng_engine.specs.Views.{ShardView}
-use Rattle.bng_desk.proofs.Dwindling.{WorksBy, Nears, less_left, nears, still_left, unopened_low}
+use Rattle.bng_desk.proofs.Dwindling.{WorksBy, Nears, less_left, still_left, unopened_low}
 use Rattle.bng_desk.proofs.Joining.{HasLow, HasLowBooks, low_wider, books_wider}
 use Rattle.bng_desk.proofs.OneMore.{low_more}
 use Rattle.bng_desk.proofs.Staying.{AreEnds, IsStaying, are_there, ends_by, ending_few, ending_kept, ending_stays, few_while, items_of_ends, serving_stays, verdict_items, verdicts_stay}
 use Rattle.bng_desk.proofs.Turning.{after_turn}
+use Rattle.bng_desk.proofs.Works.{kept_with}
 
 -- Where a desk stands, by its tests -----------------------------------------------------------------------------------------
 
@@ -123,21 +120,23 @@ low_at most tally low (suc i) lt = absurd (omega (arith, lt))
 pub one_low : (most : ℕ) (tally : Book) → IsLow most tally → AreLow most (tally ∷ [])
 one_low most tally low = low_at most tally low
 
--- what a round leaves
-pub record IsLeft (d : Desk) (ws : Shards) (holders : List Holder) (lines : List Line) (drops : Drops) (tally : Book) (drawn : ℕ) (handed : List (List ℕ)) : Type 0 where
-  pub shards : length ws ≡ length d.shards
-  pub order : AreInOrder ws
-  pub rules : All (WorksBy d.rules) ws
-  pub empty : All IsEmpty ws
-  pub sessions : All HasFewSessions ws
-  pub low : All (HasLow (octets_most * all_turns d + octets_most)) ws
-  pub books : All (HasLowBooks (octets_most * all_turns d + octets_most)) ws
-  pub holders_are : All (λ (h : Holder). h.shard < d.rules.shards) holders
-  pub tally_low : IsLow (octets_most * all_turns d + octets_most) tally
-  pub tallied : AreTallied tally ws lines
-  pub counts : Within (drops_most * all_turns d + drops_most) drops
-  pub drawn_is : drawn ≤ d.drawn + 1024
-  pub handed_is : length handed ≡ length d.handed
+-- what a settlement leaves
+pub record IsLeft (d : Desk) (w : Works) : Type 0 where
+  pub shards : length w.shards.items ≡ length d.shards
+  pub order : AreInOrder w.shards.items
+  pub rules : All (WorksBy d.rules) w.shards.items
+  pub empty : All IsEmpty w.shards.items
+  pub sessions : All HasFewSessions w.shards.items
+  pub low : All (HasLow (octets_most * all_turns d + octets_most)) w.shards.items
+  pub books : All (HasLowBooks (octets_most * all_turns d + octets_most)) w.shards.items
+  pub holders_are : All (λ (h : Holder). h.shard < d.rules.shards) w.pool
+  pub tally_low : IsLow (octets_most * all_turns d + octets_most) w.tally
+  pub tallied : AreTallied w.tally w.shards.items w.accounts.lines
+  pub counts : Within (drops_most * all_turns d + drops_most) w.drops
+  pub drawn_is : w.draws.drawn ≤ d.drawn + 1024
+  pub handed_is : length w.handed.items ≡ length d.handed
+  pub began_is : w.accounts.began ≡ d.began
+  pub billed : AreBilled (keys_in w.shards.items) w.accounts.billing
 
 -- what stays of the round
 pub record AreKept (d : Desk) (kept : List Item) : Type 0 where
@@ -150,9 +149,9 @@ none_kept d = record {
   stays = record { verdicts = []; ends = []; are = refl; all_verdicts = λ k e l. absurd (omega arith); few = omega arith; one_each = inl refl };
 }
 
-pub kept_served : (d : Desk) (ws : Shards) (holders : List Holder) (lines : List Line) (drops : Drops) (tally : Book) (draws : Drawn) (stopped : Bool) (moment told : ℕ) (lane : LaneState) (handed : List (List ℕ)) (kept : List Item) → IsKept d → is_over d ≡ false → d.turns < d.rounds → IsLeft d ws holders lines drops tally draws.drawn handed → told ≤ d.told + 1
-    → AreKept d kept → All is_verdict kept → IsKept (after_turn d ws holders lines drops tally draws stopped moment told lane handed kept)
-kept_served d ws holders lines drops tally draws stopped moment told lane handed kept k serves turns l up staying verdicts =
+pub kept_served : (d : Desk) (w : Works) (stopped : Bool) (moment told : ℕ) → IsKept d → is_over d ≡ false → d.turns < d.rounds → d.moment ≤ moment → IsLeft d w → told ≤ d.told + 1 → AreKept d w.kept.items → All is_verdict w.kept.items
+    → IsKept (after_turn (kept_with d w) stopped moment told)
+kept_served d w stopped moment told k serves turns later l up staying verdicts =
     let u = k.serving serves in
     record {
       some_port = k.some_port;
@@ -170,19 +169,21 @@ kept_served d ws holders lines drops tally draws stopped moment told lane handed
       serving = λ _. record { endings = u.endings; unopened = u.unopened; closed = u.closed };
       endings = k.endings;
       unopened = k.unopened;
-      left = unended_left d ws u l.sessions (omega (arith, l.shards, k.shards, k.few_shards));
+      left = unended_left d w.shards.items u l.sessions (omega (arith, l.shards, k.shards, k.few_shards));
       told = omega (arith, k.told, up);
       drawn = omega (arith, k.drawn, l.drawn_is);
       one_seat = refl;
-      low = low_wider (octets_most * all_turns d + octets_most) (octets_most * (d.turns + 1 + d.endings)) ws (omega arith) l.low;
-      books = books_wider (octets_most * all_turns d + octets_most) (octets_most * (d.turns + 1 + d.endings)) ws (omega arith) l.books;
-      tallies = one_low (octets_most * (d.turns + 1 + d.endings)) tally (low_more (octets_most * all_turns d + octets_most) (octets_most * (d.turns + 1 + d.endings)) tally (omega arith) l.tally_low);
+      low = low_wider (octets_most * all_turns d + octets_most) (octets_most * (d.turns + 1 + d.endings)) w.shards.items (omega arith) l.low;
+      books = books_wider (octets_most * all_turns d + octets_most) (octets_most * (d.turns + 1 + d.endings)) w.shards.items (omega arith) l.books;
+      tallies = one_low (octets_most * (d.turns + 1 + d.endings)) w.tally (low_more (octets_most * all_turns d + octets_most) (octets_most * (d.turns + 1 + d.endings)) w.tally (omega arith) l.tally_low);
       tallied = l.tallied;
-      counts = within_wider (drops_most * all_turns d + drops_most) (drops_most * (d.turns + 1 + d.endings)) drops (omega arith) l.counts;
+      counts = within_wider (drops_most * all_turns d + drops_most) (drops_most * (d.turns + 1 + d.endings)) w.drops (omega arith) l.counts;
       kept = staying.items;
-      stays = subst (λ (n : ℕ). Stays n kept) (sym l.shards) staying.stays;
+      stays = subst (λ (n : ℕ). Stays n w.kept.items) (sym l.shards) staying.stays;
       while_serving = λ _. verdicts;
       handed = l.handed_is ∙ k.handed ∙ sym l.shards;
+      began = omega (arith, l.began_is, k.began, later);
+      billed = l.billed;
     }
 
 -- what a turn of the ending leaves of those that there may be
@@ -206,9 +207,9 @@ not_served : (b : Bool) (X : Type 0) → b ≡ true → b ≡ false → X
 not_served true X e f = absurd (false≢true (sym f))
 not_served false X e f = absurd (false≢true e)
 
-pub kept_ended : (d : Desk) (ws : Shards) (holders : List Holder) (lines : List Line) (drops : Drops) (tally : Book) (draws : Drawn) (unopened : ℕ) (closed : Bool) (kept : List Item) (moment told : ℕ) (lane : LaneState) (handed : List (List ℕ)) → IsKept d → is_over d ≡ true → IsNearer d ws unopened closed → IsLeft d ws holders lines drops tally draws.drawn handed → told ≤ d.told + 1
-    → AreKept d kept → IsKept (after_ending d ws holders lines drops tally draws unopened closed kept moment told lane handed)
-kept_ended d ws holders lines drops tally draws unopened closed kept moment told lane handed k over near l up staying = record {
+pub kept_ended : (d : Desk) (w : Works) (unopened : ℕ) (closed : Bool) (moment told : ℕ) → IsKept d → is_over d ≡ true → IsNearer d w.shards.items unopened closed → d.moment ≤ moment → IsLeft d w → told ≤ d.told + 1 → AreKept d w.kept.items
+    → IsKept (after_ending (kept_with d w) unopened closed moment told)
+kept_ended d w unopened closed moment told k over near later l up staying = record {
   some_port = k.some_port;
   few_ports = k.few_ports;
   shards = l.shards ∙ k.shards;
@@ -221,22 +222,24 @@ kept_ended d ws holders lines drops tally draws unopened closed kept moment told
   holders = l.holders_are;
   most = k.most;
   made = k.made;
-  serving = λ serves. not_served (is_over d) (IsUnended (after_ending d ws holders lines drops tally draws unopened closed kept moment told lane handed)) over serves;
+  serving = λ serves. not_served (is_over d) (IsUnended (after_ending (kept_with d w) unopened closed moment told)) over serves;
   endings = omega (arith, near.left, near.low);
   unopened = near.low;
   left = near.left;
   told = omega (arith, k.told, up);
   drawn = omega (arith, k.drawn, l.drawn_is);
   one_seat = refl;
-  low = low_wider (octets_most * all_turns d + octets_most) (octets_most * (d.turns + (d.endings + 1))) ws (omega arith) l.low;
-  books = books_wider (octets_most * all_turns d + octets_most) (octets_most * (d.turns + (d.endings + 1))) ws (omega arith) l.books;
-  tallies = one_low (octets_most * (d.turns + (d.endings + 1))) tally (low_more (octets_most * all_turns d + octets_most) (octets_most * (d.turns + (d.endings + 1))) tally (omega arith) l.tally_low);
+  low = low_wider (octets_most * all_turns d + octets_most) (octets_most * (d.turns + (d.endings + 1))) w.shards.items (omega arith) l.low;
+  books = books_wider (octets_most * all_turns d + octets_most) (octets_most * (d.turns + (d.endings + 1))) w.shards.items (omega arith) l.books;
+  tallies = one_low (octets_most * (d.turns + (d.endings + 1))) w.tally (low_more (octets_most * all_turns d + octets_most) (octets_most * (d.turns + (d.endings + 1))) w.tally (omega arith) l.tally_low);
   tallied = l.tallied;
-  counts = within_wider (drops_most * all_turns d + drops_most) (drops_most * (d.turns + (d.endings + 1))) drops (omega arith) l.counts;
+  counts = within_wider (drops_most * all_turns d + drops_most) (drops_most * (d.turns + (d.endings + 1))) w.drops (omega arith) l.counts;
   kept = staying.items;
-  stays = subst (λ (n : ℕ). Stays n kept) (sym l.shards) staying.stays;
-  while_serving = λ serves. not_served (is_over d) (All is_verdict kept) over serves;
+  stays = subst (λ (n : ℕ). Stays n w.kept.items) (sym l.shards) staying.stays;
+  while_serving = λ serves. not_served (is_over d) (All is_verdict w.kept.items) over serves;
   handed = l.handed_is ∙ k.handed ∙ sym l.shards;
+  began = omega (arith, l.began_is, k.began, later);
+  billed = l.billed;
 }
 
 -- the number of the last round that the trace took rises by one at most
@@ -313,17 +316,3 @@ draws_by false n few = omega (arith, few)
 
 pub few_draws : (d : Desk) → IsKept d → ending_draws d ≤ 64
 few_draws d k = draws_by (has_end d.kept) (length d.shards) (omega (arith, k.few_shards, k.shards))
-
--- those who hold an address held it before the round
-pub holders_kept : (P : Holder → Type 0) (d : Desk) (holders' : List Holder) (lines' : List Line) (named : Named) (items : List Item) (old new : PlantTold) (vs ws : Shards) (drops' : Drops) (tally tally' : Book) (told_is : RoundRecord) (opened : Bool) (kept : List Item)
-    → Holds d.rules d.holders holders' d.lines lines' named items old new vs ws d.drops drops' tally tally' told_is opened kept → All P d.holders → All P holders'
-holders_kept P d holders' lines' named items old new vs ws drops' tally tally' told_is opened kept (inl h) all =
-    subst (λ (hs : List Holder). All P hs) (sym h.2.held.holders_are) (All-filter (λ (x : Holder). not (list_any (λ (s : Stop). eqb s.key.lease.0 x.address.0) (stops_of h.2.held.round))) P d.holders all)
-holders_kept P d holders' lines' named items old new vs ws drops' tally tally' told_is opened kept (inr h) all = subst (λ (hs : List Holder). All P hs) (sym h.2.holders_are) all
-
--- a round of the ending that was opened leaves fewer sessions
-pub ends_near : (d : Desk) (holders' : List Holder) (lines' : List Line) (named : Named) (items : List Item) (old new : PlantTold) (vs ws : Shards) (drops' : Drops) (tally tally' : Book) (told_is : RoundRecord) (opened : Bool) (kept : List Item) → IsKept d → AreEnds (length d.shards) items → vs ≡ d.shards
-    → Holds d.rules d.holders holders' d.lines lines' named items old new vs ws d.drops drops' tally tally' told_is opened kept → Nears opened (sessions_in d.shards) (sessions_in ws)
-ends_near d holders' lines' named items old new vs ws drops' tally tally' told_is opened kept k ends shards_are held =
-    nears d.rules d.holders holders' d.lines lines' named items old new d.shards ws d.drops drops' tally tally' told_is opened kept
-    (subst (λ (xs : Shards). Holds d.rules d.holders holders' d.lines lines' named items old new xs ws d.drops drops' tally tally' told_is opened kept) shards_are held) k.shards ends

@@ -1,9 +1,11 @@
--- The lane of questions in a turn.
+-- The lane of questions and accounting in a turn.
 use Rattle.std.proofs.Common.{◌≡◌, ◌⊎◌, ℕ, ◌≤◌, List, [], ◌∷◌, ◌++◌, Option, None, Some, map, length, take, refl, sym, ap, subst, ◌∙◌}
 use Rattle.bng_base.specs.declared.address.Peer.{Peer}
 use Rattle.bng_base.specs.declared.item.Entry.{Entry}
 use Rattle.bng_base.proofs.ChainLaws.{chain_keeps}
 use Rattle.bng_engine.specs.Views.{ShardView}
+use Rattle.bng_billing.specs.Records.{IsFormedBy}
+use Rattle.bng_billing.specs.State.{BillingState}
 use Rattle.bng_lane.specs.Due.{GivesUp}
 use Rattle.bng_lane.specs.Replies.{Takes}
 use Rattle.bng_lane.specs.State.{LaneState}
@@ -11,6 +13,7 @@ use Rattle.bng_rad_client.specs.Table.{taken}
 use Rattle.bng_shard.specs.Protocol.{ShardState}
 use Rattle.bng_shard.specs.Questions.{Asking, waiting}
 use Rattle.bng_verdict.specs.declared.question.QuestionNo.{QuestionNo}
+use Rattle.bng_desk.specs.Accounting.{FormedRecord, Forms}
 use Rattle.bng_desk.specs.Kept.{rested}
 use Rattle.bng_desk.specs.Logins.{Answered, Requests, Hears, TimesOut, SettlesLane, waiting_in}
 
@@ -29,6 +32,10 @@ hears_server answers l l' hears =
 pub times_out_server : (now most : ℕ) (timed : List QuestionNo) (l l' : LaneState) → TimesOut now most l timed l' → server_of l' ≡ server_of l
 times_out_server now most timed l l' t =
     chain_keeps (λ m (q : QuestionNo) n. GivesUp m now (Some q) n) (λ (m : LaneState). server_of m ≡ server_of l) (λ m n q gives same. ap server_of gives.1 ∙ same) l l' timed t.given_up refl
+
+pub forms_server : (formed : List FormedRecord) (b b' : BillingState) → Forms b formed b' → b'.client.acct_server ≡ b.client.acct_server
+forms_server formed b b' forms =
+    chain_keeps (λ m (f : FormedRecord) n. IsFormedBy m f.status f.facts f.moment f.number n) (λ (m : BillingState). m.client.acct_server ≡ b.client.acct_server) (λ m n f one same. ap (λ (x : BillingState). x.client.acct_server) one.others ∙ same) b b' formed forms refl
 
 -- a shard's questions do not see a round
 pub waiting_rested : (vs : List (ShardView ShardState Entry)) (handed : List (List ℕ)) → waiting_in (map rested vs) handed ≡ waiting_in vs handed

@@ -8,6 +8,12 @@ pub mod Readying
 pub mod Unclaiming
 pub mod Sending
 pub mod Settling
+pub mod Parts
+pub mod Lines
+pub mod Billed
+pub mod Booking
+pub mod Beginning
+pub mod ShardKeys
 pub mod Reaping
 pub mod Admitting
 pub mod Dealing
@@ -17,15 +23,22 @@ pub mod Staying
 pub mod Outfit
 pub mod Joining
 pub mod Tallied
+pub mod SameTerms
 pub mod Resting
 pub mod Dwindling
+pub mod Works
 pub mod Done
 pub mod Lanes
+pub mod Settled
 pub mod Fresh
+pub mod OpenedTerms
 pub mod Turning
 pub mod Ending
 pub mod Keeping
+pub mod Leaving
 mod InPlace
 pub mod LoginLaws
+pub mod RadiusSends
 pub mod RequestLaws
 pub mod GatherLaws
+pub mod RecordLaws

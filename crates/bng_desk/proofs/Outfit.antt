@@ -58,7 +58,7 @@ pub record AreOf (r : Rules) (n : ℕ) (circuits : List Static) : Type 0 where
   pub ports : All (λ c. (1 ≤ c.port) × (c.port ≤ length r.access)) circuits
   pub profiles : All (λ c. c.profile < profiles_there) circuits
 
-are_of : (r : Rules) (circuits : List Static) (n : ℕ) → AreServed r circuits → AreOf r n (of_shard circuits n)
+pub are_of : (r : Rules) (circuits : List Static) (n : ℕ) → AreServed r circuits → AreOf r n (of_shard circuits n)
 are_of r circuits n are =
     let p = λ (c : Static). shard_of c == n in
     record {

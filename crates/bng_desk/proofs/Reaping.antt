@@ -1,22 +1,24 @@
 -- The terms that ended leave the shards, one shard after the other.
-use Rattle.std.proofs.Common.{◌≡◌, ℕ, ◌+◌, ◌<◌, Bool, true, false, not, ◌&&◌, ◌||◌, cond, eqb, List, [], ◌∷◌, ◌++◌, map, filter, length, take, drop, get_or, set, refl, sym, ap, subst, ◌∙◌, arith, append-nil}
+use Rattle.std.proofs.Common.{◌≡◌, ℕ, ◌+◌, ◌<◌, Bool, true, false, not, ◌&&◌, ◌||◌, cond, eqb, List, [], ◌∷◌, ◌++◌, map, filter, length, take, drop, get_or, set, refl, sym, ap, subst, ◌∙◌, append_assoc, append-nil, arith}
 use Rattle.std.specs.List.{All, AllZip, flat_map, list_any, sum_by}
 use Rattle.std.proofs.lemmas.Bool.{false≢true}
 use Rattle.std.proofs.lemmas.Bool.Decides.{nat_tests}
 use Rattle.std.proofs.lemmas.List.{map-append, take_more, take_more_set, take_all, drop-set-lt, drop-drop}
 use Rattle.std.proofs.lemmas.List.Concat.{flat_map-append}
-use Rattle.std.proofs.lemmas.List.Elements.{All-map}
 use Rattle.std.proofs.lemmas.List.Folds.{list_any-append}
-use Rattle.std.proofs.lemmas.List.Sums.{sum_by-append, sum_by-cons, sum_by-set, sum_by_more_le}
+use Rattle.std.proofs.lemmas.List.Sums.{sum_by-cons}
+use Rattle.bng_acct.specs.Roster.{of_term}
+use Rattle.bng_acct.specs.Spool.{is_live as is_billed}
 use Rattle.bng_base.specs.declared.book.Book.{Book}
 use Rattle.bng_base.specs.declared.item.Entry.{Entry}
 use Rattle.bng_base.specs.declared.item.OutRecord.{OutRecord}
 use Rattle.bng_base.specs.Listed.{Same}
+use Rattle.bng_billing.specs.State.{BillingState}
 use Rattle.bng_engine.specs.Calls.{InReaping, IsSettled, all_sends}
 use Rattle.bng_engine.specs.Claims.{is_held}
 use Rattle.bng_engine.specs.Lists.{Zip3}
 use Rattle.bng_engine.specs.Pool.{GivesAllBack}
-use Rattle.bng_engine.specs.Quantities.{Quantity, Octets, in_book}
+use Rattle.bng_engine.specs.Quantities.{Quantity, Octets}
 use Rattle.bng_engine.specs.Showing.{with_lists}
 use Rattle.bng_engine.specs.Sums.{is_any, stopped_where}
 use Rattle.bng_engine.specs.Terms.{Key, Term, Stop, is_ended, is_live, keys}
@@ -33,12 +35,18 @@ use Rattle.bng_shard.specs.Sums.{AreLow, RowsAreLow}
 use Rattle.bng_shard.specs.Whose.{without_holder}
 use Rattle.bng_shard.proofs.StepLaws.{pppoe_laws}
 use Rattle.bng_desk.specs.declared.line.Line.{Line}
-use Rattle.bng_desk.specs.Model.{is_of, line_after}
+use Rattle.bng_desk.specs.Accounting.{AreBilled}
+use Rattle.bng_desk.specs.Model.{is_of, keys_in}
 use Rattle.bng_desk.specs.Round.{held_by, holders_after, entries_of}
-use Rattle.bng_desk.specs.Taking.{IsEmpty, HasFewSessions, AreInOrder, IsLeftBy, IsTurning, CarriesWithin, LinesWithin, TakesIn, SentTo, ReapedTo, ReapsShard, ReapsAll, settled_as, stopped_in, kept_in, joined, far}
+use Rattle.bng_desk.specs.Taking.{IsEmpty, HasFewSessions, Accounts, AreInOrder, BooksStops, IsLeftBy, IsTurning, LinesWithin, TakesIn, SentTo, ReapedTo, ReapsShard, ReapsAll, settled_as, kept_in, joined, far}
+use Rattle.bng_desk.proofs.Billed.{billed_part, billed_there, billed_without}
+use Rattle.bng_desk.proofs.Booking.{books_more, books_none, others_booked}
 use Rattle.bng_desk.proofs.Dealing.{Seens}
+use Rattle.bng_desk.proofs.Lines.{within_more}
+use Rattle.bng_desk.proofs.Parts.{stands_at}
 use Rattle.bng_desk.proofs.Readying.{Shards}
 use Rattle.bng_desk.proofs.Sending.{not_sent_yet}
+use Rattle.bng_desk.proofs.ShardKeys.{keys_set, keys_split}
 use Rattle.bng_desk.proofs.Unclaiming.{keys_stay}
 use Rattle.bng_desk.proofs.Zips.{zip3_push, zip3_at, zip3_length}
 
@@ -126,75 +134,6 @@ gives_back xs hs =
     let stops = flat_map (λ (v : ShardView ShardState Handled). v.stops) xs in
     subst (λ (ns : List ℕ). GivesAllBack ns (held_by hs) (held_by (holders_after stops hs))) (leases_of xs) (all_given stops hs)
 
--- Lines -----------------------------------------------------------------------------------------------------------------
-
-abbrev line_with : Line → ℕ → ℕ → Line
-line_with l input output = record l { stopped = record { input = input; output = output } }
-
-line_none : (l : Line) → l ≡ line_after [] l
-line_none l =
-    ap (λ (n : ℕ). line_with l n l.stopped.output) (let e : l.stopped.input ≡ l.stopped.input + 0 = omega arith in e)
-    ∙ ap (λ (n : ℕ). line_with l (l.stopped.input + 0) n) (let e : l.stopped.output ≡ l.stopped.output + 0 = omega arith in e)
-
-pub lines_none : (ls : List Line) → ls ≡ map (line_after []) ls
-lines_none [] = refl
-lines_none (l ∷ ls) = ap (λ (x : Line). x ∷ ls) (line_none l) ∙ ap (λ (xs : List Line). line_after [] l ∷ xs) (lines_none ls)
-
-abbrev said : Bool → Line → List Stop → ℕ
-said input l stops = stopped_where Octets (is_of l.session.0) input stops
-
-said_more : (input : Bool) (l : Line) (a b : List Stop) → said input l (a ++ b) ≡ said input l a + said input l b
-said_more input l a b = sum_by-append (λ (s : Stop). cond (is_of l.session.0 s.key) (in_book Octets input s.carried) 0) a b
-
-line_more : (a b : List Stop) (l : Line) → line_after (a ++ b) l ≡ line_after b (line_after a l)
-line_more a b l =
-    let input : l.stopped.input + said true l (a ++ b) ≡ l.stopped.input + said true l a + said true l b = omega (arith, said_more true l a b) in
-    let output : l.stopped.output + said false l (a ++ b) ≡ l.stopped.output + said false l a + said false l b = omega (arith, said_more false l a b) in
-    ap (λ (n : ℕ). line_with l n (l.stopped.output + said false l (a ++ b))) input ∙ ap (λ (n : ℕ). line_with l (l.stopped.input + said true l a + said true l b) n) output
-
-pub lines_more : (a b : List Stop) (ls : List Line) → map (line_after (a ++ b)) ls ≡ map (line_after b) (map (line_after a) ls)
-lines_more a b [] = refl
-lines_more a b (l ∷ ls) = ap (λ (x : Line). x ∷ map (line_after (a ++ b)) ls) (line_more a b l) ∙ ap (λ (xs : List Line). line_after b (line_after a l) ∷ xs) (lines_more a b ls)
-
-pub stopped_after : (input : Bool) (stops : List Stop) (l : Line) → stopped_in input (line_after stops l) ≡ stopped_in input l + said input l stops
-stopped_after true stops l = refl
-stopped_after false stops l = refl
-
-same_session : (a b : ℕ) → a ≡ b → eqb b a ≡ true
-same_session a b e = grind (arith, nat_tests)
-
--- what the Stop of a line's own circuit says
-pub one_said : (input : Bool) (l : Line) (s : Stop) → l.session.0 ≡ s.key.term.session.0 → said input l (s ∷ []) ≡ in_book Octets input s.carried
-one_said input l s e =
-    let n = in_book Octets input s.carried in
-    omega (arith, sum_by-cons (λ (x : Stop). cond (is_of l.session.0 x.key) (in_book Octets input x.carried) 0) s [], ap (λ (b : Bool). cond b n 0) (same_session l.session.0 s.key.term.session.0 e))
-
--- a line after these Stops
-abbrev pub IsAfter : List Stop → Line → Line → Type 0
-IsAfter stops l l' = l' ≡ line_after stops l
-
-pub all_after : (stops : List Stop) (ls ls' : List Line) → AllZip (IsAfter stops) ls ls' → ls' ≡ map (line_after stops) ls
-all_after stops [] [] h = refl
-all_after stops [] (l' ∷ ls') h = absurd h
-all_after stops (l ∷ ls) [] h = absurd h
-all_after stops (l ∷ ls) (l' ∷ ls') h = ap (λ (x : Line). x ∷ ls') h.0 ∙ ap (λ (xs : List Line). line_after stops l ∷ xs) (all_after stops ls ls' h.1)
-
--- the lines of one of the shards
-pub within_one : (most : Bool → ℕ) (vs : Shards) (i : ℕ) (d : ShardView ShardState Entry) (ls : List Line) → i < length vs → LinesWithin most vs ls → LinesWithin most (get_or vs i d ∷ []) ls
-within_one most vs i d ls lt within k e inside input =
-    let l = get_or ls k e in
-    omega (arith, within k e inside input, sum_by_more_le (kept_in input l) vs i d lt, sum_by-cons (kept_in input l) (get_or vs i d) [])
-
--- what left a row stands in the line
-within_more : (most : Bool → ℕ) (vs : Shards) (i : ℕ) (d w : ShardView ShardState Entry) (stops : List Stop) (ls : List Line) → i < length vs
-    → ((q : Quantity) (pick : Key → Bool) (input : Bool) → stopped_where q pick input stops + rows_where q pick input w.rows ≡ rows_where q pick input (get_or vs i d).rows)
-    → LinesWithin most vs ls → LinesWithin most (set vs i w) (map (line_after stops) ls)
-within_more most vs i d w stops ls lt rows within =
-    All-map (CarriesWithin most (set vs i w)) (line_after stops) ls
-    (λ k e inside input.
-    let l = get_or ls k e in
-    omega (arith, within k e inside input, stopped_after input stops l, sum_by-set (kept_in input l) vs i w d lt, rows Octets (is_of l.session.0) input))
-
 -- One shard -------------------------------------------------------------------------------------------------------------
 
 abbrev seen : ShardView ShardState Entry → List Stop → ShardView ShardState Handled
@@ -247,16 +186,24 @@ leaves_more v w w' stops s some one = record {
   outs = one.outs ∙ some.outs;
 }
 
--- and its address and what it carried are given over
-pub record ReapsFew (v w : ShardView ShardState Entry) (holders holders' : List Holder) (lines lines' : List Line) : Type 0 where
+-- and its address is given back, and it is booked
+pub record ReapsFew (moment wall : ℕ) (v w : ShardView ShardState Entry) (holders holders' : List Holder) (a a' : Accounts) : Type 0 where
   pub stops : List Stop
   pub some : LeavesSome v w stops
   pub holders_are : holders' ≡ holders_after stops holders
-  pub lines_are : lines' ≡ map (line_after stops) lines
-  pub within : (most : Bool → ℕ) → LinesWithin most (v ∷ []) lines → LinesWithin most (w ∷ []) lines'
+  pub booked : BooksStops moment wall stops a a'
+  pub within : (most : Bool → ℕ) → LinesWithin most (v ∷ []) a.lines → LinesWithin most (w ∷ []) a'.lines
+  pub billed : (front back : List Key) → AreBilled (front ++ (row_keys v.rows ++ back)) a.billing → AreBilled (front ++ (row_keys w.rows ++ back)) a'.billing
 
-pub reaps_begin : (v : ShardView ShardState Entry) (holders : List Holder) (lines : List Line) → ReapsFew v v holders holders lines lines
-reaps_begin v holders lines = record { stops = []; some = leaves_none v; holders_are = holders_none holders; lines_are = lines_none lines; within = λ most h. h }
+pub reaps_begin : (moment wall : ℕ) (v : ShardView ShardState Entry) (holders : List Holder) (a : Accounts) → ReapsFew moment wall v v holders holders a a
+reaps_begin moment wall v holders a = record {
+  stops = [];
+  some = leaves_none v;
+  holders_are = holders_none holders;
+  booked = books_none moment wall a;
+  within = λ most h. h;
+  billed = λ front back h. h;
+}
 
 given_once : (x a : ℕ) → not (eqb a x) ≡ not (eqb x a || false)
 given_once x a = grind (arith, nat_tests)
@@ -270,14 +217,40 @@ takes_in w w' s ls one within k e lt input =
     let l = get_or ls k e in
     omega (arith, within k e lt input, one.rows Octets (is_of l.session.0) input, sum_by-cons (kept_in input l) w [])
 
-pub reaps_on : (v w w' : ShardView ShardState Entry) (s : Stop) (holders holders' holders'' : List Holder) (lines lines' lines'' : List Line) → ReapsFew v w holders holders' lines lines' → Leaves w w' s → holders'' ≡ without_holder s.key.lease holders' → lines'' ≡ map (line_after (s ∷ [])) lines'
-    → ReapsFew v w' holders holders'' lines lines''
-reaps_on v w w' s holders holders' holders'' lines lines' lines'' so_far one given added = record {
+-- the keys before the one that leaves, that one, and those after it
+around : (front before after back : List Key) (k : Key) → front ++ ((before ++ k ∷ after) ++ back) ≡ (front ++ before) ++ k ∷ (after ++ back)
+around front before after back k = ap (λ (ks : List Key). front ++ ks) (append_assoc before (k ∷ after) back) ∙ sym (append_assoc front before (k ∷ (after ++ back)))
+
+outside : (front before after back : List Key) → (front ++ before) ++ (after ++ back) ≡ front ++ ((before ++ after) ++ back)
+outside front before after back = append_assoc front before (after ++ back) ∙ ap (λ (ks : List Key). front ++ ks) (sym (append_assoc before after back))
+
+-- a shard alone
+pub billed_alone : (v : ShardView ShardState Entry) (b : BillingState) → AreBilled (row_keys v.rows) b → AreBilled (row_keys v.rows ++ []) b
+billed_alone v b billed = subst (λ (ks : List Key). AreBilled ks b) (sym (append-nil (row_keys v.rows))) billed
+
+-- the term that leaves is live in accounting
+pub leaves_live : (w w' : ShardView ShardState Entry) (s : Stop) (b : BillingState) → Leaves w w' s → AreBilled (row_keys w.rows ++ []) b → is_billed (of_term s.key.term b.spool.held) ≡ true
+leaves_live w w' s b one billed =
+    billed_there one.before one.after s.key b (subst (λ (ks : List Key). AreBilled ks b) (append-nil (row_keys w.rows) ∙ one.were) billed)
+
+-- and the others still are
+leaves_billed : (front back : List Key) (w w' : ShardView ShardState Entry) (s : Stop) (moment wall : ℕ) (a a' : Accounts) → Leaves w w' s → BooksStops moment wall (s ∷ []) a a'
+    → AreBilled (front ++ (row_keys w.rows ++ back)) a.billing → AreBilled (front ++ (row_keys w'.rows ++ back)) a'.billing
+leaves_billed front back w w' s moment wall a a' one booked billed =
+    let was : front ++ (row_keys w.rows ++ back) ≡ (front ++ one.before) ++ s.key ∷ (one.after ++ back) = ap (λ (ks : List Key). front ++ (ks ++ back)) one.were ∙ around front one.before one.after back s.key in
+    let is : (front ++ one.before) ++ (one.after ++ back) ≡ front ++ (row_keys w'.rows ++ back) = outside front one.before one.after back ∙ ap (λ (ks : List Key). front ++ (ks ++ back)) (sym one.are) in
+    subst (λ (ks : List Key). AreBilled ks a'.billing) is
+    (billed_without (front ++ one.before) (one.after ++ back) s.key a.billing a'.billing (others_booked moment wall s a a' booked) (subst (λ (ks : List Key). AreBilled ks a.billing) was billed))
+
+pub reaps_on : (moment wall : ℕ) (v w w' : ShardView ShardState Entry) (s : Stop) (holders holders' holders'' : List Holder) (a a' a'' : Accounts) → ReapsFew moment wall v w holders holders' a a' → Leaves w w' s
+    → holders'' ≡ without_holder s.key.lease holders' → BooksStops moment wall (s ∷ []) a' a'' → ReapsFew moment wall v w' holders holders'' a a''
+reaps_on moment wall v w w' s holders holders' holders'' a a' a'' so_far one given booked = record {
   stops = so_far.stops ++ s ∷ [];
   some = leaves_more v w w' so_far.stops s so_far.some one;
   holders_are = given ∙ without_is s holders' ∙ ap (holders_after (s ∷ [])) so_far.holders_are ∙ sym (holders_more so_far.stops (s ∷ []) holders);
-  lines_are = added ∙ ap (map (line_after (s ∷ []))) so_far.lines_are ∙ sym (lines_more so_far.stops (s ∷ []) lines);
-  within = λ most h. subst (λ (ls : List Line). LinesWithin most (w' ∷ []) ls) (sym added) (within_more most (w ∷ []) 0 w w' (s ∷ []) lines' (omega arith) one.rows (so_far.within most h));
+  booked = books_more moment wall so_far.stops (s ∷ []) a a' a'' so_far.booked booked;
+  within = λ most h. subst (λ (ls : List Line). LinesWithin most (w' ∷ []) ls) (sym booked.lines_are) (within_more most (w ∷ []) 0 w w' (s ∷ []) a'.lines (omega arith) one.rows (so_far.within most h));
+  billed = λ front back h. leaves_billed front back w w' s moment wall a' a'' one booked (so_far.billed front back h);
 }
 
 -- how many terms have still to leave
@@ -294,6 +267,10 @@ over w = record w { state = record w.state { slots = settled w.state.slots }; ro
 
 abbrev state_with : Rules → State → ShardState
 state_with rules slots = record { rules = rules; slots = slots }
+
+-- what is over has the same rows
+pub over_billed : (front back : List Key) (w w' : ShardView ShardState Entry) (b : BillingState) → w' ≡ over w → AreBilled (front ++ (row_keys w.rows ++ back)) b → AreBilled (front ++ (row_keys w'.rows ++ back)) b
+over_billed front back w w' b is billed = subst (λ (rs : List Row). AreBilled (front ++ (row_keys rs ++ back)) b) (sym (ap (λ (x : ShardView ShardState Entry). x.rows) is)) billed
 
 -- all have left
 module _ (v w w' : ShardView ShardState Entry) (stops : List Stop) (some : LeavesSome v w stops) (none : filter is_ended (terms_of w.state) ≡ []) (is : w' ≡ over w) where
@@ -337,13 +314,14 @@ module _ (v w w' : ShardView ShardState Entry) (stops : List Stop) (some : Leave
 -- Shard by shard --------------------------------------------------------------------------------------------------------
 
 -- the first shards are reaped, and the others are as they were
-pub record ReapsSome (olds shards : Shards) (i : ℕ) (holders holders' : List Holder) (lines lines' : List Line) : Type 0 where
+pub record ReapsSome (moment wall : ℕ) (olds shards : Shards) (i : ℕ) (holders holders' : List Holder) (a a' : Accounts) : Type 0 where
   pub stops : List (List Stop)
   pub done : Zip3 ReapedTo (take i olds) (take i shards) stops
   pub rest : drop i shards ≡ drop i olds
   pub holders_are : holders' ≡ holders_after (joined stops) holders
-  pub lines_are : lines' ≡ map (line_after (joined stops)) lines
-  pub within : (most : Bool → ℕ) → LinesWithin most olds lines → LinesWithin most shards lines'
+  pub booked : BooksStops moment wall (joined stops) a a'
+  pub within : (most : Bool → ℕ) → LinesWithin most olds a.lines → LinesWithin most shards a'.lines
+  pub billed : AreBilled (keys_in shards) a'.billing
 
 tails : (xs ys : Shards) (i : ℕ) → drop i xs ≡ drop i ys → drop (i + 1) xs ≡ drop (i + 1) ys
 tails xs ys i e = sym (drop-drop 1 i xs) ∙ ap (drop 1) e ∙ drop-drop 1 i ys
@@ -351,19 +329,32 @@ tails xs ys i e = sym (drop-drop 1 i xs) ∙ ap (drop 1) e ∙ drop-drop 1 i ys
 joined_push : (sss : List (List Stop)) (ss : List Stop) → joined (sss ++ ss ∷ []) ≡ joined sss ++ ss
 joined_push sss ss = flat_map-append (λ (x : List Stop). x) sss (ss ∷ []) ∙ ap (λ (ys : List Stop). joined sss ++ ys) (append-nil ss)
 
-pub reaps_none : (olds : Shards) (holders : List Holder) (lines : List Line) → ReapsSome olds olds 0 holders holders lines lines
-reaps_none olds holders lines = record {
+pub reaps_none : (moment wall : ℕ) (olds : Shards) (holders : List Holder) (a : Accounts) → AreBilled (keys_in olds) a.billing → ReapsSome moment wall olds olds 0 holders holders a a
+reaps_none moment wall olds holders a billed = record {
   stops = [];
   done = tt;
   rest = refl;
   holders_are = holders_none holders;
-  lines_are = lines_none lines;
+  booked = books_none moment wall a;
   within = λ most h. h;
+  billed = billed;
 }
 
-pub reaps_more : (olds shards : Shards) (i : ℕ) (d w : ShardView ShardState Entry) (holders holders' holders'' : List Holder) (lines lines' lines'' : List Line) → i < length olds → length shards ≡ length olds → ReapsSome olds shards i holders holders' lines lines'
-    → ReapsShard (get_or shards i d) w holders' holders'' lines' lines'' → ReapsSome olds (set shards i w) (i + 1) holders holders'' lines lines''
-reaps_more olds shards i d w holders holders' holders'' lines lines' lines'' lt same so_far one =
+-- the terms of the shard at a place are among those that are billed
+pub billed_at : (vs : Shards) (i : ℕ) (d : ShardView ShardState Entry) (b : BillingState) → i < length vs → AreBilled (keys_in vs) b → AreBilled (keys_in (take i vs) ++ (row_keys (get_or vs i d).rows ++ keys_in (drop (i + 1) vs))) b
+billed_at vs i d b lt billed = subst (λ (ks : List Key). AreBilled ks b) (keys_split vs i (get_or vs i d) (stands_at vs i d lt)) billed
+
+pub billed_of : (vs : Shards) (i : ℕ) (d : ShardView ShardState Entry) (b : BillingState) → i < length vs → AreBilled (keys_in vs) b → AreBilled (row_keys (get_or vs i d).rows) b
+billed_of vs i d b lt billed = billed_part (keys_in (take i vs)) (row_keys (get_or vs i d).rows) (keys_in (drop (i + 1) vs)) b (billed_at vs i d b lt billed)
+
+-- what a shard kept billed
+abbrev pub KeepsBilled : ShardView ShardState Entry → ShardView ShardState Entry → BillingState → BillingState → Type 0
+KeepsBilled v w b b' = (front back : List Key) → AreBilled (front ++ (row_keys v.rows ++ back)) b → AreBilled (front ++ (row_keys w.rows ++ back)) b'
+
+pub reaps_more : (moment wall : ℕ) (olds shards : Shards) (i : ℕ) (d w : ShardView ShardState Entry) (holders holders' holders'' : List Holder) (a a' a'' : Accounts) → i < length olds → length shards ≡ length olds
+    → ReapsSome moment wall olds shards i holders holders' a a' → ReapsShard moment wall (get_or shards i d) w holders' holders'' a' a'' → KeepsBilled (get_or shards i d) w a'.billing a''.billing
+    → ReapsSome moment wall olds (set shards i w) (i + 1) holders holders'' a a''
+reaps_more moment wall olds shards i d w holders holders' holders'' a a' a'' lt same so_far one keeps =
     let v = get_or olds i d in
     let at : get_or shards i d ≡ v = same_at olds shards i d so_far.rest in
     let within : i < length shards = omega (arith, lt, same) in
@@ -377,19 +368,21 @@ reaps_more olds shards i d w holders holders' holders'' lines lines' lines'' lt 
           (zip3_push ReapedTo (take i olds) (take i shards) sss v w ss so_far.done (subst (λ (x : ShardView ShardState Entry). ReapedTo x w ss) at one.reaped)));
       rest = drop-set-lt (i + 1) shards i w (omega arith) ∙ tails shards olds i so_far.rest;
       holders_are = one.holders_are ∙ ap (holders_after ss) so_far.holders_are ∙ sym (holders_more (joined sss) ss holders) ∙ ap (λ (xs : List Stop). holders_after xs holders) (sym all);
-      lines_are = one.lines_are ∙ ap (map (line_after ss)) so_far.lines_are ∙ sym (lines_more (joined sss) ss lines) ∙ ap (λ (xs : List Stop). map (line_after xs) lines) (sym all);
-      within = λ most h. subst (λ (ls : List Line). LinesWithin most (set shards i w) ls) (sym one.lines_are) (within_more most shards i d w ss lines' within one.reaped.rows (so_far.within most h));
+      booked = subst (λ (xs : List Stop). BooksStops moment wall xs a a'') (sym all) (books_more moment wall (joined sss) ss a a' a'' so_far.booked one.booked);
+      within = λ most h. subst (λ (ls : List Line). LinesWithin most (set shards i w) ls) (sym one.booked.lines_are) (within_more most shards i d w ss a'.lines within one.reaped.rows (so_far.within most h));
+      billed = subst (λ (ks : List Key). AreBilled ks a''.billing) (sym (keys_set shards i w within)) (keeps (keys_in (take i shards)) (keys_in (drop (i + 1) shards)) (billed_at shards i d a'.billing within so_far.billed));
     }
 
-pub reaps_them : (olds shards : Shards) (i : ℕ) (holders holders' : List Holder) (lines lines' : List Line) → i ≡ length olds → length shards ≡ length olds → ReapsSome olds shards i holders holders' lines lines' → ReapsAll olds shards holders holders' lines lines'
-reaps_them olds shards i holders holders' lines lines' e same s =
+pub reaps_them : (moment wall : ℕ) (olds shards : Shards) (i : ℕ) (holders holders' : List Holder) (a a' : Accounts) → i ≡ length olds → length shards ≡ length olds → ReapsSome moment wall olds shards i holders holders' a a'
+    → ReapsAll moment wall olds shards holders holders' a a'
+reaps_them moment wall olds shards i holders holders' a a' e same s =
     let all : take i olds ≡ olds = take_all i olds (omega (arith, e)) in
     let those : take i shards ≡ shards = take_all i shards (omega (arith, e, same)) in
     record {
       stops = s.stops;
       each = subst (λ (vs : Shards). Zip3 ReapedTo vs shards s.stops) all (subst (λ (ws : Shards). Zip3 ReapedTo (take i olds) ws s.stops) those s.done);
       holders_are = s.holders_are;
-      lines_are = s.lines_are;
+      booked = s.booked;
     }
 
 -- What is left ----------------------------------------------------------------------------------------------------------

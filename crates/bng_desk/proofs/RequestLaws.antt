@@ -1,21 +1,18 @@
 -- Requests that are sent again, and questions that are asked, one after the other.
-use Rattle.std.proofs.Common.{◌≡◌, ◌⊎◌, inl, inr, ℕ, zero, suc, ◌+◌, ◌/◌, ◌<◌, ◌≤◌, Bool, true, false, not, List, [], ◌∷◌, ◌++◌, Option, None, Some, map, fold, length, take, drop, slice_get, get_or, set, is_some, cond, refl, sym, ap, subst, ◌∙◌, append_assoc, append-nil, arith}
+use Rattle.std.proofs.Common.{◌≡◌, ◌⊎◌, inl, inr, ℕ, zero, suc, ◌+◌, ◌/◌, ◌<◌, ◌≤◌, Bool, List, [], ◌∷◌, ◌++◌, Option, None, Some, map, fold, length, take, drop, slice_get, get_or, set, is_some, cond, refl, sym, ap, subst, ◌∙◌, append_assoc, append-nil, arith}
 use Rattle.std.specs.Prelude.{IfNone}
-use Rattle.std.specs.List.{All, count_by, flat_map, range_with_len}
-use Rattle.std.proofs.lemmas.Grind.{flat_map-append}
+use Rattle.std.specs.List.{All, range_with_len}
 use Rattle.std.proofs.lemmas.List.{map-append, length-map, length-append, length-set, get_or-set_same, get_or-set_other, set-get_or, set-set, take_all}
 use Rattle.std.proofs.lemmas.List.Elements.{All-nil, All-cons, All-head, All-tail, All-append}
 use Rattle.std.proofs.lemmas.List.FromFn.{map-range_with_len_more}
-use Rattle.std.proofs.lemmas.List.Sums.{fold-append, sum_by-append, sum_by-cons}
+use Rattle.std.proofs.lemmas.List.Sums.{fold-append, sum_by-cons}
 use Rattle.std.proofs.Math.Seq.{take-append_seam}
 use Rattle.bng_base.specs.declared.address.Peer.{Peer}
-use Rattle.bng_base.specs.declared.outside.Datagram.{Datagram}
 use Rattle.bng_base.specs.declared.outside.Role.TheVariants.{Auth}
 use Rattle.bng_base.specs.Chain.{Chain}
-use Rattle.bng_base.specs.Stretch.{ExtendsPlant, PlantStretch, plant_joined}
+use Rattle.bng_base.specs.Stretch.{ExtendsPlant}
 use Rattle.bng_base.specs.Told.{PlantTold}
 use Rattle.bng_base.proofs.ChainLaws.{chain_more, chain_append, chain_keeps}
-use Rattle.bng_base.proofs.StretchLaws.{plant_more}
 use Rattle.bng_lane.specs.Asking.{IsAskedBy}
 use Rattle.bng_lane.specs.Due.{IsResentBy, NoneToResend}
 use Rattle.bng_lane.specs.Sends.{LaneAsk, LaneSend, Asks, Resends}
@@ -27,43 +24,17 @@ use Rattle.bng_shard.specs.State.{State}
 use Rattle.bng_slots.specs.Sessions.{IsNumberOf}
 use Rattle.bng_verdict.specs.declared.question.QuestionNo.{QuestionNo}
 use Rattle.bng_desk.specs.Intake.{SendsAgain, AsksSome, AsksAll, SendsRequests}
-use Rattle.bng_desk.specs.Logins.{hand_out, handed_over, lane_datagram, lane_stretch, waiting_in}
+use Rattle.bng_desk.specs.Logins.{hand_out, handed_over, lane_stretch, waiting_in}
 use Rattle.bng_desk.specs.Random.{Drawn, draw}
 use Rattle.bng_desk.specs.Reading.{sending}
 use Rattle.bng_desk.specs.Taking.{Shown, AreInOrder}
+use Rattle.bng_desk.proofs.RadiusSends.{sent_join, sent_more}
 
 abbrev server_of : LaneState → Peer
 server_of l = l.client.auth_server
 
 abbrev taken_of : LaneState → ℕ
 taken_of l = taken l.client.auth.places
-
--- Sends -----------------------------------------------------------------------------------------------------------------
-
-lane_joined : (server : Peer) (ss ts : List LaneSend) → plant_joined (lane_stretch server ss) (lane_stretch server ts) ≡ lane_stretch server (ss ++ ts)
-lane_joined server ss ts =
-    let lost = λ (s : LaneSend). not s.sent in
-    ap (λ (ds : List Datagram). let p : PlantStretch = record { heard = []; taken = []; sent = ds; failed = count_by lost ss + count_by lost ts } in p) (sym (flat_map-append (lane_datagram server) ss ts))
-    ∙ ap (λ (n : ℕ). let p : PlantStretch = record { heard = []; taken = []; sent = flat_map (lane_datagram server) (ss ++ ts); failed = n } in p) (sym (sum_by-append (λ (s : LaneSend). cond (not s.sent) 1 0) ss ts))
-
-one_sent : (server : Peer) (id : ℕ) (octets : List ℕ) (sent : Bool) → sending Auth server octets sent ≡ lane_stretch server (record { id = id; octets = octets; sent = sent } ∷ [])
-one_sent server id octets true = refl
-one_sent server id octets false = refl
-
--- one more was sent
-pub sent_more : (server at : Peer) (p₀ p₁ p₂ : PlantTold) (ss : List LaneSend) (s : LaneSend) → at ≡ server → ExtendsPlant p₀ p₁ (lane_stretch server ss) → ExtendsPlant p₁ p₂ (sending Auth at s.octets s.sent)
-    → ExtendsPlant p₀ p₂ (lane_stretch server (ss ++ s ∷ []))
-sent_more server at p₀ p₁ p₂ ss s same so_far here =
-    let there : ExtendsPlant p₁ p₂ (lane_stretch server (s ∷ [])) =
-    subst (λ (p : PlantStretch). ExtendsPlant p₁ p₂ p) (ap (λ (q : Peer). sending Auth q s.octets s.sent) same ∙ one_sent server s.id s.octets s.sent) here in
-    subst (λ (p : PlantStretch). ExtendsPlant p₀ p₂ p) (lane_joined server ss (s ∷ [])) (plant_more p₀ p₁ p₂ (lane_stretch server ss) (lane_stretch server (s ∷ [])) so_far there)
-
--- and more still
-pub sent_join : (server at : Peer) (p₀ p₁ p₂ : PlantTold) (ss ts : List LaneSend) → at ≡ server → ExtendsPlant p₀ p₁ (lane_stretch server ss) → ExtendsPlant p₁ p₂ (lane_stretch at ts)
-    → ExtendsPlant p₀ p₂ (lane_stretch server (ss ++ ts))
-sent_join server at p₀ p₁ p₂ ss ts same so_far here =
-    let there : ExtendsPlant p₁ p₂ (lane_stretch server ts) = subst (λ (q : Peer). ExtendsPlant p₁ p₂ (lane_stretch q ts)) same here in
-    subst (λ (p : PlantStretch). ExtendsPlant p₀ p₂ p) (lane_joined server ss ts) (plant_more p₀ p₁ p₂ (lane_stretch server ss) (lane_stretch server ts) so_far there)
 
 -- Sent again ------------------------------------------------------------------------------------------------------------
 
@@ -168,7 +139,7 @@ asked_more now shard slots p₀ p₁ p₂ l₀ l₁ m l₂ h₀ h₁ h₂ d₀ d
           ∙ sym (map-range_with_len_more (draw seed) n (length xs) (n + length xs) refl)
           ∙ ap (λ (k : ℕ). map (draw seed) (range_with_len n k)) (sym one);
       told = subst (λ (ss : List LaneSend). ExtendsPlant p₀ p₂ (lane_stretch (server_of l₀) ss)) (sym (map-append (λ (b : LaneAsk). b.send) xs (a ∷ [])))
-          (sent_more (server_of l₀) (server_of m) p₀ p₁ p₂ (map (λ (b : LaneAsk). b.send) xs) a.send server x.told told);
+          (sent_more Auth (server_of l₀) (server_of m) p₀ p₁ p₂ (map (λ (b : LaneAsk). b.send) xs) a.send server x.told told);
       draws_are = draws ∙ ap (λ (d : Drawn). record d { drawn = d.drawn + 1 }) x.draws_are ∙ ap (λ (k : ℕ). record d₀ { drawn = k }) (omega (arith, one));
       counted = omega (arith, count, x.counted, one);
       few = inr (omega (arith, count, room));
@@ -338,7 +309,7 @@ asked_next now k vs v p₀ p₁ p₂ l₀ l₁ l₂ hs₀ hs₁ hs₂ h h' d₀ 
       untouched = λ j le. ap (λ (hs : List (List ℕ)). get_or hs j []) set_is ∙ get_or-set_other hs₁ k j h' [] (λ (e : j ≡ k). let no : ⊥ = omega (arith, e, le) in no) ∙ x.untouched j (omega (arith, le));
       count = ap (λ (hs : List (List ℕ)). length hs) set_is ∙ length-set hs₁ k h' ∙ x.count;
       told = subst (λ (ss : List LaneSend). ExtendsPlant p₀ p₂ (lane_stretch (server_of l₀) ss)) (sym (map-append send_of xs bs))
-          (sent_join (server_of l₀) (server_of l₁) p₀ p₁ p₂ (map send_of xs) (map send_of bs) (asks_server now l₀ l₁ xs x.asks) x.told z.told);
+          (sent_join Auth (server_of l₀) (server_of l₁) p₀ p₁ p₂ (map send_of xs) (map send_of bs) (asks_server now l₀ l₁ xs x.asks) x.told z.told);
       draws_are = z.draws_are ∙ ap (λ (d : Drawn). record d { drawn = d.drawn + length bs }) x.draws_are ∙ ap (λ (m : ℕ). record d₀ { drawn = m }) (omega (arith, one));
       low = omega (arith, x.low, z.counted, one);
       few = elim z.few [ inl none ↦ omega (arith, one, ap (λ (cs : List LaneAsk). length cs) none, x.few) | inr less ↦ omega (arith, one, x.low, z.counted, less) ];
@@ -372,6 +343,6 @@ requests_sent now k vs p₀ p₁ p₂ l₀ l₁ l₂ hs hs' d d' every s x =
         authenticators = x.authenticators;
         handed_is = x.handed_is;
       };
-      told = sent_join (server_of l₀) (server_of l₁) p₀ p₁ p₂ s.resent (map (λ (a : LaneAsk). a.send) xs) server s.told x.told;
+      told = sent_join Auth (server_of l₀) (server_of l₁) p₀ p₁ p₂ s.resent (map (λ (a : LaneAsk). a.send) xs) server s.told x.told;
       draws_are = x.draws_are;
     }

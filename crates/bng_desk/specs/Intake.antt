@@ -7,6 +7,9 @@ use Rattle.bng_base.specs.Chain.{Chain}
 use Rattle.bng_base.specs.FateOf.{Arrival}
 use Rattle.bng_base.specs.Told.{PlantTold}
 use Rattle.bng_base.specs.Stretch.{ExtendsPlant, plant_joined}
+use Rattle.bng_billing.specs.Due.{NoneToResend}
+use Rattle.bng_billing.specs.Sending.{NoneToSend}
+use Rattle.bng_billing.specs.State.{BillingState}
 use Rattle.bng_lane.specs.Replies.{Takes as IsTaken}
 use Rattle.bng_lane.specs.Sends.{LaneSend, LaneAsk, AllResent, Asks}
 use Rattle.bng_lane.specs.State.{LaneState}
@@ -16,6 +19,7 @@ use Rattle.bng_shard.specs.Questions.{asking_from, waiting, handed_after}
 use Rattle.bng_shard.specs.State.{State}
 use Rattle.bng_verdict.specs.declared.question.QuestionNo.{QuestionNo}
 use Rattle.bng_desk.specs.declared.reading.Ended.{Ended}
+use Rattle.bng_desk.specs.Accounting.{Acknowledged, Gives, HearsRecords, RecordRequests, RecordSend, Resends, SettlesRecords, acct_reading, acknowledged_most, record_stretch, records_stretch}
 use Rattle.bng_desk.specs.Items.{DataReading, taken_items, ticks_of, drawn_from}
 use Rattle.bng_desk.specs.Random.{Drawn, draw}
 use Rattle.bng_desk.specs.Reading.{EndsRight, is_empty}
@@ -51,6 +55,15 @@ pub record AddsReply (a : Arrival) (lane lane' : LaneState) (draws draws' : Draw
   pub takes : IsTaken lane a.from a.octets found lane'
   pub items_are : items' ≡ items ++ drawn_from draws.seed draws.drawn (reply_in a found)
   pub draws_are : draws' ≡ record draws { drawn = draws.drawn + length (reply_in a found) }
+
+-- Acct was read, and accounting heard each datagram.
+pub record TakesAcknowledgements (old new : PlantTold) (b b' : BillingState) (quiet : Bool) : Type 0 where
+  pub acknowledged : List Acknowledged
+  pub ended : Ended
+  pub ends : EndsRight acknowledged_most (length acknowledged) ended
+  pub told : ExtendsPlant old new (reading_stretch (acct_reading acknowledged ended))
+  pub hears : HearsRecords b acknowledged b'
+  pub quiet_is : quiet ≡ is_empty acknowledged
 
 -- Auth was read, where it is read.
 pub record TakesAuth (reads : Bool) (old new : PlantTold) (lane lane' : LaneState) (draws draws' : Drawn) (items items' : List Item) (quiet : Bool) : Type 0 where
@@ -120,3 +133,23 @@ pub record AsksSome (now shard : ℕ) (slots : State) (old new : PlantTold) (lan
 abbrev pub AsksAll : (now shard : ℕ) → State → PlantTold → PlantTold → LaneState → LaneState → List ℕ → List ℕ → Drawn → Drawn → Type 0
 AsksAll now shard slots old new lane lane' handed handed' draws draws' =
     AsksSome now shard slots old new lane lane' handed handed' draws draws' × ((waiting slots handed' ≡ []) ⊎ (256 ≤ taken lane'.client.auth.places))
+
+-- The requests of accounting that are due were sent again, and the records that wait were sent.
+pub record SendsRecords (now : ℕ) (old new : PlantTold) (b b' : BillingState) : Type 0 where
+  pub requests : RecordRequests
+  pub settles : SettlesRecords now b requests b'
+  pub told : ExtendsPlant old new (records_stretch b.client.acct_server requests)
+
+-- The requests of accounting that are due were sent again.
+pub record ResendsRecords (now : ℕ) (old new : PlantTold) (b b' : BillingState) : Type 0 where
+  pub again : List LaneSend
+  pub resends : Chain (Resends now) b again b'
+  pub none_due : NoneToResend b' now
+  pub told : ExtendsPlant old new (record_stretch b.client.acct_server again)
+
+-- The records that wait were sent.
+pub record GivesRecords (now : ℕ) (old new : PlantTold) (b b' : BillingState) : Type 0 where
+  pub given : List RecordSend
+  pub gives : Chain (Gives now) b given b'
+  pub all : NoneToSend b'
+  pub told : ExtendsPlant old new (record_stretch b.client.acct_server (map (λ (r : RecordSend). r.send) given))

@@ -9,10 +9,11 @@ use Rattle.bng_engine.specs.Views.{ShardView}
 use Rattle.bng_shard.specs.declared.pool.Holder.{Holder}
 use Rattle.bng_shard.specs.Protocol.{ShardState}
 use Rattle.bng_shard.specs.Sums.{AreLow, RowsAreLow}
+use Rattle.bng_desk.specs.Accounting.{AreBilled}
 use Rattle.bng_desk.specs.Counting.{Within}
 use Rattle.bng_desk.specs.Items.{ends_of}
 use Rattle.bng_desk.specs.Logins.{verdicts_most}
-use Rattle.bng_desk.specs.Model.{Desk, HasOneRule, is_over, rounds_left, unopened_most}
+use Rattle.bng_desk.specs.Model.{Desk, HasOneRule, keys_in, is_over, rounds_left, unopened_most}
 use Rattle.bng_desk.specs.Taking.{IsEmpty, HasFewSessions, AreInOrder, AreItems, AreTallied}
 
 -- a shard between two rounds, as the desk's contracts see it: nothing of a round, and no room for one
@@ -60,7 +61,8 @@ pub record Stays (shards : ℕ) (items : List Item) : Type 0 where
 -- One port to sixteen, one shard to 64 in their order, all by the desk's rules, with nothing of a round in them and at most 1,022
 -- sessions in each, one seat. No sum is above what the turns so far could add, and none wraps before the last; what a circuit has carried,
 -- by its Stops and by its row, stands in the seat's tally. What stays of a round that was not opened are verdicts, and Ends in the ending
--- alone. Of each shard there is a list of the questions that it handed out.
+-- alone. Of each shard there is a list of the questions that it handed out. Each term that is there is live in accounting, and no two
+-- terms are one.
 pub record IsKept (d : Desk) : Type 0 where
   pub some_port : 1 ≤ length d.rules.access
   pub few_ports : length d.rules.access ≤ 16
@@ -90,3 +92,5 @@ pub record IsKept (d : Desk) : Type 0 where
   pub stays : Stays (length d.shards) d.kept
   pub while_serving : is_over d ≡ false → All is_verdict d.kept
   pub handed : length d.handed ≡ length d.shards
+  pub began : d.began ≤ d.moment
+  pub billed : AreBilled (keys_in d.shards) d.billing

@@ -5,7 +5,9 @@ pub mod Random
 pub mod Model
 pub mod Items
 pub mod Logins
+pub mod Accounting
 pub mod Round
+pub mod Settlement
 pub mod Report
 pub mod Turn
 pub mod Opening

@@ -1,13 +1,14 @@
 -- The desk as contracts see it.
 use Rattle.std.specs.Prelude.{◌≡◌, ℕ, ◌+◌, ◌-◌, ◌*◌, ◌/◌, Bool, true, false, ◌==◌, ◌||◌, ◌&&◌, not, List, Option, Some, None, map, sum_by, slice_get, nat_le, if◌then◌else◌}
-use Rattle.std.specs.List.{All}
+use Rattle.std.specs.List.{All, flat_map}
 use Rattle.bng_base.specs.declared.book.Book.{Book}
 use Rattle.bng_base.specs.declared.item.Entry.{Entry}
 use Rattle.bng_base.specs.declared.item.Item.{Item}
+use Rattle.bng_billing.specs.State.{BillingState}
 use Rattle.bng_engine.specs.Quantities.{Octets}
 use Rattle.bng_engine.specs.Sums.{stopped_where}
 use Rattle.bng_engine.specs.Terms.{Key, Stop}
-use Rattle.bng_engine.specs.Views.{ShardView, Row}
+use Rattle.bng_engine.specs.Views.{ShardView, Row, row_keys}
 use Rattle.bng_lane.specs.State.{LaneState}
 use Rattle.bng_shard.specs.declared.pool.Holder.{Holder}
 use Rattle.bng_shard.specs.declared.rules.Rules.{Rules}
@@ -19,12 +20,13 @@ use Rattle.bng_desk.specs.declared.desk.DeskState.TheVariants.{Serving, Ending, 
 use Rattle.bng_desk.specs.declared.drops.Drops.{Drops}
 use Rattle.bng_desk.specs.declared.line.Line.{Line}
 
--- By what it serves, the provisioned circuits in the order of the configuration, after how many turns it ends serving by
--- itself, how many it made, whether it was told to stop, the shards in the order of their numbers, who holds an address, what each seat passed, the
--- seed and how many times sixteen octets were drawn from it, the drops, the last moment that it was given, and the number of the
--- last round that the trace took, 0 before the first. The lane of the questions that are out at the server, and of each shard which
--- of its questions were handed out. Of the ending: how many of its turns were made, how many in a row opened no round, and whether one
--- opened a round. The items that stay of the last round, where it was not opened.
+-- By what it serves, the provisioned circuits in the order of the configuration, after how many turns it ends serving by itself, how
+-- many it made, whether it was told to stop, the shards in the order of their numbers, who holds an address, what each seat passed, the
+-- seed and how many times sixteen octets were drawn from it, the drops, the last moment that it was given, and the number of the last
+-- round that the trace took, 0 before the first. The lane of the questions that are out at the server, and of each shard which of its
+-- questions were handed out. The moment of the opening, and the records that are open at the server of accounting. Of the ending: how
+-- many of its turns were made, how many in a row opened no round, and whether one opened a round. The items that stay of the last round,
+-- where it was not opened.
 pub record Desk : Type 0 where
   pub rules : Rules
   pub lines : List Line
@@ -41,10 +43,16 @@ pub record Desk : Type 0 where
   pub told : ℕ
   pub lane : LaneState
   pub handed : List (List ℕ)
+  pub began : ℕ
+  pub billing : BillingState
   pub endings : ℕ
   pub unopened : ℕ
   pub closed : Bool
   pub kept : List Item
+
+-- the keys of the terms that are there, of the first shard first, and in each by rising session number
+abbrev pub keys_in : List (ShardView ShardState Entry) → List Key
+keys_in shards = flat_map (λ v. row_keys v.rows) shards
 
 -- each shard works by the desk's rules
 abbrev pub HasOneRule : Desk → Type 0

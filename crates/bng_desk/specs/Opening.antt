@@ -1,6 +1,6 @@
 -- A desk that was opened over a configuration.
 use Rattle.std.specs.Prelude.{◌≡◌, ◌≢◌, ℕ, ◌+◌, ◌/◌, ◌<◌, ◌≤◌, ◌==◌, false, List, [], ◌∷◌, Option, None, length, map, filter}
-use Rattle.std.specs.List.{All, AllPairs, range_with_len}
+use Rattle.std.specs.List.{All, AllPairs, AllZip, range_with_len}
 use Rattle.arrayvec.specs.ArrayVec.{ArrayVec}
 use Rattle.bng_base.specs.declared.address.Ip4.{Ip4}
 use Rattle.bng_base.specs.declared.item.Entry.{Entry}
@@ -9,7 +9,10 @@ use Rattle.bng_base.specs.declared.settings.Static.{Static}
 use Rattle.bng_config.specs.declared.config.Config.{Config}
 use Rattle.bng_discovery.specs.declared.port.PortRules.{PortRules}
 use Rattle.bng_base.specs.Books.{empty_book}
+use Rattle.bng_engine.specs.Terms.{Key}
 use Rattle.bng_engine.specs.Views.{ShardView}
+use Rattle.bng_billing.specs.declared.rules.BillingRules.{BillingRules}
+use Rattle.bng_billing.specs.State.{BillingState, IsNewBilling}
 use Rattle.bng_lane.specs.declared.rules.LaneRules.{LaneRules}
 use Rattle.bng_lane.specs.State.{LaneState, IsNewLane}
 use Rattle.bng_shard.specs.declared.pool.Holder.{Holder}
@@ -18,9 +21,11 @@ use Rattle.bng_shard.specs.Protocol.{ShardState, opened, profiles_there}
 use Rattle.bng_shard.specs.Questions.{none_handed}
 use Rattle.bng_slots.specs.Sessions.{IsNumberOf}
 use Rattle.bng_desk.specs.declared.line.Line.{Line}
+use Rattle.bng_desk.specs.Accounting.{AreBilled, FormedRecord, Forms, IsStartOf}
 use Rattle.bng_desk.specs.Counting.{no_drops}
-use Rattle.bng_desk.specs.Model.{Desk, no_traffic}
+use Rattle.bng_desk.specs.Model.{Desk, keys_in, no_traffic}
 use Rattle.bng_desk.specs.Random.{draw}
+use Rattle.bng_desk.specs.Taking.{Accounts, BooksStarts}
 
 -- what the access port with this number offers: its MAC, this key of its cookies, this name and these services
 pub record IsOfferOf (name : List ℕ) (services : List (ArrayVec ℕ)) (key : List ℕ) (number : ℕ) (port : AccessPort) (offer : PortRules) : Type 0 where
@@ -60,7 +65,7 @@ pub record AreRules (config : Config) (seed : List ℕ) (r : Rules) : Type 0 whe
   pub echo : r.link.echo ≡ config.echo
 
 abbrev pub line_of : Static → Line
-line_of c = record { session = c.session; address = c.address; stopped = no_traffic }
+line_of c = record { session = c.session; address = c.address; user = c.user; stopped = no_traffic }
 
 -- the shard of a session number
 abbrev pub shard_of : Static → ℕ
@@ -91,13 +96,37 @@ opened_shards config rules = map (λ n. opened n rules (statics_of config n)) (r
 abbrev pub lane_rules : Config → LaneRules
 lane_rules config = record { nas = record { name = config.name; nas_ip = config.nas_ip }; server = config.auth_server; secret = config.secret; tries = config.tries }
 
+-- what accounting is opened with: for how many terms there is room, the second on the wall at which the run opened, what a record says of
+-- the gateway, the server, and the secret
+abbrev pub billing_rules : Config → ℕ → BillingRules
+billing_rules config wall = record {
+  acct = record { terms = config.terms; wall = wall; name = config.name; nas_ip = config.nas_ip };
+  server = config.acct_server;
+  secret = config.secret;
+}
+
+-- Accounting was opened by these rules over these lines, and of each of the terms with these keys a Start was formed, in their order;
+-- each of them is live in accounting from then on.
+pub record OpensAccounts (rules : BillingRules) (lines : List Line) (keys : List Key) (now : ℕ) (a : Accounts) : Type 0 where
+  pub new_billing : BillingState
+  pub is_new : IsNewBilling rules new_billing
+  pub booked : BooksStarts rules.acct.wall keys (record { lines = lines; billing = new_billing; began = now }) a
+  pub billed : AreBilled keys a.billing
+
 -- Each shard works by the same rules. Each provisioned circuit has its term in the shard of its number and holds its address; there is
--- no session, and nothing has passed.
-pub record IsOpened (config : Config) (rounds : ℕ) (seed : List ℕ) (now : ℕ) (d : Desk) : Type 0 where
+-- no session, and nothing has passed. Of each term a Start was formed, at this moment and this second of the wall, by rising session
+-- number.
+pub record IsOpened (config : Config) (rounds : ℕ) (seed : List ℕ) (now wall : ℕ) (d : Desk) : Type 0 where
   pub rules : Rules
   pub are_rules : AreRules config seed rules
   pub lane : LaneState
   pub new_lane : IsNewLane (lane_rules config) lane
+  pub new_billing : BillingState
+  pub is_new : IsNewBilling (billing_rules config wall) new_billing
+  pub starts : List FormedRecord
+  pub are_starts : AllZip (IsStartOf (map line_of config.statics) now wall) (keys_in (opened_shards config rules)) starts
+  pub billing : BillingState
+  pub forms : Forms new_billing starts billing
   pub desk : d ≡ record {
     rules = rules;
     lines = map line_of config.statics;
@@ -114,6 +143,8 @@ pub record IsOpened (config : Config) (rounds : ℕ) (seed : List ℕ) (now : �
     told = 0;
     lane = lane;
     handed = map (λ n. none_handed) (range_with_len 0 config.shards);
+    began = now;
+    billing = billing;
     endings = 0;
     unopened = 0;
     closed = false;

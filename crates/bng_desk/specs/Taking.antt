@@ -32,9 +32,11 @@ use Rattle.bng_shard.specs.Protocol.{ShardState, Handled, pppoe, sessions_of, te
 use Rattle.bng_shard.specs.Room.{is_tick, is_end}
 use Rattle.bng_shard.specs.Sums.{AreLow, RowsAreLow}
 use Rattle.bng_shard.specs.Whose.{IsWhose}
+use Rattle.bng_billing.specs.State.{BillingState}
 use Rattle.bng_desk.specs.declared.drops.Drops.{Drops}
 use Rattle.bng_desk.specs.declared.holding.Named.{Named}
 use Rattle.bng_desk.specs.declared.line.Line.{Line}
+use Rattle.bng_desk.specs.Accounting.{FormedRecord, Forms, IsStartOf, IsStopOf}
 use Rattle.bng_desk.specs.Counting.{drops_of, plus}
 use Rattle.bng_desk.specs.Items.{entries_in, kept_of, loose_item, loose_in}
 use Rattle.bng_desk.specs.Model.{is_of, line_after}
@@ -226,19 +228,42 @@ pub record ReapedTo (v v' : Shown) (stops : List Stop) : Type 0 where
   pub outs : v'.outs ≡ v.outs
   pub sessions : HasFewSessions v'
 
--- and their addresses were given back, and what they carried was added to the lines of their circuits
-pub record ReapsShard (v v' : Shown) (holders holders' : List Holder) (lines lines' : List Line) : Type 0 where
+-- what a settlement writes to beside the shards: the lines of the circuits, and the records of their terms, which began at this moment
+pub record Accounts : Type 0 where
+  pub lines : List Line
+  pub billing : BillingState
+  pub began : ℕ
+
+-- Of each of these Stops a record was formed, in their order, at this moment and this second on the wall, and what it says was added to
+-- the line of its circuit.
+pub record BooksStops (moment wall : ℕ) (stops : List Stop) (a a' : Accounts) : Type 0 where
+  pub formed : List FormedRecord
+  pub forms : Forms a.billing formed a'.billing
+  pub are_stops : AllZip (IsStopOf a.lines a.began moment wall) stops formed
+  pub lines_are : a'.lines ≡ map (line_after stops) a.lines
+  pub began : a'.began ≡ a.began
+
+-- Of each of the terms with these keys a Start was formed, in their order, at the moment at which all began and this second on the wall.
+pub record BooksStarts (wall : ℕ) (keys : List Key) (a a' : Accounts) : Type 0 where
+  pub formed : List FormedRecord
+  pub forms : Forms a.billing formed a'.billing
+  pub are_starts : AllZip (IsStartOf a.lines a.began wall) keys formed
+  pub lines_are : a'.lines ≡ a.lines
+  pub began : a'.began ≡ a.began
+
+-- and their addresses were given back, and they were booked
+pub record ReapsShard (moment wall : ℕ) (v v' : Shown) (holders holders' : List Holder) (a a' : Accounts) : Type 0 where
   pub stops : List Stop
   pub reaped : ReapedTo v v' stops
   pub holders_are : holders' ≡ holders_after stops holders
-  pub lines_are : lines' ≡ map (line_after stops) lines
+  pub booked : BooksStops moment wall stops a a'
 
 -- so in all shards, in their order
-pub record ReapsAll (vs vs' : List Shown) (holders holders' : List Holder) (lines lines' : List Line) : Type 0 where
+pub record ReapsAll (moment wall : ℕ) (vs vs' : List Shown) (holders holders' : List Holder) (a a' : Accounts) : Type 0 where
   pub stops : List (List Stop)
   pub each : Zip3 ReapedTo vs vs' stops
   pub holders_are : holders' ≡ holders_after (joined stops) holders
-  pub lines_are : lines' ≡ map (line_after (joined stops)) lines
+  pub booked : BooksStops moment wall (joined stops) a a'
 
 -- what the Stops of a circuit's terms say so far, in octets of one direction
 abbrev pub stopped_in : Bool → Line → ℕ
@@ -276,35 +301,35 @@ pub record IsLeftBy (w : Shown) (v : Sight) : Type 0 where
   pub books : w.books ≡ v.books
 
 -- A round was opened and settled: what it was, and what the trace is to be told.
-pub record RoundHeld (r : Rules) (holders holders' : List Holder) (lines lines' : List Line) (named : Named) (items : List Item) (old new : PlantTold) (shards shards' : List Shown) (drops drops' : Drops) (tally tally' : Book) (record_is : RoundRecord) : Type 0 where
+pub record RoundHeld (r : Rules) (holders holders' : List Holder) (accounts accounts' : Accounts) (named : Named) (items : List Item) (old new : PlantTold) (shards shards' : List Shown) (drops drops' : Drops) (tally tally' : Book) (record_is : RoundRecord) : Type 0 where
   pub round : Round
   pub is : IsRound r shards holders (tally ∷ []) named.moment (items ∷ []) round
   pub shards_are : AllZip IsLeftBy shards' round.shards
   pub holders_are : holders' ≡ holders_after (stops_of round) holders
-  pub lines_are : lines' ≡ map (line_after (stops_of round)) lines
+  pub booked : BooksStops named.moment named.wall (stops_of round) accounts accounts'
   pub tallies_are : round.tallies ≡ tally' ∷ []
   pub drops_are : drops' ≡ plus drops (drops_in (items ∷ []) round)
   pub told : ExtendsPlant old new (sends_stretch (all_sends round.shards))
   pub record_told : record_is ≡ record_of named.number named.moment named.wall (items ∷ []) round
 
 -- The shards were made ready, and the round was held.
-pub record IsHeld (r : Rules) (holders holders' : List Holder) (lines lines' : List Line) (named : Named) (items : List Item) (old new : PlantTold) (shards shards' : List Shown) (drops drops' : Drops) (tally tally' : Book) (record_is : RoundRecord) : Type 0 where
+pub record IsHeld (r : Rules) (holders holders' : List Holder) (accounts accounts' : Accounts) (named : Named) (items : List Item) (old new : PlantTold) (shards shards' : List Shown) (drops drops' : Drops) (tally tally' : Book) (record_is : RoundRecord) : Type 0 where
   pub ready : List Shown
   pub kept : AllZip Kept shards ready
-  pub held : RoundHeld r holders holders' lines lines' named items old new ready shards' drops drops' tally tally' record_is
+  pub held : RoundHeld r holders holders' accounts accounts' named items old new ready shards' drops drops' tally tally' record_is
 
 -- The shards could not be made ready: the items of the outside were dropped, and nothing was sent.
-pub record IsRefused (holders holders' : List Holder) (lines lines' : List Line) (named : Named) (items : List Item) (old new : PlantTold) (shards shards' : List Shown) (drops drops' : Drops) (tally tally' : Book) (record_is : RoundRecord) : Type 0 where
+pub record IsRefused (holders holders' : List Holder) (accounts accounts' : Accounts) (named : Named) (items : List Item) (old new : PlantTold) (shards shards' : List Shown) (drops drops' : Drops) (tally tally' : Book) (record_is : RoundRecord) : Type 0 where
   pub kept : AllZip Kept shards shards'
   pub told : new ≡ old
   pub drops_are : drops' ≡ plus drops (with_refused (length (refused_of items)))
   pub holders_are : holders' ≡ holders
-  pub lines_are : lines' ≡ lines
+  pub accounts_are : accounts' ≡ accounts
   pub tally_is : tally' ≡ tally
   pub record_told : record_is ≡ refused_record named.number named.moment named.wall (length shards) items
 
 -- A round was held, and no item stays; or it could not be opened, and its verdicts and Ends stay.
-abbrev pub Holds : Rules → List Holder → List Holder → List Line → List Line → Named → List Item → PlantTold → PlantTold → List Shown → List Shown → Drops → Drops → Book → Book → RoundRecord → Bool → List Item → Type 0
-Holds r holders holders' lines lines' named items old new shards shards' drops drops' tally tally' record_is opened kept =
-    ((opened ≡ true) × (kept ≡ []) × IsHeld r holders holders' lines lines' named items old new shards shards' drops drops' tally tally' record_is)
-    ⊎ ((opened ≡ false) × (kept ≡ kept_of items) × IsRefused holders holders' lines lines' named items old new shards shards' drops drops' tally tally' record_is)
+abbrev pub Holds : Rules → List Holder → List Holder → Accounts → Accounts → Named → List Item → PlantTold → PlantTold → List Shown → List Shown → Drops → Drops → Book → Book → RoundRecord → Bool → List Item → Type 0
+Holds r holders holders' accounts accounts' named items old new shards shards' drops drops' tally tally' record_is opened kept =
+    ((opened ≡ true) × (kept ≡ []) × IsHeld r holders holders' accounts accounts' named items old new shards shards' drops drops' tally tally' record_is)
+    ⊎ ((opened ≡ false) × (kept ≡ kept_of items) × IsRefused holders holders' accounts accounts' named items old new shards shards' drops drops' tally tally' record_is)

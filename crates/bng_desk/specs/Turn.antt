@@ -1,6 +1,6 @@
 -- One turn of the desk: what the outside answered in it, what it sent, and the desk that it leaves.
 use Rattle.std.specs.Prelude.{◌≡◌, ℕ, ◌+◌, ◌-◌, ◌/◌, ◌≤◌, Bool, true, false, not, ◌&&◌, ◌||◌, List, [], ◌∷◌, ◌++◌, Option, Some, None, All, length, map, min, fold, if◌then◌else◌}
-use Rattle.std.specs.List.{flat_map, range_with_len, list_any}
+use Rattle.std.specs.List.{AllZip, flat_map, range_with_len, list_any}
 use Rattle.bng_base.specs.declared.item.Entry.{Entry}
 use Rattle.bng_base.specs.declared.item.Item.{Item}
 use Rattle.bng_base.specs.declared.outside.Heard.{Heard}
@@ -20,8 +20,11 @@ use Rattle.bng_shard.specs.Room.{is_end}
 use Rattle.bng_desk.specs.declared.desk.Turned.{Turned}
 use Rattle.bng_desk.specs.declared.desk.Turned.TheVariants.{Ok, TraceFault, WantOfMemory}
 use Rattle.bng_desk.specs.declared.reading.Ended.{Ended}
+use Rattle.bng_desk.specs.Accounting.{Acknowledged, FormedRecord, RecordRequests, HearsRecords, Forms, IsStopOf, SettlesRecords, acct_reading, acknowledged_most, records_stretch}
 use Rattle.bng_desk.specs.Control.{Heeded, has_stop, control_stretch}
 use Rattle.bng_desk.specs.Counting.{plus}
+use Rattle.bng_billing.specs.State.{BillingState, places_of}
+use Rattle.bng_engine.specs.Terms.{Stop}
 use Rattle.bng_lane.specs.State.{LaneState}
 use Rattle.bng_rad_client.specs.DueRequests.{IsDeadline}
 use Rattle.bng_verdict.specs.declared.question.QuestionNo.{QuestionNo}
@@ -48,15 +51,19 @@ most_of r Acct = 0
 most_of r Coa = 0
 most_of r Control = 0
 
--- The moments; what was taken from Control and how its reading ended; what was taken from Auth and how its reading ended, which is None
--- where it was not read; the readings of the other roles; the questions that were given up; the round, which is None where it could
--- not be opened for want of memory; the requests that were sent; whether the trace took the round. Of the lane: how it stood once it had
--- heard Auth, once the questions were given up, and in the end, with its first deadline, and which questions were handed out then.
+-- The moments; what was taken from Control and how its reading ended, and so from Acct; what was taken from Auth and how its reading
+-- ended, which is None where it was not read; the readings of the other roles; the questions that were given up; the round, which is None
+-- where it could not be opened for want of memory; the requests that were sent; whether the trace took the round. Of the lane: how it
+-- stood once it had heard Auth, once the questions were given up, and in the end, with its first deadline, and which questions were
+-- handed out then. Of accounting: the records that were formed, the requests that were sent, and how it stood in the end, with its first
+-- deadline.
 pub record Turn : Type 0 where
   pub moment : ℕ
   pub wall : ℕ
   pub control : List Heeded
   pub control_end : Ended
+  pub acknowledged : List Acknowledged
+  pub acct_end : Ended
   pub answers : List Answered
   pub auth_end : Option Ended
   pub readings : List DataReading
@@ -69,17 +76,22 @@ pub record Turn : Type 0 where
   pub lane : LaneState
   pub deadline : Option ℕ
   pub handed : List (List ℕ)
+  pub formed : List FormedRecord
+  pub records : RecordRequests
+  pub billing : BillingState
+  pub record_deadline : Option ℕ
 
 -- Auth is read at most 128 times; it is not read where verdicts of a round that was not opened stand first.
 abbrev pub ReadsWhere : Bool → List Answered → Option Ended → Type 0
 ReadsWhere true answers auth_end = (ended : Ended) × (auth_end ≡ Some ended) × EndsRight verdicts_most (length answers) ended
 ReadsWhere false answers auth_end = (auth_end ≡ None) × (answers ≡ [])
 
--- Control is read at most 8 times, then Auth, then the access ports in their order, which share 224 receives, and then the core, at
--- most 224 times.
+-- Control is read at most 8 times, then Acct at most 128 times, then Auth, then the access ports in their order, which share 224
+-- receives, and then the core, at most 224 times.
 pub record IsReading (d : Desk) (t : Turn) : Type 0 where
   pub moment : d.moment ≤ t.moment
   pub control : EndsRight 8 (length t.control) t.control_end
+  pub acct : EndsRight acknowledged_most (length t.acknowledged) t.acct_end
   pub auth : ReadsWhere (is_empty d.kept) t.answers t.auth_end
   pub roles : map (λ r. r.role) t.readings ≡ data_roles d.rules
   pub read : All (λ r. EndsRight (most_of d.rules r.role) (length r.arrivals) r.ended) t.readings
@@ -141,6 +153,7 @@ after d t = record (after_round d (items_of d t) t.round) {
   told = told_after t.noted d.told;
   lane = t.lane;
   handed = t.handed;
+  billing = t.billing;
 }
 
 -- The lane in a turn while serving: it hears Auth, gives up the questions that are due, and in the settlement sends what is due again
@@ -151,10 +164,26 @@ pub record LaneTurn (d : Desk) (t : Turn) : Type 0 where
   pub settles : SettlesLane t.moment t.waited (after_round d (items_of d t) t.round).shards d.handed d.seed (d.drawn + length (new_items d t)) t.requests t.lane t.handed
   pub due : IsDeadline t.lane.client.auth.places t.deadline
 
+-- the Stops of a round, where it was opened
+abbrev pub stops_in : Option Round → List Stop
+stops_in None = []
+stops_in (Some round) = stops_of round
+
+-- Accounting in a turn while serving: it hears Acct; in the settlement a record is formed of each Stop, in their order, and then it sends
+-- what is due again and the records that wait.
+pub record BillingTurn (d : Desk) (t : Turn) : Type 0 where
+  pub heard : BillingState
+  pub hears : HearsRecords d.billing t.acknowledged heard
+  pub booked : BillingState
+  pub forms : Forms heard t.formed booked
+  pub stops : AllZip (IsStopOf d.lines d.began t.moment t.wall) (stops_in t.round) t.formed
+  pub settles : SettlesRecords t.moment booked t.records t.billing
+  pub due : IsDeadline (places_of t.billing) t.record_deadline
+
 -- A turn that wanted memory is None: it counts as a turn, and all else is as before.
 abbrev pub Step : Desk → Option Turn → Desk → Type 0
 Step d None d' = d' ≡ record d { turns = d.turns + 1 }
-Step d (Some t) d' = IsReading d t × RoundOf d t.moment (items_of d t) t.round × LaneTurn d t × (d' ≡ after d t)
+Step d (Some t) d' = IsReading d t × RoundOf d t.moment (items_of d t) t.round × LaneTurn d t × BillingTurn d t × (d' ≡ after d t)
 
 -- the milliseconds from a moment to a deadline: 0 where that is past, 100 at most and where there is none
 abbrev pub wait_for : Option ℕ → ℕ → ℕ
@@ -170,7 +199,7 @@ arrivals_in readings = flat_map (λ r. r.arrivals) readings
 
 -- no datagram was taken
 abbrev pub is_idle : Turn → Bool
-is_idle t = is_empty t.control && is_empty t.answers && is_empty (arrivals_in t.readings)
+is_idle t = is_empty t.control && is_empty t.acknowledged && is_empty t.answers && is_empty (arrivals_in t.readings)
 
 -- a turn that took no datagram ends with one wait, unless the trace failed
 abbrev pub waits : Bool → ℕ → List Heard
@@ -212,11 +241,13 @@ told_if false r = []
 abbrev pub plant_stretch : Desk → Turn → PlantStretch
 plant_stretch d t =
     plant_joined (control_stretch t.control t.control_end)
+    (plant_joined (reading_stretch (acct_reading t.acknowledged t.acct_end))
     (plant_joined (auth_stretch t.answers t.auth_end)
     (plant_joined (data_stretch t.readings)
     (plant_joined (round_stretch t.round)
     (plant_joined (requests_stretch d.lane.client.auth_server t.requests)
-    (waiting_stretch (is_idle t && t.noted) (wait_for (earliest (deadline_in (after d t).shards) t.deadline) t.moment))))))
+    (plant_joined (records_stretch d.billing.client.acct_server t.records)
+    (waiting_stretch (is_idle t && t.noted) (wait_for (earliest (deadline_in (after d t).shards) (earliest t.deadline t.record_deadline)) t.moment))))))))
 
 -- what a turn adds to what the outside tells
 abbrev pub stretch_of : Desk → Option Turn → Stretch
@@ -248,7 +279,7 @@ pub record MakesTurn (d d' : Desk) (o o' : Outside) (result : Turned) : Type 0 w
 -- Ending ----------------------------------------------------------------------------------------------------------------
 
 -- a turn of the ending: its moments, its round of Ends, the requests that were sent, whether the trace took the round, and how the lane
--- stands then, with the questions that were handed out
+-- stands then, with the questions that were handed out; the records that were formed, their requests, and how accounting stands then
 pub record EndTurn : Type 0 where
   pub moment : ℕ
   pub wall : ℕ
@@ -257,6 +288,9 @@ pub record EndTurn : Type 0 where
   pub noted : Bool
   pub lane : LaneState
   pub handed : List (List ℕ)
+  pub formed : List FormedRecord
+  pub records : RecordRequests
+  pub billing : BillingState
 
 -- whether a round was opened
 abbrev pub is_opened : Option Round → Bool
@@ -270,6 +304,7 @@ after_end d t = record (after_round d (ending_items d) t.round) {
   told = told_after t.noted d.told;
   lane = t.lane;
   handed = t.handed;
+  billing = t.billing;
   endings = d.endings + 1;
   unopened = (if is_opened t.round then 0 else d.unopened + 1);
   closed = d.closed || is_opened t.round;
@@ -279,16 +314,23 @@ after_end d t = record (after_round d (ending_items d) t.round) {
 abbrev pub LaneEnd : Desk → EndTurn → Type 0
 LaneEnd d t = SettlesLane t.moment d.lane (after_round d (ending_items d) t.round).shards d.handed d.seed (d.drawn + ending_draws d) t.requests t.lane t.handed
 
+-- Accounting in a turn of the ending: its settlement alone.
+pub record BillingEnd (d : Desk) (t : EndTurn) : Type 0 where
+  pub booked : BillingState
+  pub forms : Forms d.billing t.formed booked
+  pub stops : AllZip (IsStopOf d.lines d.began t.moment t.wall) (stops_in t.round) t.formed
+  pub settles : SettlesRecords t.moment booked t.records t.billing
+
 -- A turn that wanted memory is None: it counts as one that opened no round.
 abbrev pub EndStep : Desk → Option EndTurn → Desk → Type 0
 EndStep d None d' = d' ≡ record d { endings = d.endings + 1; unopened = d.unopened + 1 }
-EndStep d (Some t) d' = (d.moment ≤ t.moment) × RoundOf d t.moment (ending_items d) t.round × LaneEnd d t × (d' ≡ after_end d t)
+EndStep d (Some t) d' = (d.moment ≤ t.moment) × RoundOf d t.moment (ending_items d) t.round × LaneEnd d t × BillingEnd d t × (d' ≡ after_end d t)
 
 -- it reads its moments, sends what the round has to send and tells the trace, and takes nothing and does not wait
 abbrev pub end_stretch : Desk → Option EndTurn → Stretch
 end_stretch d None = no_stretch
 end_stretch d (Some t) = record {
-  plant = plant_joined (round_stretch t.round) (requests_stretch d.lane.client.auth_server t.requests);
+  plant = plant_joined (round_stretch t.round) (plant_joined (requests_stretch d.lane.client.auth_server t.requests) (records_stretch d.billing.client.acct_server t.records));
   answers = Now t.moment ∷ Wall t.wall ∷ [];
   rounds = told_if t.noted (round_told d t.moment t.wall (ending_items d) t.round);
   unnoted = not t.noted;

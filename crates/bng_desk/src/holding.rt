@@ -5,15 +5,17 @@ ghost use Rattle.bng_base.specs.Causes.{HasCause};
 ghost use Rattle.bng_base.specs.Told.{Grows};
 ghost use Rattle.bng_engine.specs.Calls.{IsReady};
 ghost use Rattle.bng_shard.specs.Sums.{IsLow, AreLow, RowsAreLow};
+ghost use Rattle.bng_desk.specs.Accounting.{AreBilled};
 ghost use Rattle.bng_desk.specs.Counting.{Within};
 ghost use Rattle.bng_desk.specs.Items.{stays, kept_of, is_from_outside};
 ghost use Rattle.bng_desk.specs.Kept.{octets_most, drops_most};
+ghost use Rattle.bng_desk.specs.Model.{keys_in};
 ghost use Rattle.bng_desk.specs.Taking.{IsEmpty, HasFewSessions, HasRows, AreInOrder, AreItems, RoundHeld, Holds, AreTallied, outs_of_items};
 ghost use Rattle.bng_desk.specs.Round.{refused_of};
 ghost use Rattle.bng_desk.specs.Turn.{told_if};
 
+use crate::accounts::Accounts;
 use crate::drops::{Drops, count_refused};
-use crate::line::Line;
 use crate::lists::Lists;
 use crate::round::{deal_all, prepare_all, send_all};
 use crate::stops::reap_all;
@@ -61,7 +63,7 @@ pub(crate) fn opened<P: Plant>(
     rules: &Rules,
     shards: &mut [Shard],
     pool: &mut PlainPool,
-    lines: &mut Vec<Line>,
+    accounts: &mut Accounts,
     plant: &mut P,
     named: Named,
     lists: Lists,
@@ -80,7 +82,9 @@ pub(crate) fn opened<P: Plant>(
     requires low { All (λ v. RowsAreLow (2 ^ 62 + 2 ^ 61) v.rows) shards.old }
     requires low_books { All (λ v. AreLow (2 ^ 62 + 2 ^ 61) v.books) shards.old }
     requires low_tally { IsLow (2 ^ 62 + 2 ^ 61) tally.old }
-    requires lines { AreTallied tally.old shards.old lines.old.items }
+    requires lines { AreTallied tally.old shards.old accounts.old.lines }
+    requires billed { AreBilled (keys_in shards.old) accounts.old.billing }
+    requires began { accounts.old.began ≤ named.moment }
     requires few_outs { outs_of_items lists.items.items ≤ 5760 + 320 * length shards.old }
     requires loose { (lists.loose.items ≡ []) × (1024 ≤ vec_capacity lists.loose) }
     requires journals { (lists.journals.items ≡ []) × (length shards.old ≤ vec_capacity lists.journals) }
@@ -88,14 +92,15 @@ pub(crate) fn opened<P: Plant>(
     requires allowances { lists.allowances.items ≡ replicate (length shards.old) 0 }
     requires refused { lists.refused.items ≡ [] }
     requires drops { Within (2 ^ 61) drops.old }
-    ensures round { RoundHeld rules.now pool.old pool.new lines.old.items lines.new.items named lists.items.items (P.told plant.old) (P.told plant.new) shards.old shards.new drops.old drops.new tally.old tally.new result }
+    ensures round { RoundHeld rules.now pool.old pool.new accounts.old accounts.new named lists.items.items (P.told plant.old) (P.told plant.new) shards.old shards.new drops.old drops.new tally.old tally.new result }
     ensures empty { All IsEmpty shards.new }
     ensures sessions { All HasFewSessions shards.new }
     ensures numbers { AreInOrder shards.new }
     ensures low { (most : ℕ) → All (λ v. RowsAreLow most v.rows) shards.old → All (λ v. RowsAreLow (most + octets_most) v.rows) shards.new }
     ensures books { (most : ℕ) → All (λ v. AreLow most v.books) shards.old → All (λ v. AreLow (most + octets_most) v.books) shards.new }
     ensures tally { (most : ℕ) → IsLow most tally.old → IsLow (most + octets_most) tally.new }
-    ensures lines { AreTallied tally.new shards.new lines.new.items }
+    ensures lines { AreTallied tally.new shards.new accounts.new.lines }
+    ensures billed { AreBilled (keys_in shards.new) accounts.new.billing }
     ensures within { (most : ℕ) → Within most drops.old → Within (most + drops_most) drops.new }
 {
     let Lists {
@@ -117,7 +122,7 @@ pub(crate) fn opened<P: Plant>(
         tally,
     );
     send_all(shards, plant, &mut outs, &mut journals, drops, tally);
-    reap_all(shards, pool, lines);
+    reap_all(shards, pool, accounts, named.moment, named.wall);
     recorded(named, allowances, journals, loose, outs, refused)
 }
 
@@ -226,7 +231,7 @@ pub(crate) fn hold<P: Plant>(
     rules: &Rules,
     shards: &mut [Shard],
     pool: &mut PlainPool,
-    lines: &mut Vec<Line>,
+    accounts: &mut Accounts,
     plant: &mut P,
     named: Named,
     mut lists: Lists,
@@ -246,7 +251,9 @@ pub(crate) fn hold<P: Plant>(
     requires low { All (λ v. RowsAreLow (2 ^ 62 + 2 ^ 61) v.rows) shards.old }
     requires low_books { All (λ v. AreLow (2 ^ 62 + 2 ^ 61) v.books) shards.old }
     requires low_tally { IsLow (2 ^ 62 + 2 ^ 61) tally.old }
-    requires lines { AreTallied tally.old shards.old lines.old.items }
+    requires lines { AreTallied tally.old shards.old accounts.old.lines }
+    requires billed { AreBilled (keys_in shards.old) accounts.old.billing }
+    requires began { accounts.old.began ≤ named.moment }
     requires few_outs { outs_of_items lists.items.items ≤ 5760 + 320 * length shards.old }
     requires loose { (lists.loose.items ≡ []) × (1024 ≤ vec_capacity lists.loose) }
     requires journals { (lists.journals.items ≡ []) × (length shards.old ≤ vec_capacity lists.journals) }
@@ -256,7 +263,7 @@ pub(crate) fn hold<P: Plant>(
     requires none_kept { kept.old.items ≡ [] }
     requires kept_room { length (kept_of lists.items.items) ≤ vec_capacity kept.old }
     requires drops { Within (2 ^ 61) drops.old }
-    ensures round { Holds rules.now pool.old pool.new lines.old.items lines.new.items named lists.items.items (P.told plant.old) (P.told plant.new) shards.old shards.new drops.old drops.new tally.old tally.new result.record result.is_opened kept.new.items }
+    ensures round { Holds rules.now pool.old pool.new accounts.old accounts.new named lists.items.items (P.told plant.old) (P.told plant.new) shards.old shards.new drops.old drops.new tally.old tally.new result.record result.is_opened kept.new.items }
     ensures kept_room { vec_capacity kept.new ≡ vec_capacity kept.old }
     ensures empty { All IsEmpty shards.new }
     ensures sessions { All HasFewSessions shards.old → All HasFewSessions shards.new }
@@ -264,14 +271,15 @@ pub(crate) fn hold<P: Plant>(
     ensures low { (most : ℕ) → All (λ v. RowsAreLow most v.rows) shards.old → All (λ v. RowsAreLow (most + octets_most) v.rows) shards.new }
     ensures books { (most : ℕ) → All (λ v. AreLow most v.books) shards.old → All (λ v. AreLow (most + octets_most) v.books) shards.new }
     ensures tally { (most : ℕ) → IsLow most tally.old → IsLow (most + octets_most) tally.new }
-    ensures lines { AreTallied tally.new shards.new lines.new.items }
+    ensures lines { AreTallied tally.new shards.new accounts.new.lines }
+    ensures billed { AreBilled (keys_in shards.new) accounts.new.billing }
     ensures within { (most : ℕ) → Within most drops.old → Within (most + drops_most) drops.new }
 {
     let count = lists.items.len() as u16;
     if prepare_all(shards, alloc, count, spare) {
         return Held {
             record: opened(
-                rules, shards, pool, lines, plant, named, lists, drops, tally,
+                rules, shards, pool, accounts, plant, named, lists, drops, tally,
             ),
             is_opened: true,
         };

@@ -1,26 +1,31 @@
 //! What a desk is opened with.
-ghost use Rattle.std.specs.Prelude.{◌≡◌, ◌≤◌, ◌<◌, ◌==◌, ◌/◌, [], ◌∷◌, ℕ, None, IfOk, length, map, filter};
-ghost use Rattle.std.specs.List.{All, range_with_len};
+ghost use Rattle.std.specs.Prelude.{◌≡◌, ◌≤◌, ◌<◌, ◌==◌, ◌/◌, [], ◌∷◌, ℕ, false, None, IfOk, length, map, filter};
+ghost use Rattle.std.specs.List.{All, AllPairs, range_with_len};
+ghost use Rattle.bng_acct.specs.Roster.{same};
 ghost use Rattle.bng_shard.specs.Protocol.{opened};
 ghost use Rattle.bng_lane.specs.State.{IsNewLane};
 ghost use Rattle.bng_shard.specs.Questions.{none_handed};
-ghost use Rattle.bng_desk.specs.Opening.{line_of, holder_of, shard_of, no_address, no_dns, IsOfferOf, AreOffersOf, AreServed};
+ghost use Rattle.bng_desk.specs.Opening.{line_of, holder_of, shard_of, no_address, no_dns, IsOfferOf, AreOffersOf, AreServed, OpensAccounts};
+ghost use Rattle.bng_desk.specs.Model.{keys_in};
 ghost use Rattle.bng_desk.specs.Taking.{HasFewSessions};
 
+use crate::accounts::Accounts;
 use crate::desk::DeskError;
 use crate::line::Line;
 use crate::sums::NO_TRAFFIC;
 use arrayvec::ArrayVec;
 use bng_access::NasRules;
+use bng_acct::AcctRules;
 use bng_base::{AccessPort, AuthKind, Ip4, Listed, Peer, Static};
+use bng_billing::{Billing, BillingRules};
 use bng_discovery::PortRules;
 use bng_lane::{Lane, LaneRules};
 use bng_ppp::LinkRules;
 use bng_shard::{Handed, Holder, Rules, Shard};
 use std::alloc::Global;
 
-// The same octets again.
-fn copied(text: &ArrayVec<u8, 64>) -> ArrayVec<u8, 64>
+/// The same octets again.
+pub(crate) fn copied<const N: usize>(text: &ArrayVec<u8, N>) -> ArrayVec<u8, N>
     ensures { result ≡ text.now }
 {
     let Ok(copy) = ArrayVec::try_from(text.as_slice()) else {
@@ -195,6 +200,60 @@ pub(crate) fn lane(
     }
 }
 
+/// What accounting is opened with: for how many terms there is room, the second on the wall at which the run opened, what a record says
+/// of the gateway, the server, and the secret.
+pub(crate) fn billing_rules(
+    name: &ArrayVec<u8, 64>,
+    nas_ip: Ip4,
+    terms: u32,
+    server: Peer,
+    secret: &ArrayVec<u8, 64>,
+    wall: u64,
+) -> BillingRules
+    ensures { result ≡ record { acct = record { terms = terms; wall = wall; name = name.now; nas_ip = nas_ip }; server = server; secret = secret.now } }
+{
+    let acct = AcctRules {
+        terms,
+        wall,
+        name: copied(name),
+        nas_ip,
+    };
+    BillingRules {
+        acct,
+        server,
+        secret: copied(secret),
+    }
+}
+
+/// Accounting over these lines, with the Start of each term that the shards have, of the first shard first and in each by rising session
+/// number, at this moment and at the rules' second on the wall. There is room for the terms, and no two are one.
+pub(crate) fn accounts(
+    alloc: Global,
+    rules: BillingRules,
+    lines: Vec<Line>,
+    shards: &[Shard],
+    now: u64,
+) -> Result<Accounts, DeskError>
+    requires most { rules.acct.terms ≤ 262144 }
+    requires room { length (keys_in shards.now) ≤ rules.acct.terms }
+    requires apart { AllPairs (λ j k. same j.term k.term ≡ false) (keys_in shards.now) }
+    ensures { IfOk result (λ a. OpensAccounts rules lines.items (keys_in shards.now) now a) }
+{
+    let wall = rules.acct.wall;
+    let Ok(billing) = Billing::open(alloc, rules) else {
+        return Err(DeskError::OutOfMemory);
+    };
+    let mut accounts = Accounts {
+        lines,
+        billing,
+        began: now,
+    };
+    for shard in shards {
+        accounts.start_all(shard, wall);
+    }
+    Ok(accounts)
+}
+
 /// Of each shard a list of the questions that it handed out, with none.
 pub(crate) fn handed(alloc: Global, shards: u16) -> Result<Vec<Handed>, DeskError>
     ensures { IfOk result (λ lists. lists.items ≡ map (λ n. none_handed) (range_with_len 0 shards)) }
@@ -218,6 +277,7 @@ pub(crate) fn lines(alloc: Global, circuits: &[Static]) -> Result<Vec<Line>, Des
     let named = circuits.iter().map(|circuit| Line {
         session: circuit.session,
         address: circuit.address,
+        user: copied(&circuit.user),
         stopped: NO_TRAFFIC,
     });
     match named.collect(alloc) {

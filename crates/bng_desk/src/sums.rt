@@ -50,21 +50,21 @@ fn plus(a: Traffic, b: Traffic) -> Traffic
 }
 
 // What the term of a circuit carried that is there.
-fn carried_now(shards: &[Shard], line: Line) -> Traffic
-    ensures { result ≡ traffic_at (slice_get shards.now (line.session.0 / 1024)) line.session.0 }
+fn carried_now(shards: &[Shard], session: SessionNo) -> Traffic
+    ensures { result ≡ traffic_at (slice_get shards.now (session.0 / 1024)) session.0 }
 {
-    match shards.get(usize::from(line.session.0 / 1024)) {
-        Some(shard) => carried_in(shard, line.session),
+    match shards.get(usize::from(session.0 / 1024)) {
+        Some(shard) => carried_in(shard, session),
         None => NO_TRAFFIC,
     }
 }
 
 /// What a circuit carried: what the Stops of its terms say, and what the shard of its number keeps for a term that is there.
-pub(crate) fn carried_on(shards: &[Shard], line: Line) -> Traffic
-    requires { CarriesWithin far shards.now line }
-    ensures { result ≡ carried_on shards.now line }
+pub(crate) fn carried_on(shards: &[Shard], line: &Line) -> Traffic
+    requires { CarriesWithin far shards.now line.now }
+    ensures { result ≡ carried_on shards.now line.now }
 {
-    plus(line.stopped, carried_now(shards, line))
+    plus(line.stopped, carried_now(shards, line.session))
 }
 
 /// What each circuit carried.
@@ -78,7 +78,7 @@ pub(crate) fn all_carried(
 {
     let mut traffic = Vec::with_capacity(alloc, lines.len())?;
     for line in lines {
-        traffic.push_reserved(carried_on(shards, *line));
+        traffic.push_reserved(carried_on(shards, line));
     }
     Ok(traffic)
 }

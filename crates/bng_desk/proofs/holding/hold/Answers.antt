@@ -3,6 +3,8 @@ use Rattle.std.proofs.lemmas.List.Sums.{count_by-le-length, length-filter}
 use Rattle.bng_base.specs.declared.item.Item.{Item}
 use Rattle.bng_engine.specs.Calls.{Kept}
 use Rattle.bng_engine.specs.Quantities.{Octets, in_book}
+use Rattle.bng_engine.specs.Terms.{Key}
+use Rattle.bng_desk.specs.Accounting.{AreBilled}
 use Rattle.bng_desk.specs.Counting.{Within}
 use Rattle.bng_desk.specs.Items.{is_from_outside}
 use Rattle.bng_desk.specs.Kept.{octets_most, drops_most}
@@ -10,6 +12,7 @@ use Rattle.bng_desk.specs.Round.{refused_of}
 use Rattle.bng_desk.proofs.Joining.{sessions_kept, low_kept, low_wider, books_kept, books_wider}
 use Rattle.bng_desk.proofs.OneMore.{low_more}
 use Rattle.bng_desk.proofs.Readying.{order_kept}
+use Rattle.bng_desk.proofs.SameTerms.{kept_keys}
 use Rattle.bng_desk.proofs.Tallied.{lines_kept}
 use Rattle.bng_desk.proofs.holding.hold.Goals as goal
 
@@ -23,10 +26,16 @@ pub opened-requires-clause-low_books : goal.opened-requires-clause-low_books
 opened-requires-clause-low_books g c = books_kept (2 ^ 62 + 2 ^ 61) c.args.shards.now c.prepare_all.new.shards c.prepare_all.ensures.kept c.requires.low_books
 
 pub opened-requires-clause-lines : goal.opened-requires-clause-lines
-opened-requires-clause-lines g c = lines_kept (λ input. in_book Octets input c.args.tally.now) c.args.shards.now c.prepare_all.new.shards c.args.lines.now.items c.prepare_all.ensures.kept c.requires.lines
+opened-requires-clause-lines g c = lines_kept (λ input. in_book Octets input c.args.tally.now) c.args.shards.now c.prepare_all.new.shards c.args.accounts.now.lines c.prepare_all.ensures.kept c.requires.lines
+
+pub opened-requires-clause-billed : goal.opened-requires-clause-billed
+opened-requires-clause-billed g c = subst (λ (ks : List Key). AreBilled ks c.args.accounts.now.billing) (sym (kept_keys c.args.shards.now c.prepare_all.new.shards c.prepare_all.ensures.kept)) c.requires.billed
+
+pub returns-clause-billed : goal.returns-clause-billed
+returns-clause-billed g c = subst (λ (ks : List Key). AreBilled ks c.args.accounts.now.billing) (sym (kept_keys c.args.shards.now c.prepare_all.new.shards c.prepare_all.ensures.kept)) c.requires.billed
 
 pub returns-clause-lines : goal.returns-clause-lines
-returns-clause-lines g c = lines_kept (λ input. in_book Octets input c.args.tally.now) c.args.shards.now c.prepare_all.new.shards c.args.lines.now.items c.prepare_all.ensures.kept c.requires.lines
+returns-clause-lines g c = lines_kept (λ input. in_book Octets input c.args.tally.now) c.args.shards.now c.prepare_all.new.shards c.args.accounts.now.lines c.prepare_all.ensures.kept c.requires.lines
 
 pub returns-then-prepare_all-clause-low : goal.returns-then-prepare_all-clause-low
 returns-then-prepare_all-clause-low g c most low = c.opened.ensures.low most (low_kept most c.args.shards.now c.prepare_all.new.shards c.prepare_all.ensures.kept low)

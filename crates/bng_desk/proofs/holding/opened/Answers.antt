@@ -1,14 +1,17 @@
 use Rattle.std.proofs.Common.{◌+◌, ◌*◌, ◌^◌, length, sum_by, arith, ◌∙◌}
 use Rattle.bng_base.specs.declared.item.Entry.{Entry}
+use Rattle.std.proofs.lemmas.List.Elements.{recursion_from_All}
 use Rattle.bng_engine.specs.Quantities.{Octets, in_book}
 use Rattle.bng_engine.specs.Views.{ShardView}
 use Rattle.bng_shard.specs.Protocol.{ShardState}
 use Rattle.bng_desk.specs.Kept.{octets_most, drops_most}
-use Rattle.bng_desk.specs.Taking.{AreTallied}
+use Rattle.bng_desk.specs.Model.{keys_in}
+use Rattle.bng_desk.specs.Taking.{AreTallied, HasRows}
 use Rattle.bng_desk.proofs.DropLaws.{within_wider}
-use Rattle.bng_desk.proofs.Joining.{all_turn, dealt_covered, round_held, told_as, books_wider}
+use Rattle.bng_desk.proofs.Joining.{all_turn, all_turning, dealt_covered, round_held, told_as, books_wider}
 use Rattle.bng_desk.proofs.OneMore.{dealt_rows, dealt_books, dealt_count, low_more}
 use Rattle.bng_desk.proofs.Reaping.{all_empty as reaped_empty, all_few as reaped_few, all_low as reaped_low, all_books as reaped_books, in_order as reaped_order}
+use Rattle.bng_desk.proofs.SameTerms.{billed_same, sent_keys}
 use Rattle.bng_desk.proofs.Settling.{all_empty as sent_empty, all_low as sent_low, all_books as sent_books, in_order as sent_order}
 use Rattle.bng_desk.proofs.Tallied.{lines_far, sent_tallied}
 use Rattle.bng_desk.proofs.holding.opened.Given.{Over}
@@ -48,25 +51,33 @@ send_all-requires-clause-covered g c =
 
 -- the outs were sent, and what the circuits have carried stands in the tally
 module _ (g : Over) (c : After-send_all g) where
-  tallied : AreTallied c.send_all.new.tally c.send_all.new.shards c.args.lines.now.items
+  tallied : AreTallied c.send_all.new.tally c.send_all.new.shards c.args.accounts.now.lines
   tallied =
       sent_tallied c.args.rules.now c.args.pool.now c.args.named.moment c.args.lists.items.items c.args.shards.now c.deal_all.new.shards c.send_all.new.shards c.deal_all.new.loose.items c.args.drops.now c.deal_all.new.drops c.send_all.new.drops c.args.tally.now c.deal_all.new.tally c.send_all.new.tally
-      (g.P.Plant.told c.args.plant.now) (g.P.Plant.told c.send_all.new.plant) c.send_all.new.outs.items c.send_all.new.journals.items c.args.lines.now.items c.deal_all.ensures.deals c.send_all.ensures.sends c.requires.lines
+      (g.P.Plant.told c.args.plant.now) (g.P.Plant.told c.send_all.new.plant) c.send_all.new.outs.items c.send_all.new.journals.items c.args.accounts.now.lines c.deal_all.ensures.deals c.send_all.ensures.sends c.requires.lines
 
-pub reap_all-requires : goal.reap_all-requires
-reap_all-requires g c =
+pub reap_all-requires-clause-low : goal.reap_all-requires-clause-low
+reap_all-requires-clause-low g c =
     let n = length c.args.lists.items.items in
-    record {
-      low = lines_far (2 ^ 62 + 2 ^ 61 + 4160 * n) c.send_all.new.tally c.send_all.new.shards c.args.lines.now.items (omega (arith, c.requires.items.few))
-          (c.send_all.ensures.tally (2 ^ 62 + 2 ^ 61 + 4160 * n) (c.deal_all.ensures.tally (2 ^ 62 + 2 ^ 61) c.requires.low_tally)) (tallied g (goal.at.reap_all-requires g c).After-send_all);
-    }
+    lines_far (2 ^ 62 + 2 ^ 61 + 4160 * n) c.send_all.new.tally c.send_all.new.shards c.args.accounts.now.lines (omega (arith, c.requires.items.few))
+    (c.send_all.ensures.tally (2 ^ 62 + 2 ^ 61 + 4160 * n) (c.deal_all.ensures.tally (2 ^ 62 + 2 ^ 61) c.requires.low_tally)) (tallied g (goal.at.reap_all-requires-clause-low g c).After-send_all)
+
+pub reap_all-requires-clause-billed : goal.reap_all-requires-clause-billed
+reap_all-requires-clause-billed g c =
+    let deals = c.deal_all.ensures.deals in
+    let sent = c.send_all.ensures.sends in
+    billed_same (keys_in c.args.shards.now) (keys_in c.send_all.new.shards) c.args.accounts.now.billing
+    (sent_keys c.args.shards.now c.deal_all.new.shards deals.seen c.send_all.new.shards sent.sends
+    (all_turning c.args.rules.now c.args.pool.now c.args.named.moment c.args.lists.items.items c.args.shards.now c.deal_all.new.shards c.deal_all.new.loose.items c.args.drops.now c.deal_all.new.drops c.args.tally.now c.deal_all.new.tally deals) sent.each
+    (recursion_from_All HasRows c.args.shards.now c.requires.rows))
+    c.requires.billed
 
 pub returns-clause-round : goal.returns-clause-round
 returns-clause-round g c =
     let told = g.P.Plant.told in
     let r = c.args.rules.now in
     let items = c.args.lists.items.items in
-    round_held r c.args.pool.now c.reap_all.new.pool c.args.lines.now.items c.reap_all.new.lines.items c.args.named items (told c.args.plant.now) (told c.send_all.new.plant) c.args.shards.now c.deal_all.new.shards c.send_all.new.shards c.reap_all.new.shards
+    round_held r c.args.pool.now c.reap_all.new.pool c.args.accounts.now c.reap_all.new.accounts c.args.named items (told c.args.plant.now) (told c.send_all.new.plant) c.args.shards.now c.deal_all.new.shards c.send_all.new.shards c.reap_all.new.shards
     c.deal_all.new.loose.items c.send_all.new.outs.items c.send_all.new.journals.items c.args.drops.now c.deal_all.new.drops c.send_all.new.drops c.args.tally.now c.deal_all.new.tally c.send_all.new.tally c.recorded.result
     c.deal_all.ensures.deals c.send_all.ensures.sends c.reap_all.ensures.reaps
     (c.recorded.ensures

@@ -1,9 +1,11 @@
 use Rattle.std.proofs.Common.{[], ◌∷◌, ◌++◌, refl, ap, ◌∙◌, arith}
+use Rattle.bng_base.specs.declared.outside.Role.TheVariants.{Auth}
 use Rattle.bng_base.proofs.StretchLaws.{plant_stays}
 use Rattle.bng_lane.specs.Due.{due_count}
 use Rattle.bng_lane.specs.Sends.{LaneSend}
 use Rattle.bng_lane.specs.State.{LaneState}
-use Rattle.bng_desk.proofs.RequestLaws.{all_resent, resent_more, resent_server, resent_size, sent_more}
+use Rattle.bng_desk.proofs.RadiusSends.{sent_more}
+use Rattle.bng_desk.proofs.RequestLaws.{all_resent, resent_more, resent_server, resent_size}
 use Rattle.bng_desk.proofs.requests.send_again.Goals as goal
 
 pub loop-id-init : goal.loop-id-init
@@ -22,7 +24,7 @@ loop-id-preserved g c =
     record {
       resent = so_far.resent ++ s ∷ [];
       sends = resent_more c.args.now c.in-Some.id c.in-Some.request.payload c.args.lane.now c.loop-id.lane c.resend.new.self c.send_one-sent.new.lane c.send_one-sent.result so_far.resent so_far.sends by c.send_one-sent.ensures.noted;
-      told = sent_more c.args.lane.now.client.auth_server c.resend.new.self.client.auth_server (told c.args.plant.now) (told c.loop-id.plant) (told c.send_one-sent.new.plant) so_far.resent s at so_far.told c.send_one-sent.ensures.told;
+      told = sent_more Auth c.args.lane.now.client.auth_server c.resend.new.self.client.auth_server (told c.args.plant.now) (told c.loop-id.plant) (told c.send_one-sent.new.plant) so_far.resent s at so_far.told c.send_one-sent.ensures.told;
       server = ap (λ (l : LaneState). l.client.auth_server) c.send_one-sent.ensures.noted ∙ at;
     }
 

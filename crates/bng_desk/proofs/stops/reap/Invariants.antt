@@ -5,7 +5,7 @@ use Rattle.bng_desk.proofs.stops.reap.Given as goal
 
 -- what left so far
 abbrev pub invariant-loop-ended : goal.invariant-loop-ended
-invariant-loop-ended l = ReapsFew l.fn.shard l.shard l.fn.pool l.pool l.fn.lines.items l.lines.items
+invariant-loop-ended l = ReapsFew l.moment l.wall l.fn.shard l.shard l.fn.pool l.pool l.fn.accounts l.accounts
 
 -- how many terms have still to leave
 abbrev pub decreases-loop-ended : goal.decreases-loop-ended

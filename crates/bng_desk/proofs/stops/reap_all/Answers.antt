@@ -1,23 +1,35 @@
-use Rattle.std.proofs.Common.{arith}
+use Rattle.std.proofs.Common.{◌<◌, length, arith}
 use Rattle.bng_desk.specs.Taking.{far}
-use Rattle.bng_desk.proofs.Reaping.{within_one, reaps_none, reaps_more, reaps_them}
+use Rattle.bng_desk.proofs.Lines.{within_one}
+use Rattle.bng_desk.proofs.Reaping.{billed_of, reaps_none, reaps_more, reaps_them}
 use Rattle.bng_desk.proofs.stops.reap_all.Goals as goal
 
 pub loop-shard-init : goal.loop-shard-init
-loop-shard-init c = reaps_none c.args.shards.now c.args.pool.now c.args.lines.now.items
+loop-shard-init c = reaps_none c.args.moment c.args.wall c.args.shards.now c.args.pool.now c.args.accounts.now c.requires.billed
 
 pub reap-requires : goal.reap-requires
-reap-requires c = record {
-  low = within_one far c.loop-shard.shards c.loop-shard.shard-index c.shard-item.result c.loop-shard.lines.items (omega (arith, c.loop-shard-test.true, c.loop-shard.auto.shards)) (c.loop-shard.invariant.within far c.requires.low);
-}
+reap-requires c =
+    let shards = c.loop-shard.shards in
+    let i = c.loop-shard.shard-index in
+    let d = c.shard-item.result in
+    let lt : i < length shards = omega (arith, c.loop-shard-test.true, c.loop-shard.auto.shards) in
+    record {
+      low = within_one far shards i d c.loop-shard.accounts.lines lt (c.loop-shard.invariant.within far c.requires.low);
+      billed = billed_of shards i d c.loop-shard.accounts.billing lt c.loop-shard.invariant.billed;
+      began = omega (arith, c.requires.began, c.loop-shard.invariant.booked.began);
+    }
 
 pub loop-shard-preserved : goal.loop-shard-preserved
 loop-shard-preserved c =
-    reaps_more c.args.shards.now c.loop-shard.shards c.loop-shard.shard-index c.shard-item.result c.reap.new.shard c.args.pool.now c.loop-shard.pool c.reap.new.pool c.args.lines.now.items c.loop-shard.lines.items c.reap.new.lines.items
-    c.loop-shard-test.true c.loop-shard.auto.shards c.loop-shard.invariant c.reap.ensures
+    reaps_more c.args.moment c.args.wall c.args.shards.now c.loop-shard.shards c.loop-shard.shard-index c.shard-item.result c.reap.new.shard c.args.pool.now c.loop-shard.pool c.reap.new.pool c.args.accounts.now c.loop-shard.accounts c.reap.new.accounts
+    c.loop-shard-test.true c.loop-shard.auto.shards c.loop-shard.invariant c.reap.ensures.reaps c.reap.ensures.billed
 
 pub returns-clause-reaps : goal.returns-clause-reaps
-returns-clause-reaps c = reaps_them c.args.shards.now c.loop-shard.shards c.loop-shard.shard-index c.args.pool.now c.loop-shard.pool c.args.lines.now.items c.loop-shard.lines.items (omega arith) c.loop-shard.auto.shards c.loop-shard.invariant
+returns-clause-reaps c =
+    reaps_them c.args.moment c.args.wall c.args.shards.now c.loop-shard.shards c.loop-shard.shard-index c.args.pool.now c.loop-shard.pool c.args.accounts.now c.loop-shard.accounts (omega arith) c.loop-shard.auto.shards c.loop-shard.invariant
 
 pub returns-clause-within : goal.returns-clause-within
 returns-clause-within c most within = c.loop-shard.invariant.within most within
+
+pub returns-clause-billed : goal.returns-clause-billed
+returns-clause-billed c = c.loop-shard.invariant.billed

@@ -15,20 +15,20 @@ all_carried-requires c =
     let was = c.self.invariant.0 in
     let inside = c.self.inside in
     record {
-      low = subst (λ (vs : Shards). LinesWithin far vs c.as_slice-lines.result.now) (sym c.as_slice.ensures.value)
-          (subst (λ (ls : List Line). LinesWithin far inside.shards.items ls) (sym c.as_slice-lines.ensures.value)
-          (lines_far (octets_most * (inside.turns + inside.endings)) inside.tally inside.shards.items inside.lines.items (omega (arith, was.made, was.most, was.endings)) (was.tallies 0 (omega arith)) was.tallied));
+      low = subst (λ (vs : Shards). LinesWithin far vs c.lines-lines.result.now) (sym c.as_slice.ensures.value)
+          (subst (λ (ls : List Line). LinesWithin far inside.works.shards.items ls) (sym c.lines-lines.ensures)
+          (lines_far (octets_most * (inside.turns + inside.endings)) inside.works.tally inside.works.shards.items inside.works.accounts.lines (omega (arith, was.made, was.most, was.endings)) (was.tallies 0 (omega arith)) was.tallied));
     }
 
 pub returns-in-Ok-extend_from_slice-clause-appended : goal.returns-in-Ok-extend_from_slice-clause-appended
 returns-in-Ok-extend_from_slice-clause-appended c =
-    let vs = c.self.inside.shards.items in
-    let lines = c.self.inside.lines.items in
+    let vs = c.self.inside.works.shards.items in
+    let lines = c.self.inside.works.accounts.lines in
     let text = λ (ls : List Line) (ts : List Traffic) (ds : List ℕ). c.args.out.now.items ++ report_text ls ts ds in
     let traffic : c.as_slice-2.result.now ≡ map (carried_on (map rested vs)) lines =
-    c.as_slice-2.ensures.value ∙ c.in-Ok.ensures ∙ ap (λ (xs : Shards). map (carried_on xs) c.as_slice-lines.result.now) c.as_slice.ensures.value ∙ ap (λ (ls : List Line). map (carried_on vs) ls) c.as_slice-lines.ensures.value ∙ all_carried_rested vs lines in
+    c.as_slice-2.ensures.value ∙ c.in-Ok.ensures ∙ ap (λ (xs : Shards). map (carried_on xs) c.lines-lines.result.now) c.as_slice.ensures.value ∙ ap (λ (ls : List Line). map (carried_on vs) ls) c.lines-lines.ensures ∙ all_carried_rested vs lines in
     subst (λ (d : Desk). c.extend_from_slice.new.self.items ≡ c.args.out.now.items ++ report_text d.lines (all_carried d) (by_number d.drops)) c.self.view_is
     (c.in-Ok-extend_from_slice.ensures.items ∙ ap (λ (bs : List ℕ). c.args.out.now.items ++ bs) (c.as_bytes.ensures.value ∙ c.in-Ok-report.ensures)
-    ∙ ap (λ (ls : List Line). text ls c.as_slice-2.result.now c.by_number-drops.result) c.as_slice-lines.ensures.value
+    ∙ ap (λ (ls : List Line). text ls c.as_slice-2.result.now c.by_number-drops.result) c.lines-lines.ensures
     ∙ ap (λ (ts : List Traffic). text lines ts c.by_number-drops.result) traffic
     ∙ ap (λ (ds : List ℕ). text lines (map (carried_on (map rested vs)) lines) ds) c.by_number-drops.ensures)

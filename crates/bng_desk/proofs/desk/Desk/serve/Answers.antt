@@ -1,138 +1,98 @@
-use Rattle.std.proofs.Common.{◌≡◌, ℕ, ◌+◌, ◌*◌, ◌^◌, ◌<◌, ◌≤◌, Bool, false, ◌&&◌, List, [], ◌∷◌, Option, map, length, refl, sym, ap, subst, arith, ◌∙◌}
+use Rattle.std.proofs.Common.{◌≡◌, ℕ, ◌+◌, ◌*◌, ◌<◌, ◌≤◌, Bool, false, ◌&&◌, List, [], ◌∷◌, Option, length, replicate, refl, sym, ap, subst, arith, ◌∙◌}
 use Rattle.std.specs.List.{All}
-use Rattle.std.specs.Vec.{with_items}
-use Rattle.std.proofs.lemmas.List.{with_items_is}
 use Rattle.bng_base.specs.declared.item.Item.{Item}
 use Rattle.bng_base.specs.Stretch.{Outside}
+use Rattle.bng_billing.specs.State.{BillingState}
 use Rattle.bng_ppp.specs.LinkRelation.{earliest}
-use Rattle.bng_shard.specs.declared.pool.Holder.{Holder}
 use Rattle.bng_desk.specs.declared.holding.Named.{Named}
-use Rattle.bng_desk.specs.Kept.{IsKept, all_turns, is_verdict, rested, octets_most, drops_most}
-use Rattle.bng_desk.specs.Model.{Desk, is_over, state_of}
-use Rattle.bng_desk.specs.Intake.{Gathers, SendsRequests}
-use Rattle.bng_desk.specs.Taking.{AreInOrder, AreTallied, HasFewSessions, Holds}
-use Rattle.bng_desk.specs.Turn.{MakesTurn, wait_for, deadline_in}
-use Rattle.bng_desk.proofs.Done.{kept_as}
+use Rattle.bng_desk.specs.declared.lists.Lists.{Lists}
+use Rattle.bng_desk.specs.declared.settlement.Works.{Works}
+use Rattle.bng_desk.specs.Accounting.{AreBilled}
+use Rattle.bng_desk.specs.Intake.{Gathers}
+use Rattle.bng_desk.specs.Items.{kept_of}
+use Rattle.bng_desk.specs.Kept.{is_verdict, octets_most, drops_most}
+use Rattle.bng_desk.specs.Model.{Desk, is_over, keys_in, state_of}
+use Rattle.bng_desk.specs.Settlement.{IsReady, KeepsWorks, Settles}
+use Rattle.bng_desk.specs.Taking.{Accounts, outs_of_items}
+use Rattle.bng_desk.specs.Turn.{MakesTurn, deadline_in, wait_for}
+use Rattle.bng_desk.proofs.Billed.{billed_kept, heard_keeps}
 use Rattle.bng_desk.proofs.DropLaws.{within_wider}
-use Rattle.bng_desk.proofs.Dwindling.{WorksBy, all_work}
-use Rattle.bng_desk.proofs.Joining.{HasLow, HasLowBooks, low_wider, books_wider}
-use Rattle.bng_desk.proofs.Keeping.{AreKept, IsLeft, StaysServing, few_kept, holders_kept, kept_served, few_told, none_kept, not_over, serving_staying, turns_left, one_low}
+use Rattle.bng_desk.proofs.Joining.{low_wider, books_wider}
+use Rattle.bng_desk.proofs.Keeping.{AreKept, StaysServing, few_kept, kept_served, few_told, none_kept, not_over, serving_staying, turns_left, one_low}
+use Rattle.bng_desk.proofs.Leaving.{is_left, is_ready, kept_by}
 use Rattle.bng_desk.proofs.OneMore.{low_more}
 use Rattle.bng_desk.proofs.Readying.{Shards}
 use Rattle.bng_desk.proofs.Turning.{served, after_turn}
+use Rattle.bng_desk.proofs.Works.{gathered, seen_with}
 use Rattle.bng_desk.proofs.desk.Desk.serve.Given.{Over}
 use Rattle.bng_desk.proofs.desk.Desk.serve.Goals as goal
 use Rattle.bng_desk.proofs.desk.Desk.serve.Goals.{After-answer, After-gather-quiet}
 
--- what stays of the round before, in a turn of a desk that serves
+-- the desk before, what its turn gathered, and what may stay of that
 module _ (g : Over) (c : After-gather-quiet g) where
-  abbrev was_desk : Shards → Desk
-  was_desk shards = record {
+  abbrev works : Works
+  works = c.self.inside.works
+
+  abbrev desk : Desk
+  desk = record {
     rules = c.self.inside.rules;
-    lines = c.self.inside.lines.items;
+    lines = works.accounts.lines;
     rounds = c.self.inside.rounds;
     turns = c.self.inside.turns;
     stopped = c.self.inside.stopped;
-    shards = shards;
-    holders = c.self.inside.pool;
-    tallies = c.self.inside.tally ∷ [];
-    seed = c.self.inside.draws.seed;
-    drawn = c.self.inside.draws.drawn;
-    drops = c.self.inside.drops;
+    shards = works.shards.items;
+    holders = works.pool;
+    tallies = works.tally ∷ [];
+    seed = works.draws.seed;
+    drawn = works.draws.drawn;
+    drops = works.drops;
     moment = c.self.inside.moment;
     told = c.self.inside.told;
-    lane = c.self.inside.lane;
-    handed = c.self.inside.handed.items;
+    lane = works.lane;
+    handed = works.handed.items;
+    began = works.accounts.began;
+    billing = works.accounts.billing;
     endings = c.self.inside.endings;
     unopened = c.self.inside.unopened;
     closed = c.self.inside.closed;
-    kept = c.self.inside.kept.items;
+    kept = works.kept.items;
   }
 
-  serves : is_over (was_desk c.self.inside.shards.items) ≡ false
-  serves = not_over (was_desk (map rested c.self.inside.shards.items)) (ap (λ (x : Desk). state_of x) c.self.view_is ∙ c.requires.state)
+  abbrev heard : BillingState
+  heard = c.hear-unacknowledged.new.self.billing
 
-  all_verdicts : All is_verdict c.self.inside.kept.items
-  all_verdicts = c.self.invariant.0.while_serving serves
+  abbrev mid : Accounts → Works
+  mid accounts = record works { accounts = accounts; lane = c.gather-quiet.new.lane; draws = c.gather-quiet.new.draws; kept = c.gather-quiet.new.kept; lists = c.take.new.self }
 
-  few_verdicts : length c.self.inside.kept.items ≤ 128
-  few_verdicts = few_kept (was_desk c.self.inside.shards.items) c.self.invariant.0 serves
-
-  stay : StaysServing (was_desk c.self.inside.shards.items) c.gather-quiet.new.items.items
-  stay =
-      serving_staying (was_desk c.self.inside.shards.items) c.as_slice.result.now c.now-now.result (g.P.Plant.told c.heed-heeding.new.plant) (g.P.Plant.told c.gather-quiet.new.plant) c.self.inside.lane c.gather-quiet.new.lane c.self.inside.draws c.gather-quiet.new.draws
-      c.gather-quiet.new.items.items c.gather-quiet.result c.gather-quiet.ensures.gathers c.gather-quiet.ensures.items all_verdicts few_verdicts
-
-module _ (g : Over) (c : After-answer g) where
-  abbrev before : Shards → Desk
-  before shards = record {
-    rules = c.self.inside.rules;
-    lines = c.self.inside.lines.items;
-    rounds = c.self.inside.rounds;
-    turns = c.self.inside.turns;
-    stopped = c.self.inside.stopped;
-    shards = shards;
-    holders = c.self.inside.pool;
-    tallies = c.self.inside.tally ∷ [];
-    seed = c.self.inside.draws.seed;
-    drawn = c.self.inside.draws.drawn;
-    drops = c.self.inside.drops;
-    moment = c.self.inside.moment;
-    told = c.self.inside.told;
-    lane = c.self.inside.lane;
-    handed = c.self.inside.handed.items;
-    endings = c.self.inside.endings;
-    unopened = c.self.inside.unopened;
-    closed = c.self.inside.closed;
-    kept = c.self.inside.kept.items;
-  }
+  abbrev lists : Lists
+  lists = record c.in-Ok.lists { items = c.gather-quiet.new.items }
 
   abbrev named : Named
   named = record { number = c.self.inside.told + 1; moment = c.now-now.result; wall = c.wall-wall.result }
 
-  same_length : length c.hold-held.new.shards ≡ c.self.inside.shards.len
-  same_length = omega (arith, c.hold-held.auto.shards, c.as_mut_slice.ensures.len, c.self.inside.shards.ok.0)
+  serves : is_over desk ≡ false
+  serves = not_over (seen_with desk works) (ap (λ (x : Desk). state_of x) c.self.view_is ∙ c.requires.state)
 
-  shards_are : (with_items c.self.inside.shards c.hold-held.new.shards).items ≡ c.hold-held.new.shards
-  shards_are = with_items_is c.self.inside.shards c.hold-held.new.shards same_length
+  later : c.self.inside.moment ≤ c.now-now.result
+  later = omega (arith, ap (λ (x : Desk). x.moment) c.self.view_is, c.requires.later, c.now-now.ensures.later)
 
-  same_handed : length c.send_requests.new.handed ≡ c.self.inside.handed.len
-  same_handed = omega (arith, c.send_requests.auto.handed, c.as_mut_slice-2.ensures.len, c.self.inside.handed.ok.0)
+  billed : AreBilled (keys_in works.shards.items) heard
+  billed =
+      let takes = c.hear-unacknowledged.ensures.takes in
+      billed_kept (keys_in works.shards.items) works.accounts.billing heard (heard_keeps works.accounts.billing heard takes.acknowledged takes.hears) c.self.invariant.0.billed
 
-  handed_are : (with_items c.self.inside.handed c.send_requests.new.handed).items ≡ c.send_requests.new.handed
-  handed_are = with_items_is c.self.inside.handed c.send_requests.new.handed same_handed
+  gathers : Gathers desk.rules works.shards.items c.now-now.result works.kept.items (g.P.Plant.told c.hear-unacknowledged.new.plant) (g.P.Plant.told c.gather-quiet.new.plant) works.lane c.gather-quiet.new.lane works.draws c.gather-quiet.new.draws c.gather-quiet.new.items.items c.gather-quiet.result
+  gathers =
+      subst (λ (xs : Shards). Gathers desk.rules xs c.now-now.result works.kept.items (g.P.Plant.told c.hear-unacknowledged.new.plant) (g.P.Plant.told c.gather-quiet.new.plant) works.lane c.gather-quiet.new.lane works.draws c.gather-quiet.new.draws c.gather-quiet.new.items.items c.gather-quiet.result)
+      c.as_slice.ensures.value c.gather-quiet.ensures.gathers
 
-  is_left : IsLeft (before c.self.inside.shards.items) c.hold-held.new.shards c.hold-held.new.pool c.hold-held.new.lines.items c.hold-held.new.drops c.hold-held.new.tally c.send_requests.new.draws.drawn c.send_requests.new.handed
-  is_left = record {
-    shards = same_length ∙ c.self.inside.shards.ok.0;
-    order = c.hold-held.ensures.numbers;
-    rules = all_work c.self.inside.rules c.self.inside.pool c.hold-held.new.pool c.self.inside.lines.items c.hold-held.new.lines.items named c.gather-quiet.new.items.items (g.P.Plant.told c.gather-quiet.new.plant) (g.P.Plant.told c.hold-held.new.plant)
-        c.as_mut_slice.result.now c.hold-held.new.shards c.self.inside.drops c.hold-held.new.drops c.self.inside.tally c.hold-held.new.tally c.hold-held.result.record c.self.inside.rules c.hold-held.result.is_opened c.hold-held.new.kept.items c.hold-held.ensures.round
-        (subst (λ (xs : Shards). All (WorksBy c.self.inside.rules) xs) (sym c.as_mut_slice.ensures.value) c.self.invariant.0.rules);
-    empty = c.hold-held.ensures.empty;
-    sessions = c.hold-held.ensures.sessions (subst (λ (xs : Shards). All HasFewSessions xs) (sym c.as_mut_slice.ensures.value) c.self.invariant.0.sessions);
-    low = c.hold-held.ensures.low (octets_most * all_turns (before c.self.inside.shards.items)) (subst (λ (xs : Shards). All (HasLow (octets_most * all_turns (before c.self.inside.shards.items))) xs) (sym c.as_mut_slice.ensures.value) c.self.invariant.0.low);
-    books = c.hold-held.ensures.books (octets_most * all_turns (before c.self.inside.shards.items)) (subst (λ (xs : Shards). All (HasLowBooks (octets_most * all_turns (before c.self.inside.shards.items))) xs) (sym c.as_mut_slice.ensures.value) c.self.invariant.0.books);
-    holders_are = holders_kept (λ (h : Holder). h.shard < c.self.inside.rules.shards) (before c.self.inside.shards.items) c.hold-held.new.pool c.hold-held.new.lines.items named c.gather-quiet.new.items.items (g.P.Plant.told c.gather-quiet.new.plant) (g.P.Plant.told c.hold-held.new.plant)
-        c.as_mut_slice.result.now c.hold-held.new.shards c.hold-held.new.drops c.self.inside.tally c.hold-held.new.tally c.hold-held.result.record c.hold-held.result.is_opened c.hold-held.new.kept.items c.hold-held.ensures.round c.self.invariant.0.holders;
-    tallied = c.hold-held.ensures.lines;
-    tally_low = c.hold-held.ensures.tally (octets_most * all_turns (before c.self.inside.shards.items)) (c.self.invariant.0.tallies 0 (omega arith));
-    counts = c.hold-held.ensures.within (drops_most * all_turns (before c.self.inside.shards.items)) c.self.invariant.0.counts;
-    drawn_is = omega (arith, c.gather-quiet.ensures.few_drawn, c.send_requests.ensures.few_drawn);
-    handed_is = same_handed ∙ c.self.inside.handed.ok.0;
-  }
+  stay : StaysServing desk c.gather-quiet.new.items.items
+  stay =
+      serving_staying desk works.shards.items c.now-now.result (g.P.Plant.told c.hear-unacknowledged.new.plant) (g.P.Plant.told c.gather-quiet.new.plant) works.lane c.gather-quiet.new.lane works.draws c.gather-quiet.new.draws
+      c.gather-quiet.new.items.items c.gather-quiet.result gathers c.gather-quiet.ensures.items (c.self.invariant.0.while_serving serves) (few_kept desk c.self.invariant.0 serves)
 
-  kept_is : StaysServing (before c.self.inside.shards.items) c.gather-quiet.new.items.items → AreKept (before c.self.inside.shards.items) c.hold-held.new.kept.items
-  kept_is staying =
-      kept_as (λ (is : List Item). AreKept (before c.self.inside.shards.items) is) c.self.inside.rules c.self.inside.pool c.hold-held.new.pool c.self.inside.lines.items c.hold-held.new.lines.items named c.gather-quiet.new.items.items (g.P.Plant.told c.gather-quiet.new.plant) (g.P.Plant.told c.hold-held.new.plant)
-      c.as_mut_slice.result.now c.hold-held.new.shards c.self.inside.drops c.hold-held.new.drops c.self.inside.tally c.hold-held.new.tally c.hold-held.result.record c.hold-held.result.is_opened c.hold-held.new.kept.items c.hold-held.ensures.round
-      (none_kept (before c.self.inside.shards.items)) staying.kept
-
-  kept_verdicts : StaysServing (before c.self.inside.shards.items) c.gather-quiet.new.items.items → All is_verdict c.hold-held.new.kept.items
-  kept_verdicts staying =
-      kept_as (λ (is : List Item). All is_verdict is) c.self.inside.rules c.self.inside.pool c.hold-held.new.pool c.self.inside.lines.items c.hold-held.new.lines.items named c.gather-quiet.new.items.items (g.P.Plant.told c.gather-quiet.new.plant) (g.P.Plant.told c.hold-held.new.plant)
-      c.as_mut_slice.result.now c.hold-held.new.shards c.self.inside.drops c.hold-held.new.drops c.self.inside.tally c.hold-held.new.tally c.hold-held.result.record c.hold-held.result.is_opened c.hold-held.new.kept.items c.hold-held.ensures.round
-      (λ k d lt. absurd (omega arith)) staying.verdicts
+  shards_count : c.len.result ≡ length works.shards.items
+  shards_count = c.len.ensures ∙ works.shards.ok.0
 
 pub gather-quiet-requires-clause-verdicts : goal.gather-quiet-requires-clause-verdicts
 gather-quiet-requires-clause-verdicts g c =
@@ -141,27 +101,53 @@ gather-quiet-requires-clause-verdicts g c =
 pub gather-quiet-requires-clause-few_kept : goal.gather-quiet-requires-clause-few_kept
 gather-quiet-requires-clause-few_kept g c = few_kept _ c.self.invariant.0 (subst (λ (x : Desk). is_over x ≡ false) (sym c.self.view_is) (not_over c.args.self.now c.requires.state))
 
-pub hold-held-requires-clause-kept_room : goal.hold-held-requires-clause-kept_room
-hold-held-requires-clause-kept_room g c =
-    omega (arith, (stay g (goal.at.hold-held-requires-clause-kept_room g c).After-gather-quiet).few, c.gather-quiet.ensures.kept_room, c.self.invariant.1)
+pub settle-noted-requires : goal.settle-noted-requires
+settle-noted-requires g c =
+    let b = (goal.at.settle-noted-requires g c).After-gather-quiet in
+    let taken = c.in-Ok.ensures in
+    record {
+      ready = subst (λ (a : Accounts). IsReady c.self.inside.rules (named g b) (lists g b) (mid g b a)) (sym c.hear-unacknowledged.ensures.others)
+          (is_ready (desk g b) (works g b) (heard g b) c.gather-quiet.new.lane c.gather-quiet.new.draws c.gather-quiet.new.kept c.take.new.self (named g b) (lists g b) c.self.invariant.0 (billed g b) (later g b) c.now-now.ensures.bound c.gather-quiet.ensures.few_drawn c.gather-quiet.ensures.none_kept
+          (omega (arith, (stay g b).few, c.gather-quiet.ensures.kept_room, c.self.invariant.1)) c.gather-quiet.ensures.items (subst (λ (vs : Shards). outs_of_items c.gather-quiet.new.items.items ≤ 5760 + 320 * length vs) c.as_slice.ensures.value c.gather-quiet.ensures.few_outs)
+          (record {
+            loose = taken.loose.0;
+            loose_room = taken.loose.1;
+            journals = taken.journals.0;
+            journals_room = omega (arith, taken.journals.1, shards_count g b);
+            outs = taken.outs.0;
+            outs_room = omega (arith, taken.outs.1, shards_count g b);
+            allowances = taken.allowances ∙ ap (λ (m : ℕ). replicate m 0) (shards_count g b);
+            refused = taken.refused;
+          }));
+    }
 
-pub hold-held-requires-clause-lines : goal.hold-held-requires-clause-lines
-hold-held-requires-clause-lines g c = subst (λ (vs : Shards). AreTallied c.self.inside.tally vs c.self.inside.lines.items) (sym c.as_mut_slice.ensures.value) c.self.invariant.0.tallied
+-- the settlement, over what the turn gathered
+module _ (g : Over) (c : After-answer g) where
+  abbrev so_far : After-gather-quiet g
+  so_far = (goal.at.invariant_of-self-2 g c).After-gather-quiet
 
-pub hold-held-requires-clause-low_tally : goal.hold-held-requires-clause-low_tally
-hold-held-requires-clause-low_tally g c =
-    let was = c.self.invariant.0 in
-    low_more (octets_most * (c.self.inside.turns + c.self.inside.endings)) (2 ^ 62 + 2 ^ 61) c.self.inside.tally (omega (arith, was.made, was.most, was.endings)) (was.tallies 0 (omega arith))
+  settles : Settles c.self.inside.rules (named g so_far) c.gather-quiet.new.items.items (gathered (works g so_far) (heard g so_far) c.gather-quiet.new.lane c.gather-quiet.new.draws c.gather-quiet.new.kept c.take.new.self) c.settle-noted.new.works
+      (g.P.Plant.told c.gather-quiet.new.plant) (g.P.Plant.told c.settle-noted.new.plant) (g.T.Trace.told c.args.trace.now) (g.T.Trace.told c.settle-noted.new.trace) c.settle-noted.result
+  settles =
+      subst (λ (a : Accounts). Settles c.self.inside.rules (named g so_far) c.gather-quiet.new.items.items (mid g so_far a) c.settle-noted.new.works (g.P.Plant.told c.gather-quiet.new.plant) (g.P.Plant.told c.settle-noted.new.plant) (g.T.Trace.told c.args.trace.now) (g.T.Trace.told c.settle-noted.new.trace) c.settle-noted.result)
+      c.hear-unacknowledged.ensures.others c.settle-noted.ensures.settles
 
-pub send_requests-requires-clause-numbers : goal.send_requests-requires-clause-numbers
-send_requests-requires-clause-numbers g c =
-    subst AreInOrder (sym (c.as_slice-2.ensures.value ∙ with_items_is c.self.inside.shards c.hold-held.new.shards (omega (arith, c.hold-held.auto.shards, c.as_mut_slice.ensures.len, c.self.inside.shards.ok.0)))) c.hold-held.ensures.numbers
+  keeps : KeepsWorks (gathered (works g so_far) (heard g so_far) c.gather-quiet.new.lane c.gather-quiet.new.draws c.gather-quiet.new.kept c.take.new.self) c.settle-noted.new.works
+  keeps = subst (λ (a : Accounts). KeepsWorks (mid g so_far a) c.settle-noted.new.works) c.hear-unacknowledged.ensures.others c.settle-noted.ensures.keeps
+
+  kept_as : (P : List Item → Type 0) → P [] → P (kept_of c.gather-quiet.new.items.items) → P c.settle-noted.new.works.kept.items
+  kept_as P =
+      kept_by (desk g so_far) (works g so_far) c.settle-noted.new.works (heard g so_far) c.gather-quiet.new.lane c.gather-quiet.new.draws c.gather-quiet.new.kept c.take.new.self (named g so_far) c.gather-quiet.new.items.items
+      (g.P.Plant.told c.gather-quiet.new.plant) (g.P.Plant.told c.settle-noted.new.plant) (g.T.Trace.told c.args.trace.now) (g.T.Trace.told c.settle-noted.new.trace) c.settle-noted.result P settles
 
 pub invariant_of-self : goal.invariant_of-self
 invariant_of-self g c =
     let was = c.self.invariant.0 in
+    let works = c.self.inside.works in
+    let turns = c.self.inside.turns in
+    let endings = c.self.inside.endings in
     let made : c.args.self.now.turns ≤ c.args.self.now.rounds = subst (λ (x : Desk). x.turns ≤ x.rounds) c.self.view_is was.made in
-    let left : c.self.inside.turns < c.self.inside.rounds = subst (λ (x : Desk). x.turns < x.rounds) (sym c.self.view_is) (turns_left c.args.self.now c.requires.state made) in
+    let left : turns < c.self.inside.rounds = subst (λ (x : Desk). x.turns < x.rounds) (sym c.self.view_is) (turns_left c.args.self.now c.requires.state made) in
     let serves = subst (λ (x : Desk). is_over x ≡ false) (sym c.self.view_is) (not_over c.args.self.now c.requires.state) in
     let u = was.serving serves in (
       record {
@@ -184,75 +170,56 @@ invariant_of-self g c =
         told = omega (arith, was.told);
         drawn = omega (arith, was.drawn);
         one_seat = was.one_seat;
-        low = low_wider (octets_most * (c.self.inside.turns + c.self.inside.endings)) (octets_most * (c.self.inside.turns + 1 + c.self.inside.endings)) c.self.inside.shards.items (omega arith) was.low;
-        books = books_wider (octets_most * (c.self.inside.turns + c.self.inside.endings)) (octets_most * (c.self.inside.turns + 1 + c.self.inside.endings)) c.self.inside.shards.items (omega arith) was.books;
-        tallies = one_low (octets_most * (c.self.inside.turns + 1 + c.self.inside.endings)) c.self.inside.tally (low_more (octets_most * (c.self.inside.turns + c.self.inside.endings)) (octets_most * (c.self.inside.turns + 1 + c.self.inside.endings)) c.self.inside.tally (omega arith) (was.tallies 0 (omega arith)));
+        low = low_wider (octets_most * (turns + endings)) (octets_most * (turns + 1 + endings)) works.shards.items (omega arith) was.low;
+        books = books_wider (octets_most * (turns + endings)) (octets_most * (turns + 1 + endings)) works.shards.items (omega arith) was.books;
+        tallies = one_low (octets_most * (turns + 1 + endings)) works.tally (low_more (octets_most * (turns + endings)) (octets_most * (turns + 1 + endings)) works.tally (omega arith) (was.tallies 0 (omega arith)));
         tallied = was.tallied;
-        counts = within_wider (drops_most * (c.self.inside.turns + c.self.inside.endings)) (drops_most * (c.self.inside.turns + 1 + c.self.inside.endings)) c.self.inside.drops (omega arith) was.counts;
+        counts = within_wider (drops_most * (turns + endings)) (drops_most * (turns + 1 + endings)) works.drops (omega arith) was.counts;
         kept = was.kept;
         stays = was.stays;
         while_serving = λ _. was.while_serving serves;
         handed = was.handed;
+        began = was.began;
+        billed = was.billed;
       },
       c.self.invariant.1,
     )
 
 pub invariant_of-self-2 : goal.invariant_of-self-2
 invariant_of-self-2 g c =
-    let d = before g c c.self.inside.shards.items in
-    let staying = stay g (goal.at.invariant_of-self-2 g c).After-gather-quiet in
-    let turn = λ (xs : Shards) (hs : List (List ℕ)). after_turn d xs c.hold-held.new.pool c.hold-held.new.lines.items c.hold-held.new.drops c.hold-held.new.tally c.send_requests.new.draws c.either-self-inside.result c.now-now.result c.told_after-self-inside.result c.send_requests.new.lane hs c.hold-held.new.kept.items in (
-      subst (λ (xs : Shards). IsKept (turn xs (with_items c.self.inside.handed c.send_requests.new.handed).items)) (sym (shards_are g c))
-          (subst (λ (hs : List (List ℕ)). IsKept (turn c.hold-held.new.shards hs)) (sym (handed_are g c))
-          (kept_served d c.hold-held.new.shards c.hold-held.new.pool c.hold-held.new.lines.items c.hold-held.new.drops c.hold-held.new.tally c.send_requests.new.draws c.either-self-inside.result c.now-now.result c.told_after-self-inside.result c.send_requests.new.lane c.send_requests.new.handed c.hold-held.new.kept.items c.self.invariant.0
-          (not_over (before g c (map rested c.self.inside.shards.items)) (ap (λ (x : Desk). state_of x) c.self.view_is ∙ c.requires.state))
-          (turns_left (before g c (map rested c.self.inside.shards.items)) (ap (λ (x : Desk). state_of x) c.self.view_is ∙ c.requires.state) c.self.invariant.0.made) (is_left g c)
-          (subst (λ (n : ℕ). n ≤ c.self.inside.told + 1) (sym c.told_after-self-inside.ensures) (few_told c.note-noted.result c.self.inside.told)) (kept_is g c staying) (kept_verdicts g c staying))),
-      omega (arith, c.hold-held.ensures.kept_room, c.gather-quiet.ensures.kept_room, c.self.invariant.1),
+    let b = so_far g c in
+    let d = desk g b in
+    let w = works g b in
+    let after = c.settle-noted.new.works in
+    let staying = stay g b in (
+      kept_served d after c.either-self-inside.result c.now-now.result c.told_after-self-inside.result c.self.invariant.0 (serves g b)
+          (turns_left (seen_with d w) (ap (λ (x : Desk). state_of x) c.self.view_is ∙ c.requires.state) c.self.invariant.0.made) (later g b)
+          (is_left d w after (heard g b) c.gather-quiet.new.lane c.gather-quiet.new.draws c.gather-quiet.new.kept c.take.new.self (named g b) c.gather-quiet.new.items.items (g.P.Plant.told c.gather-quiet.new.plant) (g.P.Plant.told c.settle-noted.new.plant) (g.T.Trace.told c.args.trace.now) (g.T.Trace.told c.settle-noted.new.trace) c.settle-noted.result
+          c.self.invariant.0 (settles g c) (keeps g c) c.gather-quiet.ensures.few_drawn)
+          (subst (λ (n : ℕ). n ≤ c.self.inside.told + 1) (sym c.told_after-self-inside.ensures) (few_told c.settle-noted.result.noted c.self.inside.told)) (kept_as g c (AreKept d) (none_kept d) staying.kept)
+          (kept_as g c (All is_verdict) (λ k e lt. absurd (omega arith)) staying.verdicts),
+      omega (arith, (keeps g c).room, c.gather-quiet.ensures.kept_room, c.self.invariant.1),
     )
 
 pub returns : goal.returns
 returns g c =
+    let b = so_far g c in
     let told = g.P.Plant.told in
-    let vs = c.self.inside.shards.items in
-    let ws = c.hold-held.new.shards in
-    let d = before g c (map rested vs) in
-    let name = named g c in
-    let p₀ = told c.args.plant.now in
-    let p₁ = told c.heed-heeding.new.plant in
-    let p₂ = told c.gather-quiet.new.plant in
-    let p₃ = told c.hold-held.new.plant in
-    let p₄ = told c.send_requests.new.plant in
-    let p₅ = told c.wait_if.new.plant in
-    let c₀ = g.C.Clock.told c.args.clock.now in
-    let c₁ = g.C.Clock.told c.now-now.new.self in
-    let c₂ = g.C.Clock.told c.wall-wall.new.self in
-    let t₀ = g.T.Trace.told c.args.trace.now in
-    let t₁ = g.T.Trace.told c.note-noted.new.trace in
-    let before_is : Outside = record { plant = p₀; clock = c₀; trace = t₀ } in
-    let behind_is : Outside = record { plant = p₅; clock = c₂; trace = t₁ } in
-    let draws = c.gather-quiet.new.draws in
-    let draws' = c.send_requests.new.draws in
-    let lane = c.gather-quiet.new.lane in
-    let lane' = c.send_requests.new.lane in
-    let handed = c.send_requests.new.handed in
-    let items = c.gather-quiet.new.items.items in
-    let kept = c.hold-held.new.kept.items in
-    let opened = c.hold-held.result.is_opened in
-    let now_shards = c.as_slice-2.ensures.value ∙ shards_are g c in
-    let made = served d vs ws c.hold-held.new.pool c.hold-held.new.lines.items name c.heed-heeding.result c.gather-quiet.result c.note-noted.result lane lane' c.deadline.result handed draws draws' items c.hold-held.new.drops c.self.inside.tally c.hold-held.new.tally c.hold-held.result.record opened kept p₀ p₁ p₂ p₃ p₄ p₅
-    refl refl refl c.heed-heeding.ensures
-    (subst (λ (xs : Shards). Gathers d.rules xs name.moment d.kept p₁ p₂ d.lane lane c.self.inside.draws draws items c.gather-quiet.result) c.as_slice.ensures.value c.gather-quiet.ensures.gathers)
-    (subst (λ (xs : Shards). Holds d.rules d.holders c.hold-held.new.pool d.lines c.hold-held.new.lines.items name items p₂ p₃ xs ws d.drops c.hold-held.new.drops c.self.inside.tally c.hold-held.new.tally c.hold-held.result.record opened kept) c.as_mut_slice.ensures.value c.hold-held.ensures.round)
-    (subst (λ (xs : Shards). SendsRequests name.moment xs p₃ p₄ lane lane' d.handed handed draws draws') now_shards
-    (subst (λ (hs : List (List ℕ)). SendsRequests name.moment c.as_slice-2.result.now p₃ p₄ lane lane' hs handed draws draws') c.as_mut_slice-2.ensures.value c.send_requests.ensures.sends))
-    c.deadline.ensures
-    c.both-2.result c.wait_until-wait.result c.wait_if.ensures (c.both-2.ensures ∙ ap (λ (b : Bool). b && c.note-noted.result) c.both.ensures)
-    (c.wait_until-wait.ensures
-    ∙ ap (λ (x : Option ℕ). wait_for x name.moment) (c.earlier-due.ensures ∙ ap (λ (x : Option ℕ). earliest x c.deadline.result) (c.deadline_of.ensures ∙ ap (λ (xs : Shards). deadline_in xs) (c.as_slice-3.ensures.value ∙ shards_are g c))))
-    (omega (arith, ap (λ (x : Desk). x.moment) c.self.view_is, c.requires.later, c.now-now.ensures.later)) c₀ c₁ c₂ c.now-now.ensures.answers c.wall-wall.ensures.answers (c.wall-wall.ensures.last ∙ c.now-now.ensures.last)
-    t₀ t₁ c.note-noted.ensures.rounds c.note-noted.ensures.cause c.note-noted.ensures.uncounted c.answer.result c.answer.ensures c.either-self-inside.result c.either-self-inside.ensures c.told_after-self-inside.result c.told_after-self-inside.ensures in
-    let turn = λ (xs : Shards) (hs : List (List ℕ)). after_turn d (map rested xs) c.hold-held.new.pool c.hold-held.new.lines.items c.hold-held.new.drops c.hold-held.new.tally draws' c.either-self-inside.result name.moment c.told_after-self-inside.result lane' hs kept in
-    subst (λ (x : Desk). MakesTurn x (turn (with_items c.self.inside.shards ws).items (with_items c.self.inside.handed handed).items) before_is behind_is c.answer.result) c.self.view_is
-    (subst (λ (xs : Shards). MakesTurn d (turn xs (with_items c.self.inside.handed handed).items) before_is behind_is c.answer.result) (sym (shards_are g c))
-    (subst (λ (hs : List (List ℕ)). MakesTurn d (turn ws hs) before_is behind_is c.answer.result) (sym (handed_are g c)) made))
+    let d = desk g b in
+    let w = works g b in
+    let after = c.settle-noted.new.works in
+    let clock = g.C.Clock.told in
+    let before_is : Outside = record { plant = told c.args.plant.now; clock = clock c.args.clock.now; trace = g.T.Trace.told c.args.trace.now } in
+    let behind_is : Outside = record { plant = told c.wait_if.new.plant; clock = clock c.wall-wall.new.self; trace = g.T.Trace.told c.settle-noted.new.trace } in
+    let due = c.deadline.result in
+    let record_due = c.deadline-2.result in
+    let made = served d w after (heard g b) c.gather-quiet.new.lane c.gather-quiet.new.draws c.gather-quiet.new.kept c.take.new.self (named g b) c.heed-heeding.result c.hear-unacknowledged.result c.gather-quiet.result c.gather-quiet.new.items.items c.settle-noted.result due record_due
+    (told c.args.plant.now) (told c.heed-heeding.new.plant) (told c.hear-unacknowledged.new.plant) (told c.gather-quiet.new.plant) (told c.settle-noted.new.plant) (told c.wait_if.new.plant) (g.T.Trace.told c.args.trace.now) (g.T.Trace.told c.settle-noted.new.trace)
+    refl c.heed-heeding.ensures c.hear-unacknowledged.ensures.takes (gathers g b) (settles g c) c.deadline.ensures c.deadline-2.ensures
+    c.both-2.result c.wait_until.result c.wait_if.ensures (c.both-2.ensures ∙ ap (λ (x : Bool). x && c.settle-noted.result.noted) (c.both-silent.ensures ∙ ap (λ (x : Bool). x && c.gather-quiet.result) c.both.ensures))
+    (c.wait_until.ensures
+    ∙ ap (λ (x : Option ℕ). wait_for x c.now-now.result)
+    (c.earlier-due.ensures ∙ ap (λ (x : Option ℕ). earliest x c.earlier-asked.result) (c.deadline_of.ensures ∙ ap (λ (xs : Shards). deadline_in xs) c.as_slice-2.ensures.value) ∙ ap (λ (x : Option ℕ). earliest (deadline_in after.shards.items) x) c.earlier-asked.ensures))
+    (later g b) (clock c.args.clock.now) (clock c.now-now.new.self) (clock c.wall-wall.new.self) c.now-now.ensures.answers c.wall-wall.ensures.answers (c.wall-wall.ensures.last ∙ c.now-now.ensures.last)
+    c.answer.result c.answer.ensures c.either-self-inside.result c.either-self-inside.ensures c.told_after-self-inside.result c.told_after-self-inside.ensures in
+    subst (λ (x : Desk). MakesTurn x (after_turn (seen_with d after) c.either-self-inside.result c.now-now.result c.told_after-self-inside.result) before_is behind_is c.answer.result) c.self.view_is made

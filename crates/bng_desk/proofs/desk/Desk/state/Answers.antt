@@ -4,7 +4,7 @@ use Rattle.bng_desk.proofs.Dwindling.{rules_rested}
 use Rattle.bng_desk.proofs.desk.Desk.state.Goals as goal
 
 pub returns-clause-rules : goal.returns-clause-rules
-returns-clause-rules c = subst (λ (x : Desk). HasOneRule x) c.self.view_is (rules_rested c.self.inside.rules c.self.inside.shards.items c.self.invariant.0.rules)
+returns-clause-rules c = subst (λ (x : Desk). HasOneRule x) c.self.view_is (rules_rested c.self.inside.rules c.self.inside.works.shards.items c.self.invariant.0.rules)
 
 -- each makes fewer that there may still be
 pub returns-clause-few : goal.returns-clause-few

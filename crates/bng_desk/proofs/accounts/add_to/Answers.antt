@@ -1,7 +1,7 @@
 use Rattle.std.proofs.Common.{true, false, arith}
 use Rattle.bng_shard.specs.Protocol.{stop_of}
-use Rattle.bng_desk.proofs.Reaping.{one_said}
-use Rattle.bng_desk.proofs.stops.add_to.Goals as goal
+use Rattle.bng_desk.proofs.Lines.{one_said}
+use Rattle.bng_desk.proofs.accounts.add_to.Goals as goal
 
 pub overflow_add-line : goal.overflow_add-line
 overflow_add-line c = omega (arith, c.requires true, one_said true c.args.line.now (stop_of c.args.ended.now) c.if-line-ended.true)

@@ -1,0 +1,165 @@
+-- The terms of the shards at the opening: no two are one, and they are no more than the circuits.
+use Rattle.std.proofs.Common.{◌≡◌, ◌≢◌, ℕ, zero, suc, ◌+◌, ◌*◌, ◌/◌, ◌<◌, ◌≤◌, ◌==◌, ◌&&◌, Bool, true, false, cond, eqb, List, [], ◌∷◌, ◌++◌, map, filter, length, get_or, refl, ap, ◌∙◌, arith}
+use Rattle.std.specs.List.{All, AllPairs, flat_map, range_with_len, sum_by}
+use Rattle.std.proofs.lemmas.Bool.Decides.{nat_tests}
+use Rattle.std.proofs.lemmas.List.{length-append}
+use Rattle.std.proofs.lemmas.List.Concat.{length-flat_map}
+use Rattle.std.proofs.lemmas.List.Elements.{All-append, All-head, All-tail}
+use Rattle.std.proofs.lemmas.List.Kept.{AllPairs-cons}
+use Rattle.std.proofs.lemmas.List.Sums.{sum_by-cons}
+use Rattle.bng_acct.specs.Roster.{same}
+use Rattle.bng_base.specs.declared.address.SessionNo.{SessionNo}
+use Rattle.bng_base.specs.declared.settings.Static.{Static}
+use Rattle.bng_engine.specs.Terms.{Key, keys}
+use Rattle.bng_engine.specs.Views.{row_keys}
+use Rattle.bng_engine.proofs.Adding.{sum_plus}
+use Rattle.bng_config.specs.declared.config.Config.{Config}
+use Rattle.bng_config.specs.Rules.{IsSessionOf, KeepsRules}
+use Rattle.bng_shard.specs.declared.rules.Rules.{Rules}
+use Rattle.bng_shard.specs.Opening.{circuit_at, in_order, opened_slots}
+use Rattle.bng_shard.specs.Protocol.{opened, profiles_there, terms_after, terms_of}
+use Rattle.bng_shard.proofs.Opened.{opened_keys}
+use Rattle.bng_shard.proofs.OpenedKeys.{rows_apart, rows_of_shard}
+use Rattle.bng_shard.proofs.RowLaws.{new_keys}
+use Rattle.bng_slots.specs.Sessions.{IsNumberOf}
+use Rattle.bng_desk.specs.Model.{keys_in}
+use Rattle.bng_desk.specs.Opening.{AreServed, shard_of}
+use Rattle.bng_desk.proofs.Billed.{AreApart}
+use Rattle.bng_desk.proofs.Outfit.{are_of, of_shard}
+use Rattle.bng_desk.proofs.Parts.{pairs_append}
+
+-- How many there are ------------------------------------------------------------------------------------------------------
+
+abbrev hit : ℕ → ℕ → ℕ
+hit m n = cond (eqb m n) 1 0
+
+passed_by : (m n : ℕ) (b : Bool) → eqb m n ≡ b → m < n → cond b 1 0 ≤ 0
+passed_by m n true e lt = let here : m ≡ n = grind (arith, nat_tests) in absurd (omega (arith, here, lt))
+passed_by m n false e lt = omega arith
+
+none_hit : (m a k : ℕ) → m < a → sum_by (hit m) (range_with_len a k) ≡ 0
+none_hit m a zero lt = refl
+none_hit m a (suc k) lt = omega (arith, sum_by-cons (hit m) a (range_with_len (a + 1) k), passed_by m a (eqb m a) refl lt, none_hit m (a + 1) k (omega (arith, lt)))
+
+hit_first : (m a k : ℕ) (b : Bool) → eqb m a ≡ b → sum_by (hit m) (range_with_len (a + 1) k) ≤ 1 → cond b 1 0 + sum_by (hit m) (range_with_len (a + 1) k) ≤ 1
+hit_first m a k true e rest = let here : m ≡ a = grind (arith, nat_tests) in omega (arith, none_hit m (a + 1) k (omega (arith, here)))
+hit_first m a k false e rest = omega (arith, rest)
+
+-- a number stands in a range once at most
+one_hit : (m a k : ℕ) → sum_by (hit m) (range_with_len a k) ≤ 1
+one_hit m a zero = omega arith
+one_hit m a (suc k) = omega (arith, sum_by-cons (hit m) a (range_with_len (a + 1) k), hit_first m a k (eqb m a) refl (one_hit m (a + 1) k))
+
+module _ {X : Type 0} (number : X → ℕ) where
+  abbrev numbered : List X → ℕ → List X
+  numbered xs n = filter (λ (x : X). number x == n) xs
+
+  one_longer : (b : Bool) (x : X) (xs : List X) → length (cond b (x ∷ xs) xs) ≡ cond b 1 0 + length xs
+  one_longer true x xs = omega arith
+  one_longer false x xs = omega arith
+
+  none_numbered : (ns : List ℕ) → sum_by (λ n. length (numbered [] n)) ns ≡ 0
+  none_numbered [] = refl
+  none_numbered (n ∷ ns) = omega (arith, sum_by-cons (λ n. length (numbered [] n)) n ns, none_numbered ns)
+
+  -- each is of one number
+  few_numbered : (a k : ℕ) (xs : List X) → sum_by (λ n. length (numbered xs n)) (range_with_len a k) ≤ length xs
+  few_numbered a k [] = omega (arith, none_numbered (range_with_len a k))
+  few_numbered a k (x ∷ xs) =
+      omega (
+        arith,
+        sum_plus (hit (number x)) (λ n. length (numbered xs n)) (λ n. length (numbered (x ∷ xs) n)) (λ n. one_longer (eqb (number x) n) x (numbered xs n)) (range_with_len a k),
+        one_hit (number x) a k,
+        few_numbered a k xs,
+      )
+
+terms_count : (n : ℕ) (cs : List Static) → length (keys (terms_after n cs)) ≡ length cs
+terms_count n [] = refl
+terms_count n (c ∷ cs) = ap suc (terms_count (n + 1) cs)
+
+circuits_few : (a k : ℕ) (cs : List Static) → length (flat_map (circuit_at cs) (range_with_len a k)) ≤ length cs
+circuits_few a k cs = omega (arith, length-flat_map (circuit_at cs) (range_with_len a k), few_numbered (λ (c : Static). c.session.0) a k cs)
+
+in_order_few : (shard : ℕ) (cs : List Static) → length (in_order shard cs) ≤ length cs
+in_order_few shard cs = circuits_few (shard * 1024 + 1) 1022 cs
+
+-- Apart -------------------------------------------------------------------------------------------------------------------
+
+other_session : (j k : Key) (b : Bool) → eqb j.term.session.0 k.term.session.0 ≡ b → j.term.session ≢ k.term.session → (b && eqb j.term.serial k.term.serial) ≡ false
+other_session j k true e other =
+    let here : j.term.session.0 ≡ k.term.session.0 = grind (arith, nat_tests) in
+    absurd (other (ap (λ (n : ℕ). let s : SessionNo = record { 0 = n } in s) here))
+other_session j k false e other = refl
+
+apart_by : (j k : Key) → j.term.session ≢ k.term.session → AreApart j k
+apart_by j k other = other_session j k (eqb j.term.session.0 k.term.session.0) refl other
+
+module _ (r : Rules) (circuits : List Static) (served : AreServed r circuits) where
+  abbrev opens : ℕ → List Key
+  opens n = row_keys (opened n r (of_shard circuits n)).rows
+
+  opens_count : (n : ℕ) → length (opens n) ≤ length (of_shard circuits n)
+  opens_count n =
+      let cs = of_shard circuits n in
+      omega (
+        arith,
+        ap (λ (ks : List Key). length ks) (new_keys (keys (terms_of (record { rules = r; slots = opened_slots n cs }))) ∙ opened_keys r n cs (opened_slots n cs) refl (are_of r circuits n served).sessions),
+        terms_count 0 (in_order n cs),
+        in_order_few n cs,
+      )
+
+  keys_count : (a k : ℕ) → length (keys_in (map (λ n. opened n r (of_shard circuits n)) (range_with_len a k))) ≤ sum_by (λ n. length (of_shard circuits n)) (range_with_len a k)
+  keys_count a zero = omega arith
+  keys_count a (suc k) =
+      omega (
+        arith,
+        length-append (opens a) (keys_in (map (λ n. opened n r (of_shard circuits n)) (range_with_len (a + 1) k))),
+        opens_count a,
+        keys_count (a + 1) k,
+        sum_by-cons (λ n. length (of_shard circuits n)) a (range_with_len (a + 1) k),
+      )
+
+  -- there are no more terms than circuits
+  pub few_terms : length (keys_in (map (λ n. opened n r (of_shard circuits n)) (range_with_len 0 r.shards))) ≤ length circuits
+  few_terms = omega (arith, keys_count 0 r.shards, few_numbered shard_of 0 r.shards circuits)
+
+  of_this : (n : ℕ) → n < 64 → All (λ (k : Key). k.term.session.0 / 1024 ≡ n) (opens n)
+  of_this n low = rows_of_shard n r (of_shard circuits n) (are_of r circuits n served).sessions (are_of r circuits n served).own
+
+  from_this : (a k : ℕ) → a + k ≤ 64 → All (λ (x : Key). a ≤ x.term.session.0 / 1024) (keys_in (map (λ n. opened n r (of_shard circuits n)) (range_with_len a k)))
+  from_this a zero low = λ i d lt. absurd (omega (arith, lt))
+  from_this a (suc k) low =
+      All-append (λ (x : Key). a ≤ x.term.session.0 / 1024) (opens a) (keys_in (map (λ n. opened n r (of_shard circuits n)) (range_with_len (a + 1) k)))
+      (λ i d lt. omega (arith, of_this a (omega (arith, low)) i d lt))
+      (λ i d lt. omega (arith, from_this (a + 1) k (omega (arith, low)) i d lt))
+
+  apart_from : (a k : ℕ) → a + k ≤ 64 → AllPairs AreApart (keys_in (map (λ n. opened n r (of_shard circuits n)) (range_with_len a k)))
+  apart_from a zero low = λ i j d lt within. absurd (omega (arith, within))
+  apart_from a (suc k) low =
+      let later = keys_in (map (λ n. opened n r (of_shard circuits n)) (range_with_len (a + 1) k)) in
+      pairs_append AreApart (opens a) later
+      (λ i j d lt within. apart_by (get_or (opens a) i d) (get_or (opens a) j d) (rows_apart a r (of_shard circuits a) (are_of r circuits a served).sessions i j d lt within))
+      (apart_from (a + 1) k (omega (arith, low)))
+      (λ i d lt j e within.
+      apart_by (get_or (opens a) i d) (get_or later j e)
+      (λ (is : (get_or (opens a) i d).term.session ≡ (get_or later j e).term.session).
+      omega (arith, ap (λ (s : SessionNo). s.0) is, of_this a (omega (arith, low)) i d lt, from_this (a + 1) k (omega (arith, low)) j e within)))
+
+  -- and no two of them are one
+  pub terms_apart : r.shards ≤ 64 → AllPairs (λ (j k : Key). same j.term k.term ≡ false) (keys_in (map (λ n. opened n r (of_shard circuits n)) (range_with_len 0 r.shards)))
+  terms_apart few = apart_from 0 r.shards (omega (arith, few))
+
+-- a session number of a shard
+number_of : (s : Static) (shards : ℕ) → IsSessionOf shards s.session.0 → IsNumberOf (shard_of s) s.session.0
+number_of s shards is = (omega (arith, is.low), omega (arith, is.high))
+
+-- the circuits of a configuration are of the shards and on the ports of its rules
+pub are_served : (config : Config) (r : Rules) → KeepsRules config → All (λ c. c.profile < profiles_there) config.statics → r.shards ≡ config.shards → length r.access ≡ length config.access → AreServed r config.statics
+are_served config r k profiles shards ports = record {
+  inside = λ i d lt. omega (arith, (k.sharded i d lt).shard, shards);
+  own = λ i d lt. number_of (get_or config.statics i d) config.shards (k.sharded i d lt);
+  sessions = k.sessions;
+  addresses = k.addresses;
+  ports = λ i d lt. ((k.placed i d lt).low, omega (arith, (k.placed i d lt).high, ports));
+  profiles = profiles;
+}

@@ -1,0 +1,82 @@
+-- The settlement of a turn, as the turn has it.
+use Rattle.std.proofs.Common.{◌≡◌, ℕ, ◌+◌, List, [], ◌∷◌, Option, Vec, Global, map, length, refl, ap, subst, ◌∙◌}
+use Rattle.std.specs.List.{AllZip}
+use Rattle.bng_base.specs.declared.address.Peer.{Peer}
+use Rattle.bng_base.specs.declared.item.Item.{Item}
+use Rattle.bng_base.specs.declared.round.RoundRecord.{RoundRecord}
+use Rattle.bng_base.specs.Stretch.{ExtendsPlant, plant_joined}
+use Rattle.bng_base.specs.Told.{PlantTold, TraceTold, Grows}
+use Rattle.bng_base.proofs.StretchLaws.{plant_more}
+use Rattle.bng_billing.specs.State.{BillingState}
+use Rattle.bng_lane.specs.State.{LaneState}
+use Rattle.bng_desk.specs.declared.holding.Named.{Named}
+use Rattle.bng_desk.specs.declared.lists.Lists.{Lists}
+use Rattle.bng_desk.specs.declared.settlement.Settled.{Settled}
+use Rattle.bng_desk.specs.declared.settlement.Works.{Works}
+use Rattle.bng_desk.specs.Accounting.{FormedRecord, Forms, IsStopOf, RecordRequests, SettlesRecords, records_stretch}
+use Rattle.bng_desk.specs.Kept.{rested}
+use Rattle.bng_desk.specs.Logins.{Requests, SettlesLane, requests_stretch}
+use Rattle.bng_desk.specs.Model.{Desk}
+use Rattle.bng_desk.specs.Random.{Drawn}
+use Rattle.bng_desk.specs.Round.{Round}
+use Rattle.bng_desk.specs.Settlement.{Settles}
+use Rattle.bng_desk.specs.Taking.{Accounts, Holds}
+use Rattle.bng_desk.specs.Turn.{RoundOf, after_round, is_opened, round_stretch, round_told, stops_in, told_if}
+use Rattle.bng_desk.proofs.Done.{is_after_round, round_done}
+use Rattle.bng_desk.proofs.Lanes.{forms_server, settles_rested}
+use Rattle.bng_desk.proofs.Readying.{Shards}
+use Rattle.bng_desk.proofs.Works.{gathered, seen_with}
+
+-- what a turn has of its settlement: of the desk before, of accounting and the lane as they had heard what came, and of the draws so far
+pub record SettlementDone (d : Desk) (heard : BillingState) (lane : LaneState) (drawn : ℕ) (named : Named) (items : List Item) (w' : Works) (p p' : PlantTold) (t t' : TraceTold) (s : Settled) : Type 0 where
+  pub round : Option Round
+  pub is : RoundOf d named.moment items round
+  pub formed : List FormedRecord
+  pub booked : BillingState
+  pub forms : Forms heard formed booked
+  pub stops : AllZip (IsStopOf d.lines d.began named.moment named.wall) (stops_in round) formed
+  pub requests : Requests
+  pub asks : SettlesLane named.moment lane (after_round d items round).shards d.handed d.seed drawn requests w'.lane w'.handed.items
+  pub records : RecordRequests
+  pub bills : SettlesRecords named.moment booked records w'.accounts.billing
+  pub told : ExtendsPlant p p' (plant_joined (round_stretch round) (plant_joined (requests_stretch lane.client.auth_server requests) (records_stretch heard.client.acct_server records)))
+  pub opened_is : s.is_opened ≡ is_opened round
+  pub rounds : Grows t.rounds t'.rounds (told_if s.noted (round_told d named.moment named.wall items round))
+  pub after : seen_with d w' ≡ record (after_round d items round) { drawn = drawn + length requests.asked; lane = w'.lane; handed = w'.handed.items; billing = w'.accounts.billing }
+
+module _ (d : Desk) (w w' : Works) (heard : BillingState) (lane : LaneState) (draws : Drawn) (none : Vec Item Global) (lists : Lists) (named : Named) (items : List Item) (p p' : PlantTold) (t t' : TraceTold) (settled : Settled) where
+  pub settlement_done : named.number ≡ d.told + 1 → Settles d.rules named items (gathered w heard lane draws none lists) w' p p' t t' settled → (all : List Item) → items ≡ all → (drawn : ℕ) → draws ≡ record { seed = w.draws.seed; drawn = drawn }
+      → SettlementDone (seen_with d w) heard lane drawn named all w' p p' t t' settled
+  settlement_done number s all same drawn drew =
+      let was = seen_with d w in
+      let moment = named.moment in
+      let accounts : Accounts = record w.accounts { billing = heard } in
+      let accounts' : Accounts = record w'.accounts { billing = s.booked } in
+      let done = round_done was heard named all p s.sent w.shards.items w'.shards.items w'.pool accounts' w'.drops w.tally w'.tally s.round settled.is_opened w'.kept.items
+      (subst (λ (is : List Item). Holds d.rules w.pool w'.pool accounts accounts' named is p s.sent w.shards.items w'.shards.items w.drops w'.drops w.tally w'.tally s.round settled.is_opened w'.kept.items) same s.holds) refl refl number in
+      let q = s.asks.requests in
+      let asks = subst (λ (xs : Shards). SettlesLane moment lane xs w.handed.items w.draws.seed drawn q w'.lane w'.handed.items) done.shards_are
+      (subst (λ (x : Drawn). SettlesLane moment lane (map rested w'.shards.items) w.handed.items x.seed x.drawn q w'.lane w'.handed.items) drew (settles_rested moment lane w'.lane w'.shards.items w.handed.items w'.handed.items draws.seed draws.drawn q s.asks.settles)) in
+      let billed = subst (λ (to : Peer). ExtendsPlant s.asked p' (records_stretch to s.bills.requests)) (forms_server done.formed heard s.booked done.forms) s.bills.told in
+      let drew_all : w'.draws ≡ record { seed = w.draws.seed; drawn = drawn + length q.asked } = s.asks.draws_are ∙ ap (λ (x : Drawn). let y : Drawn = record x { drawn = x.drawn + length q.asked } in y) drew in
+      let with_draws = λ (x : Drawn) (began : ℕ). let y : Desk = record (seen_with d w') { seed = x.seed; drawn = x.drawn; began = began } in y in
+      let settled_as = λ (x : Desk). let y : Desk = record x { drawn = drawn + length q.asked; lane = w'.lane; handed = w'.handed.items; billing = w'.accounts.billing } in y in
+      record {
+        round = done.round;
+        is = done.is;
+        formed = done.formed;
+        booked = s.booked;
+        forms = done.forms;
+        stops = done.stops;
+        requests = q;
+        asks = asks;
+        records = s.bills.requests;
+        bills = s.bills.settles;
+        told = plant_more p s.sent p' (round_stretch done.round) (plant_joined (requests_stretch lane.client.auth_server q) (records_stretch heard.client.acct_server s.bills.requests)) done.told
+            (plant_more s.sent s.asked p' (requests_stretch lane.client.auth_server q) (records_stretch heard.client.acct_server s.bills.requests) s.asks.told billed);
+        opened_is = done.opened_is;
+        rounds = subst (λ (r : RoundRecord). Grows t.rounds t'.rounds (told_if settled.noted r)) done.record_told s.rounds;
+        after = ap (λ (x : Drawn). with_draws x w'.accounts.began) drew_all
+            ∙ ap (λ (n : ℕ). with_draws (record { seed = w.draws.seed; drawn = drawn + length q.asked }) n) done.began_is
+            ∙ ap settled_as (is_after_round was all done.round (map rested w'.shards.items) w'.pool w'.accounts.lines w'.drops (w'.tally ∷ []) w'.kept.items done.shards_are done.holders_are done.lines_are done.drops_are done.tallies_are done.kept_is);
+      }

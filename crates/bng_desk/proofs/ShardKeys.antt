@@ -1,0 +1,35 @@
+-- The keys of the terms in the shards, of one shard among others.
+use Rattle.std.proofs.Common.{◌≡◌, ℕ, zero, suc, ◌+◌, ◌<◌, List, [], ◌∷◌, ◌++◌, length, take, drop, get_or, set, refl, sym, ap, subst, ◌∙◌, append-nil, arith}
+use Rattle.std.proofs.lemmas.Grind.{flat_map-append}
+use Rattle.bng_base.specs.declared.item.Entry.{Entry}
+use Rattle.bng_engine.specs.Terms.{Key}
+use Rattle.bng_engine.specs.Views.{ShardView, row_keys}
+use Rattle.bng_shard.specs.Protocol.{ShardState}
+use Rattle.bng_desk.specs.Model.{keys_in}
+use Rattle.bng_desk.proofs.Parts.{StandsAt, stands_at}
+use Rattle.bng_desk.proofs.Readying.{Shards}
+
+keys_append : (vs ws : Shards) → keys_in (vs ++ ws) ≡ keys_in vs ++ keys_in ws
+keys_append vs ws = flat_map-append (λ (v : ShardView ShardState Entry). row_keys v.rows) vs ws
+
+-- the keys of the first shards, of the one at a place, and of the others
+pub keys_split : (vs : Shards) (i : ℕ) (v : ShardView ShardState Entry) → StandsAt vs i v → keys_in vs ≡ keys_in (take i vs) ++ (row_keys v.rows ++ keys_in (drop (i + 1) vs))
+keys_split vs i v at = ap keys_in at.whole ∙ keys_append (take i vs) (v ∷ drop (i + 1) vs)
+
+pub keys_next : (vs : Shards) (i : ℕ) (v : ShardView ShardState Entry) → StandsAt vs i v → keys_in (take (i + 1) vs) ≡ keys_in (take i vs) ++ row_keys v.rows
+keys_next vs i v at = ap keys_in at.next ∙ keys_append (take i vs) (v ∷ []) ∙ ap (λ (ks : List Key). keys_in (take i vs) ++ ks) (append-nil (row_keys v.rows))
+
+set_there : (vs : Shards) (i : ℕ) (w : ShardView ShardState Entry) → i < length vs → set vs i w ≡ take i vs ++ w ∷ drop (suc i) vs
+set_there [] i w lt = absurd (omega (arith, lt))
+set_there (v ∷ vs) zero w lt = refl
+set_there (v ∷ vs) (suc i) w lt = ap (λ (us : Shards). v ∷ us) (set_there vs i w (omega (arith, lt)))
+
+-- another shard in its place
+pub keys_set : (vs : Shards) (i : ℕ) (w : ShardView ShardState Entry) → i < length vs → keys_in (set vs i w) ≡ keys_in (take i vs) ++ (row_keys w.rows ++ keys_in (drop (i + 1) vs))
+keys_set vs i w lt =
+    let after : suc i ≡ i + 1 = omega arith in
+    ap keys_in (set_there vs i w lt ∙ ap (λ (n : ℕ). take i vs ++ w ∷ drop n vs) after) ∙ keys_append (take i vs) (w ∷ drop (i + 1) vs)
+
+-- the shard at a place
+pub shard_at : (vs : Shards) (i : ℕ) (v : ShardView ShardState Entry) → v ≡ get_or vs i v → i < length vs → StandsAt vs i v
+shard_at vs i v is lt = subst (λ (w : ShardView ShardState Entry). StandsAt vs i w) (sym is) (stands_at vs i v lt)

@@ -1,0 +1,92 @@
+-- The settlement of a turn: what it begins with, what it does, and what it keeps.
+use Rattle.std.specs.Prelude.{◌≡◌, ℕ, ◌+◌, ◌*◌, ◌^◌, ◌≤◌, ◌<◌, List, [], length, replicate, true, false, vec_capacity}
+use Rattle.std.specs.List.{All}
+use Rattle.bng_base.specs.declared.item.Item.{Item}
+use Rattle.bng_base.specs.declared.round.RoundRecord.{RoundRecord}
+use Rattle.bng_base.specs.Causes.{HasCause}
+use Rattle.bng_base.specs.Told.{PlantTold, TraceTold, Grows}
+use Rattle.bng_shard.specs.declared.pool.Holder.{Holder}
+use Rattle.bng_shard.specs.declared.rules.Rules.{Rules}
+use Rattle.bng_shard.specs.Sums.{IsLow, AreLow, RowsAreLow}
+use Rattle.bng_billing.specs.State.{BillingState}
+use Rattle.bng_desk.specs.declared.holding.Named.{Named}
+use Rattle.bng_desk.specs.declared.lists.Lists.{Lists}
+use Rattle.bng_desk.specs.declared.settlement.Settled.{Settled}
+use Rattle.bng_desk.specs.declared.settlement.Works.{Works}
+use Rattle.bng_desk.specs.Accounting.{AreBilled}
+use Rattle.bng_desk.specs.Counting.{Within}
+use Rattle.bng_desk.specs.Intake.{SendsRequests, SendsRecords}
+use Rattle.bng_desk.specs.Items.{kept_of}
+use Rattle.bng_desk.specs.Kept.{octets_most, drops_most}
+use Rattle.bng_desk.specs.Model.{keys_in}
+use Rattle.bng_desk.specs.Taking.{IsEmpty, HasFewSessions, AreInOrder, AreItems, AreTallied, Holds, outs_of_items}
+use Rattle.bng_desk.specs.Turn.{told_if}
+
+-- the lists of a turn over so many shards, with nothing on them but its items, and with room for all that it may put on them
+pub record AreBlank (shards : ℕ) (lists : Lists) : Type 0 where
+  pub loose : lists.loose.items ≡ []
+  pub loose_room : 1024 ≤ vec_capacity lists.loose
+  pub journals : lists.journals.items ≡ []
+  pub journals_room : shards ≤ vec_capacity lists.journals
+  pub outs : lists.outs.items ≡ []
+  pub outs_room : 5760 + 320 * shards ≤ vec_capacity lists.outs
+  pub allowances : lists.allowances.items ≡ replicate shards 0
+  pub refused : lists.refused.items ≡ []
+
+-- The shards are those of the rules, in their order, with nothing of a round in them, and no sum is near its end; what the circuits have
+-- carried stands in the tally, and their terms are billed. Nothing stays of the round before, and there is room for what may stay of this
+-- one.
+pub record IsReady (r : Rules) (named : Named) (lists : Lists) (w : Works) : Type 0 where
+  pub count : length w.shards.items ≡ r.shards
+  pub some : 1 ≤ r.shards
+  pub few : r.shards ≤ 64
+  pub order : AreInOrder w.shards.items
+  pub empty : All IsEmpty w.shards.items
+  pub sessions : All HasFewSessions w.shards.items
+  pub holders : All (λ (h : Holder). h.shard < r.shards) w.pool
+  pub low : All (λ v. RowsAreLow (2 ^ 62 + 2 ^ 61) v.rows) w.shards.items
+  pub books : All (λ v. AreLow (2 ^ 62 + 2 ^ 61) v.books) w.shards.items
+  pub tally : IsLow (2 ^ 62 + 2 ^ 61) w.tally
+  pub tallied : AreTallied w.tally w.shards.items w.accounts.lines
+  pub billed : AreBilled (keys_in w.shards.items) w.accounts.billing
+  pub began : w.accounts.began ≤ named.moment
+  pub moment : named.moment < 2 ^ 60
+  pub counts : Within (2 ^ 61) w.drops
+  pub drawn : w.draws.drawn < 2 ^ 60
+  pub handed : length w.handed.items ≡ length w.shards.items
+  pub none_kept : w.kept.items ≡ []
+  pub room : length (kept_of lists.items.items) ≤ vec_capacity w.kept
+  pub items : AreItems lists.items.items
+  pub few_outs : outs_of_items lists.items.items ≤ 5760 + 320 * length w.shards.items
+  pub blank : AreBlank (length w.shards.items) lists
+
+-- A round of these items was held, or could not be opened; then the requests of the lane were sent, and then those of accounting; and the
+-- trace was told the round.
+pub record Settles (r : Rules) (named : Named) (items : List Item) (w w' : Works) (p p' : PlantTold) (t t' : TraceTold) (s : Settled) : Type 0 where
+  pub round : RoundRecord
+  pub booked : BillingState
+  pub sent : PlantTold
+  pub asked : PlantTold
+  pub holds : Holds r w.pool w'.pool w.accounts (record w'.accounts { billing = booked }) named items p sent w.shards.items w'.shards.items w.drops w'.drops w.tally w'.tally round s.is_opened w'.kept.items
+  pub asks : SendsRequests named.moment w'.shards.items sent asked w.lane w'.lane w.handed.items w'.handed.items w.draws w'.draws
+  pub bills : SendsRecords named.moment asked p' booked w'.accounts.billing
+  pub rounds : Grows t.rounds t'.rounds (told_if s.noted round)
+  pub cause : HasCause t.faults t'.faults (s.noted ≡ false)
+  pub uncounted : s.noted ≡ true → t'.faults ≡ t.faults
+
+-- The shards are as many as before, in their order, with nothing of a round in them. No sum is higher than a round can make it; what the
+-- circuits have carried stands in the tally still, and their terms are billed.
+pub record KeepsWorks (w w' : Works) : Type 0 where
+  pub count : length w'.shards.items ≡ length w.shards.items
+  pub order : AreInOrder w'.shards.items
+  pub empty : All IsEmpty w'.shards.items
+  pub sessions : All HasFewSessions w'.shards.items
+  pub low : (most : ℕ) → All (λ v. RowsAreLow most v.rows) w.shards.items → All (λ v. RowsAreLow (most + octets_most) v.rows) w'.shards.items
+  pub books : (most : ℕ) → All (λ v. AreLow most v.books) w.shards.items → All (λ v. AreLow (most + octets_most) v.books) w'.shards.items
+  pub tally : (most : ℕ) → IsLow most w.tally → IsLow (most + octets_most) w'.tally
+  pub tallied : AreTallied w'.tally w'.shards.items w'.accounts.lines
+  pub billed : AreBilled (keys_in w'.shards.items) w'.accounts.billing
+  pub counts : (most : ℕ) → Within most w.drops → Within (most + drops_most) w'.drops
+  pub drawn : w'.draws.drawn ≤ w.draws.drawn + 256
+  pub handed : length w'.handed.items ≡ length w.handed.items
+  pub room : vec_capacity w'.kept ≡ vec_capacity w.kept

@@ -1,0 +1,82 @@
+//! The settlement of a turn: its round, the requests to the RADIUS server, and what the trace is told.
+ghost use Rattle.std.specs.Prelude.{◌≡◌};
+ghost use Rattle.bng_desk.specs.Settlement.{IsReady, KeepsWorks, Settles};
+
+use crate::accounts::Accounts;
+use crate::drops::Drops;
+use crate::holding::{Held, Named, hold, note};
+use crate::lists::Lists;
+use crate::random::Draws;
+use crate::requests::send_requests;
+use bng_base::{Book, Entry, Item};
+use bng_lane::Lane;
+use bng_plant::{Plant, Trace};
+use bng_shard::{Handed, PlainPool, Rules, Shard};
+use std::alloc::Global;
+
+/// What the turns of a desk work on. The lists of its turns are kept from one to the next: `lists`, and in `spare` those of the shards'
+/// journals. `kept` has room for all that may stay of a round, so that a round that could not be opened for want of memory takes none.
+#[derive(Drop)]
+pub(crate) struct Works {
+    pub(crate) shards: Vec<Shard>,
+    pub(crate) pool: PlainPool,
+    pub(crate) accounts: Accounts,
+    pub(crate) tally: Book,
+    pub(crate) draws: Draws,
+    pub(crate) drops: Drops,
+    pub(crate) lane: Lane,
+    pub(crate) handed: Vec<Handed>,
+    pub(crate) kept: Vec<Item>,
+    pub(crate) lists: Lists,
+    pub(crate) spare: Vec<Vec<Entry>>,
+}
+
+/// What came of a settlement: whether the trace took its round, and whether that was opened.
+#[derive(Clone, Copy)]
+pub(crate) struct Settled {
+    pub(crate) noted: bool,
+    pub(crate) is_opened: bool,
+}
+
+/// Holds a round of the items on the lists, sends the requests that are due again and those of the questions and of the records that
+/// wait, and tells the trace the round. The lists are kept for the next turn.
+pub(crate) fn settle<P: Plant, T: Trace>(
+    alloc: Global,
+    rules: &Rules,
+    works: &mut Works,
+    plant: &mut P,
+    trace: &mut T,
+    named: Named,
+    lists: Lists,
+) -> Settled
+    requires ready { IsReady rules.now named lists works.old }
+    ensures settles { Settles rules.now named lists.items.items works.old works.new (P.told plant.old) (P.told plant.new) (T.told trace.old) (T.told trace.new) result }
+    ensures keeps { KeepsWorks works.old works.new }
+{
+    let Held { record, is_opened } = hold(
+        alloc,
+        rules,
+        works.shards.as_mut_slice(),
+        &mut works.pool,
+        &mut works.accounts,
+        plant,
+        named,
+        lists,
+        &mut works.kept,
+        &mut works.spare,
+        &mut works.drops,
+        &mut works.tally,
+    );
+    send_requests(
+        plant,
+        &mut works.lane,
+        works.shards.as_slice(),
+        works.handed.as_mut_slice(),
+        &mut works.draws,
+        named.moment,
+    );
+    works.accounts.send(plant, named.moment);
+    let noted = note(trace, &record);
+    works.lists = Lists::of_round(alloc, record, &mut works.spare);
+    Settled { noted, is_opened }
+}

@@ -1,0 +1,209 @@
+//! The turns of a desk.
+ghost use Rattle.std.specs.Prelude.{◌≡◌, ◌+◌, ◌≤◌, ◌<◌, ◌^◌, ◌⊎◌, if◌then◌else◌};
+ghost use Rattle.bng_base.specs.Stretch.{ExtendsPlant};
+ghost use Rattle.bng_desk.specs.Model.{state_of, left_of};
+ghost use Rattle.bng_desk.specs.Turn.{MakesTurn, MakesEnd, DoesNothing, answer_if, waiting_stretch};
+ghost use Rattle.bng_desk.specs.Turn.{told_after as number_after};
+
+use crate::control::heed;
+use crate::desk::{Desk, DeskState, Turned};
+use crate::due::{deadline_of, earlier, wait_until};
+use crate::ends::to_end;
+use crate::flags::{both, either};
+use crate::gathering::gather;
+use crate::holding::Named;
+use crate::settlement::{Settled, settle};
+use bng_base::Frame;
+use bng_plant::{Clock, Gate, Plant, Trace};
+use std::alloc::Global;
+use std::sync::Wait;
+use std::thread::Threads;
+
+// What a turn answers whose round the trace took, or did not take.
+fn answer(noted: bool) -> Turned
+    ensures { result ≡ answer_if noted }
+{
+    if noted {
+        Turned::Ok
+    } else {
+        Turned::TraceFault
+    }
+}
+
+// Waits at most so long, if the turn took nothing.
+fn wait_if<P: Plant>(plant: &mut P, idle: bool, ms: u32)
+    ensures { ExtendsPlant (P.told plant.old) (P.told plant.new) (waiting_stretch idle ms) }
+{
+    if idle {
+        plant.wait(ms);
+    }
+}
+
+// How many turns in a row opened no round, after one more.
+fn unopened_after(is_opened: bool, unopened: u64) -> u64
+    requires { unopened < 2 ^ 63 }
+    ensures { result ≡ (if is_opened then 0 else unopened + 1) }
+{
+    if is_opened { 0 } else { unopened + 1 }
+}
+
+// The number of the last round that the trace took, after one more.
+fn told_after(noted: bool, told: u64) -> u64
+    requires { told < 2 ^ 63 }
+    ensures { result ≡ number_after noted told }
+{
+    if noted { told + 1 } else { told }
+}
+
+impl Desk {
+    // A turn while the desk serves.
+    fn serve<P: Plant, C: Clock, T: Trace>(
+        &mut self,
+        alloc: Global,
+        plant: &mut P,
+        clock: &mut C,
+        trace: &mut T,
+    ) -> Turned
+        requires state { state_of self.old ≡ DeskState.Serving }
+        requires later { self.old.moment ≤ (C.told clock.old).last }
+        ensures { MakesTurn self.old self.new
+            (record { plant = P.told plant.old; clock = C.told clock.old; trace = T.told trace.old })
+            (record { plant = P.told plant.new; clock = C.told clock.new; trace = T.told trace.new }) result }
+    {
+        let Ok(mut lists) = self.works.lists.take(alloc, self.works.shards.len()) else {
+            self.turns += 1;
+            return Turned::WantOfMemory;
+        };
+        let now = clock.now();
+        let wall = clock.wall();
+        let mut frame = Frame::new();
+        let heeding = heed(plant, &mut frame);
+        let unacknowledged = self.works.accounts.hear(plant, &mut frame);
+        let quiet = gather(
+            &self.rules,
+            self.works.shards.as_slice(),
+            plant,
+            now,
+            &mut self.works.draws,
+            &mut self.works.lane,
+            &mut self.works.kept,
+            &mut lists.items,
+        );
+        let named = Named {
+            number: self.told + 1,
+            moment: now,
+            wall,
+        };
+        let Settled {
+            noted,
+            is_opened: _,
+        } = settle(
+            alloc,
+            &self.rules,
+            &mut self.works,
+            plant,
+            trace,
+            named,
+            lists,
+        );
+        let asked = earlier(self.works.lane.deadline(), self.works.accounts.deadline());
+        let due = earlier(deadline_of(self.works.shards.as_slice()), asked);
+        let silent = both(both(heeding.idle, unacknowledged), quiet);
+        wait_if(plant, both(silent, noted), wait_until(due, now));
+        self.told = told_after(noted, self.told);
+        self.turns += 1;
+        self.stopped = either(self.stopped, heeding.stop);
+        self.moment = now;
+        answer(noted)
+    }
+
+    // A turn while the desk ends.
+    fn end<P: Plant, C: Clock, T: Trace>(
+        &mut self,
+        alloc: Global,
+        plant: &mut P,
+        clock: &mut C,
+        trace: &mut T,
+    ) -> Turned
+        requires state { state_of self.old ≡ DeskState.Ending }
+        requires later { self.old.moment ≤ (C.told clock.old).last }
+        ensures makes { MakesEnd self.old self.new
+            (record { plant = P.told plant.old; clock = C.told clock.old; trace = T.told trace.old })
+            (record { plant = P.told plant.new; clock = C.told clock.new; trace = T.told trace.new }) result }
+        ensures nearer { left_of self.new < left_of self.old }
+    {
+        let shards = self.works.shards.len();
+        let Ok(mut lists) = self.works.lists.take(alloc, shards) else {
+            self.endings += 1;
+            self.unopened += 1;
+            return Turned::WantOfMemory;
+        };
+        let now = clock.now();
+        let wall = clock.wall();
+        to_end(
+            &mut self.works.kept,
+            shards,
+            &mut self.works.draws,
+            &mut lists.items,
+        );
+        let named = Named {
+            number: self.told + 1,
+            moment: now,
+            wall,
+        };
+        let Settled { noted, is_opened } = settle(
+            alloc,
+            &self.rules,
+            &mut self.works,
+            plant,
+            trace,
+            named,
+            lists,
+        );
+        self.told = told_after(noted, self.told);
+        self.moment = now;
+        self.endings += 1;
+        self.unopened = unopened_after(is_opened, self.unopened);
+        self.closed = either(self.closed, is_opened);
+        answer(noted)
+    }
+
+    /// One turn. While the desk serves: it reads Control, then Acct, then Auth, then the access ports and then the core, and answers
+    /// each word from 127.0.0.0/8; each datagram of Acct that acknowledges a record ends it (RFC 2866 section 2); each reply to a
+    /// question is an item of a round, and so is each datagram of a port and of the core, each question that is given up, and a Tick of
+    /// each shard that has a due deadline; it hands each item to its shard, sends what they have to send, charges each packet that was
+    /// sent to its circuit, forms a Stop of each term that ended, sends the requests that are due again and those of the questions
+    /// (RFC 2865 section 2.5) and of the records that wait, and tells the trace the round; where nothing was taken it waits. Where the
+    /// round could not be opened, its verdicts stand first in the next one, and Auth is not read until they were handled. While it ends:
+    /// a round of what stays and of one End for each shard, after which fewer turns are left. When all is over it does nothing.
+    pub fn turn<R, P: Plant, C: Clock, T: Trace, G>(
+        &mut self,
+        _rt: &R,
+        alloc: Global,
+        plant: &mut P,
+        clock: &mut C,
+        trace: &mut T,
+        _gate: &G,
+    ) -> Turned
+    where
+        R: Threads + Wait + Sync,
+        G: Gate + Sync,
+        requires later { self.old.moment ≤ (C.told clock.old).last }
+        ensures serving { state_of self.old ≡ DeskState.Serving → MakesTurn self.old self.new
+            (record { plant = P.told plant.old; clock = C.told clock.old; trace = T.told trace.old })
+            (record { plant = P.told plant.new; clock = C.told clock.new; trace = T.told trace.new }) result }
+        ensures ending { state_of self.old ≡ DeskState.Ending → MakesEnd self.old self.new
+            (record { plant = P.told plant.old; clock = C.told clock.old; trace = T.told trace.old })
+            (record { plant = P.told plant.new; clock = C.told clock.new; trace = T.told trace.new }) result }
+        ensures nearer { state_of self.old ≡ DeskState.Ending → left_of self.new < left_of self.old }
+        ensures over { (state_of self.old ≡ DeskState.Ended) ⊎ (state_of self.old ≡ DeskState.Starved) → DoesNothing self.old self.new
+            (record { plant = P.told plant.old; clock = C.told clock.old; trace = T.told trace.old })
+            (record { plant = P.told plant.new; clock = C.told clock.new; trace = T.told trace.new }) result }
+    {
+        match self.state() {
+            DeskState::Serving => self.serve(alloc, plant, clock, trace),
+            DeskState::Ending => self.end(alloc, plant, clock, trace),
+            DeskState::Grace | DeskState::Ended | DeskState::Starved => Turned::Ok,
+        }
+    }
+}
