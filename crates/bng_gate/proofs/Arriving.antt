@@ -147,13 +147,13 @@ step_keeps : (d d' : Desk) (t : Option Turn) → Step d t d' → AreElse d → A
 step_keeps d d' None step kept = subst (All IsElse) (sym (ap (λ (x : Desk). x.kept) step)) kept
 step_keeps d d' (Some t) step kept =
     let items = items_of d t in
-    subst (All IsElse) (sym (ap (λ (x : Desk). x.kept) step.3)) (kept_after IsElse d items t.round (All-from_recursion IsElse (kept_of items) (kept_else items)))
+    subst (All IsElse) (sym (ap (λ (x : Desk). x.kept) step.4)) (kept_after IsElse d items t.round (All-from_recursion IsElse (kept_of items) (kept_else items)))
 
 end_keeps : (d d' : Desk) (t : Option EndTurn) → EndStep d t d' → AreElse d → AreElse d'
 end_keeps d d' None step kept = subst (All IsElse) (sym (ap (λ (x : Desk). x.kept) step)) kept
 end_keeps d d' (Some t) step kept =
     let items = ending_items d in
-    subst (All IsElse) (sym (ap (λ (x : Desk). x.kept) step.3)) (kept_after IsElse d items t.round (All-from_recursion IsElse (kept_of items) (kept_else items)))
+    subst (All IsElse) (sym (ap (λ (x : Desk). x.kept) step.4)) (kept_after IsElse d items t.round (All-from_recursion IsElse (kept_of items) (kept_else items)))
 
 -- the item of an entry that was handled is one of the round's
 handled_is : (P : Item → Type 0) (d : Desk) (moment : ℕ) (items : List Item) (round : Option Round) (r : Round) → round ≡ Some r → RoundOf d moment items round → All P items

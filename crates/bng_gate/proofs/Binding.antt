@@ -1,15 +1,15 @@
 -- The binds of the access ports, one after the other.
 use Rattle.std.proofs.Common.{◌≡◌, ℕ, zero, suc, ◌+◌, ◌-◌, ◌<◌, ◌≤◌, List, [], ◌∷◌, ◌++◌, length, take, get_or, refl, sym, ap, subst, ◌∙◌, append-nil, arith}
-use Rattle.std.proofs.Math.Seq.{take-length}
-use Rattle.std.proofs.lemmas.List.{take-append-le, length-append}
+use Rattle.std.proofs.lemmas.List.{take-append-le}
 use Rattle.bng_base.specs.declared.outside.Bind.{Bind}
-use Rattle.bng_base.specs.declared.outside.Role.TheVariants.{Access, Auth}
+use Rattle.bng_base.specs.declared.outside.ClockAnswer.TheVariants.{Now, Wall}
+use Rattle.bng_base.specs.declared.outside.Role.TheVariants.{Access, Auth, Acct, Core, Control}
 use Rattle.bng_base.specs.declared.settings.AccessPort.{AccessPort}
 use Rattle.bng_base.specs.Causes.{Rose}
-use Rattle.bng_base.specs.Told.{PlantTold, Grows}
-use Rattle.bng_base.proofs.ToldLaws.{grows_more}
+use Rattle.bng_base.specs.Told.{PlantTold, ClockTold, Grows, GrowsIfTold}
+use Rattle.bng_base.proofs.ToldLaws.{grows_more, grows_if_told_more}
 use Rattle.bng_config.specs.declared.config.Config.{Config}
-use Rattle.bng_gate.specs.Run.{port_binds, binds_of, binds_most, BindsPorts, FailsAtPort, Binds, FailsToBind, FailsToBindPort}
+use Rattle.bng_gate.specs.Run.{port_binds, binds_of, binds_most, BindsPorts, FailsAtPort, Binds, FailsToBind, FailsToBindPort, IsBound}
 
 same_number : (m n : ℕ) (port : AccessPort) (bs : List Bind) → m ≡ n → record { role = Access m; local = port.local } ∷ bs ≡ record { role = Access n; local = port.local } ∷ bs
 same_number m n port bs e = let make : ℕ → List Bind = λ k. record { role = Access k; local = port.local } ∷ bs in ap make e
@@ -43,12 +43,18 @@ pub port_binds_length : (n : ℕ) (ports : List AccessPort) → length (port_bin
 port_binds_length n [] = refl
 port_binds_length n (p ∷ ps) = ap suc (port_binds_length (n + 1) ps)
 
-abbrev auth_bind : Config → List Bind
-auth_bind config = record { role = Auth; local = config.auth_local } ∷ []
+abbrev auth_bind : Config → Bind
+auth_bind config = record { role = Auth; local = config.auth_local }
 
--- the first of the ports' binds, which Auth's does not touch
-ports_front : (config : Config) (k : ℕ) → k ≤ length config.access → take k (port_binds 1 config.access ++ auth_bind config) ≡ take k (port_binds 1 config.access)
-ports_front config k few = take-append-le k (port_binds 1 config.access) (auth_bind config) (omega (arith, few, port_binds_length 1 config.access))
+abbrev acct_bind : Config → Bind
+acct_bind config = record { role = Acct; local = config.acct_local }
+
+abbrev server_binds : Config → List Bind
+server_binds config = auth_bind config ∷ acct_bind config ∷ []
+
+-- the first of the ports' binds, which those of Auth and Acct do not touch
+ports_front : (config : Config) (k : ℕ) → k ≤ length config.access → take k (port_binds 1 config.access ++ server_binds config) ≡ take k (port_binds 1 config.access)
+ports_front config k few = take-append-le k (port_binds 1 config.access) (server_binds config) (omega (arith, few, port_binds_length 1 config.access))
 
 -- the ports come after Control and the core
 pub ports_after : (config : Config) (k n : ℕ) (p₀ p₁ p₂ : PlantTold) → n ≡ 2 + k → k ≤ length config.access → Binds config 2 p₀ p₁ → BindsPorts k config.access p₁ p₂ → Binds config n p₀ p₂
@@ -78,44 +84,78 @@ fails_after config number p₀ p₁ p₂ first f = record {
   };
 }
 
--- Auth comes last
-all_binds : (config : Config) → take (2 + length config.access) (binds_of config) ++ auth_bind config ≡ take (binds_most config) (binds_of config)
-all_binds config =
-    let ports = port_binds 1 config.access in
-    let two : 2 + length config.access ≡ suc (suc (length config.access)) = omega arith in
-    let three : suc (suc (suc (length config.access))) ≡ binds_most config = omega arith in
-    let many : length ports ≡ length config.access = port_binds_length 1 config.access in
-    let front : take (length config.access) (ports ++ auth_bind config) ≡ ports =
-    ports_front config (length config.access) (omega arith) ∙ ap (λ (n : ℕ). take n ports) (sym many) ∙ take-length ports in
-    let single : length (auth_bind config) ≡ 1 = refl in
-    let one_more : suc (length config.access) ≡ length (ports ++ auth_bind config) = omega (arith, many, single, length-append ports (auth_bind config)) in
-    let whole : take (suc (length config.access)) (ports ++ auth_bind config) ≡ ports ++ auth_bind config =
-    ap (λ (n : ℕ). take n (ports ++ auth_bind config)) one_more ∙ take-length (ports ++ auth_bind config) in
-    ap (λ (n : ℕ). take n (binds_of config) ++ auth_bind config) two
-    ∙ ap (λ (bs : List Bind). take 2 (binds_of config) ++ (bs ++ auth_bind config)) front
-    ∙ ap (λ (bs : List Bind). take 2 (binds_of config) ++ bs) (sym whole)
+-- Auth and Acct come last
+abbrev data_binds : Config → List Bind
+data_binds config = record { role = Control; local = config.control_local } ∷ record { role = Core; local = config.core_local } ∷ port_binds 1 config.access
+
+data_count : (config : Config) → length (data_binds config) ≡ 2 + length config.access
+data_count config =
+    let both : length (data_binds config) ≡ suc (suc (length (port_binds 1 config.access))) = refl in
+    omega (arith, both, port_binds_length 1 config.access)
+
+one_more : (bs : List Bind) (a b : Bind) → take (length bs) (bs ++ a ∷ b ∷ []) ++ a ∷ [] ≡ take (suc (length bs)) (bs ++ a ∷ b ∷ [])
+one_more [] a b = refl
+one_more (x ∷ bs) a b = ap (λ (ys : List Bind). x ∷ ys) (one_more bs a b)
+
+two_more : (bs : List Bind) (a b : Bind) → take (suc (length bs)) (bs ++ a ∷ b ∷ []) ++ b ∷ [] ≡ take (suc (suc (length bs))) (bs ++ a ∷ b ∷ [])
+two_more [] a b = refl
+two_more (x ∷ bs) a b = ap (λ (ys : List Bind). x ∷ ys) (two_more bs a b)
+
+with_auth : (config : Config) → take (2 + length config.access) (binds_of config) ++ auth_bind config ∷ [] ≡ take (3 + length config.access) (binds_of config)
+with_auth config =
+    let three : suc (length (data_binds config)) ≡ 3 + length config.access = omega (arith, data_count config) in
+    ap (λ (n : ℕ). take n (binds_of config) ++ auth_bind config ∷ []) (sym (data_count config))
+    ∙ one_more (data_binds config) (auth_bind config) (acct_bind config)
     ∙ ap (λ (n : ℕ). take n (binds_of config)) three
 
-pub auth_after : (config : Config) (p₀ p₁ p₂ : PlantTold) → Binds config (2 + length config.access) p₀ p₁ → Grows p₁.bound p₂.bound (record { role = Auth; local = config.auth_local } ∷ [])
-    → p₂.heard ≡ p₁.heard → p₂.taken ≡ p₁.taken → p₂.sent ≡ p₁.sent → p₁.faults ≤ p₂.faults → Binds config (binds_most config) p₀ p₂
-auth_after config p₀ p₁ p₂ first bound heard taken sent later = record {
-  bound = subst (λ (bs : List Bind). Grows p₀.bound p₂.bound bs) (all_binds config) (grows_more p₀.bound p₁.bound p₂.bound (take (2 + length config.access) (binds_of config)) (auth_bind config) first.bound bound);
+with_acct : (config : Config) → take (3 + length config.access) (binds_of config) ++ acct_bind config ∷ [] ≡ take (binds_most config) (binds_of config)
+with_acct config =
+    let three : 3 + length config.access ≡ suc (length (data_binds config)) = omega (arith, data_count config) in
+    let four : suc (suc (length (data_binds config))) ≡ binds_most config = omega (arith, data_count config) in
+    ap (λ (n : ℕ). take n (binds_of config) ++ acct_bind config ∷ []) three
+    ∙ two_more (data_binds config) (auth_bind config) (acct_bind config)
+    ∙ ap (λ (n : ℕ). take n (binds_of config)) four
+
+next_after : (config : Config) (n m : ℕ) (b : Bind) (p₀ p₁ p₂ : PlantTold) → take n (binds_of config) ++ b ∷ [] ≡ take m (binds_of config) → Binds config n p₀ p₁ → Grows p₁.bound p₂.bound (b ∷ [])
+    → p₂.heard ≡ p₁.heard → p₂.taken ≡ p₁.taken → p₂.sent ≡ p₁.sent → p₁.faults ≤ p₂.faults → Binds config m p₀ p₂
+next_after config n m b p₀ p₁ p₂ next first bound heard taken sent later = record {
+  bound = subst (λ (bs : List Bind). Grows p₀.bound p₂.bound bs) next (grows_more p₀.bound p₁.bound p₂.bound (take n (binds_of config)) (b ∷ []) first.bound bound);
   heard = heard ∙ first.heard;
   taken = taken ∙ first.taken;
   sent = sent ∙ first.sent;
   later = omega (arith, first.later, later);
 }
 
+pub auth_after : (config : Config) (p₀ p₁ p₂ : PlantTold) → Binds config (2 + length config.access) p₀ p₁ → Grows p₁.bound p₂.bound (record { role = Auth; local = config.auth_local } ∷ [])
+    → p₂.heard ≡ p₁.heard → p₂.taken ≡ p₁.taken → p₂.sent ≡ p₁.sent → p₁.faults ≤ p₂.faults → Binds config (3 + length config.access) p₀ p₂
+auth_after config p₀ p₁ p₂ first bound heard taken sent later = next_after config (2 + length config.access) (3 + length config.access) (auth_bind config) p₀ p₁ p₂ (with_auth config) first bound heard taken sent later
+
+pub acct_after : (config : Config) (p₀ p₁ p₂ : PlantTold) → Binds config (3 + length config.access) p₀ p₁ → Grows p₁.bound p₂.bound (record { role = Acct; local = config.acct_local } ∷ [])
+    → p₂.heard ≡ p₁.heard → p₂.taken ≡ p₁.taken → p₂.sent ≡ p₁.sent → p₁.faults ≤ p₂.faults → Binds config (binds_most config) p₀ p₂
+acct_after config p₀ p₁ p₂ first bound heard taken sent later = next_after config (3 + length config.access) (binds_most config) (acct_bind config) p₀ p₁ p₂ (with_acct config) first bound heard taken sent later
+
 -- nothing more was bound, and the count rose
-pub auth_fails : (config : Config) (p₀ p₁ p₂ : PlantTold) → Binds config (2 + length config.access) p₀ p₁ → Grows p₁.bound p₂.bound []
-    → p₂.heard ≡ p₁.heard → p₂.taken ≡ p₁.taken → p₂.sent ≡ p₁.sent → p₁.faults ≤ p₂.faults → Rose p₁.faults p₂.faults → FailsToBind config (2 + length config.access) p₀ p₂
-auth_fails config p₀ p₁ p₂ first bound heard taken sent later rose = record {
+pub next_fails : (config : Config) (n : ℕ) (p₀ p₁ p₂ : PlantTold) → Binds config n p₀ p₁ → Grows p₁.bound p₂.bound []
+    → p₂.heard ≡ p₁.heard → p₂.taken ≡ p₁.taken → p₂.sent ≡ p₁.sent → p₁.faults ≤ p₂.faults → Rose p₁.faults p₂.faults → FailsToBind config n p₀ p₂
+next_fails config n p₀ p₁ p₂ first bound heard taken sent later rose = record {
   before = record {
-    bound = subst (λ (bs : List Bind). Grows p₀.bound p₂.bound bs) (append-nil (take (2 + length config.access) (binds_of config))) (grows_more p₀.bound p₁.bound p₂.bound (take (2 + length config.access) (binds_of config)) [] first.bound bound);
+    bound = subst (λ (bs : List Bind). Grows p₀.bound p₂.bound bs) (append-nil (take n (binds_of config))) (grows_more p₀.bound p₁.bound p₂.bound (take n (binds_of config)) [] first.bound bound);
     heard = heard ∙ first.heard;
     taken = taken ∙ first.taken;
     sent = sent ∙ first.sent;
     later = omega (arith, first.later, later);
   };
   rose = rose_after p₀.faults p₁.faults p₂.faults first.later rose;
+}
+
+-- all roles were bound, and then the clock was read
+abbrev pub is_bound : (config : Config) (p p' : PlantTold) (k k₁ k₂ : ClockTold) (now wall : ℕ) → Binds config (binds_most config) p p' → p'.faults ≡ p.faults
+    → GrowsIfTold k.answers k₁.answers (Now now ∷ []) → GrowsIfTold k₁.answers k₂.answers (Wall wall ∷ []) → k₁.last ≡ now → k₂.last ≡ k₁.last → IsBound config p p' k k₂
+is_bound config p p' k k₁ k₂ now wall binds unfailed read_now read_wall last_now last_wall = record {
+  binds = binds;
+  unfailed = unfailed;
+  now = now;
+  wall = wall;
+  read = grows_if_told_more k.answers k₁.answers k₂.answers (Now now ∷ []) (Wall wall ∷ []) read_now read_wall;
+  last = last_wall ∙ last_now;
 }

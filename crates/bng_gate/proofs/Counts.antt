@@ -299,7 +299,7 @@ turn_kept d d' None step low = subst IsKeptFew (sym (ap (λ (u : Desk). u.kept) 
 turn_kept d d' (Some t) step low =
     let items = items_of d t in
     let stay = staying d t low d' step in
-    subst IsKeptFew (sym (ap (λ (u : Desk). u.kept) step.3))
+    subst IsKeptFew (sym (ap (λ (u : Desk). u.kept) step.4))
     (kept_after IsKeptFew d items t.round
     (record { few = omega arith; verdicts = All-nil is_verdict })
     (record { few = omega (arith, stay.few, verdicts_few d t low d' step); verdicts = stay.verdicts }))
@@ -416,7 +416,7 @@ ended_kept : (d d' : Desk) (t : Option EndTurn) → EndStep d t d' → IsClosing
 ended_kept d d' None step low = subst (IsEnding (length d.shards)) (sym (ap (λ (u : Desk). u.kept) step)) low.kept
 ended_kept d d' (Some t) step low =
     let items = ending_items d in
-    subst (IsEnding (length d.shards)) (sym (ap (λ (u : Desk). u.kept) step.3))
+    subst (IsEnding (length d.shards)) (sym (ap (λ (u : Desk). u.kept) step.4))
     (kept_after (IsEnding (length d.shards)) d items t.round (none_ending (length d.shards)) (kept_ending (length d.shards) items (closing_items d low)))
 
 end_closing : (d d' : Desk) (t : Option EndTurn) → EndStep d t d' → IsClosing d → IsClosing d'

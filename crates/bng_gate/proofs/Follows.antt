@@ -85,11 +85,11 @@ step_follows d d' None step = record {
 }
 step_follows d d' (Some t) step = record {
   is_round = is_of d t.moment (items_of d t) t.round step.1;
-  shards = ap (λ (x : Desk). x.shards) step.3 ∙ shards_after d (items_of d t) t.round;
-  tallies = ap (λ (x : Desk). x.tallies) step.3 ∙ tallies_left d (items_of d t) t.round;
-  holders = ap (λ (x : Desk). x.holders) step.3 ∙ holders_there d (items_of d t) t.round;
-  rules = ap (λ (x : Desk). x.rules) step.3 ∙ rules_after d (items_of d t) t.round;
-  lines = ap (λ (x : Desk). x.lines) step.3 ∙ lines_there d (items_of d t) t.round;
+  shards = ap (λ (x : Desk). x.shards) step.4 ∙ shards_after d (items_of d t) t.round;
+  tallies = ap (λ (x : Desk). x.tallies) step.4 ∙ tallies_left d (items_of d t) t.round;
+  holders = ap (λ (x : Desk). x.holders) step.4 ∙ holders_there d (items_of d t) t.round;
+  rules = ap (λ (x : Desk). x.rules) step.4 ∙ rules_after d (items_of d t) t.round;
+  lines = ap (λ (x : Desk). x.lines) step.4 ∙ lines_there d (items_of d t) t.round;
 }
 
 pub end_follows : (d d' : Desk) (t : Option EndTurn) → EndStep d t d' → Follows d (end_round_in t) d'
@@ -103,11 +103,11 @@ end_follows d d' None step = record {
 }
 end_follows d d' (Some t) step = record {
   is_round = is_of d t.moment (ending_items d) t.round step.1;
-  shards = ap (λ (x : Desk). x.shards) step.3 ∙ shards_after d (ending_items d) t.round;
-  tallies = ap (λ (x : Desk). x.tallies) step.3 ∙ tallies_left d (ending_items d) t.round;
-  holders = ap (λ (x : Desk). x.holders) step.3 ∙ holders_there d (ending_items d) t.round;
-  rules = ap (λ (x : Desk). x.rules) step.3 ∙ rules_after d (ending_items d) t.round;
-  lines = ap (λ (x : Desk). x.lines) step.3 ∙ lines_there d (ending_items d) t.round;
+  shards = ap (λ (x : Desk). x.shards) step.4 ∙ shards_after d (ending_items d) t.round;
+  tallies = ap (λ (x : Desk). x.tallies) step.4 ∙ tallies_left d (ending_items d) t.round;
+  holders = ap (λ (x : Desk). x.holders) step.4 ∙ holders_there d (ending_items d) t.round;
+  rules = ap (λ (x : Desk). x.rules) step.4 ∙ rules_after d (ending_items d) t.round;
+  lines = ap (λ (x : Desk). x.lines) step.4 ∙ lines_there d (ending_items d) t.round;
 }
 
 -- a chain, seen by what each of its links has

@@ -36,6 +36,7 @@ use Rattle.bng_desk.specs.Round.{view_of}
 use Rattle.bng_gate.specs.declared.texts.Refusal.{Refusal}
 use Rattle.bng_gate.specs.declared.texts.Refusal.TheVariants.{Usage, Refused, CannotOpen, OutOfMemory, TraceFailed, OutputFailed}
 use Rattle.bng_gate.specs.Granted.{Granted}
+use Rattle.bng_gate.specs.Recorded.{Recorded}
 use Rattle.bng_gate.specs.Replied.{AreReplied}
 use Rattle.bng_gate.specs.Headline.{AreStopped, Headline, IsSafe, IsQuiet, StopsAccount, WasSafe, all_traffic}
 use Rattle.bng_gate.specs.Rounds.{rounds_in, rounds_of, plant_of, on_data, drops_of_run}
@@ -49,8 +50,10 @@ use Rattle.bng_gate.proofs.Leaving.{HasNoRows, IsEmpty, all_stopped, ended_empty
 use Rattle.bng_gate.proofs.Lines.{lines_gone, report_told}
 use Rattle.bng_gate.proofs.LoginsGranted.{logins_granted}
 use Rattle.bng_gate.proofs.Openings.{opens}
+use Rattle.bng_gate.proofs.Recording.{recorded_of}
 use Rattle.bng_gate.proofs.Replying.{replies_of}
-use Rattle.bng_gate.proofs.Staging.{stages_heard, stages_taken, stages_sent}
+use Rattle.bng_gate.proofs.OnAcct.{all_else}
+use Rattle.bng_gate.proofs.Staging.{stages_acknowledged, stages_heard, stages_taken, stages_sent}
 use Rattle.bng_gate.proofs.Stopping.{AreRight, IsOurStop, IsRight, all_terms, opened_right, run_right}
 use Rattle.bng_gate.proofs.Telling.{sent_are, taken_are, unsent_failed}
 use Rattle.bng_gate.proofs.Traffic.{stops_account, traffic_same, input_all, output_all}
@@ -122,11 +125,16 @@ module _ (text : List ℕ) (config : Config) (read : IsRead text config) (seed :
 
   granted : Granted config seed course.turns course.endings
   granted =
-      logins_granted config turns_most seed course.begins.bound.now course.opening course.over course.last course.turns course.endings rules course.begins.is_opened course.run course.ending
+      logins_granted config turns_most seed course.begins.bound.now course.begins.bound.wall course.opening course.over course.last course.turns course.endings rules course.begins.is_opened course.run course.ending
       course.few_turns course.few_endings
 
   replied : AreReplied config seed course.turns
-  replied = replies_of config turns_most seed course.begins.bound.now course.opening course.over course.turns course.begins.is_opened course.run
+  replied = replies_of config turns_most seed course.begins.bound.now course.begins.bound.wall course.opening course.over course.turns course.begins.is_opened course.run
+
+  recorded : Recorded config course.begins.bound.wall course.begins.is_opened.starts course.turns course.endings course.last (plant_of course.turns course.endings).taken sent
+  recorded =
+      recorded_of config turns_most seed course.begins.bound.now course.begins.bound.wall course.opening course.over course.last course.turns course.endings course.begins.is_opened course.run course.ending
+      (all_else (IsKeyOf config) (sends_of rounds) rights.sends_are)
 
   pub safe_of : IsSafe config seed old new course
   safe_of = record {
@@ -149,10 +157,12 @@ module _ (text : List ℕ) (config : Config) (read : IsRead text config) (seed :
     balanced = balanced pppoe end goes.0 accounted;
     addressed = all_addressed config sent (sends_of rounds) sends rights.sends_are;
     stages_heard = stages_heard course.opening course.over course.turns course.endings course.run;
+    stages_acknowledged = stages_acknowledged course.opening course.over course.turns course.endings course.run;
     stages_taken = stages_taken course.opening course.over course.turns course.endings course.run;
     stages_sent = stages_sent course.turns course.endings;
     replied = replied;
     granted = granted;
+    recorded = recorded;
     unsent = record {
       later = omega (arith, course.begins.bound.unfailed, course.told.plant.causes.later);
       rose = omega (arith, course.begins.bound.unfailed, course.told.plant.causes.rose, unsent_failed course.turns course.endings);

@@ -1,5 +1,5 @@
 -- Where no session is left, each term has its Stop, and no row says anything.
-use Rattle.std.proofs.Common.{◌≡◌, ℕ, zero, suc, ◌+◌, Bool, true, false, not, ◌&&◌, cond, List, [], ◌∷◌, ◌++◌, length, map, Option, Some, None, refl, sym, ap, subst, ◌∙◌, arith, append-nil}
+use Rattle.std.proofs.Common.{◌≡◌, ℕ, zero, suc, Bool, List, [], ◌∷◌, ◌++◌, refl, sym, ap, ◌∙◌, arith, append-nil}
 use Rattle.std.specs.Prelude.{slice_get}
 use Rattle.std.specs.List.{AllByRecursion, AllZip, flat_map, sum_by}
 use Rattle.std.proofs.lemmas.Bool.{and_parts, eqb-true}
@@ -13,12 +13,11 @@ use Rattle.bng_engine.specs.Terms.{Key, Term, keys, stopped_keys}
 use Rattle.bng_engine.specs.Turns.{Tells}
 use Rattle.bng_engine.specs.Views.{ShardView, Row, row_keys, rows_where}
 use Rattle.bng_slots.specs.Listed.{values}
-use Rattle.bng_shard.specs.declared.session.Session.{Session}
 use Rattle.bng_shard.specs.Protocol.{ShardState, Handled, pppoe, row_at, sessions_of, terms_at, terms_of}
 use Rattle.bng_desk.specs.declared.desk.DeskState.TheVariants.{Ended}
 use Rattle.bng_desk.specs.Model.{Desk, has_ended, has_starved, is_over, no_traffic, sessions_in, state_of, traffic_at, traffic_or}
 use Rattle.bng_desk.specs.Round.{views_of}
-use Rattle.bng_gate.specs.Headline.{AreStopped, HaveTerms}
+use Rattle.bng_gate.specs.Headline.{AreStopped}
 use Rattle.bng_gate.proofs.States.{ended_by}
 use Rattle.bng_gate.proofs.Stopping.{IsRight}
 

@@ -38,6 +38,8 @@ pub mod Leaving
 pub mod Lines
 pub mod Telling
 pub mod Staging
+pub mod OnAcct
+pub mod Recording
 pub mod Addressing
 pub mod Traffic
 pub mod Drops

@@ -54,7 +54,7 @@ lines_more a b [] = refl
 lines_more a b (l ∷ ls) = ap (λ (x : Line). x ∷ map (line_after b) (map (line_after a) ls)) (line_more a b l) ∙ ap (λ (xs : List Line). line_after (a ++ b) l ∷ xs) (lines_more a b ls)
 
 -- The Stops of a round, as the engine lists them
-round_stops : (vs : List (ShardView ShardState Handled)) → flat_map (λ v. v.stops) vs ≡ stops_in (map turn_in vs)
+pub round_stops : (vs : List (ShardView ShardState Handled)) → flat_map (λ v. v.stops) vs ≡ stops_in (map turn_in vs)
 round_stops [] = refl
 round_stops (v ∷ vs) = ap (λ (ss : List Stop). v.stops ++ ss) (round_stops vs)
 

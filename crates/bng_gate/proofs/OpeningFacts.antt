@@ -141,8 +141,8 @@ module _ (config : Config) (kept : KeepsRules config) (r : Rules) where
   standing : (p : ℕ) (v : ShardView ShardState Entry) → slice_get (opened_shards config r) p ≡ Some v → IsNewShard r p v
   standing p v at = subst (IsNewShard r p) (get_or_from_slice_get (opened_shards config r) p v v at) (there p v (slice_get_within (opened_shards config r) p v at))
 
-pub opening_facts : (config : Config) → KeepsRules config → (rounds : ℕ) (seed : List ℕ) (now : ℕ) (opening : Desk) → IsOpened config rounds seed now opening → OpeningFacts config opening
-opening_facts config kept rounds seed now opening is =
+pub opening_facts : (config : Config) → KeepsRules config → (rounds : ℕ) (seed : List ℕ) (now wall : ℕ) (opening : Desk) → IsOpened config rounds seed now wall opening → OpeningFacts config opening
+opening_facts config kept rounds seed now wall opening is =
     let r = is.rules in
     let count = count_is config kept r in
     let at = there config kept r in

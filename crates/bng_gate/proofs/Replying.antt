@@ -376,7 +376,7 @@ module _ (config : Config) (seed : List ℕ) (turns : List Made) where
     subst (λ (d : Desk). Holds (suc k) d.lane) (sym step) (later k m.desk.lane h),
     λ place a q there found. absurd (let none : None ≡ Some a = ap (λ (o : Option Turn). slice_get (answers_in o) place) (sym is) ∙ there in cc),
   )
-  step_holds k m at seeded (Some t) is d' (reading, round, lane, after_is) h = (
+  step_holds k m at seeded (Some t) is d' (reading, round, lane, billing, after_is) h = (
     subst (λ (d : Desk). Holds (suc k) d.lane) (sym after_is) (turn_keeps k m at t is h.0.server_is seeded lane h),
     λ place a q there found. heard_replied k m.desk.lane t.answers t.heard lane.hears h place a q (ap (λ (o : Option Turn). slice_get (answers_in o) place) (sym is) ∙ there) found,
   )
@@ -408,8 +408,8 @@ new_holds config seed turns l new = (record { nas_is = new.nas; server_is = new.
     none : (id : ℕ) (r : Pending) → request_at (places_of l) id ≡ Some r → ⊥
     none id r is = let both : None ≡ Some r = sym (no_request 256 id) ∙ ap (λ (t : Table). request_at t.places id) (sym new.client.auth_is) ∙ is in absurd cc
 
-pub replies_of : (config : Config) (rounds : ℕ) (seed : List ℕ) (now : ℕ) (opening over : Desk) (turns : List Made) → IsOpened config rounds seed now opening → Run opening turns over → AreReplied config seed turns
-replies_of config rounds seed now opening over turns opened run k place m a q at there found =
+pub replies_of : (config : Config) (rounds : ℕ) (seed : List ℕ) (now wall : ℕ) (opening over : Desk) (turns : List Made) → IsOpened config rounds seed now wall opening → Run opening turns over → AreReplied config seed turns
+replies_of config rounds seed now wall opening over turns opened run k place m a q at there found =
     let seeded : (j : ℕ) (n : Made) → slice_get turns j ≡ Some n → n.desk.seed ≡ seed = λ j n here. seed_stays opening over turns run j n here ∙ ap (λ (d : Desk). d.seed) opened.desk in
     subst (λ (x : ℕ). IsReplied config seed turns x a.arrival.from a.arrival.octets q) (same k)
     (all_replied config seed turns seeded turns 0 (λ i x e. subst (λ (y : ℕ). slice_get turns y ≡ Some x) (sym (same i)) e) opening over run

@@ -1,5 +1,5 @@
--- The stages of the turns are what the turns tell: what they took from Auth, the access ports and the core, and what they sent, the
--- answers on Control aside.
+-- The stages of the turns are what the turns tell: what they took from Acct, Auth, the access ports and the core, and what they sent,
+-- the answers on Control aside.
 use Rattle.std.proofs.Common.{◌≡◌, ℕ, zero, suc, ◌+◌, Bool, true, false, cond, List, [], ◌∷◌, ◌++◌, map, Option, Some, None, refl, sym, ap, subst, ◌∙◌, append-nil}
 use Rattle.std.specs.Prelude.{filter, not}
 use Rattle.std.specs.List.{AllByRecursion, flat_map, range_with_len}
@@ -8,20 +8,22 @@ use Rattle.std.proofs.lemmas.List.Elements.{filter-append}
 use Rattle.std.proofs.lemmas.Option.{none-some}
 use Rattle.bng_base.specs.declared.outside.Datagram.{Datagram}
 use Rattle.bng_base.specs.declared.outside.Role.{Role}
-use Rattle.bng_base.specs.declared.outside.Role.TheVariants.{Access, Auth, Core, Control}
+use Rattle.bng_base.specs.declared.outside.Role.TheVariants.{Access, Auth, Acct, Core, Control}
 use Rattle.bng_base.specs.FateOf.{Arrival}
+use Rattle.bng_engine.specs.Wire.{went}
 use Rattle.bng_desk.specs.declared.reading.Ended.{Ended}
+use Rattle.bng_desk.specs.Accounting.{Acknowledged}
 use Rattle.bng_desk.specs.Control.{Heeded, reply, is_answered}
 use Rattle.bng_desk.specs.Items.{DataReading}
-use Rattle.bng_desk.specs.Logins.{Answered, lane_datagram, lane_sends}
+use Rattle.bng_desk.specs.Logins.{Answered}
 use Rattle.bng_desk.specs.Model.{Desk}
 use Rattle.bng_desk.specs.Reading.{is_empty, taken_in}
 use Rattle.bng_desk.specs.Round.{Round}
 use Rattle.bng_desk.specs.Turn.{Turn, EndTurn, ReadsWhere, Step, auth_stretch, data_stretch, round_stretch, stretch_of, end_stretch}
 use Rattle.bng_gate.specs.Granted.{Stage, sent_by, stage_in, end_stage_in, stages_of}
-use Rattle.bng_gate.specs.Rounds.{plant_of, is_auth, is_control, on_auth, on_data, beside_control, readings_in, readings_of}
+use Rattle.bng_gate.specs.Rounds.{plant_of, is_acct, is_auth, is_control, on_acct, on_auth, on_data, beside_control, readings_in, readings_of}
 use Rattle.bng_gate.specs.Serving.{Made, MadeEnd, Run, run_stretch, ending_stretch}
-use Rattle.bng_gate.proofs.Telling.{taken_are, taken_by_reading}
+use Rattle.bng_gate.proofs.Telling.{end_out, endings_taken, requested, sends_in, taken_are, taken_by_reading, turn_out}
 
 -- What was sent ------------------------------------------------------------------------------------------------------------
 
@@ -29,42 +31,28 @@ beside_append : (a b : List Datagram) → beside_control (a ++ b) ≡ beside_con
 beside_append a b = filter-append (λ (d : Datagram). not (is_control d.role)) a b
 
 abbrev out_of : Stage → List Datagram
-out_of s = s.sent ++ s.requests
+out_of s = s.sent ++ (s.requests ++ s.records)
 
 no_answers : (hs : List Heeded) → beside_control (map reply hs) ≡ []
 no_answers [] = refl
 no_answers (h ∷ hs) = no_answers hs
 
-none_sent : (readings : List DataReading) → (data_stretch readings).sent ≡ []
-none_sent [] = refl
-none_sent (r ∷ rs) = none_sent rs
-
-none_to_auth : (answers : List Answered) (ended : Option Ended) → (auth_stretch answers ended).sent ≡ []
-none_to_auth answers None = refl
-none_to_auth answers (Some ended) = refl
-
-round_sent : (round : Option Round) → (round_stretch round).sent ≡ sent_by round
-round_sent None = refl
-round_sent (Some round) = refl
+sent_by_round : (round : Option Round) → went (sends_in round) ≡ sent_by round
+sent_by_round None = refl
+sent_by_round (Some round) = refl
 
 turn_sent : (d : Desk) (t : Option Turn) → beside_control (stretch_of d t).plant.sent ≡ beside_control (out_of (stage_in d t))
 turn_sent d None = refl
 turn_sent d (Some t) =
-    let replies = map reply (filter is_answered t.control) in
-    let asked = flat_map (lane_datagram d.lane.client.auth_server) (lane_sends t.requests) in
-    let settled = (round_stretch t.round).sent ++ (asked ++ []) in
-    let rest = (auth_stretch t.answers t.auth_end).sent ++ ((data_stretch t.readings).sent ++ settled) in
-    beside_append (replies ++ []) rest
-    ∙ ap (λ (ds : List Datagram). beside_control ds ++ beside_control rest) (append-nil replies)
+    let rest = went (sends_in t.round) ++ requested d t.requests t.records in
+    ap beside_control (turn_out d t)
+    ∙ beside_append (map reply (filter is_answered t.control)) rest
     ∙ ap (λ (ds : List Datagram). ds ++ beside_control rest) (no_answers (filter is_answered t.control))
-    ∙ ap (λ (ds : List Datagram). beside_control (ds ++ ((data_stretch t.readings).sent ++ settled))) (none_to_auth t.answers t.auth_end)
-    ∙ ap (λ (ds : List Datagram). beside_control (ds ++ settled)) (none_sent t.readings)
-    ∙ ap (λ (ds : List Datagram). beside_control ((round_stretch t.round).sent ++ ds)) (append-nil asked)
-    ∙ ap (λ (ds : List Datagram). beside_control (ds ++ asked)) (round_sent t.round)
+    ∙ ap (λ (ds : List Datagram). beside_control (ds ++ requested d t.requests t.records)) (sent_by_round t.round)
 
 end_sent : (d : Desk) (t : Option EndTurn) → beside_control (end_stretch d t).plant.sent ≡ beside_control (out_of (end_stage_in d t))
 end_sent d None = refl
-end_sent d (Some t) = ap (λ (ds : List Datagram). beside_control (ds ++ flat_map (lane_datagram d.lane.client.auth_server) (lane_sends t.requests))) (round_sent t.round)
+end_sent d (Some t) = ap beside_control (end_out d t) ∙ ap (λ (ds : List Datagram). beside_control (ds ++ requested d t.requests t.records)) (sent_by_round t.round)
 
 -- one more
 more_sent : (here stage later stages : List Datagram) → beside_control here ≡ beside_control stage → beside_control later ≡ beside_control stages → beside_control (here ++ later) ≡ beside_control (stage ++ stages)
@@ -87,7 +75,7 @@ endings_sent (m ∷ endings) =
     (end_sent m.desk m.turn) (endings_sent endings)
 
 -- what was sent, but for Control, are what the stages sent, in their order
-pub stages_sent : (turns : List Made) (endings : List MadeEnd) → beside_control (plant_of turns endings).sent ≡ beside_control (flat_map (λ s. s.sent ++ s.requests) (stages_of turns endings))
+pub stages_sent : (turns : List Made) (endings : List MadeEnd) → beside_control (plant_of turns endings).sent ≡ beside_control (flat_map (λ s. s.sent ++ (s.requests ++ s.records)) (stages_of turns endings))
 stages_sent turns endings =
     let serving = map (λ (m : Made). stage_in m.desk m.turn) turns in
     let ending = map (λ (m : MadeEnd). end_stage_in m.desk m.turn) endings in
@@ -96,19 +84,89 @@ stages_sent turns endings =
 
 -- What was taken -----------------------------------------------------------------------------------------------------------
 
-auth_append : (a b : List Datagram) → on_auth (a ++ b) ≡ on_auth a ++ on_auth b
-auth_append a b = filter-append (λ (d : Datagram). is_auth d.role) a b
+-- of the roles that pass a test, which Control, the access ports and the core do not
+module _ (is : Role → Bool) (no_control : is Control ≡ false) (no_port : (number : ℕ) → is (Access number) ≡ false) (no_core : is Core ≡ false) where
+  abbrev only : List Datagram → List Datagram
+  only ds = filter (λ (d : Datagram). is d.role) ds
 
-all_of_auth : (arrivals : List Arrival) → on_auth (taken_in Auth arrivals) ≡ taken_in Auth arrivals
-all_of_auth [] = refl
-all_of_auth (a ∷ arrivals) = ap (λ (ds : List Datagram). record { role = Auth; peer = a.from; octets = a.octets } ∷ ds) (all_of_auth arrivals)
+  only_append : (a b : List Datagram) → only (a ++ b) ≡ only a ++ only b
+  only_append a b = filter-append (λ (d : Datagram). is d.role) a b
 
-none_of : (role : Role) (arrivals : List Arrival) → is_auth role ≡ false → on_auth (taken_in role arrivals) ≡ []
-none_of role [] e = refl
-none_of role (a ∷ arrivals) e =
-    let d : Datagram = record { role = role; peer = a.from; octets = a.octets } in
-    let rest = on_auth (taken_in role arrivals) in
-    ap (λ (b : Bool). cond b (d ∷ rest) rest) e ∙ none_of role arrivals e
+  all_of : (role : Role) (arrivals : List Arrival) → is role ≡ true → only (taken_in role arrivals) ≡ taken_in role arrivals
+  all_of role [] e = refl
+  all_of role (a ∷ arrivals) e =
+      let d : Datagram = record { role = role; peer = a.from; octets = a.octets } in
+      let rest = only (taken_in role arrivals) in
+      ap (λ (b : Bool). cond b (d ∷ rest) rest) e ∙ ap (λ (ds : List Datagram). d ∷ ds) (all_of role arrivals e)
+
+  none_of : (role : Role) (arrivals : List Arrival) → is role ≡ false → only (taken_in role arrivals) ≡ []
+  none_of role [] e = refl
+  none_of role (a ∷ arrivals) e =
+      let d : Datagram = record { role = role; peer = a.from; octets = a.octets } in
+      let rest = only (taken_in role arrivals) in
+      ap (λ (b : Bool). cond b (d ∷ rest) rest) e ∙ none_of role arrivals e
+
+  none_read : (readings : List DataReading) → AllByRecursion (λ role. is role ≡ false) (map (λ r. r.role) readings) → only (data_stretch readings).taken ≡ []
+  none_read [] h = refl
+  none_read (r ∷ rs) h =
+      only_append (taken_in r.role r.arrivals ++ []) (data_stretch rs).taken
+      ∙ ap (λ (ds : List Datagram). only ds ++ only (data_stretch rs).taken) (append-nil (taken_in r.role r.arrivals))
+      ∙ ap (λ (ds : List Datagram). ds ++ only (data_stretch rs).taken) (none_of r.role r.arrivals h.0)
+      ∙ none_read rs h.1
+
+  ports_else : (n m : ℕ) → AllByRecursion (λ role. is role ≡ false) (map Access (range_with_len n m) ++ Core ∷ [])
+  ports_else n zero = (no_core, tt)
+  ports_else n (suc m) = (no_port n, ports_else (n + 1) m)
+
+  -- what a turn takes from Acct, and then from Auth
+  turn_takes : (d d' : Desk) (t : Turn) → Step d (Some t) d' → (e : Desk)
+      → only (stretch_of e (Some t)).plant.taken ≡ only (taken_in Acct (map (λ a. a.arrival) t.acknowledged)) ++ only (auth_stretch t.answers t.auth_end).taken
+  turn_takes d d' t step e =
+      let heeded = map (λ (h : Heeded). h.arrival) t.control in
+      let acct = taken_in Acct (map (λ (a : Acknowledged). a.arrival) t.acknowledged) in
+      let auth = (auth_stretch t.answers t.auth_end).taken in
+      let rest = (data_stretch t.readings).taken ++ ((round_stretch t.round).taken ++ []) in
+      let later = (acct ++ []) ++ (auth ++ rest) in
+      let roles : AllByRecursion (λ role. is role ≡ false) (map (λ r. r.role) t.readings) = subst (AllByRecursion (λ role. is role ≡ false)) (sym step.0.roles) (ports_else 1 _) in
+      only_append (taken_in Control heeded ++ []) later
+      ∙ ap (λ (ds : List Datagram). only ds ++ only later) (append-nil (taken_in Control heeded))
+      ∙ ap (λ (ds : List Datagram). ds ++ only later) (none_of Control heeded no_control)
+      ∙ only_append (acct ++ []) (auth ++ rest)
+      ∙ ap (λ (ds : List Datagram). only ds ++ only (auth ++ rest)) (append-nil acct)
+      ∙ ap (λ (ds : List Datagram). only acct ++ ds) (only_append auth rest)
+      ∙ ap (λ (ds : List Datagram). only acct ++ (only auth ++ only ((data_stretch t.readings).taken ++ (ds ++ [])))) (round_taken t.round)
+      ∙ ap (λ (ds : List Datagram). only acct ++ (only auth ++ only ds)) (append-nil (data_stretch t.readings).taken)
+      ∙ ap (λ (ds : List Datagram). only acct ++ (only auth ++ ds)) (none_read t.readings roles)
+      ∙ ap (λ (ds : List Datagram). only acct ++ ds) (append-nil (only auth))
+    where
+      round_taken : (round : Option Round) → (round_stretch round).taken ≡ []
+      round_taken None = refl
+      round_taken (Some round) = refl
+
+  -- so what is taken over all turns, where each stage tells it of its turn, and none of the ending takes anything
+  module _ (told : Stage → List Datagram) (turn : (d d' : Desk) (t : Option Turn) → Step d t d' → (e : Desk) → only (stretch_of e t).plant.taken ≡ told (stage_in e t))
+      (none : (d : Desk) (t : Option EndTurn) → told (end_stage_in d t) ≡ []) where
+    turns_tell : (d d' : Desk) (turns : List Made) → Run d turns d' → only (run_stretch turns).plant.taken ≡ flat_map told (map (λ m. stage_in m.desk m.turn) turns)
+    turns_tell d d' [] run = refl
+    turns_tell d d' (m ∷ turns) run =
+        only_append (stretch_of m.desk m.turn).plant.taken (run_stretch turns).plant.taken
+        ∙ ap (λ (ds : List Datagram). ds ++ only (run_stretch turns).plant.taken) (turn d run.0 m.turn run.1.1 m.desk)
+        ∙ ap (λ (ds : List Datagram). told (stage_in m.desk m.turn) ++ ds) (turns_tell run.0 d' turns run.2)
+
+    endings_tell : (endings : List MadeEnd) → flat_map told (map (λ m. end_stage_in m.desk m.turn) endings) ≡ []
+    endings_tell [] = refl
+    endings_tell (m ∷ endings) = ap (λ (ds : List Datagram). ds ++ flat_map told (map (λ (x : MadeEnd). end_stage_in x.desk x.turn) endings)) (none m.desk m.turn) ∙ endings_tell endings
+
+    stages_tell : (d d' : Desk) (turns : List Made) (endings : List MadeEnd) → Run d turns d' → only (plant_of turns endings).taken ≡ flat_map told (stages_of turns endings)
+    stages_tell d d' turns endings run =
+        let serving = map (λ (m : Made). stage_in m.desk m.turn) turns in
+        let ending = map (λ (m : MadeEnd). end_stage_in m.desk m.turn) endings in
+        ap (λ (ds : List Datagram). only ((run_stretch turns).plant.taken ++ ds)) (endings_taken endings)
+        ∙ ap only (append-nil (run_stretch turns).plant.taken)
+        ∙ turns_tell d d' turns run
+        ∙ sym (append-nil (flat_map told serving))
+        ∙ ap (λ (ds : List Datagram). flat_map told serving ++ ds) (sym (endings_tell endings))
+        ∙ sym (flat_map-append told serving ending)
 
 -- Auth is read, or nothing was taken from it
 auth_taken : (reads : Bool) (answers : List Answered) (ended : Option Ended) → ReadsWhere reads answers ended → on_auth (auth_stretch answers ended).taken ≡ taken_in Auth (map (λ a. a.arrival) answers)
@@ -116,76 +174,47 @@ auth_taken true answers None reads = absurd (none-some reads.0 reads.1)
 auth_taken false answers None reads = ap (λ (as' : List Answered). taken_in Auth (map (λ (a : Answered). a.arrival) as')) (sym reads.1)
 auth_taken reads answers (Some ended) is =
     let arrivals = map (λ (a : Answered). a.arrival) answers in
-    ap on_auth (append-nil (taken_in Auth arrivals)) ∙ all_of_auth arrivals
+    ap on_auth (append-nil (taken_in Auth arrivals)) ∙ all_of is_auth refl (λ n. refl) refl Auth arrivals refl
 
-data_taken : (readings : List DataReading) → AllByRecursion (λ role. is_auth role ≡ false) (map (λ r. r.role) readings) → on_auth (data_stretch readings).taken ≡ []
-data_taken [] h = refl
-data_taken (r ∷ rs) h =
-    auth_append (taken_in r.role r.arrivals ++ []) (data_stretch rs).taken
-    ∙ ap (λ (ds : List Datagram). on_auth ds ++ on_auth (data_stretch rs).taken) (append-nil (taken_in r.role r.arrivals))
-    ∙ ap (λ (ds : List Datagram). ds ++ on_auth (data_stretch rs).taken) (none_of r.role r.arrivals h.0)
-    ∙ data_taken rs h.1
+turn_heard : (d d' : Desk) (t : Option Turn) → Step d t d' → (e : Desk) → on_auth (stretch_of e t).plant.taken ≡ (stage_in e t).heard
+turn_heard d d' None step e = refl
+turn_heard d d' (Some t) step e =
+    let arrivals = map (λ (a : Acknowledged). a.arrival) t.acknowledged in
+    turn_takes is_auth refl (λ n. refl) refl d d' t step e
+    ∙ ap (λ (ds : List Datagram). ds ++ on_auth (auth_stretch t.answers t.auth_end).taken) (none_of is_auth refl (λ n. refl) refl Acct arrivals refl)
+    ∙ auth_taken (is_empty d.kept) t.answers t.auth_end step.0.auth
 
-ports_else : (n m : ℕ) → AllByRecursion (λ role. is_auth role ≡ false) (map Access (range_with_len n m) ++ Core ∷ [])
-ports_else n zero = (refl, tt)
-ports_else n (suc m) = (refl, ports_else (n + 1) m)
-
-turn_taken : (d d' : Desk) (t : Option Turn) → Step d t d' → (e : Desk) → on_auth (stretch_of e t).plant.taken ≡ (stage_in e t).heard
-turn_taken d d' None step e = refl
-turn_taken d d' (Some t) step e =
-    let heeded = map (λ (h : Heeded). h.arrival) t.control in
-    let auth = (auth_stretch t.answers t.auth_end).taken in
-    let rest = (data_stretch t.readings).taken ++ ((round_stretch t.round).taken ++ []) in
-    let heard = taken_in Auth (map (λ (a : Answered). a.arrival) t.answers) in
-    let roles : AllByRecursion (λ role. is_auth role ≡ false) (map (λ r. r.role) t.readings) = subst (AllByRecursion (λ role. is_auth role ≡ false)) (sym step.0.roles) (ports_else 1 _) in
-    auth_append (taken_in Control heeded ++ []) (auth ++ rest)
-    ∙ ap (λ (ds : List Datagram). on_auth ds ++ on_auth (auth ++ rest)) (append-nil (taken_in Control heeded))
-    ∙ ap (λ (ds : List Datagram). ds ++ on_auth (auth ++ rest)) (none_of Control heeded refl)
-    ∙ auth_append auth rest
-    ∙ ap (λ (ds : List Datagram). ds ++ on_auth rest) (auth_taken (is_empty d.kept) t.answers t.auth_end step.0.auth)
-    ∙ ap (λ (ds : List Datagram). heard ++ on_auth ((data_stretch t.readings).taken ++ (ds ++ []))) (round_taken t.round)
-    ∙ ap (λ (ds : List Datagram). heard ++ on_auth ds) (append-nil (data_stretch t.readings).taken)
-    ∙ ap (λ (ds : List Datagram). heard ++ ds) (data_taken t.readings roles)
-    ∙ append-nil heard
-  where
-    round_taken : (round : Option Round) → (round_stretch round).taken ≡ []
-    round_taken None = refl
-    round_taken (Some round) = refl
-
-abbrev heard_of : Stage → List Datagram
-heard_of s = s.heard
-
-turns_taken : (d d' : Desk) (turns : List Made) → Run d turns d' → on_auth (run_stretch turns).plant.taken ≡ flat_map heard_of (map (λ m. stage_in m.desk m.turn) turns)
-turns_taken d d' [] run = refl
-turns_taken d d' (m ∷ turns) run =
-    auth_append (stretch_of m.desk m.turn).plant.taken (run_stretch turns).plant.taken
-    ∙ ap (λ (ds : List Datagram). ds ++ on_auth (run_stretch turns).plant.taken) (turn_taken d run.0 m.turn run.1.1 m.desk)
-    ∙ ap (λ (ds : List Datagram). (stage_in m.desk m.turn).heard ++ ds) (turns_taken run.0 d' turns run.2)
-
-end_taken : (d : Desk) (t : Option EndTurn) → on_auth (end_stretch d t).plant.taken ≡ (end_stage_in d t).heard
-end_taken d None = refl
-end_taken d (Some t) = ap (λ (ds : List Datagram). on_auth (ds ++ [])) (round_taken t.round)
-  where
-    round_taken : (round : Option Round) → (round_stretch round).taken ≡ []
-    round_taken None = refl
-    round_taken (Some round) = refl
-
-endings_taken : (endings : List MadeEnd) → on_auth (ending_stretch endings).plant.taken ≡ flat_map heard_of (map (λ m. end_stage_in m.desk m.turn) endings)
-endings_taken [] = refl
-endings_taken (m ∷ endings) =
-    auth_append (end_stretch m.desk m.turn).plant.taken (ending_stretch endings).plant.taken
-    ∙ ap (λ (ds : List Datagram). ds ++ on_auth (ending_stretch endings).plant.taken) (end_taken m.desk m.turn)
-    ∙ ap (λ (ds : List Datagram). (end_stage_in m.desk m.turn).heard ++ ds) (endings_taken endings)
+end_heard : (d : Desk) (t : Option EndTurn) → (end_stage_in d t).heard ≡ []
+end_heard d None = refl
+end_heard d (Some t) = refl
 
 -- what was taken from Auth is what the stages heard, in their order
 pub stages_heard : (d d' : Desk) (turns : List Made) (endings : List MadeEnd) → Run d turns d' → on_auth (plant_of turns endings).taken ≡ flat_map (λ s. s.heard) (stages_of turns endings)
-stages_heard d d' turns endings run =
-    let serving = map (λ (m : Made). stage_in m.desk m.turn) turns in
-    let ending = map (λ (m : MadeEnd). end_stage_in m.desk m.turn) endings in
-    auth_append (run_stretch turns).plant.taken (ending_stretch endings).plant.taken
-    ∙ ap (λ (ds : List Datagram). ds ++ on_auth (ending_stretch endings).plant.taken) (turns_taken d d' turns run)
-    ∙ ap (λ (ds : List Datagram). flat_map heard_of serving ++ ds) (endings_taken endings)
-    ∙ sym (flat_map-append heard_of serving ending)
+stages_heard d d' turns endings run = stages_tell is_auth refl (λ n. refl) refl (λ (s : Stage). s.heard) turn_heard end_heard d d' turns endings run
+
+-- nothing of Auth is of Acct
+auth_else : (answers : List Answered) (ended : Option Ended) → on_acct (auth_stretch answers ended).taken ≡ []
+auth_else answers None = refl
+auth_else answers (Some ended) =
+    let arrivals = map (λ (a : Answered). a.arrival) answers in
+    ap on_acct (append-nil (taken_in Auth arrivals)) ∙ none_of is_acct refl (λ n. refl) refl Auth arrivals refl
+
+turn_acknowledged : (d d' : Desk) (t : Option Turn) → Step d t d' → (e : Desk) → on_acct (stretch_of e t).plant.taken ≡ (stage_in e t).acknowledged
+turn_acknowledged d d' None step e = refl
+turn_acknowledged d d' (Some t) step e =
+    let arrivals = map (λ (a : Acknowledged). a.arrival) t.acknowledged in
+    turn_takes is_acct refl (λ n. refl) refl d d' t step e
+    ∙ ap (λ (ds : List Datagram). on_acct (taken_in Acct arrivals) ++ ds) (auth_else t.answers t.auth_end)
+    ∙ append-nil (on_acct (taken_in Acct arrivals))
+    ∙ all_of is_acct refl (λ n. refl) refl Acct arrivals refl
+
+end_acknowledged : (d : Desk) (t : Option EndTurn) → (end_stage_in d t).acknowledged ≡ []
+end_acknowledged d None = refl
+end_acknowledged d (Some t) = refl
+
+-- and so what was taken from Acct
+pub stages_acknowledged : (d d' : Desk) (turns : List Made) (endings : List MadeEnd) → Run d turns d' → on_acct (plant_of turns endings).taken ≡ flat_map (λ s. s.acknowledged) (stages_of turns endings)
+stages_acknowledged d d' turns endings run = stages_tell is_acct refl (λ n. refl) refl (λ (s : Stage). s.acknowledged) turn_acknowledged end_acknowledged d d' turns endings run
 
 abbrev taken_of : Stage → List Datagram
 taken_of s = s.taken

@@ -10,7 +10,7 @@ use Rattle.bng_base.specs.declared.address.Peer.{Peer}
 use Rattle.bng_base.specs.declared.item.OutRecord.{OutRecord}
 use Rattle.bng_base.specs.declared.outside.Datagram.{Datagram}
 use Rattle.bng_base.specs.declared.outside.Role.{Role}
-use Rattle.bng_base.specs.declared.outside.Role.TheVariants.{Access, Auth, Core, Control}
+use Rattle.bng_base.specs.declared.outside.Role.TheVariants.{Access, Auth, Acct, Core, Control}
 use Rattle.bng_base.specs.FateOf.{Arrival}
 use Rattle.bng_base.specs.Roles.{is_data}
 use Rattle.bng_engine.specs.Calls.{all_sends}
@@ -23,6 +23,7 @@ use Rattle.bng_engine.proofs.Wire.{went_append}
 use Rattle.bng_lane.specs.Sends.{LaneSend}
 use Rattle.bng_shard.specs.Protocol.{Handled}
 use Rattle.bng_desk.specs.declared.reading.Ended.{Ended}
+use Rattle.bng_desk.specs.Accounting.{Acknowledged, RecordRequests, record_datagram, record_sends, records_stretch}
 use Rattle.bng_desk.specs.Control.{Heeded, reply, is_answered}
 use Rattle.bng_desk.specs.Items.{DataReading}
 use Rattle.bng_desk.specs.Logins.{Answered, Requests, lane_datagram, lane_sends, requests_stretch}
@@ -30,7 +31,7 @@ use Rattle.bng_desk.specs.Model.{Desk}
 use Rattle.bng_desk.specs.Reading.{taken_in}
 use Rattle.bng_desk.specs.Round.{Round, not_sent}
 use Rattle.bng_desk.specs.Turn.{Turn, EndTurn, Step, auth_stretch, data_stretch, round_stretch, stretch_of, end_stretch}
-use Rattle.bng_gate.specs.Rounds.{round_in, end_round_in, rounds_in, turns_of, rounds_of, plant_of, on_data, readings_in, readings_of, requests_in, end_requests_in, requests_of, is_unsent}
+use Rattle.bng_gate.specs.Rounds.{round_in, end_round_in, rounds_in, turns_of, rounds_of, plant_of, on_data, readings_in, readings_of, requests_in, end_requests_in, requests_of, records_in, end_records_in, records_of, is_unsent}
 use Rattle.bng_gate.specs.Serving.{Made, MadeEnd, Run, run_stretch, ending_stretch}
 
 on_data_append : (a b : List Datagram) → on_data (a ++ b) ≡ on_data a ++ on_data b
@@ -74,32 +75,60 @@ no_requests : (server : Peer) (ss : List LaneSend) → on_data (flat_map (lane_d
 no_requests server [] = refl
 no_requests server (s ∷ ss) = one_request server s.octets s.sent (flat_map (lane_datagram server) ss) ∙ no_requests server ss
 
-beside_requests : (ds : List Datagram) (server : Peer) (ss : List LaneSend) → on_data (ds ++ flat_map (lane_datagram server) ss) ≡ on_data ds
-beside_requests ds server ss =
-    on_data_append ds (flat_map (lane_datagram server) ss)
-    ∙ ap (λ (rest : List Datagram). on_data ds ++ rest) (no_requests server ss)
+-- and one of accounting on Acct
+one_record : (server : Peer) (octets : List ℕ) (b : Bool) (ds : List Datagram) → on_data ((if b then record { role = Acct; peer = server; octets = octets } ∷ [] else []) ++ ds) ≡ on_data ds
+one_record server octets true ds = refl
+one_record server octets false ds = refl
+
+no_records : (server : Peer) (ss : List LaneSend) → on_data (flat_map (record_datagram server) ss) ≡ []
+no_records server [] = refl
+no_records server (s ∷ ss) = one_record server s.octets s.sent (flat_map (record_datagram server) ss) ∙ no_records server ss
+
+-- the requests of a turn, and those of accounting
+abbrev pub requested : Desk → Requests → RecordRequests → List Datagram
+requested d q r = flat_map (lane_datagram d.lane.client.auth_server) (lane_sends q) ++ flat_map (record_datagram d.billing.client.acct_server) (record_sends r)
+
+beside_requested : (ds : List Datagram) (d : Desk) (q : Requests) (r : RecordRequests) → on_data (ds ++ requested d q r) ≡ on_data ds
+beside_requested ds d q r =
+    let asked = flat_map (lane_datagram d.lane.client.auth_server) (lane_sends q) in
+    let records = flat_map (record_datagram d.billing.client.acct_server) (record_sends r) in
+    on_data_append ds (asked ++ records)
+    ∙ ap (λ (rest : List Datagram). on_data ds ++ rest) (on_data_append asked records)
+    ∙ ap (λ (rest : List Datagram). on_data ds ++ (rest ++ on_data records)) (no_requests d.lane.client.auth_server (lane_sends q))
+    ∙ ap (λ (rest : List Datagram). on_data ds ++ rest) (no_records d.billing.client.acct_server (record_sends r))
     ∙ append-nil (on_data ds)
+
+-- what a turn sends: the answers on Control, what its round had to send, its requests, and those of accounting
+pub turn_out : (d : Desk) (t : Turn) → (stretch_of d (Some t)).plant.sent ≡ map reply (filter is_answered t.control) ++ (went (sends_in t.round) ++ requested d t.requests t.records)
+turn_out d t =
+    let replies = map reply (filter is_answered t.control) in
+    let auth = (auth_stretch t.answers t.auth_end).sent in
+    let data' = (data_stretch t.readings).sent in
+    let asked = flat_map (lane_datagram d.lane.client.auth_server) (lane_sends t.requests) in
+    let records = flat_map (record_datagram d.billing.client.acct_server) (record_sends t.records) in
+    let settled = (round_stretch t.round).sent ++ (asked ++ (records ++ [])) in
+    ap (λ (ds : List Datagram). ds ++ (auth ++ (data' ++ settled))) (append-nil replies)
+    ∙ ap (λ (ds : List Datagram). replies ++ (ds ++ (data' ++ settled))) (none_to_auth t.answers t.auth_end)
+    ∙ ap (λ (ds : List Datagram). replies ++ (ds ++ settled)) (none_sent t.readings)
+    ∙ ap (λ (ds : List Datagram). replies ++ (ds ++ (asked ++ (records ++ [])))) (round_sent t.round)
+    ∙ ap (λ (ds : List Datagram). replies ++ (went (sends_in t.round) ++ (asked ++ ds))) (append-nil records)
+
+-- and one of the ending
+pub end_out : (d : Desk) (t : EndTurn) → (end_stretch d (Some t)).plant.sent ≡ went (sends_in t.round) ++ requested d t.requests t.records
+end_out d t = ap (λ (ds : List Datagram). ds ++ requested d t.requests t.records) (round_sent t.round)
 
 turn_sent : (d : Desk) (t : Option Turn) → on_data (stretch_of d t).plant.sent ≡ on_data (went (sends_in (round_in t)))
 turn_sent d None = refl
 turn_sent d (Some t) =
-    let replies = map reply (filter is_answered t.control) in
-    let server = d.lane.client.auth_server in
-    let asked = flat_map (lane_datagram server) (lane_sends t.requests) in
-    let settled = (round_stretch t.round).sent ++ (asked ++ []) in
-    let rest = (auth_stretch t.answers t.auth_end).sent ++ ((data_stretch t.readings).sent ++ settled) in
-    on_data_append (replies ++ []) rest
-    ∙ ap (λ (ds : List Datagram). on_data ds ++ on_data rest) (append-nil replies)
+    let rest = went (sends_in t.round) ++ requested d t.requests t.records in
+    ap on_data (turn_out d t)
+    ∙ on_data_append (map reply (filter is_answered t.control)) rest
     ∙ ap (λ (ds : List Datagram). ds ++ on_data rest) (no_replies (filter is_answered t.control))
-    ∙ ap (λ (ds : List Datagram). on_data (ds ++ ((data_stretch t.readings).sent ++ settled))) (none_to_auth t.answers t.auth_end)
-    ∙ ap (λ (ds : List Datagram). on_data (ds ++ settled)) (none_sent t.readings)
-    ∙ ap (λ (ds : List Datagram). on_data ((round_stretch t.round).sent ++ ds)) (append-nil asked)
-    ∙ beside_requests (round_stretch t.round).sent server (lane_sends t.requests)
-    ∙ ap on_data (round_sent t.round)
+    ∙ beside_requested (went (sends_in t.round)) d t.requests t.records
 
 end_sent : (d : Desk) (t : Option EndTurn) → on_data (end_stretch d t).plant.sent ≡ on_data (went (sends_in (end_round_in t)))
 end_sent d None = refl
-end_sent d (Some t) = beside_requests (round_stretch t.round).sent d.lane.client.auth_server (lane_sends t.requests) ∙ ap on_data (round_sent t.round)
+end_sent d (Some t) = ap on_data (end_out d t) ∙ beside_requested (went (sends_in t.round)) d t.requests t.records
 
 turns_sent : (turns : List Made) → on_data (run_stretch turns).plant.sent ≡ on_data (went (flat_map sends_in (map (λ m. round_in m.turn) turns)))
 turns_sent [] = refl
@@ -135,19 +164,18 @@ sent_are turns endings =
 
 -- What was taken --------------------------------------------------------------------------------------------------------
 
-none_of_control : (arrivals : List Arrival) → on_data (taken_in Control arrivals) ≡ []
-none_of_control [] = refl
-none_of_control (a ∷ as') = none_of_control as'
-
-none_of_auth : (arrivals : List Arrival) → on_data (taken_in Auth arrivals) ≡ []
-none_of_auth [] = refl
-none_of_auth (a ∷ as') = none_of_auth as'
+none_of_role : (role : Role) (arrivals : List Arrival) → is_data role ≡ false → on_data (taken_in role arrivals) ≡ []
+none_of_role role [] e = refl
+none_of_role role (a ∷ as') e =
+    let d : Datagram = record { role = role; peer = a.from; octets = a.octets } in
+    let rest = on_data (taken_in role as') in
+    ap (λ (b : Bool). cond b (d ∷ rest) rest) e ∙ none_of_role role as' e
 
 auth_taken : (answers : List Answered) (ended : Option Ended) → on_data (auth_stretch answers ended).taken ≡ []
 auth_taken answers None = refl
 auth_taken answers (Some ended) =
     let arrivals = map (λ (a : Answered). a.arrival) answers in
-    ap on_data (append-nil (taken_in Auth arrivals)) ∙ none_of_auth arrivals
+    ap on_data (append-nil (taken_in Auth arrivals)) ∙ none_of_role Auth arrivals refl
 
 all_of_role : (role : Role) (arrivals : List Arrival) → is_data role ≡ true → on_data (taken_in role arrivals) ≡ taken_in role arrivals
 all_of_role role [] e = refl
@@ -175,12 +203,18 @@ turn_taken : (d d' : Desk) (t : Option Turn) → Step d t d' → (e : Desk) → 
 turn_taken d d' None step e = refl
 turn_taken d d' (Some t) step e =
     let heeded = map (λ (h : Heeded). h.arrival) t.control in
+    let acknowledged = map (λ (a : Acknowledged). a.arrival) t.acknowledged in
+    let acct = taken_in Acct acknowledged in
     let auth = (auth_stretch t.answers t.auth_end).taken in
     let rest = (data_stretch t.readings).taken ++ ((round_stretch t.round).taken ++ []) in
+    let later = (acct ++ []) ++ (auth ++ rest) in
     let roles : AllByRecursion (λ role. is_data role ≡ true) (map (λ r. r.role) t.readings) = subst (AllByRecursion (λ role. is_data role ≡ true)) (sym step.0.roles) (ports_data 1 _) in
-    on_data_append (taken_in Control heeded ++ []) (auth ++ rest)
-    ∙ ap (λ (ds : List Datagram). on_data ds ++ on_data (auth ++ rest)) (append-nil (taken_in Control heeded))
-    ∙ ap (λ (ds : List Datagram). ds ++ on_data (auth ++ rest)) (none_of_control heeded)
+    on_data_append (taken_in Control heeded ++ []) later
+    ∙ ap (λ (ds : List Datagram). on_data ds ++ on_data later) (append-nil (taken_in Control heeded))
+    ∙ ap (λ (ds : List Datagram). ds ++ on_data later) (none_of_role Control heeded refl)
+    ∙ on_data_append (acct ++ []) (auth ++ rest)
+    ∙ ap (λ (ds : List Datagram). on_data ds ++ on_data (auth ++ rest)) (append-nil acct)
+    ∙ ap (λ (ds : List Datagram). ds ++ on_data (auth ++ rest)) (none_of_role Acct acknowledged refl)
     ∙ on_data_append auth rest
     ∙ ap (λ (ds : List Datagram). ds ++ on_data rest) (auth_taken t.answers t.auth_end)
     ∙ ap (λ (ds : List Datagram). on_data ((data_stretch t.readings).taken ++ (ds ++ []))) (round_taken t.round)
@@ -207,7 +241,7 @@ end_taken d (Some t) = ap (λ (ds : List Datagram). ds ++ []) (round_taken t.rou
     round_taken None = refl
     round_taken (Some round) = refl
 
-endings_taken : (endings : List MadeEnd) → (ending_stretch endings).plant.taken ≡ []
+pub endings_taken : (endings : List MadeEnd) → (ending_stretch endings).plant.taken ≡ []
 endings_taken [] = refl
 endings_taken (m ∷ endings) = ap (λ (ds : List Datagram). ds ++ (ending_stretch endings).plant.taken) (end_taken m.desk m.turn) ∙ endings_taken endings
 
@@ -233,13 +267,16 @@ round_failed (Some round) = refl
 requests_failed : (server : Peer) (q : Requests) → (requests_stretch server q).failed ≡ count_by is_unsent (lane_sends q)
 requests_failed server q = refl
 
-turn_failed : (d : Desk) (t : Option Turn) → count_by not_sent (sends_in (round_in t)) + count_by is_unsent (requests_in t) ≤ (stretch_of d t).plant.failed
-turn_failed d None = omega arith
-turn_failed d (Some t) = omega (arith, round_failed t.round, requests_failed d.lane.client.auth_server t.requests)
+records_failed : (server : Peer) (r : RecordRequests) → (records_stretch server r).failed ≡ count_by is_unsent (record_sends r)
+records_failed server r = refl
 
-end_failed : (d : Desk) (t : Option EndTurn) → count_by not_sent (sends_in (end_round_in t)) + count_by is_unsent (end_requests_in t) ≤ (end_stretch d t).plant.failed
+turn_failed : (d : Desk) (t : Option Turn) → count_by not_sent (sends_in (round_in t)) + count_by is_unsent (requests_in t) + count_by is_unsent (records_in t) ≤ (stretch_of d t).plant.failed
+turn_failed d None = omega arith
+turn_failed d (Some t) = omega (arith, round_failed t.round, requests_failed d.lane.client.auth_server t.requests, records_failed d.billing.client.acct_server t.records)
+
+end_failed : (d : Desk) (t : Option EndTurn) → count_by not_sent (sends_in (end_round_in t)) + count_by is_unsent (end_requests_in t) + count_by is_unsent (end_records_in t) ≤ (end_stretch d t).plant.failed
 end_failed d None = omega arith
-end_failed d (Some t) = omega (arith, round_failed t.round, requests_failed d.lane.client.auth_server t.requests)
+end_failed d (Some t) = omega (arith, round_failed t.round, requests_failed d.lane.client.auth_server t.requests, records_failed d.billing.client.acct_server t.records)
 
 abbrev of_serving : List Made → List LaneSend
 of_serving turns = flat_map (λ m. requests_in m.turn) turns
@@ -247,30 +284,38 @@ of_serving turns = flat_map (λ m. requests_in m.turn) turns
 abbrev of_ending : List MadeEnd → List LaneSend
 of_ending endings = flat_map (λ m. end_requests_in m.turn) endings
 
-turns_failed : (turns : List Made) → count_by not_sent (flat_map sends_in (map (λ m. round_in m.turn) turns)) + count_by is_unsent (of_serving turns) ≤ (run_stretch turns).plant.failed
+abbrev billed_serving : List Made → List LaneSend
+billed_serving turns = flat_map (λ m. records_in m.turn) turns
+
+abbrev billed_ending : List MadeEnd → List LaneSend
+billed_ending endings = flat_map (λ m. end_records_in m.turn) endings
+
+turns_failed : (turns : List Made) → count_by not_sent (flat_map sends_in (map (λ m. round_in m.turn) turns)) + count_by is_unsent (of_serving turns) + count_by is_unsent (billed_serving turns) ≤ (run_stretch turns).plant.failed
 turns_failed [] = omega arith
 turns_failed (m ∷ turns) =
     omega (
       arith,
       unsent_append (sends_in (round_in m.turn)) (flat_map sends_in (map (λ (x : Made). round_in x.turn) turns)),
       requests_append (requests_in m.turn) (of_serving turns),
+      requests_append (records_in m.turn) (billed_serving turns),
       turn_failed m.desk m.turn,
       turns_failed turns,
     )
 
-endings_failed : (endings : List MadeEnd) → count_by not_sent (flat_map sends_in (map (λ m. end_round_in m.turn) endings)) + count_by is_unsent (of_ending endings) ≤ (ending_stretch endings).plant.failed
+endings_failed : (endings : List MadeEnd) → count_by not_sent (flat_map sends_in (map (λ m. end_round_in m.turn) endings)) + count_by is_unsent (of_ending endings) + count_by is_unsent (billed_ending endings) ≤ (ending_stretch endings).plant.failed
 endings_failed [] = omega arith
 endings_failed (m ∷ endings) =
     omega (
       arith,
       unsent_append (sends_in (end_round_in m.turn)) (flat_map sends_in (map (λ (x : MadeEnd). end_round_in x.turn) endings)),
       requests_append (end_requests_in m.turn) (of_ending endings),
+      requests_append (end_records_in m.turn) (billed_ending endings),
       end_failed m.desk m.turn,
       endings_failed endings,
     )
 
--- no more of what the rounds had to send and of the requests was not sent than failed
-pub unsent_failed : (turns : List Made) (endings : List MadeEnd) → count_by not_sent (sends_of (rounds_of turns endings)) + count_by is_unsent (requests_of turns endings) ≤ (plant_of turns endings).failed
+-- no more of what the rounds had to send, of the requests and of those of accounting was not sent than failed
+pub unsent_failed : (turns : List Made) (endings : List MadeEnd) → count_by not_sent (sends_of (rounds_of turns endings)) + count_by is_unsent (requests_of turns endings) + count_by is_unsent (records_of turns endings) ≤ (plant_of turns endings).failed
 unsent_failed turns endings =
     let serving = map (λ (m : Made). round_in m.turn) turns in
     let ending = map (λ (m : MadeEnd). end_round_in m.turn) endings in
@@ -279,6 +324,7 @@ unsent_failed turns endings =
       ap (count_by not_sent) (sends_are (rounds_in turns endings) ∙ flat_map-append sends_in serving ending),
       unsent_append (flat_map sends_in serving) (flat_map sends_in ending),
       requests_append (of_serving turns) (of_ending endings),
+      requests_append (billed_serving turns) (billed_ending endings),
       turns_failed turns,
       endings_failed endings,
     )

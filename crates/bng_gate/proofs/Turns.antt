@@ -38,15 +38,15 @@ kept_stopped d items (Some round) = refl
 -- a step of serving counts one turn, and stops the desk where it took `stop`
 step_rounds : (d d' : Desk) (t : Option Turn) → Step d t d' → d'.rounds ≡ d.rounds
 step_rounds d d' None step = ap (λ (u : Desk). u.rounds) step
-step_rounds d d' (Some t) step = ap (λ (u : Desk). u.rounds) step.3 ∙ kept_rounds d (items_of d t) t.round
+step_rounds d d' (Some t) step = ap (λ (u : Desk). u.rounds) step.4 ∙ kept_rounds d (items_of d t) t.round
 
 pub step_turns : (d d' : Desk) (t : Option Turn) → Step d t d' → d'.turns ≡ d.turns + 1
 step_turns d d' None step = ap (λ (u : Desk). u.turns) step
-step_turns d d' (Some t) step = ap (λ (u : Desk). u.turns) step.3
+step_turns d d' (Some t) step = ap (λ (u : Desk). u.turns) step.4
 
 step_stopped : (d d' : Desk) (t : Option Turn) → Step d t d' → d'.stopped ≡ (d.stopped || took t)
 step_stopped d d' None step = ap (λ (u : Desk). u.stopped) step ∙ sym (or_false d.stopped)
-step_stopped d d' (Some t) step = ap (λ (u : Desk). u.stopped) step.3
+step_stopped d d' (Some t) step = ap (λ (u : Desk). u.stopped) step.4
 
 pub run_rounds : (d d' : Desk) (turns : List Made) → Run d turns d' → d'.rounds ≡ d.rounds
 run_rounds d d' [] run = ap (λ (u : Desk). u.rounds) run
@@ -104,14 +104,14 @@ pub stays_over : (d d' : Desk) (t : Option EndTurn) → EndStep d t d' → is_ov
 stays_over d d' None step = ap is_over step
 stays_over d d' (Some t) step =
     end_over d d'
-    (ap (λ (u : Desk). u.stopped) step.3 ∙ kept_stopped d (ending_items d) t.round)
-    (ap (λ (u : Desk). u.turns) step.3 ∙ kept_turns d (ending_items d) t.round)
-    (ap (λ (u : Desk). u.rounds) step.3 ∙ kept_rounds d (ending_items d) t.round)
+    (ap (λ (u : Desk). u.stopped) step.4 ∙ kept_stopped d (ending_items d) t.round)
+    (ap (λ (u : Desk). u.turns) step.4 ∙ kept_turns d (ending_items d) t.round)
+    (ap (λ (u : Desk). u.rounds) step.4 ∙ kept_rounds d (ending_items d) t.round)
 
 -- the desk counts the turns of its ending
 step_endings : (d d' : Desk) (t : Option EndTurn) → EndStep d t d' → d'.endings ≡ d.endings + 1
 step_endings d d' None step = ap (λ (u : Desk). u.endings) step
-step_endings d d' (Some t) step = ap (λ (u : Desk). u.endings) step.3
+step_endings d d' (Some t) step = ap (λ (u : Desk). u.endings) step.4
 
 pub endings_made : (d d' : Desk) (endings : List MadeEnd) → EndRun d endings d' → d'.endings ≡ d.endings + length endings
 endings_made d d' [] run = omega (arith, ap (λ (u : Desk). u.endings) run)

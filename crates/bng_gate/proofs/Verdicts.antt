@@ -50,7 +50,7 @@ module _ (turns : List Made) where
   step_keeps : (k : ℕ) (d d' : Desk) (t : Option Turn) → slice_get turns k ≡ Some (record { desk = d; turn = t }) → Step d t d' → AreCaused k d → AreCaused (k + 1) d'
   step_keeps k d d' None at step kept = subst (All (Caused (k + 1))) (sym (ap (λ (x : Desk). x.kept) step)) (later k d.kept kept)
   step_keeps k d d' (Some t) at step kept =
-      subst (All (Caused (k + 1))) (sym (ap (λ (x : Desk). x.kept) step.3))
+      subst (All (Caused (k + 1))) (sym (ap (λ (x : Desk). x.kept) step.4))
       (kept_after (Caused (k + 1)) d (items_of d t) t.round (kept_caused turns (k + 1) (items_of d t) (items_caused k d t at step.0 kept)))
 
   go_keeps : (k : ℕ) (d d' : Desk) (m : Made) → slice_get turns k ≡ Some m → Goes d m d' → AreCaused k d → AreCaused (k + 1) d'
@@ -68,7 +68,7 @@ module _ (turns : List Made) where
   end_keeps : (k : ℕ) (d d' : Desk) (t : Option EndTurn) → EndStep d t d' → AreCaused k d → AreCaused k d'
   end_keeps k d d' None step kept = subst (All (Caused k)) (sym (ap (λ (x : Desk). x.kept) step)) kept
   end_keeps k d d' (Some t) step kept =
-      subst (All (Caused k)) (sym (ap (λ (x : Desk). x.kept) step.3))
+      subst (All (Caused k)) (sym (ap (λ (x : Desk). x.kept) step.4))
       (kept_after (Caused k) d (ending_items d) t.round (kept_caused turns k (ending_items d) (ending_caused k d kept)))
 
   -- The entry of a round is one of its items.

@@ -7,7 +7,7 @@ use Rattle.bng_base.specs.declared.circuit.Circuit.TheVariants.{Pppoe}
 use Rattle.bng_base.specs.declared.address.Mac.{Mac}
 use Rattle.bng_base.specs.declared.item.OutRecord.{OutRecord}
 use Rattle.bng_base.specs.declared.outside.Datagram.{Datagram}
-use Rattle.bng_base.specs.declared.outside.Role.TheVariants.{Access, Auth}
+use Rattle.bng_base.specs.declared.outside.Role.TheVariants.{Access, Auth, Acct}
 use Rattle.bng_base.specs.FateOf.{Arrival}
 use Rattle.bng_base.specs.PppoeGrammar.{PppoeFrame}
 use Rattle.bng_config.specs.declared.config.Config.{Config}
@@ -32,6 +32,7 @@ use Rattle.bng_shard.specs.Protocol.{ShardState, Handled, pppoe}
 use Rattle.bng_shard.specs.Questions.{Asking, asking_from, last_asking_at}
 use Rattle.bng_verdict.specs.declared.question.AuthAsk.{AuthAsk}
 use Rattle.bng_verdict.specs.Verdicts.{Saying, IsVerdict}
+use Rattle.bng_desk.specs.Accounting.{record_datagram, record_sends}
 use Rattle.bng_desk.specs.Logins.{lane_datagram, lane_sends}
 use Rattle.bng_desk.specs.Model.{Desk}
 use Rattle.bng_desk.specs.Opening.{lane_rules}
@@ -41,18 +42,21 @@ use Rattle.bng_desk.specs.Round.{Round}
 use Rattle.bng_desk.specs.Turn.{Turn, EndTurn}
 use Rattle.bng_gate.specs.Serving.{Made, MadeEnd}
 
--- Of a turn, in their order: the datagrams that it took from Auth, those that it took from the access ports and the core, the
--- datagrams of its round that were sent, the questions that it asked after them, each with the octets of its Access-Request, and the
--- requests that were sent: those that were sent again, and then those of these questions.
+-- Of a turn, in their order: the datagrams that it took from Acct, those that it took from Auth, those that it took from the access
+-- ports and the core, the datagrams of its round that were sent, the questions that it asked after them, each with the octets of its
+-- Access-Request, the requests that were sent: those that were sent again, and then those of these questions; and the
+-- Accounting-Requests that were sent: those that were sent again, and then those of the records that waited.
 pub record Stage : Type 0 where
+  pub acknowledged : List Datagram
   pub heard : List Datagram
   pub taken : List Datagram
   pub sent : List Datagram
   pub asked : List LaneAsk
   pub requests : List Datagram
+  pub records : List Datagram
 
 abbrev pub nothing : Stage
-nothing = record { heard = []; taken = []; sent = []; asked = []; requests = [] }
+nothing = record { acknowledged = []; heard = []; taken = []; sent = []; asked = []; requests = []; records = [] }
 
 -- what a round sent
 abbrev pub sent_by : Option Round → List Datagram
@@ -62,21 +66,25 @@ sent_by (Some round) = went (all_sends round.shards)
 abbrev pub stage_in : Desk → Option Turn → Stage
 stage_in d None = nothing
 stage_in d (Some t) = record {
+  acknowledged = taken_in Acct (map (λ a. a.arrival) t.acknowledged);
   heard = taken_in Auth (map (λ a. a.arrival) t.answers);
   taken = flat_map (λ r. taken_in r.role r.arrivals) t.readings;
   sent = sent_by t.round;
   asked = t.requests.asked;
   requests = flat_map (lane_datagram d.lane.client.auth_server) (lane_sends t.requests);
+  records = flat_map (record_datagram d.billing.client.acct_server) (record_sends t.records);
 }
 
 abbrev pub end_stage_in : Desk → Option EndTurn → Stage
 end_stage_in d None = nothing
 end_stage_in d (Some t) = record {
+  acknowledged = [];
   heard = [];
   taken = [];
   sent = sent_by t.round;
   asked = t.requests.asked;
   requests = flat_map (lane_datagram d.lane.client.auth_server) (lane_sends t.requests);
+  records = flat_map (record_datagram d.billing.client.acct_server) (record_sends t.records);
 }
 
 -- all turns of a run: those of serving, and then those of the ending

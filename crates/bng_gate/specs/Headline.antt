@@ -1,5 +1,5 @@
 -- What a run says in the subject's own words.
-use Rattle.std.specs.Prelude.{◌≡◌, ℕ, ◌+◌, ◌++◌, true, false, List, [], Some, length, map, take, drop, slice_get, count_by}
+use Rattle.std.specs.Prelude.{◌≡◌, ℕ, ◌+◌, ◌++◌, true, false, List, Some, length, map, take, drop, slice_get, count_by}
 use Rattle.std.specs.List.{All, AllZip, flat_map, range_with_len}
 use Rattle.byteorder.specs.Endian.{big_from}
 use Rattle.bng_base.specs.declared.address.Ip4.{Ip4}
@@ -36,8 +36,9 @@ use Rattle.bng_desk.specs.Reading.{taken_in}
 use Rattle.bng_desk.specs.Report.{report_text, by_number}
 use Rattle.bng_desk.specs.Round.{not_sent, view_of}
 use Rattle.bng_gate.specs.Granted.{Granted, stages_of}
+use Rattle.bng_gate.specs.Recorded.{Recorded}
 use Rattle.bng_gate.specs.Replied.{AreReplied}
-use Rattle.bng_gate.specs.Rounds.{rounds_of, history_of, plant_of, on_auth, on_data, beside_control, readings_of, requests_of, is_unsent, drops_of_run}
+use Rattle.bng_gate.specs.Rounds.{rounds_of, history_of, plant_of, on_auth, on_data, on_acct, beside_control, readings_of, requests_of, records_of, is_unsent, drops_of_run}
 use Rattle.bng_gate.specs.Run.{World, outside, Prepares, Course, Runs}
 
 -- the octets are an IPv4 packet of which this holds, and nothing else
@@ -139,12 +140,14 @@ pub record IsSafe (config : Config) (seed : List ℕ) (old new : World) (course 
   -- Each datagram to the core was a packet from the address of a circuit, and each packet on an access port was on a circuit, to its
   -- address.
   pub addressed : All (IsAddressed config) sent
-  -- What was taken from Auth, each datagram once and in order, are the datagrams that the stages of the turns heard, and what was taken
-  -- from the access ports and the core, so too, those that they took there. What was sent on all roles but Control, each datagram once
-  -- and in order, is what each stage sent there for its round, and then its requests.
+  -- What was taken from Auth, each datagram once and in order, are the datagrams that the stages of the turns heard, and so what was taken
+  -- from Acct, and what was taken from the access ports and the core, those that they took there. What was sent on all roles but
+  -- Control, each datagram once and in order, is what each stage sent there for its round, then its requests, and then its
+  -- Accounting-Requests.
   pub stages_heard : on_auth taken ≡ flat_map (λ s. s.heard) (stages_of course.turns course.endings)
+  pub stages_acknowledged : on_acct taken ≡ flat_map (λ s. s.acknowledged) (stages_of course.turns course.endings)
   pub stages_taken : on_data taken ≡ flat_map (λ s. s.taken) (stages_of course.turns course.endings)
-  pub stages_sent : beside_control sent ≡ beside_control (flat_map (λ s. s.sent ++ s.requests) (stages_of course.turns course.endings))
+  pub stages_sent : beside_control sent ≡ beside_control (flat_map (λ s. s.sent ++ (s.requests ++ s.records)) (stages_of course.turns course.endings))
   -- Each of the datagrams of Auth that was taken for the reply to a question comes from the configured server and is signed for the
   -- request of that question, which was open and asked in an earlier turn, and whose request was sent since.
   pub replied : AreReplied config seed course.turns
@@ -154,9 +157,13 @@ pub record IsSafe (config : Config) (seed : List ℕ) (old new : World) (course 
   -- server, signed for this request. It is the question that the peer's link asked last. No datagram of the server is that of two
   -- logins, and no two logins of different questions have requests with the same draw as their authenticator.
   pub granted : Granted config seed course.turns course.endings
-  -- Of what the rounds had to send and the requests of the turns, no more was not sent than the plant's count rose, unless that stands
-  -- at its end.
-  pub unsent : HasCauses old.plant.faults new.plant.faults (count_by not_sent (sends_of (rounds_of course.turns course.endings)) + count_by is_unsent (requests_of course.turns course.endings))
+  -- The records of accounting that the turns formed are the Stops of the rounds, one for each and in their order, which say what each
+  -- term carried. What was sent on Acct are their Accounting-Requests, to the configured server. What acknowledged a
+  -- record came from that server, signed for the very request of the record, which was formed and sent before.
+  pub recorded : Recorded config course.begins.bound.wall course.begins.is_opened.starts course.turns course.endings course.last taken sent
+  -- Of what the rounds had to send, the requests of the turns and their Accounting-Requests, no more was not sent than the plant's count
+  -- rose, unless that stands at its end.
+  pub unsent : HasCauses old.plant.faults new.plant.faults (count_by not_sent (sends_of (rounds_of course.turns course.endings)) + count_by is_unsent (requests_of course.turns course.endings) + count_by is_unsent (records_of course.turns course.endings))
 
 -- What holds of a run that ended with its report.
 pub record Headline (config : Config) (old new : World) : Type 0 where

@@ -7,4 +7,5 @@ pub mod Granted
 pub mod Replied
 pub mod Run
 pub mod Rounds
+pub mod Recorded
 pub mod Headline

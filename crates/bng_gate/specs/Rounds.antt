@@ -16,6 +16,7 @@ use Rattle.bng_desk.specs.declared.drops.Drops.{Drops}
 use Rattle.bng_desk.specs.Counting.{no_drops, plus}
 use Rattle.bng_desk.specs.Model.{Desk}
 use Rattle.bng_desk.specs.Items.{DataReading}
+use Rattle.bng_desk.specs.Accounting.{record_sends}
 use Rattle.bng_desk.specs.Logins.{lane_sends}
 use Rattle.bng_desk.specs.Round.{Round, view_of, drops_in, refused_of, with_refused}
 use Rattle.bng_desk.specs.Turn.{Turn, EndTurn, items_of, ending_items}
@@ -68,6 +69,19 @@ is_auth Control = false
 abbrev pub on_auth : List Datagram → List Datagram
 on_auth ds = filter (λ d. is_auth d.role) ds
 
+abbrev pub is_acct : Role → Bool
+is_acct (Access number) = false
+is_acct Core = false
+is_acct Tunnel = false
+is_acct Auth = false
+is_acct Acct = true
+is_acct Coa = false
+is_acct Control = false
+
+-- those of Acct
+abbrev pub on_acct : List Datagram → List Datagram
+on_acct ds = filter (λ d. is_acct d.role) ds
+
 abbrev pub is_control : Role → Bool
 is_control (Access number) = false
 is_control Core = false
@@ -101,6 +115,19 @@ end_requests_in (Some t) = lane_sends t.requests
 -- those of all turns: of serving, and then of the ending
 abbrev pub requests_of : List Made → List MadeEnd → List LaneSend
 requests_of turns endings = flat_map (λ m. requests_in m.turn) turns ++ flat_map (λ m. end_requests_in m.turn) endings
+
+-- the requests of accounting of a turn, with the answers to their sends
+abbrev pub records_in : Option Turn → List LaneSend
+records_in None = []
+records_in (Some t) = record_sends t.records
+
+abbrev pub end_records_in : Option EndTurn → List LaneSend
+end_records_in None = []
+end_records_in (Some t) = record_sends t.records
+
+-- those of all turns
+abbrev pub records_of : List Made → List MadeEnd → List LaneSend
+records_of turns endings = flat_map (λ m. records_in m.turn) turns ++ flat_map (λ m. end_records_in m.turn) endings
 
 -- a request that the plant did not take
 abbrev pub is_unsent : LaneSend → Bool

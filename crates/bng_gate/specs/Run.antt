@@ -1,7 +1,7 @@
 -- A whole run, from the words to the report.
 use Rattle.std.specs.Prelude.{◌≡◌, ℕ, ◌+◌, ◌-◌, ◌^◌, ◌≤◌, ◌<◌, ◌⊎◌, false, List, [], ◌∷◌, ◌++◌, take, length}
 use Rattle.std.specs.List.{list_any}
-use Rattle.bng_base.specs.declared.outside.Role.TheVariants.{Access, Auth, Core, Control}
+use Rattle.bng_base.specs.declared.outside.Role.TheVariants.{Access, Auth, Acct, Core, Control}
 use Rattle.bng_base.specs.declared.outside.ClockAnswer.TheVariants.{Now, Wall}
 use Rattle.bng_base.specs.declared.outside.Bind.{Bind}
 use Rattle.bng_base.specs.Causes.{Rose}
@@ -16,7 +16,7 @@ use Rattle.bng_desk.specs.Model.{Desk, state_of, all_carried}
 use Rattle.bng_desk.specs.Opening.{IsOpened}
 use Rattle.bng_desk.specs.Report.{report_text, by_number}
 use Rattle.bng_gate.specs.declared.texts.Opening.{Opening}
-use Rattle.bng_gate.specs.declared.texts.Opening.TheVariants.{Configuration, Seed, Control as ControlOpening, Core as CoreOpening, Access as AccessOpening, Auth as AuthOpening}
+use Rattle.bng_gate.specs.declared.texts.Opening.TheVariants.{Configuration, Seed, Control as ControlOpening, Core as CoreOpening, Access as AccessOpening, Auth as AuthOpening, Acct as AcctOpening}
 use Rattle.bng_gate.specs.declared.texts.Refusal.{Refusal}
 use Rattle.bng_gate.specs.declared.texts.Refusal.TheVariants.{Usage, Refused, CannotOpen, OutOfMemory, TraceFailed, OutputFailed}
 use Rattle.bng_gate.specs.Words.{Serves as ServesFile}
@@ -88,6 +88,7 @@ IsUnprepared words old new (CannotOpen ControlOpening) = ⊥
 IsUnprepared words old new (CannotOpen CoreOpening) = ⊥
 IsUnprepared words old new (CannotOpen (AccessOpening number)) = ⊥
 IsUnprepared words old new (CannotOpen AuthOpening) = ⊥
+IsUnprepared words old new (CannotOpen AcctOpening) = ⊥
 IsUnprepared words old new OutOfMemory = WantsToRead words old new
 IsUnprepared words old new TraceFailed = ⊥
 IsUnprepared words old new OutputFailed = ⊥
@@ -103,11 +104,11 @@ port_binds number (port ∷ ports) = record { role = Access number; local = port
 abbrev pub binds_of : Config → List Bind
 binds_of config =
     record { role = Control; local = config.control_local } ∷ record { role = Core; local = config.core_local }
-    ∷ (port_binds 1 config.access ++ record { role = Auth; local = config.auth_local } ∷ [])
+    ∷ (port_binds 1 config.access ++ record { role = Auth; local = config.auth_local } ∷ record { role = Acct; local = config.acct_local } ∷ [])
 
 -- how many there are
 abbrev pub binds_most : Config → ℕ
-binds_most config = 3 + length config.access
+binds_most config = 4 + length config.access
 
 -- this many of the access ports were bound, and nothing else was asked of the plant
 pub record BindsPorts (number : ℕ) (ports : List AccessPort) (old new : PlantTold) : Type 0 where
@@ -150,6 +151,7 @@ FailsAt config old new ControlOpening = FailsToBind config 0 old new
 FailsAt config old new CoreOpening = FailsToBind config 1 old new
 FailsAt config old new (AccessOpening number) = FailsToBindPort config number old new
 FailsAt config old new AuthOpening = FailsToBind config (2 + length config.access) old new
+FailsAt config old new AcctOpening = FailsToBind config (3 + length config.access) old new
 
 -- The seed ------------------------------------------------------------------------------------------------------------------
 
@@ -177,7 +179,7 @@ pub record IsBound (config : Config) (plant plant' : PlantTold) (clock clock' : 
 -- then this desk was opened
 pub record Begins (config : Config) (seed : List ℕ) (plant plant' : PlantTold) (clock clock' : ClockTold) (opening : Desk) : Type 0 where
   pub bound : IsBound config plant plant' clock clock'
-  pub is_opened : IsOpened config turns_most seed bound.now opening
+  pub is_opened : IsOpened config turns_most seed bound.now bound.wall opening
 
 -- why no desk was opened
 abbrev pub IsUnbegun : Config → PlantTold → PlantTold → ClockTold → ClockTold → Refusal → Type 0
@@ -367,6 +369,7 @@ Fails words old new ControlOpening = IsUnbound words old new (λ config p p'. Fa
 Fails words old new CoreOpening = IsUnbound words old new (λ config p p'. FailsToBind config 1 p p')
 Fails words old new (AccessOpening number) = IsUnbound words old new (λ config p p'. FailsToBindPort config number p p')
 Fails words old new AuthOpening = IsUnbound words old new (λ config p p'. FailsToBind config (2 + length config.access) p p')
+Fails words old new AcctOpening = IsUnbound words old new (λ config p p'. FailsToBind config (3 + length config.access) p p')
 
 -- what is named could not be opened, and no receive, send or wait was made
 pub record IsUnopened (words : List (List ℕ)) (old new : World) (what : Opening) : Type 0 where

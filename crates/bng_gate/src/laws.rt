@@ -14,7 +14,7 @@ ghost use Rattle.bng_gate.specs.Serving.{EndRun, endings_most, Made, MadeEnd, Ru
 /// the question was open at a session of a shard and was asked. The request is the very one that was made for it then, with a draw from
 /// the seed as its authenticator; it says the question, and was sent in that turn or in a later one before the reply.
 pub fn replies_are_of_questions()
-    ensures { (config : Config) (rounds : ℕ) (seed : List ℕ) (now : ℕ) (opening over : Desk) (turns : List Made) → IsOpened config rounds seed now opening → Run opening turns over → AreReplied config seed turns }
+    ensures { (config : Config) (rounds : ℕ) (seed : List ℕ) (now wall : ℕ) (opening over : Desk) (turns : List Made) → IsOpened config rounds seed now wall opening → Run opening turns over → AreReplied config seed turns }
 {}
 
 /// Each peer that was told yes, by Success of CHAP (RFC 1994 section 4.2) or Authenticate-Ack of PAP (RFC 1334 section 2.2.2), was let
@@ -27,6 +27,6 @@ pub fn replies_are_of_questions()
 /// sent for an entry of a shard: by the state in which that was handled, the login is the one of the question that the peer's link asked
 /// last, and the link was accepted on it before, or the entry is this very Access-Accept.
 pub fn logins_are_granted()
-    ensures { (config : Config) (rounds : ℕ) (seed : List ℕ) (now : ℕ) (opening over last : Desk) (turns : List Made) (endings : List MadeEnd) → KeepsRules config → IsOpened config rounds seed now opening
+    ensures { (config : Config) (rounds : ℕ) (seed : List ℕ) (now wall : ℕ) (opening over last : Desk) (turns : List Made) (endings : List MadeEnd) → KeepsRules config → IsOpened config rounds seed now wall opening
         → Run opening turns over → EndRun over endings last → length turns ≤ turns_most → length endings ≤ endings_most → Granted config seed turns endings }
 {}

@@ -10,6 +10,7 @@ use std::process::Abort;
 use std::sync::Wait;
 use std::thread::Threads;
 
+mod accounting;
 mod authentication;
 mod discovery;
 mod forwarding;
@@ -136,18 +137,46 @@ fn script_of(alloc: Global, list: &[(Role, u16, &[u8])]) -> Result<Vec<Arrival>,
     Ok(script)
 }
 
-/// The datagrams that a run sent are these, of these roles and to these ports of 127.0.0.1.
+/// The datagrams that a run sent, but for those of Acct, are these, of these roles and to these ports of 127.0.0.1.
 fn sends(rt: &impl Abort, ended: &Ended, wanted: &[(Role, u16, &[u8])]) {
-    assert_eq!(rt; ended.plant.sent().len(), wanted.len());
+    let sent = ended.plant.sent().iter();
+    let others = sent.filter(|datagram| datagram.role != Role::Acct).count();
+    assert_eq!(rt; others, wanted.len());
     sends_from(rt, ended, 0, wanted);
 }
 
-/// Of these datagrams those that a run sent from this place on are the first ones.
+/// Of these datagrams those that a run sent from this place on, not counting those of Acct, are the first ones.
 fn sends_from(rt: &impl Abort, ended: &Ended, place: usize, wanted: &[(Role, u16, &[u8])]) {
-    for (datagram, (role, port, octets)) in ended.plant.sent().iter().skip(place).zip(wanted) {
+    let sent = ended.plant.sent().iter();
+    let others = sent.filter(|datagram| datagram.role != Role::Acct);
+    for (datagram, (role, port, octets)) in others.skip(place).zip(wanted) {
         assert_eq!(rt; datagram.role, *role);
         assert_eq!(rt; datagram.peer, loopback(*port));
         assert_eq!(rt; datagram.octets.as_slice(), *octets);
+    }
+}
+
+/// Whether the octets have these in them.
+fn has(octets: &[u8], part: &[u8]) -> bool {
+    for place in 0..octets.len() {
+        if octets[place..].starts_with(part) {
+            return true;
+        }
+    }
+    false
+}
+
+/// The datagram that a run sent at this place is an Accounting-Request to the server (RFC 2866 section 4.1) with these attributes.
+fn accounts(rt: &impl Abort, ended: &Ended, place: usize, attributes: &[&[u8]]) {
+    let sent = ended.plant.sent();
+    assert!(rt; place < sent.len());
+    let datagram = &sent[place];
+    assert_eq!(rt; datagram.role, Role::Acct);
+    assert_eq!(rt; datagram.peer, loopback(1813));
+    let octets = datagram.octets.as_slice();
+    assert_eq!(rt; octets.first(), Some(&4));
+    for attribute in attributes {
+        assert!(rt; has(octets, attribute));
     }
 }
 

@@ -20,6 +20,7 @@ pub enum Opening {
     /// The access port with this number, from 1 on.
     Access(u8),
     Auth,
+    Acct,
 }
 
 /// Why a run did not come to its report.
@@ -109,6 +110,7 @@ fn cannot_open(what: Opening) -> Line
         Opening::Control => whole("bng: cannot open control\n"),
         Opening::Core => whole("bng: cannot open core\n"),
         Opening::Auth => whole("bng: cannot open auth\n"),
+        Opening::Acct => whole("bng: cannot open acct\n"),
         Opening::Access(number) => Line {
             front: "bng: cannot open access ",
             middle: digits(number),

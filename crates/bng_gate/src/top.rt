@@ -1,5 +1,5 @@
 //! The top call.
-ghost use Rattle.std.specs.Prelude.{◌≡◌, ◌<◌, ◌≤◌, ◌⊎◌, ℕ, List, [], ◌∷◌, false, IsSome, OnOk, OnErr, IfNone, IfOk, IfErr, IfSome, length};
+ghost use Rattle.std.specs.Prelude.{◌≡◌, ◌+◌, ◌<◌, ◌≤◌, ◌⊎◌, ℕ, List, [], ◌∷◌, false, IsSome, OnOk, OnErr, IfNone, IfOk, IfErr, IfSome, length};
 ghost use Rattle.std.specs.List.{All};
 ghost use Rattle.bng_base.specs.Told.{Grows};
 ghost use Rattle.bng_config.specs.declared.config.Config.{Config as Settings};
@@ -90,10 +90,10 @@ fn bind_ends<P: Plant>(config: &Config, plant: &mut P) -> Result<(), Opening>
     Ok(())
 }
 
-// Binds one role after the other, and says which could not be bound.
-fn bind_all<P: Plant>(config: &Config, plant: &mut P) -> Result<(), Opening>
+// Binds the roles of packets and of logins, one after the other, and says which could not be bound.
+fn bind_access<P: Plant>(config: &Config, plant: &mut P) -> Result<(), Opening>
     requires rules { KeepsRules config.now }
-    ensures bound { OnOk result (Binds config.now (binds_most config.now) (P.told plant.old) (P.told plant.new)) }
+    ensures bound { OnOk result (Binds config.now (3 + length config.now.access) (P.told plant.old) (P.told plant.new)) }
     ensures unfailed { OnOk result ((P.told plant.new).faults ≡ (P.told plant.old).faults) }
     ensures failed { IfErr result (λ what. FailsAt config.now (P.told plant.old) (P.told plant.new) what) }
 {
@@ -106,6 +106,22 @@ fn bind_all<P: Plant>(config: &Config, plant: &mut P) -> Result<(), Opening>
     match plant.bind(Role::Auth, config.auth_local, Some(config.auth_server)) {
         Bound::Ok => Ok(()),
         Bound::Failed => Err(Opening::Auth),
+    }
+}
+
+// Binds one role after the other, and says which could not be bound.
+fn bind_all<P: Plant>(config: &Config, plant: &mut P) -> Result<(), Opening>
+    requires rules { KeepsRules config.now }
+    ensures bound { OnOk result (Binds config.now (binds_most config.now) (P.told plant.old) (P.told plant.new)) }
+    ensures unfailed { OnOk result ((P.told plant.new).faults ≡ (P.told plant.old).faults) }
+    ensures failed { IfErr result (λ what. FailsAt config.now (P.told plant.old) (P.told plant.new) what) }
+{
+    if let Err(what) = bind_access(config, plant) {
+        return Err(what);
+    }
+    match plant.bind(Role::Acct, config.acct_local, Some(config.acct_server)) {
+        Bound::Ok => Ok(()),
+        Bound::Failed => Err(Opening::Acct),
     }
 }
 

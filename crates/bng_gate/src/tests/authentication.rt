@@ -287,9 +287,9 @@ fn a_request_that_did_not_go_has_no_reply(rt: HostRuntime) -> Result<(), Fail> {
     script.push(reply(alloc, 1812, REJECT)?)?;
     script.push(reply(alloc, 1812, ACCEPT)?.after(3))?;
     script.push(stop(0))?;
-    // Four binds, the receives of Control, of Auth, five times of the access port and of the core, the sends of three frames, and then
-    // that of the request.
-    let ended = run_pap(&rt, alloc, script, 1000, &[16])?;
+    // Five binds, the receives of Control, of Acct, of Auth, five times of the access port and of the core, the sends of three frames,
+    // and then that of the request.
+    let ended = run_pap(&rt, alloc, script, 1000, &[18])?;
     assert_eq!(rt; ended.plant.faults(), 1);
     let passed = framed(alloc, &TO_HOST, PASSED)?;
     let port = Role::Access(1);

@@ -1,6 +1,7 @@
 //! Packets of provisioned circuits.
 use super::{
-    CONFIGURATION, PACKET, SERVE, TWO_PORTS, frame_and_stop, loopback, run_over, script_of, sends,
+    CONFIGURATION, PACKET, SERVE, TWO_PORTS, accounts, frame_and_stop, loopback, run_over,
+    script_of, sends,
 };
 use bng_base::Role;
 use std::test::Fail;
@@ -14,6 +15,20 @@ const FORWARDED: [u8; 20] = [
 const SPOOFED: [u8; 20] = [
     0x45, 0, 0, 0x54, 0, 1, 0, 0, 0x40, 1, 0xae, 0xa4, 10, 0, 0, 3, 0xc0, 0, 2, 1,
 ];
+
+/// Attributes of RFC 2866 section 5: the Acct-Status-Types Start and Stop, the Acct-Session-Id of the circuit's term, and
+/// Acct-Input-Octets and Acct-Output-Octets.
+const START: &[u8] = b"\x28\x06\x00\x00\x00\x01";
+
+const STOP: &[u8] = b"\x28\x06\x00\x00\x00\x02";
+
+const SESSION_ID: &[u8] = b"\x2c\x1a6553f1000401000000000001";
+
+const NOTHING_IN: &[u8] = b"\x2a\x06\x00\x00\x00\x00";
+
+const PACKET_IN: &[u8] = b"\x2a\x06\x00\x00\x00\x54";
+
+const NOTHING_OUT: &[u8] = b"\x2b\x06\x00\x00\x00\x00";
 
 /// A packet of 20 octets from 10.0.0.2 with TTL 2 in a frame of the circuit, padded to 60 octets.
 const PADDED: [u8; 60] = [
@@ -109,15 +124,17 @@ fn a_packet_is_forwarded_with_ttl_and_sum_changed(rt: HostRuntime) -> Result<(),
     );
     assert!(rt; ended.err.text().is_empty());
     let sent = ended.plant.sent();
-    assert_eq!(rt; sent.len(), 2);
+    assert_eq!(rt; sent.len(), 4);
     assert_eq!(rt; sent[0].role, Role::Core);
     assert_eq!(rt; sent[0].peer, loopback(9001));
     let packet = sent[0].octets.as_slice();
     assert_eq!(rt; packet.len(), 84);
     assert_eq!(rt; &packet[..20], FORWARDED.as_slice());
     assert!(rt; packet[20..].iter().all(|octet| *octet == 7));
-    assert_eq!(rt; sent[1].role, Role::Control);
-    assert_eq!(rt; sent[1].octets.as_slice(), b"stopping\n".as_slice());
+    accounts(&rt, &ended, 1, &[START, SESSION_ID]);
+    assert_eq!(rt; sent[2].role, Role::Control);
+    assert_eq!(rt; sent[2].octets.as_slice(), b"stopping\n".as_slice());
+    accounts(&rt, &ended, 3, &[STOP, SESSION_ID, PACKET_IN, NOTHING_OUT]);
     Ok(())
 }
 
@@ -125,8 +142,8 @@ fn a_packet_is_forwarded_with_ttl_and_sum_changed(rt: HostRuntime) -> Result<(),
 fn a_packet_that_does_not_go_is_counted_as_a_drop_alone(rt: HostRuntime) -> Result<(), Fail> {
     let alloc = rt.alloc();
     let script = frame_and_stop(alloc, &PACKET)?;
-    // Four binds, the receives of Control, of Auth, twice of the access port and of the core, and then the send to the core.
-    let failed = run_over(&rt, alloc, &SERVE, CONFIGURATION, script, &[10], &[])?;
+    // Five binds, the receives of Control, of Acct, of Auth, twice of the access port and of the core, and then the send to the core.
+    let failed = run_over(&rt, alloc, &SERVE, CONFIGURATION, script, &[12], &[])?;
     assert_eq!(rt; failed.status, 0);
     assert_eq!(rt;
         failed.out.text(),
@@ -139,7 +156,9 @@ fn a_packet_that_does_not_go_is_counted_as_a_drop_alone(rt: HostRuntime) -> Resu
         spoofed.out.text(),
         b"total in=0 out=0\nstatic 10.0.0.2 in=0 out=0\ndrop Malformed 0\ndrop NoSession 0\ndrop NotOpen 0\ndrop Expired 0\ndrop Spoofed 1\ndrop TooBig 0\ndrop Exceeded 0\ndrop LinkFailed 0\ndrop WantOfMemory 0\n".as_slice()
     );
-    assert_eq!(rt; spoofed.plant.sent().len(), 1);
+    // The Start, `stopping` and the Stop.
+    assert_eq!(rt; spoofed.plant.sent().len(), 3);
+    accounts(&rt, &spoofed, 2, &[STOP, NOTHING_IN, NOTHING_OUT]);
     Ok(())
 }
 
@@ -151,8 +170,8 @@ fn what_comes_after_a_failed_send_is_sent(rt: HostRuntime) -> Result<(), Fail> {
         (Role::Access(1), 9011, &PADDED),
     ];
     let script = script_of(alloc, &list)?;
-    // Four binds, the receives of Control, of Auth, three times of the access port and of the core, and then the first send.
-    let ended = run_over(&rt, alloc, &SERVE, CONFIGURATION, script, &[11], &[])?;
+    // Five binds, the receives of Control, of Acct, of Auth, three times of the access port and of the core, and then the first send.
+    let ended = run_over(&rt, alloc, &SERVE, CONFIGURATION, script, &[13], &[])?;
     assert_eq!(rt; ended.status, 0);
     assert_eq!(rt;
         ended.out.text(),
@@ -207,14 +226,13 @@ fn each_circuit_gets_its_own_packets_on_its_own_port(rt: HostRuntime) -> Result<
         ended.out.text(),
         b"total in=20 out=40\nstatic 10.0.0.2 in=20 out=20\nstatic 10.0.0.3 in=0 out=20\ndrop Malformed 1\ndrop NoSession 0\ndrop NotOpen 0\ndrop Expired 0\ndrop Spoofed 0\ndrop TooBig 0\ndrop Exceeded 0\ndrop LinkFailed 0\ndrop WantOfMemory 0\n".as_slice()
     );
-    let sent = ended.plant.sent();
-    assert_eq!(rt; sent.len(), 4);
-    assert_eq!(rt; sent[0].role, Role::Core);
-    assert_eq!(rt; sent[1].role, Role::Access(2));
-    assert_eq!(rt; sent[1].peer, loopback(9021));
-    assert_eq!(rt; sent[1].octets.as_slice(), DOWN_THE_OTHER.as_slice());
-    assert_eq!(rt; sent[2].role, Role::Access(1));
-    assert_eq!(rt; sent[2].octets.as_slice(), DOWN.as_slice());
+    let wanted: [(Role, u16, &[u8]); 4] = [
+        (Role::Core, 9001, &UP),
+        (Role::Access(2), 9021, &DOWN_THE_OTHER),
+        (Role::Access(1), 9011, &DOWN),
+        (Role::Control, 5, b"stopping\n"),
+    ];
+    sends(&rt, &ended, &wanted);
     Ok(())
 }
 
@@ -277,7 +295,7 @@ fn what_does_not_pass_is_counted_by_its_cause(rt: HostRuntime) -> Result<(), Fai
         ended.out.text(),
         b"total in=0 out=0\nstatic 10.0.0.2 in=0 out=0\ndrop Malformed 2\ndrop NoSession 3\ndrop NotOpen 0\ndrop Expired 1\ndrop Spoofed 0\ndrop TooBig 0\ndrop Exceeded 0\ndrop LinkFailed 0\ndrop WantOfMemory 0\n".as_slice()
     );
-    assert_eq!(rt; ended.plant.sent().len(), 2);
+    assert_eq!(rt; ended.plant.sent().len(), 4);
     assert_eq!(rt; ended.plant.sent()[0].octets.as_slice().get(15), Some(&7));
     Ok(())
 }

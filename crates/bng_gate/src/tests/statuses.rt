@@ -90,6 +90,17 @@ fn each_status_has_its_line(rt: HostRuntime) -> Result<(), Fail> {
     )?;
     assert_eq!(rt; unbound.status, 3);
     assert_eq!(rt; unbound.err.text(), b"bng: cannot open auth\n".as_slice());
+    let unbound = run_over(
+        &rt,
+        alloc,
+        &SERVE,
+        CONFIGURATION,
+        Vec::new(alloc),
+        &[5],
+        &[],
+    )?;
+    assert_eq!(rt; unbound.status, 3);
+    assert_eq!(rt; unbound.err.text(), b"bng: cannot open acct\n".as_slice());
     let script = frame_and_stop(alloc, &PACKET)?;
     let unwritten = run_over(&rt, alloc, &SERVE, CONFIGURATION, script, &[], &[1])?;
     assert_eq!(rt; unwritten.status, 5);
@@ -123,7 +134,7 @@ fn without_a_seed_nothing_is_bound(rt: HostRuntime) -> Result<(), Fail> {
 fn a_round_that_the_trace_does_not_take_is_the_last(rt: HostRuntime) -> Result<(), Fail> {
     let alloc = rt.alloc();
     // The round of the packet, and that of the ending after the round of `stop`.
-    for (note, sent) in [(1, 1), (3, 2)] {
+    for (note, sent) in [(1, 2), (3, 4)] {
         let script = frame_and_stop(alloc, &PACKET)?;
         let plant = MemoryPlant::new(alloc, script, Vec::new(alloc), 64)?;
         let fails: [u64; 1] = [note];
@@ -142,7 +153,7 @@ fn a_round_that_the_trace_does_not_take_is_the_last(rt: HostRuntime) -> Result<(
         assert_eq!(rt; ended.status, 5);
         assert_eq!(rt; ended.err.text(), b"bng: trace failed\n".as_slice());
         assert!(rt; ended.out.text().is_empty());
-        // The packet went to the core before that.
+        // The packet went to the core before that, and the Start of the circuit and its Stop to the server.
         assert_eq!(rt; ended.plant.sent().len(), sent);
         match ended.plant.sent() {
             [first, ..] => {

@@ -1,19 +1,19 @@
-use Rattle.std.proofs.Common.{[], ◌∷◌, ◌∙◌}
-use Rattle.bng_base.specs.declared.outside.ClockAnswer.TheVariants.{Now, Wall}
-use Rattle.bng_base.proofs.ToldLaws.{grows_if_told_more}
+use Rattle.bng_gate.proofs.Binding.{is_bound}
 use Rattle.bng_gate.proofs.top.open_desk.Goals as goal
 
 pub returns-in-Ok-clause-opened : goal.returns-in-Ok-clause-opened
 returns-in-Ok-clause-opened g c =
-    let told = g.C.Clock.told in
+    let plant = g.P.Plant.told in
+    let clock = g.C.Clock.told in
     record {
-      bound = record {
-        binds = c.in_default.ensures.bound;
-        unfailed = c.in_default.ensures.unfailed;
-        now = c.now-now.result;
-        wall = c.wall-wall.result;
-        read = grows_if_told_more (told c.args.clock.now).answers (told c.now-now.new.self).answers (told c.wall-wall.new.self).answers (Now c.now-now.result ∷ []) (Wall c.wall-wall.result ∷ []) c.now-now.ensures.answers c.wall-wall.ensures.answers;
-        last = c.wall-wall.ensures.last ∙ c.now-now.ensures.last;
-      };
+      bound = is_bound c.args.config (plant c.args.plant.now) (plant c.bind_all.new.plant) (clock c.args.clock.now) (clock c.now-now.new.self) (clock c.wall-wall.new.self) c.now-now.result c.wall-wall.result
+          c.in_default.ensures.bound c.in_default.ensures.unfailed c.now-now.ensures.answers c.wall-wall.ensures.answers c.now-now.ensures.last c.wall-wall.ensures.last;
       is_opened = c.in-Ok.ensures;
     }
+
+pub returns-in-Err-OutOfMemory-clause-refused : goal.returns-in-Err-OutOfMemory-clause-refused
+returns-in-Err-OutOfMemory-clause-refused g c =
+    let plant = g.P.Plant.told in
+    let clock = g.C.Clock.told in
+    is_bound c.args.config (plant c.args.plant.now) (plant c.bind_all.new.plant) (clock c.args.clock.now) (clock c.now-now.new.self) (clock c.wall-wall.new.self) c.now-now.result c.wall-wall.result
+    c.in_default.ensures.bound c.in_default.ensures.unfailed c.now-now.ensures.answers c.wall-wall.ensures.answers c.now-now.ensures.last c.wall-wall.ensures.last

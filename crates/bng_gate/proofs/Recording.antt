@@ -1,0 +1,347 @@
+-- What a run did with accounting, from its turns.
+use Rattle.std.proofs.Common.{◌≡◌, ℕ, List, [], ◌∷◌, ◌++◌, map, Option, Some, None, refl, sym, ap, subst, ◌∙◌, append-nil, append_assoc}
+use Rattle.std.specs.List.{AllByRecursion, AllZip, flat_map}
+use Rattle.std.proofs.lemmas.List.Concat.{flat_map-append}
+use Rattle.bng_base.specs.declared.address.Peer.{Peer}
+use Rattle.bng_base.specs.declared.outside.Datagram.{Datagram}
+use Rattle.bng_base.specs.declared.outside.Role.TheVariants.{Acct}
+use Rattle.bng_base.specs.Chain.{Chain}
+use Rattle.bng_base.proofs.ChainLaws.{chain_append, chain_keeps}
+use Rattle.bng_billing.specs.Calls.{BillingCall, Formed, Given, Again, Told, Heard, Stopped, Does}
+use Rattle.bng_billing.specs.Records.{IsFormedBy}
+use Rattle.bng_billing.specs.Replies.{Takes}
+use Rattle.bng_billing.specs.State.{BillingState}
+use Rattle.bng_billing.proofs.Following.{answers_of}
+use Rattle.bng_config.specs.declared.config.Config.{Config}
+use Rattle.bng_engine.specs.Laws.{sends_of, stops_of}
+use Rattle.bng_engine.specs.Terms.{Stop}
+use Rattle.bng_lane.specs.Sends.{LaneSend}
+use Rattle.bng_desk.specs.Accounting.{Acknowledged, FormedRecord, IsStopOf, RecordRequests, RecordSend, Resends, Gives, SettlesRecords, record_datagram, record_sends}
+use Rattle.bng_desk.specs.Model.{Desk}
+use Rattle.bng_desk.specs.Opening.{IsOpened, billing_rules}
+use Rattle.bng_desk.specs.Reading.{taken_in}
+use Rattle.bng_desk.specs.Round.{Round, stops_of as stops_of_round}
+use Rattle.bng_desk.specs.Turn.{Turn, EndTurn, Step, EndStep, BillingTurn, BillingEnd, stops_in}
+use Rattle.bng_gate.specs.Granted.{Stage, stage_in, end_stage_in, stages_of}
+use Rattle.bng_gate.specs.Recorded.{Recorded, SaysStop, formed_in, end_formed_in, formed_of, formed_call, heard_call, again_calls, given_calls, request_calls, calls_in, end_calls_in, calls_of, sent_by_calls, taken_for}
+use Rattle.bng_gate.specs.Rounds.{plant_of, round_in, end_round_in, rounds_in, rounds_of, turns_of}
+use Rattle.bng_gate.specs.Serving.{Made, MadeEnd, Run, EndRun}
+use Rattle.bng_gate.proofs.Follows.{chain_map}
+use Rattle.bng_gate.proofs.Lines.{round_stops}
+use Rattle.bng_gate.proofs.OnAcct.{IsElse, stages_recorded}
+use Rattle.bng_gate.proofs.Staging.{stages_acknowledged}
+
+-- The calls lead from turn to turn -------------------------------------------------------------------------------------------------
+
+-- a chain, seen by a chain for each of its links
+chain_flat : {S T U : Type 0} (step : S → T → S → Type 0) (other : S → U → S → Type 0) (f : T → List U) → ((s : S) (t : T) (s' : S) → step s t s' → Chain other s (f t) s') → (s s' : S) (ts : List T) → Chain step s ts s' → Chain other s (flat_map f ts) s'
+chain_flat step other f each s s' [] run = run
+chain_flat step other f each s s' (t ∷ ts) run = chain_append other s run.0 s' (f t) (flat_map f ts) (each s t run.0 run.1) (chain_flat step other f each run.0 s' ts run.2)
+
+forms_calls : (b b' : BillingState) (fs : List FormedRecord) → Chain (λ x (f : FormedRecord) y. IsFormedBy x f.status f.facts f.moment f.number y) b fs b' → Chain Does b (map formed_call fs) b'
+forms_calls b b' fs run = chain_map (λ x (f : FormedRecord) y. IsFormedBy x f.status f.facts f.moment f.number y) Does formed_call (λ s f s' h. h) b b' fs run
+
+hears_calls : (b b' : BillingState) (as' : List Acknowledged) → Chain (λ x (a : Acknowledged) y. Takes x a.arrival.from a.arrival.octets a.found y) b as' b' → Chain Does b (map heard_call as') b'
+hears_calls b b' as' run = chain_map (λ x (a : Acknowledged) y. Takes x a.arrival.from a.arrival.octets a.found y) Does heard_call (λ s a s' h. h) b b' as' run
+
+settles_calls : (moment : ℕ) (b b' : BillingState) (q : RecordRequests) → SettlesRecords moment b q b' → Chain Does b (request_calls moment q) b'
+settles_calls moment b b' q s =
+    chain_append Does b s.mid b' (flat_map (again_calls moment) q.again) (flat_map (given_calls moment) q.given)
+    (chain_flat (Resends moment) Does (again_calls moment) (λ x (u : LaneSend) y by. (by.0, by.1, (y, by.2, refl))) b s.mid q.again s.resends)
+    (chain_flat (Gives moment) Does (given_calls moment) (λ x (r : RecordSend) y by. (by.0, by.1, (y, by.2, refl))) s.mid b' q.given s.gives)
+
+turn_calls : (d : Desk) (t : Turn) → BillingTurn d t → Chain Does d.billing (calls_in (Some t)) t.billing
+turn_calls d t by =
+    chain_append Does d.billing by.heard t.billing (map heard_call t.acknowledged) (map formed_call t.formed ++ request_calls t.moment t.records)
+    (hears_calls d.billing by.heard t.acknowledged by.hears)
+    (chain_append Does by.heard by.booked t.billing (map formed_call t.formed) (request_calls t.moment t.records)
+    (forms_calls by.heard by.booked t.formed by.forms)
+    (settles_calls t.moment by.booked t.billing t.records by.settles))
+
+end_calls : (d : Desk) (t : EndTurn) → BillingEnd d t → Chain Does d.billing (end_calls_in (Some t)) t.billing
+end_calls d t by =
+    chain_append Does d.billing by.booked t.billing (map formed_call t.formed) (request_calls t.moment t.records)
+    (forms_calls d.billing by.booked t.formed by.forms)
+    (settles_calls t.moment by.booked t.billing t.records by.settles)
+
+step_calls : (d d' : Desk) (t : Option Turn) → Step d t d' → Chain Does d.billing (calls_in t) d'.billing
+step_calls d d' None step = ap (λ (x : Desk). x.billing) step
+step_calls d d' (Some t) step = subst (λ (b : BillingState). Chain Does d.billing (calls_in (Some t)) b) (sym (ap (λ (x : Desk). x.billing) step.4)) (turn_calls d t step.3)
+
+end_step_calls : (d d' : Desk) (t : Option EndTurn) → EndStep d t d' → Chain Does d.billing (end_calls_in t) d'.billing
+end_step_calls d d' None step = ap (λ (x : Desk). x.billing) step
+end_step_calls d d' (Some t) step = subst (λ (b : BillingState). Chain Does d.billing (end_calls_in (Some t)) b) (sym (ap (λ (x : Desk). x.billing) step.4)) (end_calls d t step.3)
+
+run_calls : (d d' : Desk) (turns : List Made) → Run d turns d' → Chain Does d.billing (flat_map (λ m. calls_in m.turn) turns) d'.billing
+run_calls d d' [] run = ap (λ (x : Desk). x.billing) run
+run_calls d d' (m ∷ turns) run =
+    chain_append Does d.billing run.0.billing d'.billing (calls_in m.turn) (flat_map (λ (x : Made). calls_in x.turn) turns) (step_calls d run.0 m.turn run.1.1) (run_calls run.0 d' turns run.2)
+
+ending_calls : (d d' : Desk) (endings : List MadeEnd) → EndRun d endings d' → Chain Does d.billing (flat_map (λ m. end_calls_in m.turn) endings) d'.billing
+ending_calls d d' [] run = ap (λ (x : Desk). x.billing) run
+ending_calls d d' (m ∷ endings) run =
+    chain_append Does d.billing run.0.billing d'.billing (end_calls_in m.turn) (flat_map (λ (x : MadeEnd). end_calls_in x.turn) endings) (end_step_calls d run.0 m.turn run.1.1) (ending_calls run.0 d' endings run.2)
+
+-- The Stops ------------------------------------------------------------------------------------------------------------------------
+
+zip_append : {X Y : Type 0} (P : X → Y → Type 0) (as' bs : List X) (cs ds : List Y) → AllZip P as' cs → AllZip P bs ds → AllZip P (as' ++ bs) (cs ++ ds)
+zip_append P [] bs [] ds h k = k
+zip_append P [] bs (c ∷ cs) ds h k = absurd h
+zip_append P (a ∷ as') bs [] ds h k = absurd h
+zip_append P (a ∷ as') bs (c ∷ cs) ds h k = (h.0, zip_append P as' bs cs ds h.1 k)
+
+stop_said : (d : Desk) (moment wall : ℕ) (s : Stop) (f : FormedRecord) → IsStopOf d.lines d.began moment wall s f → SaysStop s f
+stop_said d moment wall s f is = record {
+  status = is.status;
+  term = is.facts.term;
+  circuit = is.facts.circuit;
+  address = is.facts.address;
+  carried = is.facts.carried;
+  cause = ap (λ m. m.cause) is.at;
+}
+
+all_said : (d : Desk) (moment wall : ℕ) (ss : List Stop) (fs : List FormedRecord) → AllZip (IsStopOf d.lines d.began moment wall) ss fs → AllZip SaysStop ss fs
+all_said d moment wall [] [] h = tt
+all_said d moment wall [] (f ∷ fs) h = absurd h
+all_said d moment wall (s ∷ ss) [] h = absurd h
+all_said d moment wall (s ∷ ss) (f ∷ fs) h = (stop_said d moment wall s f h.0, all_said d moment wall ss fs h.1)
+
+step_stops : (d d' : Desk) (t : Option Turn) → Step d t d' → AllZip SaysStop (stops_in (round_in t)) (formed_in t)
+step_stops d d' None step = tt
+step_stops d d' (Some t) step = all_said d t.moment t.wall (stops_in t.round) t.formed step.3.stops
+
+end_step_stops : (d d' : Desk) (t : Option EndTurn) → EndStep d t d' → AllZip SaysStop (stops_in (end_round_in t)) (end_formed_in t)
+end_step_stops d d' None step = tt
+end_step_stops d d' (Some t) step = all_said d t.moment t.wall (stops_in t.round) t.formed step.3.stops
+
+run_stops : (d d' : Desk) (turns : List Made) → Run d turns d' → AllZip SaysStop (flat_map stops_in (map (λ m. round_in m.turn) turns)) (flat_map (λ m. formed_in m.turn) turns)
+run_stops d d' [] run = tt
+run_stops d d' (m ∷ turns) run =
+    zip_append SaysStop (stops_in (round_in m.turn)) (flat_map stops_in (map (λ (x : Made). round_in x.turn) turns)) (formed_in m.turn) (flat_map (λ (x : Made). formed_in x.turn) turns)
+    (step_stops d run.0 m.turn run.1.1) (run_stops run.0 d' turns run.2)
+
+ending_stops : (d d' : Desk) (endings : List MadeEnd) → EndRun d endings d' → AllZip SaysStop (flat_map stops_in (map (λ m. end_round_in m.turn) endings)) (flat_map (λ m. end_formed_in m.turn) endings)
+ending_stops d d' [] run = tt
+ending_stops d d' (m ∷ endings) run =
+    zip_append SaysStop (stops_in (end_round_in m.turn)) (flat_map stops_in (map (λ (x : MadeEnd). end_round_in x.turn) endings)) (end_formed_in m.turn) (flat_map (λ (x : MadeEnd). end_formed_in x.turn) endings)
+    (end_step_stops d run.0 m.turn run.1.1) (ending_stops run.0 d' endings run.2)
+
+-- the Stops of the rounds, as the engine lists them
+stops_are : (rounds : List (Option Round)) → stops_of (flat_map turns_of rounds) ≡ flat_map stops_in rounds
+stops_are [] = refl
+stops_are (None ∷ rounds) = stops_are rounds
+stops_are (Some round ∷ rounds) =
+    ap (λ (ss : List Stop). ss ++ stops_of (flat_map turns_of rounds)) (sym (round_stops round.shards))
+    ∙ ap (λ (ss : List Stop). stops_of_round round ++ ss) (stops_are rounds)
+
+all_stops : (d over last : Desk) (turns : List Made) (endings : List MadeEnd) → Run d turns over → EndRun over endings last → AllZip SaysStop (stops_of (rounds_of turns endings)) (formed_of turns endings)
+all_stops d over last turns endings run ending =
+    let serving = map (λ (m : Made). round_in m.turn) turns in
+    let closing = map (λ (m : MadeEnd). end_round_in m.turn) endings in
+    subst (λ (ss : List Stop). AllZip SaysStop ss (formed_of turns endings)) (sym (stops_are (rounds_in turns endings) ∙ flat_map-append stops_in serving closing))
+    (zip_append SaysStop (flat_map stops_in serving) (flat_map stops_in closing) (flat_map (λ (m : Made). formed_in m.turn) turns) (flat_map (λ (m : MadeEnd). end_formed_in m.turn) endings)
+    (run_stops d over turns run) (ending_stops over last endings ending))
+
+-- What was sent --------------------------------------------------------------------------------------------------------------------
+
+-- the server stays the one that accounting was opened for
+does_server : (b b' : BillingState) (c : BillingCall) → Does b c b' → b'.client.acct_server ≡ b.client.acct_server
+does_server b b' (Formed status facts moment n) h = ap (λ (x : BillingState). x.client.acct_server) h.others
+does_server b b' (Given now n id octets) h = ap (λ (x : BillingState). x.client.acct_server) h.others
+does_server b b' (Again now id octets) h = ap (λ (x : BillingState). x.client.acct_server) h.others
+does_server b b' (Told id sent) h = ap (λ (x : BillingState). x.client.acct_server) h
+does_server b b' (Heard from octets None) h = ap (λ (x : BillingState). x.client.acct_server) h.1
+does_server b b' (Heard from octets (Some n)) h = ap (λ (x : BillingState). x.client.acct_server) h.others
+does_server b b' Stopped h = ap (λ (x : BillingState). x.client.acct_server) h.others
+
+abbrev IsAt : Peer → BillingState → Type 0
+IsAt server b = b.client.acct_server ≡ server
+
+stays_at : (server : Peer) (b b' : BillingState) (cs : List BillingCall) → Chain Does b cs b' → IsAt server b → IsAt server b'
+stays_at server b b' cs run is = chain_keeps Does (IsAt server) (λ s s' c h k. does_server s s' c h ∙ k) b b' cs run is
+
+module _ (server : Peer) where
+  formed_sends : (fs : List FormedRecord) (rest : List BillingCall) → sent_by_calls server (map formed_call fs ++ rest) ≡ sent_by_calls server rest
+  formed_sends [] rest = refl
+  formed_sends (f ∷ fs) rest = formed_sends fs rest
+
+  heard_sends : (as' : List Acknowledged) (rest : List BillingCall) → sent_by_calls server (map heard_call as' ++ rest) ≡ sent_by_calls server rest
+  heard_sends [] rest = refl
+  heard_sends (a ∷ as') rest = heard_sends as' rest
+
+  again_sends : (moment : ℕ) (ss : List LaneSend) (rest : List BillingCall) → sent_by_calls server (flat_map (again_calls moment) ss ++ rest) ≡ flat_map (record_datagram server) ss ++ sent_by_calls server rest
+  again_sends moment [] rest = refl
+  again_sends moment (s ∷ ss) rest =
+      ap (λ (ds : List Datagram). record_datagram server s ++ ds) (again_sends moment ss rest)
+      ∙ sym (append_assoc (record_datagram server s) (flat_map (record_datagram server) ss) (sent_by_calls server rest))
+
+  abbrev send_in : RecordSend → LaneSend
+  send_in r = r.send
+
+  given_sends : (moment : ℕ) (rs : List RecordSend) (rest : List BillingCall) → sent_by_calls server (flat_map (given_calls moment) rs ++ rest) ≡ flat_map (record_datagram server) (map send_in rs) ++ sent_by_calls server rest
+  given_sends moment [] rest = refl
+  given_sends moment (r ∷ rs) rest =
+      ap (λ (ds : List Datagram). record_datagram server r.send ++ ds) (given_sends moment rs rest)
+      ∙ sym (append_assoc (record_datagram server r.send) (flat_map (record_datagram server) (map send_in rs)) (sent_by_calls server rest))
+
+  request_sends : (moment : ℕ) (q : RecordRequests) (rest : List BillingCall) → sent_by_calls server (request_calls moment q ++ rest) ≡ flat_map (record_datagram server) (record_sends q) ++ sent_by_calls server rest
+  request_sends moment q rest =
+      let first = flat_map (record_datagram server) q.again in
+      let then = flat_map (record_datagram server) (map send_in q.given) in
+      ap (sent_by_calls server) (append_assoc (flat_map (again_calls moment) q.again) (flat_map (given_calls moment) q.given) rest)
+      ∙ again_sends moment q.again (flat_map (given_calls moment) q.given ++ rest)
+      ∙ ap (λ (ds : List Datagram). first ++ ds) (given_sends moment q.given rest)
+      ∙ sym (append_assoc first then (sent_by_calls server rest))
+      ∙ ap (λ (ds : List Datagram). ds ++ sent_by_calls server rest) (sym (flat_map-append (record_datagram server) q.again (map send_in q.given)))
+
+  booked_sends : (moment : ℕ) (fs : List FormedRecord) (q : RecordRequests) (rest : List BillingCall)
+      → sent_by_calls server (map formed_call fs ++ request_calls moment q ++ rest) ≡ flat_map (record_datagram server) (record_sends q) ++ sent_by_calls server rest
+  booked_sends moment fs q rest =
+      ap (sent_by_calls server) (append_assoc (map formed_call fs) (request_calls moment q) rest)
+      ∙ formed_sends fs (request_calls moment q ++ rest)
+      ∙ request_sends moment q rest
+
+  turn_sends : (d : Desk) (t : Option Turn) (rest : List BillingCall) → IsAt server d.billing → sent_by_calls server (calls_in t ++ rest) ≡ (stage_in d t).records ++ sent_by_calls server rest
+  turn_sends d None rest is = refl
+  turn_sends d (Some t) rest is =
+      let settled = map formed_call t.formed ++ request_calls t.moment t.records in
+      ap (sent_by_calls server) (append_assoc (map heard_call t.acknowledged) settled rest)
+      ∙ heard_sends t.acknowledged (settled ++ rest)
+      ∙ booked_sends t.moment t.formed t.records rest
+      ∙ ap (λ (p : Peer). flat_map (record_datagram p) (record_sends t.records) ++ sent_by_calls server rest) (sym is)
+
+  end_sends : (d : Desk) (t : Option EndTurn) (rest : List BillingCall) → IsAt server d.billing → sent_by_calls server (end_calls_in t ++ rest) ≡ (end_stage_in d t).records ++ sent_by_calls server rest
+  end_sends d None rest is = refl
+  end_sends d (Some t) rest is =
+      booked_sends t.moment t.formed t.records rest
+      ∙ ap (λ (p : Peer). flat_map (record_datagram p) (record_sends t.records) ++ sent_by_calls server rest) (sym is)
+
+  abbrev records_in : Stage → List Datagram
+  records_in s = s.records
+
+  run_sends : (d d' : Desk) (turns : List Made) (rest : List BillingCall) → Run d turns d' → IsAt server d.billing
+      → sent_by_calls server (flat_map (λ m. calls_in m.turn) turns ++ rest) ≡ flat_map records_in (map (λ m. stage_in m.desk m.turn) turns) ++ sent_by_calls server rest
+  run_sends d d' [] rest run is = refl
+  run_sends d d' (m ∷ turns) rest run is =
+      let later = flat_map (λ (x : Made). calls_in x.turn) turns in
+      let stages = flat_map records_in (map (λ (x : Made). stage_in x.desk x.turn) turns) in
+      ap (sent_by_calls server) (append_assoc (calls_in m.turn) later rest)
+      ∙ turn_sends m.desk m.turn (later ++ rest) (subst (λ (x : Desk). IsAt server x.billing) (sym run.1.0) is)
+      ∙ ap (λ (ds : List Datagram). (stage_in m.desk m.turn).records ++ ds) (run_sends run.0 d' turns rest run.2 (stays_at server d.billing run.0.billing (calls_in m.turn) (step_calls d run.0 m.turn run.1.1) is))
+      ∙ sym (append_assoc (stage_in m.desk m.turn).records stages (sent_by_calls server rest))
+
+  ending_sends : (d d' : Desk) (endings : List MadeEnd) → EndRun d endings d' → IsAt server d.billing
+      → sent_by_calls server (flat_map (λ m. end_calls_in m.turn) endings) ≡ flat_map records_in (map (λ m. end_stage_in m.desk m.turn) endings)
+  ending_sends d d' [] run is = refl
+  ending_sends d d' (m ∷ endings) run is =
+      let later = flat_map (λ (x : MadeEnd). end_calls_in x.turn) endings in
+      end_sends m.desk m.turn later (subst (λ (x : Desk). IsAt server x.billing) (sym run.1.0) is)
+      ∙ ap (λ (ds : List Datagram). (end_stage_in m.desk m.turn).records ++ ds) (ending_sends run.0 d' endings run.2 (stays_at server d.billing run.0.billing (end_calls_in m.turn) (end_step_calls d run.0 m.turn run.1.1) is))
+
+  all_sends : (starts : List FormedRecord) (d over last : Desk) (turns : List Made) (endings : List MadeEnd) → Run d turns over → EndRun over endings last → IsAt server d.billing
+      → flat_map records_in (stages_of turns endings) ≡ sent_by_calls server (calls_of starts turns endings)
+  all_sends starts d over last turns endings run ending is =
+      let serving = map (λ (m : Made). stage_in m.desk m.turn) turns in
+      let closing = map (λ (m : MadeEnd). end_stage_in m.desk m.turn) endings in
+      let calls = flat_map (λ (m : Made). calls_in m.turn) turns in
+      let closes = flat_map (λ (m : MadeEnd). end_calls_in m.turn) endings in
+      flat_map-append records_in serving closing
+      ∙ ap (λ (ds : List Datagram). flat_map records_in serving ++ ds) (sym (ending_sends over last endings ending (stays_at server d.billing over.billing calls (run_calls d over turns run) is)))
+      ∙ sym (run_sends d over turns closes run is)
+      ∙ sym (formed_sends starts (calls ++ closes))
+
+-- What was taken -------------------------------------------------------------------------------------------------------------------
+
+formed_takes : (fs : List FormedRecord) → flat_map taken_for (map formed_call fs) ≡ []
+formed_takes [] = refl
+formed_takes (f ∷ fs) = formed_takes fs
+
+heard_takes : (as' : List Acknowledged) → flat_map taken_for (map heard_call as') ≡ taken_in Acct (map (λ a. a.arrival) as')
+heard_takes [] = refl
+heard_takes (a ∷ as') = ap (λ (ds : List Datagram). record { role = Acct; peer = a.arrival.from; octets = a.arrival.octets } ∷ ds) (heard_takes as')
+
+again_takes : (moment : ℕ) (ss : List LaneSend) → flat_map taken_for (flat_map (again_calls moment) ss) ≡ []
+again_takes moment [] = refl
+again_takes moment (s ∷ ss) = again_takes moment ss
+
+given_takes : (moment : ℕ) (rs : List RecordSend) → flat_map taken_for (flat_map (given_calls moment) rs) ≡ []
+given_takes moment [] = refl
+given_takes moment (r ∷ rs) = given_takes moment rs
+
+booked_takes : (moment : ℕ) (fs : List FormedRecord) (q : RecordRequests) → flat_map taken_for (map formed_call fs ++ request_calls moment q) ≡ []
+booked_takes moment fs q =
+    let again = flat_map (again_calls moment) q.again in
+    let given = flat_map (given_calls moment) q.given in
+    flat_map-append taken_for (map formed_call fs) (again ++ given)
+    ∙ ap (λ (ds : List Datagram). ds ++ flat_map taken_for (again ++ given)) (formed_takes fs)
+    ∙ flat_map-append taken_for again given
+    ∙ ap (λ (ds : List Datagram). ds ++ flat_map taken_for given) (again_takes moment q.again)
+    ∙ given_takes moment q.given
+
+turn_takes : (d : Desk) (t : Option Turn) → flat_map taken_for (calls_in t) ≡ (stage_in d t).acknowledged
+turn_takes d None = refl
+turn_takes d (Some t) =
+    let arrivals = map (λ (a : Acknowledged). a.arrival) t.acknowledged in
+    flat_map-append taken_for (map heard_call t.acknowledged) (map formed_call t.formed ++ request_calls t.moment t.records)
+    ∙ ap (λ (ds : List Datagram). ds ++ flat_map taken_for (map formed_call t.formed ++ request_calls t.moment t.records)) (heard_takes t.acknowledged)
+    ∙ ap (λ (ds : List Datagram). taken_in Acct arrivals ++ ds) (booked_takes t.moment t.formed t.records)
+    ∙ append-nil (taken_in Acct arrivals)
+
+end_takes : (d : Desk) (t : Option EndTurn) → flat_map taken_for (end_calls_in t) ≡ (end_stage_in d t).acknowledged
+end_takes d None = refl
+end_takes d (Some t) = booked_takes t.moment t.formed t.records
+
+abbrev acknowledged_in : Stage → List Datagram
+acknowledged_in s = s.acknowledged
+
+run_takes : (turns : List Made) → flat_map taken_for (flat_map (λ m. calls_in m.turn) turns) ≡ flat_map acknowledged_in (map (λ m. stage_in m.desk m.turn) turns)
+run_takes [] = refl
+run_takes (m ∷ turns) =
+    let later = flat_map (λ (x : Made). calls_in x.turn) turns in
+    flat_map-append taken_for (calls_in m.turn) later
+    ∙ ap (λ (ds : List Datagram). ds ++ flat_map taken_for later) (turn_takes m.desk m.turn)
+    ∙ ap (λ (ds : List Datagram). (stage_in m.desk m.turn).acknowledged ++ ds) (run_takes turns)
+
+ending_takes : (endings : List MadeEnd) → flat_map taken_for (flat_map (λ m. end_calls_in m.turn) endings) ≡ flat_map acknowledged_in (map (λ m. end_stage_in m.desk m.turn) endings)
+ending_takes [] = refl
+ending_takes (m ∷ endings) =
+    let later = flat_map (λ (x : MadeEnd). end_calls_in x.turn) endings in
+    flat_map-append taken_for (end_calls_in m.turn) later
+    ∙ ap (λ (ds : List Datagram). ds ++ flat_map taken_for later) (end_takes m.desk m.turn)
+    ∙ ap (λ (ds : List Datagram). (end_stage_in m.desk m.turn).acknowledged ++ ds) (ending_takes endings)
+
+all_takes : (starts : List FormedRecord) (turns : List Made) (endings : List MadeEnd) → flat_map acknowledged_in (stages_of turns endings) ≡ flat_map taken_for (calls_of starts turns endings)
+all_takes starts turns endings =
+    let serving = map (λ (m : Made). stage_in m.desk m.turn) turns in
+    let closing = map (λ (m : MadeEnd). end_stage_in m.desk m.turn) endings in
+    let calls = flat_map (λ (m : Made). calls_in m.turn) turns in
+    let closes = flat_map (λ (m : MadeEnd). end_calls_in m.turn) endings in
+    flat_map-append acknowledged_in serving closing
+    ∙ sym (flat_map-append taken_for (map formed_call starts) (calls ++ closes)
+    ∙ ap (λ (ds : List Datagram). ds ++ flat_map taken_for (calls ++ closes)) (formed_takes starts)
+    ∙ flat_map-append taken_for calls closes
+    ∙ ap (λ (ds : List Datagram). ds ++ flat_map taken_for closes) (run_takes turns)
+    ∙ ap (λ (ds : List Datagram). flat_map acknowledged_in serving ++ ds) (ending_takes endings))
+
+-- All turns ------------------------------------------------------------------------------------------------------------------------
+
+pub recorded_of : (config : Config) (rounds : ℕ) (seed : List ℕ) (now wall : ℕ) (opening over last : Desk) (turns : List Made) (endings : List MadeEnd) → (is : IsOpened config rounds seed now wall opening) → Run opening turns over → EndRun over endings last
+    → AllByRecursion IsElse (sends_of (rounds_of turns endings)) → Recorded config wall is.starts turns endings last (plant_of turns endings).taken (plant_of turns endings).sent
+recorded_of config rounds seed now wall opening over last turns endings is run ending elsewhere =
+    let first = map formed_call is.starts in
+    let calls = flat_map (λ (m : Made). calls_in m.turn) turns in
+    let closes = flat_map (λ (m : MadeEnd). end_calls_in m.turn) endings in
+    let from : opening.billing ≡ is.billing = ap (λ (d : Desk). d.billing) is.desk in
+    let starts : Chain Does is.new_billing first opening.billing = subst (Chain Does is.new_billing first) (sym from) (forms_calls is.new_billing is.billing is.starts is.forms) in
+    let chain : Chain Does is.new_billing (calls_of is.starts turns endings) last.billing =
+    chain_append Does is.new_billing opening.billing last.billing first (calls ++ closes) starts
+    (chain_append Does opening.billing over.billing last.billing calls closes (run_calls opening over turns run) (ending_calls over last endings ending)) in
+    record {
+      opened = is.new_billing;
+      is_new = is.is_new;
+      calls = chain;
+      stops = all_stops opening over last turns endings run ending;
+      requests = stages_recorded turns endings elsewhere ∙ all_sends config.acct_server is.starts opening over last turns endings run ending (stays_at config.acct_server is.new_billing opening.billing first starts is.is_new.client.acct_server);
+      heard = stages_acknowledged opening over turns endings run ∙ all_takes is.starts turns endings;
+      answered = answers_of (billing_rules config wall) is.new_billing last.billing (calls_of is.starts turns endings) is.is_new chain;
+    }
