@@ -1,5 +1,5 @@
 -- What a caller with the seats of all shards makes of the law.
-use Rattle.std.proofs.Common.{◌≡◌, ◌≢◌, ℕ, ◌<◌, ◌%◌, ◌+◌, ◌⊎◌, ⊎_elim, true, List, [], ◌∷◌, get_or, length, length-set, set, slice_get, Some, None, Option, sym, refl, ap, ◌∙◌, subst, arith}
+use Rattle.std.proofs.Common.{◌≡◌, ℕ, ◌%◌, ◌+◌, ⊎_elim, true, List, [], get_or, length, set, slice_get, Some, None, Option, sym, ap, ◌∙◌, subst, arith}
 use Rattle.std.proofs.lemmas.Option.{slice_get_within, slice_get-get_or}
 use mathlib.Core.Logic.{dite}
 use native.Mathlib.Decide.{ℕ_discrete}
@@ -7,12 +7,12 @@ use Rattle.bng_base.specs.declared.address.Ip4.{Ip4}
 use Rattle.bng_base.specs.declared.book.Range.{Range}
 use Rattle.bng_base.specs.declared.item.Claim.{Claim}
 use Rattle.bng_pool.specs.Ranges.{HasAddress}
-use Rattle.bng_pool.specs.Seats.{PoolView, SeatView, Holds, Notes, IsInRound, HasMoreNotes, HaveMoreNotes, IsBeside, AreAgreed, Claims, Scans, Looks, passed_over, without}
+use Rattle.bng_pool.specs.Seats.{PoolView, SeatView, Holds, Notes, IsInRound, HasMoreNotes, HaveMoreNotes, IsBeside, AreAgreed, Claims, Scans, Looks, without}
 use Rattle.bng_pool.specs.Tables.{Table, entry, TableClaims, TableScans, TableFrees}
 use Rattle.bng_pool.specs.OneHand.{table_of, AreInOneHand, AreInRound, HasHeard, AgreesWithOthers, ClaimsOfTable, ScansOfTable, LooksOfTable, AllKeepTable, EntriesOfTable, GivesBackOfTable}
 use Rattle.bng_pool.proofs.Places.{some_same, set_same, set_other}
 use Rattle.bng_pool.proofs.Joined.{was}
-use Rattle.bng_pool.proofs.OneHand.{IsPast, past}
+use Rattle.bng_pool.proofs.OneHand.{past}
 
 -- what no call of a round changes
 pub record IsSameSeat (before after : SeatView) : Type 0 where

@@ -1,6 +1,6 @@
-use Rattle.std.proofs.Common.{◌≡◌, ◌+◌, ◌<◌, ◌%◌, true, [], length, get_or, set, slice_get, Some, sym, ap, ◌∙◌, subst, arith}
+use Rattle.std.proofs.Common.{◌≡◌, ◌+◌, ◌%◌, true, [], get_or, set, slice_get, Some, sym, ap, ◌∙◌, subst, arith}
 use Rattle.std.proofs.lemmas.Option.{slice_get-get_or}
-use Rattle.bng_pool.specs.Seats.{SeatView, IsInRound}
+use Rattle.bng_pool.specs.Seats.{SeatView}
 use Rattle.bng_pool.specs.OneHand.{AreInRound}
 use Rattle.bng_pool.proofs.InHand.{GoesOn, full_in_round, settling_full, settling_holds, given_full, given_hand, given_round, odd_next, even_next}
 use Rattle.bng_pool.proofs.one_hand.give_back.Goals as goal

@@ -1,4 +1,4 @@
-use Rattle.std.proofs.Common.{◌≡◌, ◌%◌, sym, ap, ◌∙◌, subst}
+use Rattle.std.proofs.Common.{◌≡◌, sym, ap, ◌∙◌, subst}
 use Rattle.bng_pool.specs.Seats.{SeatView, IsInRound}
 use Rattle.bng_pool.specs.OneHand.{AreInRound}
 use Rattle.bng_pool.proofs.InHand.{looker_beside, looked_in_hand, noted_hand, noted_round}

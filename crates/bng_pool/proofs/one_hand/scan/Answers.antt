@@ -1,4 +1,4 @@
-use Rattle.std.proofs.Common.{get_or, sym, ap, ◌∙◌, arith}
+use Rattle.std.proofs.Common.{get_or, arith}
 use Rattle.std.proofs.lemmas.Option.{slice_get-get_or}
 use Rattle.bng_pool.specs.Seats.{SeatView}
 use Rattle.bng_pool.proofs.InHand.{scan_same, changed_seats, changed_round, noted_round, scanned_in_hand}

@@ -1,10 +1,6 @@
-use Rattle.std.proofs.Common.{◌≡◌, ◌+◌, ◌<◌, ◌≤◌, ◌%◌, ℕ, List, [], length, slice_get, Some, true, refl, sym, ap, ◌∙◌, subst, arith}
+use Rattle.std.proofs.Common.{length, sym, ap, ◌∙◌, subst}
 use Rattle.std.proofs.lemmas.List.{with_items_is}
-use Rattle.bng_base.specs.declared.book.Range.{Range}
-use Rattle.bng_pool.specs.Ranges.{HasAddress}
-use Rattle.bng_pool.specs.Seats.{SeatView, IsInRound}
-use Rattle.bng_pool.specs.Tables.{Table, entry, TableClaims, TableScans, TableFrees}
-use Rattle.bng_pool.specs.OneHand.{table_of, AreInOneHand, AreInRound}
+use Rattle.bng_pool.specs.OneHand.{AreInOneHand, AreInRound}
 use Rattle.bng_pool.proofs.plain.Plain.look.Goals as goal
 
 pub look-requires-clause-round : goal.look-requires-clause-round

@@ -1,7 +1,6 @@
-use Rattle.std.proofs.Common.{◌≡◌, ◌+◌, ◌<◌, ℕ, List, [], length, slice_get, Some, refl, sym, ap, ◌∙◌, subst, arith}
+use Rattle.std.proofs.Common.{◌≡◌, ◌+◌, length, refl, sym, ap, ◌∙◌, subst, arith}
 use Rattle.std.proofs.lemmas.Option.{get_or_from_slice_get, slice_get_within, same_Some}
 use Rattle.bng_pool.specs.Seats.{SeatView, IsInRound, new_seat}
-use Rattle.bng_pool.specs.OneHand.{AreInRound, table_of}
 use Rattle.bng_pool.proofs.plain.Plain.open.Goals as goal
 
 pub invariant_of-result : goal.invariant_of-result
