@@ -12,3 +12,7 @@ pub mod Entries
 pub mod OneHand
 pub mod Stepped
 pub mod InHand
+pub mod AddressLists
+pub mod WordTables
+pub mod Listing
+pub mod Marks

@@ -10,10 +10,13 @@
 //! phase is held until that phase ends, and its notes say so; `tell` carries what one seat holds and noted to another.
 //!
 //! With the seats of all shards in one hand the calls are those of a table of held addresses, each beside its holder.
+//!
+//! `PlainPool` is such a table for one thread: it has plain words in place of atomic ones, and needs no seats and no phases.
 #![tactic(auto)]
 
 mod agreement;
 mod hold;
+mod holders;
 mod laws;
 mod layout;
 mod leases;
@@ -26,10 +29,12 @@ mod plays;
 mod pool;
 mod scan;
 mod seat;
+mod table;
 #[cfg(test)]
 mod tests;
 
-pub use laws::seats_in_one_hand_are_a_table;
+pub use laws::{calls_of_a_table_keep_a_list, seats_in_one_hand_are_a_table};
 pub use opening::PoolError;
 pub use pool::Pool;
 pub use seat::PoolSeat;
+pub use table::PlainPool;

@@ -3,6 +3,8 @@ ghost use Rattle.std.specs.Prelude.{◌≡◌, ◌+◌, ◌*◌, ◌^◌, ◌<�
 ghost use Rattle.bng_pool.specs.Ranges.{ArePoolRanges, HasAddress};
 ghost use Rattle.bng_pool.specs.Seats.{Holds, new_seat};
 
+mod table;
+
 use crate::{Pool, PoolError, PoolSeat};
 use bng_base::{Claim, Ip4, Range};
 use std::alloc::Global;
