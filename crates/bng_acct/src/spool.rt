@@ -7,6 +7,7 @@ ghost use Rattle.bng_acct.specs.Request.{AreClasses};
 ghost use Rattle.bng_acct.specs.Queue.{sheet_at, Sets, without};
 ghost use Rattle.bng_acct.specs.Roster.{of_term};
 ghost use Rattle.bng_acct.specs.Spool.{IsOpened, open_of, or_unknown, stops_in, IsAdmitted, Forms, HandsOver, Releases, ReleasesIfAny, SameFacts, Agree, is_live, is_stop_sheet, only_stop, facts_at, unacked_stops};
+ghost use Rattle.bng_acct.specs.Texts.{session_id};
 
 use crate::facts::{Moment, Record, RecordNo, StatusType, TermFacts};
 use crate::held::{Held, ended_by, is_kept, unknown, with_number};
@@ -15,6 +16,7 @@ use crate::record::write;
 use crate::roster::Roster;
 use crate::rules::{AcctRules, SpoolError};
 use crate::sheet::Sheet;
+use crate::texts::session_id;
 use arrayvec::ArrayVec;
 use bng_base::{Frame, TermId};
 use std::alloc::Global;
@@ -289,6 +291,13 @@ impl Spool {
             Some(number) => facts_of(&self.queue, number),
             None => None,
         }
+    }
+
+    /// The Acct-Session-Id (RFC 2866 section 5.5) of a term's records.
+    pub fn session_id(&self, term: TermId) -> [u8; 24]
+        ensures { result ≡ session_id self.now.rules.wall term }
+    {
+        session_id(self.rules.wall, term)
     }
 
     /// Whether a record is neither acknowledged nor forgotten.

@@ -4,6 +4,7 @@ ghost use Rattle.bng_radius_wire.specs.Attributes.{Field};
 ghost use Rattle.bng_rad_client.specs.DueRequests.{IsDeadline};
 ghost use Rattle.bng_acct.specs.Request.{AreClasses};
 ghost use Rattle.bng_acct.specs.Spool.{open_of, IsAdmitted, Agree, unacked_stops};
+ghost use Rattle.bng_acct.specs.Texts.{session_id};
 ghost use Rattle.bng_billing.specs.State.{IsNewBilling, places_of, noted};
 ghost use Rattle.bng_billing.specs.Records.{IsFormedBy};
 ghost use Rattle.bng_billing.specs.Replies.{Takes};
@@ -144,6 +145,13 @@ impl Billing {
         ensures { option_copied result ≡ slice_get (unacked_stops self.now.spool) at }
     {
         self.spool.unacked(at)
+    }
+
+    /// The Acct-Session-Id (RFC 2866 section 5.5) of a term's records.
+    pub fn session_id(&self, term: TermId) -> [u8; 24]
+        ensures { result ≡ session_id self.now.spool.rules.wall term }
+    {
+        self.spool.session_id(term)
     }
 
     /// Hands out, at this moment in milliseconds, the record that was formed first of those that wait: its number, and the
