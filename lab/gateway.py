@@ -7,7 +7,10 @@ import signal
 import socket
 import subprocess
 import tempfile
+import threading
 import time
+
+import radius
 
 HOME = os.path.dirname(os.path.dirname(os.path.abspath(__file__)))
 CRATE = os.path.join(HOME, "crates", "bng_gate")
@@ -127,10 +130,11 @@ class Lab:
     """A folder and the sockets of all parties. `access`, `core`, `control`, `radius`, `accounting` and `stranger` are
     ours; `ports` has the gateway's ends. Leaving it ends what it started. `keys` are lines more of the configuration's
     table `gateway`, `radius_keys` of its table `radius`, and `session` is the SESSION_ID of the circuit. Where `server`
-    is a port of the loopback, it is that of another RADIUS server than ours, for authentication."""
+    is a port of the loopback, it is that of another RADIUS server than ours, for authentication. Each record of
+    accounting is acknowledged at once, unless `acknowledges` says that nobody reads `accounting`."""
 
-    def __init__(self, keys="", session=1025, radius_keys="", server=None):
-        self.keys, self.session = keys, session
+    def __init__(self, keys="", session=1025, radius_keys="", server=None, acknowledges=True):
+        self.keys, self.session, self.acknowledges = keys, session, acknowledges
         self.radius_keys, self.server = radius_keys, server
 
     def __enter__(self):
@@ -141,6 +145,11 @@ class Lab:
         for end in held.values():
             end.close()
         self.program = None
+        self.is_over = threading.Event()
+        self.clerk = threading.Thread(target=self.acknowledge_all, daemon=True)
+        if self.acknowledges:
+            self.accounting.settimeout(0.1)
+            self.clerk.start()
         self.configuration = self.write(
             "lab.toml",
             CONFIGURATION.format(
@@ -158,9 +167,19 @@ class Lab:
 
     def __exit__(self, *_):
         self.end_early()
+        self.is_over.set()
+        if self.acknowledges:
+            self.clerk.join()
         for end in (self.access, self.core, self.control, self.radius, self.accounting, self.stranger):
             end.close()
         shutil.rmtree(self.folder, ignore_errors=True)
+
+    def acknowledge_all(self):
+        """Acknowledges each record that comes, until the lab is left."""
+        while not self.is_over.is_set():
+            octets, sender = self.receive(self.accounting)
+            if octets is not None:
+                self.accounting.sendto(radius.acknowledgement(radius.read(octets)), (LOOPBACK, sender))
 
     def end_early(self):
         """Ends a program that runs still: by the word, by an interrupt, at which `rt try` ends what it runs, or by a kill."""

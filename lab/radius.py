@@ -74,6 +74,11 @@ def answer(request, code, *attributes, secret=SECRET):
     return sign(Radius(code, 0, bytes(16), [*attributes, (MESSAGE_AUTHENTICATOR, bytes(16))]), request, secret)
 
 
+def acknowledgement(request, secret=SECRET):
+    """The octets of the Accounting-Response to a request (RFC 2866 section 4.2)."""
+    return sign(Radius(ACCOUNTING_RESPONSE, 0, bytes(16), []), request, secret)
+
+
 def password(request, secret=SECRET):
     """The User-Password that a request hides, without what pads it (RFC 2865 section 5.2)."""
     hidden, shown, block = dict(request.attributes)[USER_PASSWORD], b"", request.authenticator

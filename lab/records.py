@@ -6,8 +6,8 @@ import hashlib
 import time
 
 import radius
-from gateway import LOOPBACK, Lab, frame, packet
-from radius import ACCOUNTING_REQUEST, ACCOUNTING_RESPONSE, FRAMED, SECRET, Radius
+from gateway import LOOPBACK, Lab, frame, packet, report
+from radius import ACCOUNTING_REQUEST, FRAMED, SECRET
 from sessions import is_three_seconds
 
 START, STOP, NAS_REQUEST = 1, 2, 10
@@ -35,8 +35,7 @@ def is_digest(octets, secret=SECRET):
 
 def acknowledge(lab, request, end=None, secret=SECRET, other=0):
     """Answers a record, or another identifier where `other` says so (RFC 2866 section 4.2)."""
-    named = request._replace(identifier=request.identifier ^ other)
-    octets = radius.sign(Radius(ACCOUNTING_RESPONSE, 0, bytes(16), []), named, secret)
+    octets = radius.acknowledgement(request._replace(identifier=request.identifier ^ other), secret)
     (end or lab.accounting).sendto(octets, (LOOPBACK, lab.ports["acct"]))
 
 
@@ -92,7 +91,7 @@ def starts(checks, lab, began):
 
 def records_a_circuit(checks, command, patience):
     """A provisioned circuit has a Start at the opening and a Stop at the end, with what was sent for it."""
-    with Lab() as lab:
+    with Lab(acknowledges=False) as lab:
         began = int(time.time())
         lab.start(command(lab.configuration), patience)
         opened = starts(checks, lab, began)
@@ -107,5 +106,23 @@ def records_a_circuit(checks, command, patience):
         checks.same("at the end it has a Stop with what was sent", (stop.code, stop.attributes), (ACCOUNTING_REQUEST, want))
         checks.same("its time is that since the Start", abs(ended - opened - said) <= 1, True)
         checks.same("a Stop has a right authenticator", is_digest(octets), True)
+        checks.same("a Stop that is not acknowledged comes again", hear_record(lab)[1], octets)
         acknowledge(lab, stop)
-        checks.same("the status is 0 with records", lab.end()[0], 0)
+        checks.same("the status is 0 once the Stop is acknowledged", lab.end()[0], 0)
+
+
+def tells_a_stop_that_nobody_acknowledges(checks, command, patience):
+    """At the stop a Stop is sent again for 30 s, and then the program ends with status 6 and its line."""
+    with Lab(acknowledges=False) as lab:
+        lab.start(command(lab.configuration), patience)
+        start, _ = hear_record(lab)
+        acknowledge(lab, start)
+        lab.send(frame(packet()))
+        lab.receive(lab.core)
+        since = time.monotonic()
+        lab.stop()
+        status, out, err = lab.end(patience=40)
+        took = time.monotonic() - since
+        line = f"stop {value(start, radius.EVENT_TIMESTAMP):08x}0401000000000001 p1/020000000001/1025 10.0.0.2 in=84 out=0\n"
+        checks.same("a Stop that nobody acknowledges is told", (status, out, err), (6, report(84), line))
+        checks.same("the program waits 30 s for it", 29 < took < 33, True)

@@ -8,7 +8,7 @@ import time
 
 from gateway import CRATE, PROGRAM, USAGE, Lab, delivery, frame, is_built, packet, report, run, tried, udp
 from logins import authenticates, gives_up_on_a_silent_server
-from records import records_a_circuit
+from records import records_a_circuit, tells_a_stop_that_nobody_acknowledges
 from sessions import serves_sessions
 
 PACKET = packet()
@@ -195,6 +195,7 @@ def try_all(checks):
         authenticates(checks, built, 10)
         gives_up_on_a_silent_server(checks, built, 10)
         records_a_circuit(checks, built, 10)
+        tells_a_stop_that_nobody_acknowledges(checks, built, 10)
         goes_on_after_memory_was_refused(checks)
         refuses_bad_beginnings(checks)
         refuses_bad_configurations(checks)
