@@ -26,6 +26,7 @@ use Rattle.bng_billing.specs.State.{BillingState}
 use Rattle.bng_engine.specs.Terms.{Key}
 use Rattle.bng_lane.specs.Sends.{LaneSend}
 use Rattle.bng_desk.specs.Accounting.{Acknowledged, AreBilled, Gives, HearsRecords, RecordRequests, RecordSend, Resends, SettlesRecords}
+use Rattle.bng_desk.specs.Turn.{Closes}
 use Rattle.bng_desk.proofs.Parts.{all_left, all_right, all_without, pairs_head, pairs_left, pairs_right, pairs_tail, pairs_without}
 
 -- the same server, and the same terms are live
@@ -126,6 +127,11 @@ all_given_keep now b b' given gives = chain_keeps (Gives now) (λ c. KeepsTerms 
 
 pub settled_keeps : (now : ℕ) (b b' : BillingState) (q : RecordRequests) → SettlesRecords now b q b' → KeepsTerms b b'
 settled_keeps now b b' q s = keeps_more b s.mid b' (all_resent_keep now b s.mid q.again s.resends) (all_given_keep now s.mid b' q.given s.gives)
+
+-- all but Stops are forgotten, if no session is left
+pub closed_billed : (keys : List Key) (ended : Bool) (b b' : BillingState) → Closes ended b b' → AreBilled keys b → AreBilled keys b'
+closed_billed keys false b b' same billed = subst (λ (c : BillingState). AreBilled keys c) (sym same) billed
+closed_billed keys true b b' only billed = record { live = λ i d lt. only.live (get_or keys i d).term ∙ billed.live i d lt; apart = billed.apart }
 
 -- A record is formed ------------------------------------------------------------------------------------------------------
 

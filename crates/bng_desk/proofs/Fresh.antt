@@ -93,10 +93,10 @@ fresh_tallied rules statics tally ns cs =
 
 -- a desk with such shards, in which nothing has happened
 pub kept_fresh : (d : Desk) (statics : ℕ → List Static) (cs : List Static) → d.shards ≡ map (λ n. opened n d.rules (statics n)) (range_with_len 0 d.rules.shards) → All HasFewSessions d.shards → d.lines ≡ map line_of cs → 1 ≤ length d.rules.access → length d.rules.access ≤ 16 → 1 ≤ d.rules.shards → d.rules.shards ≤ 64
-    → All (λ (h : Holder). h.shard < d.rules.shards) d.holders → d.rounds ≤ 2 ^ 40 → d.turns ≡ 0 → d.endings ≡ 0 → d.unopened ≡ 0 → d.closed ≡ false → d.told ≡ 0 → d.drawn ≡ 1 → d.drops ≡ no_drops → d.tallies ≡ empty_book ∷ [] → d.kept ≡ [] → d.handed ≡ map (λ n. none_handed) (range_with_len 0 d.rules.shards) → d.began ≡ d.moment → AreBilled (keys_in d.shards) d.billing → IsKept d
-kept_fresh d statics cs shards few lines some_port few_ports some_shard few_shards holders most turns endings unopened closed told drawn drops tallies kept handed began billed =
+    → All (λ (h : Holder). h.shard < d.rules.shards) d.holders → d.rounds ≤ 2 ^ 40 → d.turns ≡ 0 → d.endings ≡ 0 → d.unopened ≡ 0 → d.closed ≡ false → d.told ≡ 0 → d.drawn ≡ 1 → d.drops ≡ no_drops → d.tallies ≡ empty_book ∷ [] → d.kept ≡ [] → d.handed ≡ map (λ n. none_handed) (range_with_len 0 d.rules.shards) → d.began ≡ d.moment → d.closing ≡ d.moment → d.graces ≡ 0 → AreBilled (keys_in d.shards) d.billing → IsKept d
+kept_fresh d statics cs shards few lines some_port few_ports some_shard few_shards holders most turns endings unopened closed told drawn drops tallies kept handed began closing graces billed =
     let staying = subst (λ (is : List Item). AreKept d is) (sym kept) (none_kept d) in
-    let unended : IsUnended d = record { endings = endings; unopened = unopened; closed = closed } in
+    let unended : IsUnended d = record { endings = endings; unopened = unopened; closed = closed; graces = graces } in
     let count = ap (λ (xs : List (ShardView ShardState Entry)). length xs) shards ∙ length-map-range_with_len (λ (n : ℕ). opened n d.rules (statics n)) 0 d.rules.shards in
     record {
       some_port = some_port;
@@ -129,5 +129,7 @@ kept_fresh d statics cs shards few lines some_port few_ports some_shard few_shar
       while_serving = λ _. subst (λ (is : List Item). All is_verdict is) (sym kept) (λ k e l. absurd (omega arith));
       handed = ap (λ (hs : List (List ℕ)). length hs) handed ∙ length-map-range_with_len (λ (n : ℕ). none_handed) 0 d.rules.shards ∙ sym count;
       began = omega (arith, began);
+      closing = omega (arith, closing);
+      graces = omega (arith, graces);
       billed = billed;
     }

@@ -1,16 +1,17 @@
 -- What a desk keeps from turn to turn.
-use Rattle.std.proofs.Common.{◌≡◌, ◌≢◌, ◌⊎◌, inl, inr, ℕ, zero, suc, ◌+◌, ◌-◌, ◌*◌, ◌<◌, ◌≤◌, Bool, true, false, not, ◌&&◌, ◌||◌, cond, List, [], ◌∷◌, Option, None, Some, length, eqb, refl, sym, ap, subst, ◌∙◌, arith}
+use Rattle.std.proofs.Common.{◌≡◌, ◌≢◌, ◌⊎◌, inl, inr, ℕ, zero, suc, ◌+◌, ◌-◌, ◌*◌, ◌<◌, ◌≤◌, Bool, true, false, not, ◌&&◌, ◌||◌, cond, List, [], ◌∷◌, Option, None, Some, length, eqb, leb, refl, sym, ap, subst, ◌∙◌, arith}
 use Rattle.std.specs.List.{All}
 use Rattle.std.proofs.lemmas.Bool.{false≢true, or_parts, leb-false}
 use Rattle.std.proofs.lemmas.Bool.Decides.{nat_tests}
 use Rattle.std.proofs.lemmas.List.{length-append}
 use Rattle.std.proofs.lemmas.List.Elements.{All-filter}
 use Rattle.std.proofs.lemmas.List.Sums.{sum_by-le}
+use Rattle.bng_acct.specs.Spool.{unacked_stops}
 use Rattle.bng_base.specs.declared.item.Entry.{Entry}
 use Rattle.bng_base.specs.declared.book.Book.{Book}
 use Rattle.bng_base.specs.declared.item.Item.{Item}
 use Rattle.bng_desk.specs.declared.desk.DeskState.{DeskState}
-use Rattle.bng_desk.specs.declared.desk.DeskState.TheVariants.{Serving, Ending, Ended, Starved}
+use Rattle.bng_desk.specs.declared.desk.DeskState.TheVariants.{Serving, Ending, Grace, Ended, Starved}
 use Rattle.bng_base.specs.Told.{PlantTold}
 use Rattle.bng_desk.specs.declared.settlement.Works.{Works}
 use Rattle.bng_desk.specs.Accounting.{AreBilled}
@@ -23,7 +24,7 @@ use Rattle.bng_desk.specs.declared.reading.Ended.TheVariants.{Full, Dry, Broken}
 use Rattle.bng_desk.specs.Intake.{Gathers}
 use Rattle.bng_desk.specs.Kept.{IsKept, IsUnended, Stays, is_verdict, all_turns, octets_most, drops_most}
 use Rattle.bng_desk.specs.Logins.{Answered, reply_in, reply_items}
-use Rattle.bng_desk.specs.Model.{Desk, keys_in, is_over, has_ended, has_starved, left_of, rounds_left, sessions_in, state_of, unopened_most}
+use Rattle.bng_desk.specs.Model.{Desk, keys_in, is_over, grace_is_over, graces_most, grace_most, has_ended, has_starved, left_of, rounds_left, sessions_in, state_of, unopened_most}
 use Rattle.bng_desk.specs.Items.{kept_of, stays}
 use Rattle.bng_desk.specs.Random.{Drawn}
 use Rattle.bng_desk.specs.Reading.{EndsRight, is_empty}
@@ -47,14 +48,15 @@ use Rattle.bng_desk.proofs.Works.{kept_with}
 
 -- Where a desk stands, by its tests -----------------------------------------------------------------------------------------
 
-abbrev state_by : Bool → Bool → Bool → DeskState
-state_by over ended starved = cond (not over) Serving (cond ended Ended (cond starved Starved Ending))
+abbrev state_by : Bool → Bool → Bool → Bool → DeskState
+state_by over ended done starved = cond (not over) Serving (cond ended (cond done Ended Grace) (cond starved Starved Ending))
 
-serving_by : (over ended starved : Bool) → state_by over ended starved ≡ Serving → over ≡ false
-serving_by true true starved e = cc
-serving_by true false true e = cc
-serving_by true false false e = cc
-serving_by false ended starved e = refl
+serving_by : (over ended done starved : Bool) → state_by over ended done starved ≡ Serving → over ≡ false
+serving_by true true true starved e = cc
+serving_by true true false starved e = cc
+serving_by true false done true e = cc
+serving_by true false done false e = cc
+serving_by false ended done starved e = refl
 
 -- the tests of a desk that ends
 record IsEnding (over ended starved : Bool) : Type 0 where
@@ -62,11 +64,24 @@ record IsEnding (over ended starved : Bool) : Type 0 where
   ended_is : ended ≡ false
   starved_is : starved ≡ false
 
-ending_by : (over ended starved : Bool) → state_by over ended starved ≡ Ending → IsEnding over ended starved
-ending_by true true starved e = let no : ⊥ = cc in absurd no
-ending_by true false true e = let no : ⊥ = cc in absurd no
-ending_by true false false e = record { over_is = refl; ended_is = refl; starved_is = refl }
-ending_by false ended starved e = let no : ⊥ = cc in absurd no
+ending_by : (over ended done starved : Bool) → state_by over ended done starved ≡ Ending → IsEnding over ended starved
+ending_by true true true starved e = let no : ⊥ = cc in absurd no
+ending_by true true false starved e = let no : ⊥ = cc in absurd no
+ending_by true false done true e = let no : ⊥ = cc in absurd no
+ending_by true false done false e = record { over_is = refl; ended_is = refl; starved_is = refl }
+ending_by false ended done starved e = let no : ⊥ = cc in absurd no
+
+-- and those of one in its grace
+record IsInGrace (over done : Bool) : Type 0 where
+  over_is : over ≡ true
+  done_is : done ≡ false
+
+grace_by : (over ended done starved : Bool) → state_by over ended done starved ≡ Grace → IsInGrace over done
+grace_by true true true starved e = let no : ⊥ = cc in absurd no
+grace_by true true false starved e = record { over_is = refl; done_is = refl }
+grace_by true false done true e = let no : ⊥ = cc in absurd no
+grace_by true false done false e = let no : ⊥ = cc in absurd no
+grace_by false ended done starved e = let no : ⊥ = cc in absurd no
 
 differs : (a b : ℕ) → eqb a b ≡ false → a ≢ b
 differs a b e = grind (arith, nat_tests)
@@ -74,13 +89,13 @@ differs a b e = grind (arith, nat_tests)
 -- a desk that serves has turns left
 pub turns_left : (d : Desk) → state_of d ≡ Serving → d.turns ≤ d.rounds → d.turns < d.rounds
 turns_left d e made =
-    let parts = or_parts d.stopped (eqb d.turns d.rounds) (serving_by (is_over d) (has_ended d) (has_starved d) e) in
+    let parts = or_parts d.stopped (eqb d.turns d.rounds) (serving_by (is_over d) (has_ended d) (grace_is_over d) (has_starved d) e) in
     let other : d.turns ≢ d.rounds = differs d.turns d.rounds parts.1 in
     omega (arith, made, other)
 
 -- a desk that serves is not over
 pub not_over : (d : Desk) → state_of d ≡ Serving → is_over d ≡ false
-not_over d e = serving_by (is_over d) (has_ended d) (has_starved d) e
+not_over d e = serving_by (is_over d) (has_ended d) (grace_is_over d) (has_starved d) e
 
 some_left : (b : Bool) (n : ℕ) → (b && eqb n 0) ≡ false → b ≡ true → 1 ≤ n
 some_left true n e f = let other : n ≢ 0 = differs n 0 e in omega (arith, other)
@@ -94,12 +109,25 @@ pub record Ends (d : Desk) : Type 0 where
 
 pub ends_of_state : (d : Desk) → state_of d ≡ Ending → Ends d
 ends_of_state d e =
-    let is = ending_by (is_over d) (has_ended d) (has_starved d) e in
+    let is = ending_by (is_over d) (has_ended d) (grace_is_over d) (has_starved d) e in
     record {
       over = is.over_is;
       low = leb-false unopened_most d.unopened is.starved_is;
       some = some_left d.closed (sessions_in d.shards) is.ended_is;
     }
+
+-- A desk in its grace is over, and has turns of the grace left.
+pub record Graces (d : Desk) : Type 0 where
+  pub over : is_over d ≡ true
+  pub few : d.graces < graces_most
+
+pub graces_of_state : (d : Desk) → state_of d ≡ Grace → Graces d
+graces_of_state d e =
+    let is = grace_by (is_over d) (has_ended d) (grace_is_over d) (has_starved d) e in
+    let late : Bool = leb (d.closing + grace_most) d.moment in
+    let many : Bool = leb graces_most d.graces in
+    let some = or_parts (is_empty (unacked_stops d.billing.spool)) (late || many) is.done_is in
+    record { over = is.over_is; few = leb-false graces_most d.graces (or_parts late many some.1).1 }
 
 -- Sessions ----------------------------------------------------------------------------------------------------------------
 
@@ -166,7 +194,7 @@ kept_served d w stopped moment told k serves turns later l up staying verdicts =
       holders = l.holders_are;
       most = k.most;
       made = omega (arith, turns);
-      serving = λ _. record { endings = u.endings; unopened = u.unopened; closed = u.closed };
+      serving = λ _. record { endings = u.endings; unopened = u.unopened; closed = u.closed; graces = u.graces };
       endings = k.endings;
       unopened = k.unopened;
       left = unended_left d w.shards.items u l.sessions (omega (arith, l.shards, k.shards, k.few_shards));
@@ -183,6 +211,8 @@ kept_served d w stopped moment told k serves turns later l up staying verdicts =
       while_serving = λ _. verdicts;
       handed = l.handed_is ∙ k.handed ∙ sym l.shards;
       began = omega (arith, l.began_is, k.began, later);
+      closing = omega (arith, k.closing, later);
+      graces = k.graces;
       billed = l.billed;
     }
 
@@ -190,7 +220,7 @@ kept_served d w stopped moment told k serves turns later l up staying verdicts =
 pub record IsNearer (d : Desk) (ws : Shards) (unopened : ℕ) (closed : Bool) : Type 0 where
   pub low : unopened ≤ unopened_most
   pub left : d.endings + 1 + unopened_most * (sessions_in ws + cond closed 0 1) ≤ unopened_most * 65410 + unopened
-  pub less : unopened_most * (sessions_in ws + cond closed 0 1) + (unopened_most - unopened) < left_of d
+  pub less : unopened_most * (sessions_in ws + cond closed 0 1) + (unopened_most - unopened) + (graces_most - d.graces) < left_of d
 
 pub is_nearer : (d : Desk) (ws : Shards) (opened : Bool) (unopened : ℕ) (closed : Bool) → Ends d → Nears opened (sessions_in d.shards) (sessions_in ws) → d.endings + unopened_most * rounds_left d ≤ unopened_most * 65410 + d.unopened
     → unopened ≡ cond opened 0 (d.unopened + 1) → closed ≡ (d.closed || opened) → IsNearer d ws unopened closed
@@ -200,16 +230,16 @@ is_nearer d ws opened unopened closed e nears left unopened_is closed_is =
     (record {
       low = unopened_low opened d.unopened e.low;
       left = still_left opened d.closed (sessions_in d.shards) (sessions_in ws) d.unopened d.endings e.low e.some nears left;
-      less = less_left opened d.closed (sessions_in d.shards) (sessions_in ws) d.unopened e.low e.some nears;
+      less = omega (arith, less_left opened d.closed (sessions_in d.shards) (sessions_in ws) d.unopened e.low e.some nears);
     }))
 
 not_served : (b : Bool) (X : Type 0) → b ≡ true → b ≡ false → X
 not_served true X e f = absurd (false≢true (sym f))
 not_served false X e f = absurd (false≢true e)
 
-pub kept_ended : (d : Desk) (w : Works) (unopened : ℕ) (closed : Bool) (moment told : ℕ) → IsKept d → is_over d ≡ true → IsNearer d w.shards.items unopened closed → d.moment ≤ moment → IsLeft d w → told ≤ d.told + 1 → AreKept d w.kept.items
-    → IsKept (after_ending (kept_with d w) unopened closed moment told)
-kept_ended d w unopened closed moment told k over near later l up staying = record {
+pub kept_ended : (d : Desk) (w : Works) (unopened : ℕ) (closed : Bool) (closing moment told : ℕ) → IsKept d → is_over d ≡ true → IsNearer d w.shards.items unopened closed → d.moment ≤ moment → closing ≤ moment → IsLeft d w → told ≤ d.told + 1 → AreKept d w.kept.items
+    → IsKept (after_ending (kept_with d w) unopened closed closing moment told)
+kept_ended d w unopened closed closing moment told k over near later before l up staying = record {
   some_port = k.some_port;
   few_ports = k.few_ports;
   shards = l.shards ∙ k.shards;
@@ -222,7 +252,7 @@ kept_ended d w unopened closed moment told k over near later l up staying = reco
   holders = l.holders_are;
   most = k.most;
   made = k.made;
-  serving = λ serves. not_served (is_over d) (IsUnended (after_ending (kept_with d w) unopened closed moment told)) over serves;
+  serving = λ serves. not_served (is_over d) (IsUnended (after_ending (kept_with d w) unopened closed closing moment told)) over serves;
   endings = omega (arith, near.left, near.low);
   unopened = near.low;
   left = near.left;
@@ -239,6 +269,8 @@ kept_ended d w unopened closed moment told k over near later l up staying = reco
   while_serving = λ serves. not_served (is_over d) (All is_verdict w.kept.items) over serves;
   handed = l.handed_is ∙ k.handed ∙ sym l.shards;
   began = omega (arith, l.began_is, k.began, later);
+  closing = before;
+  graces = k.graces;
   billed = l.billed;
 }
 

@@ -1,4 +1,5 @@
 pub mod Going
+pub mod Gracing
 pub mod DropLaws
 pub mod Drawing
 pub mod TakeLaws

@@ -1,11 +1,10 @@
 -- The terms of the shards at the opening: no two are one, and they are no more than the circuits.
-use Rattle.std.proofs.Common.{◌≡◌, ◌≢◌, ℕ, zero, suc, ◌+◌, ◌*◌, ◌/◌, ◌<◌, ◌≤◌, ◌==◌, ◌&&◌, Bool, true, false, cond, eqb, List, [], ◌∷◌, ◌++◌, map, filter, length, get_or, refl, ap, ◌∙◌, arith}
+use Rattle.std.proofs.Common.{◌≡◌, ◌≢◌, ℕ, zero, suc, ◌+◌, ◌*◌, ◌/◌, ◌<◌, ◌≤◌, ◌==◌, ◌&&◌, Bool, true, false, cond, eqb, List, [], ◌∷◌, map, filter, length, get_or, refl, ap, ◌∙◌, arith}
 use Rattle.std.specs.List.{All, AllPairs, flat_map, range_with_len, sum_by}
 use Rattle.std.proofs.lemmas.Bool.Decides.{nat_tests}
 use Rattle.std.proofs.lemmas.List.{length-append}
 use Rattle.std.proofs.lemmas.List.Concat.{length-flat_map}
-use Rattle.std.proofs.lemmas.List.Elements.{All-append, All-head, All-tail}
-use Rattle.std.proofs.lemmas.List.Kept.{AllPairs-cons}
+use Rattle.std.proofs.lemmas.List.Elements.{All-append}
 use Rattle.std.proofs.lemmas.List.Sums.{sum_by-cons}
 use Rattle.bng_acct.specs.Roster.{same}
 use Rattle.bng_base.specs.declared.address.SessionNo.{SessionNo}

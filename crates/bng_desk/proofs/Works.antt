@@ -38,3 +38,7 @@ kept_with d w = with_works d w w.shards.items
 -- once a turn has gathered its items: accounting and the lane have heard what came, octets were drawn, and nothing stays
 abbrev pub gathered : Works → BillingState → LaneState → Drawn → Vec Item Global → Lists → Works
 gathered w billing lane draws kept lists = record w { accounts = record w.accounts { billing = billing }; lane = lane; draws = draws; kept = kept; lists = lists }
+
+-- with accounting as this
+abbrev pub billed_by : Works → BillingState → Works
+billed_by w billing = record w { accounts = record w.accounts { billing = billing } }

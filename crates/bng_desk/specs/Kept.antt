@@ -13,7 +13,7 @@ use Rattle.bng_desk.specs.Accounting.{AreBilled}
 use Rattle.bng_desk.specs.Counting.{Within}
 use Rattle.bng_desk.specs.Items.{ends_of}
 use Rattle.bng_desk.specs.Logins.{verdicts_most}
-use Rattle.bng_desk.specs.Model.{Desk, HasOneRule, keys_in, is_over, rounds_left, unopened_most}
+use Rattle.bng_desk.specs.Model.{Desk, HasOneRule, keys_in, is_over, graces_most, rounds_left, unopened_most}
 use Rattle.bng_desk.specs.Taking.{IsEmpty, HasFewSessions, AreInOrder, AreItems, AreTallied}
 
 -- a shard between two rounds, as the desk's contracts see it: nothing of a round, and no room for one
@@ -40,11 +40,12 @@ undrawn i = record i { random = [] }
 abbrev pub AreEndsOf : ℕ → List Item → Type 0
 AreEndsOf shards items = map undrawn items ≡ ends_of shards
 
--- no turn of the ending was made
+-- no turn of the ending was made, and none of the grace
 pub record IsUnended (d : Desk) : Type 0 where
   pub endings : d.endings ≡ 0
   pub unopened : d.unopened ≡ 0
   pub closed : d.closed ≡ false
+  pub graces : d.graces ≡ 0
 
 abbrev pub is_verdict : Item → Type 0
 is_verdict i = i.kind ≡ Verdict
@@ -93,4 +94,6 @@ pub record IsKept (d : Desk) : Type 0 where
   pub while_serving : is_over d ≡ false → All is_verdict d.kept
   pub handed : length d.handed ≡ length d.shards
   pub began : d.began ≤ d.moment
+  pub closing : d.closing ≤ d.moment
+  pub graces : d.graces ≤ graces_most
   pub billed : AreBilled (keys_in d.shards) d.billing

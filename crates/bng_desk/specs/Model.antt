@@ -1,6 +1,7 @@
 -- The desk as contracts see it.
 use Rattle.std.specs.Prelude.{◌≡◌, ℕ, ◌+◌, ◌-◌, ◌*◌, ◌/◌, Bool, true, false, ◌==◌, ◌||◌, ◌&&◌, not, List, Option, Some, None, map, sum_by, slice_get, nat_le, if◌then◌else◌}
 use Rattle.std.specs.List.{All, flat_map}
+use Rattle.bng_acct.specs.Spool.{unacked_stops}
 use Rattle.bng_base.specs.declared.book.Book.{Book}
 use Rattle.bng_base.specs.declared.item.Entry.{Entry}
 use Rattle.bng_base.specs.declared.item.Item.{Item}
@@ -16,17 +17,19 @@ use Rattle.bng_shard.specs.declared.sums.Traffic.{Traffic}
 use Rattle.bng_shard.specs.Protocol.{ShardState, row_at, sessions_of}
 use Rattle.bng_shard.specs.Sums.{traffic_in}
 use Rattle.bng_desk.specs.declared.desk.DeskState.{DeskState}
-use Rattle.bng_desk.specs.declared.desk.DeskState.TheVariants.{Serving, Ending, Ended, Starved}
+use Rattle.bng_desk.specs.declared.desk.DeskState.TheVariants.{Serving, Ending, Grace, Ended, Starved}
 use Rattle.bng_desk.specs.declared.drops.Drops.{Drops}
 use Rattle.bng_desk.specs.declared.line.Line.{Line}
+use Rattle.bng_desk.specs.Reading.{is_empty}
 
 -- By what it serves, the provisioned circuits in the order of the configuration, after how many turns it ends serving by itself, how
 -- many it made, whether it was told to stop, the shards in the order of their numbers, who holds an address, what each seat passed, the
 -- seed and how many times sixteen octets were drawn from it, the drops, the last moment that it was given, and the number of the last
 -- round that the trace took, 0 before the first. The lane of the questions that are out at the server, and of each shard which of its
 -- questions were handed out. The moment of the opening, and the records that are open at the server of accounting. Of the ending: how
--- many of its turns were made, how many in a row opened no round, and whether one opened a round. The items that stay of the last round,
--- where it was not opened.
+-- many of its turns were made, how many in a row opened no round, whether one opened a round, and the moment of the last that did, which
+-- is that of the opening before the first. How many turns of the grace were made. The items that stay of the last round, where it was not
+-- opened.
 pub record Desk : Type 0 where
   pub rules : Rules
   pub lines : List Line
@@ -48,6 +51,8 @@ pub record Desk : Type 0 where
   pub endings : ℕ
   pub unopened : ℕ
   pub closed : Bool
+  pub closing : ℕ
+  pub graces : ℕ
   pub kept : List Item
 
 -- the keys of the terms that are there, of the first shard first, and in each by rising session number
@@ -77,17 +82,28 @@ has_starved d = nat_le unopened_most d.unopened
 abbrev pub has_ended : Desk → Bool
 has_ended d = d.closed && (sessions_in d.shards == 0)
 
+-- how long the grace lasts at most, in milliseconds, and how many turns
+abbrev pub grace_most : ℕ
+grace_most = 30000
+
+abbrev pub graces_most : ℕ
+graces_most = 1000000
+
+-- each Stop was acknowledged, or so much time went by, or so many turns were made
+abbrev pub grace_is_over : Desk → Bool
+grace_is_over d = is_empty (unacked_stops d.billing.spool) || (nat_le (d.closing + grace_most) d.moment || nat_le graces_most d.graces)
+
 -- how many rounds of Ends there may still be: one, and one for each session
 abbrev pub rounds_left : Desk → ℕ
 rounds_left d = sessions_in d.shards + (if d.closed then 0 else 1)
 
--- how many turns of the ending there may still be; each makes it less
+-- how many turns of the ending there may still be, and of the grace; each makes it less
 abbrev pub left_of : Desk → ℕ
-left_of d = unopened_most * rounds_left d + (unopened_most - d.unopened)
+left_of d = unopened_most * rounds_left d + (unopened_most - d.unopened) + (graces_most - d.graces)
 
 -- where it stands
 abbrev pub state_of : Desk → DeskState
-state_of d = if not (is_over d) then Serving else (if has_ended d then Ended else (if has_starved d then Starved else Ending))
+state_of d = if not (is_over d) then Serving else (if has_ended d then (if grace_is_over d then Ended else Grace) else (if has_starved d then Starved else Ending))
 
 abbrev pub no_traffic : Traffic
 no_traffic = record { input = 0; output = 0 }

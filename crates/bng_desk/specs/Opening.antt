@@ -148,5 +148,7 @@ pub record IsOpened (config : Config) (rounds : ℕ) (seed : List ℕ) (now wall
     endings = 0;
     unopened = 0;
     closed = false;
+    closing = now;
+    graces = 0;
     kept = [];
   }

@@ -1,6 +1,8 @@
 -- The report.
 use Rattle.std.specs.Prelude.{ℕ, List, [], ◌∷◌, ◌++◌, codes}
 use Rattle.std.specs.Fmt.{decimal}
+use Rattle.bng_acct.specs.declared.facts.TermFacts.{TermFacts}
+use Rattle.bng_acct.specs.Texts.{session_id, port_id}
 use Rattle.bng_base.specs.declared.address.Ip4.{Ip4}
 use Rattle.bng_config.specs.Address.{address_text}
 use Rattle.bng_base.specs.declared.fate.DropCause.{DropCause}
@@ -60,3 +62,16 @@ report_text circuits traffic drops =
     codes "total" ++ quantities (input_of traffic) (output_of traffic)
     ++ static_lines circuits traffic
     ++ drop_lines causes drops
+
+-- the address of a term, and its octets in and out
+abbrev pub carried_text : TermFacts → List ℕ
+carried_text f = address_text f.address ++ quantities f.carried.input f.carried.output
+
+-- a Stop that is not acknowledged: the Acct-Session-Id of its term, the NAS-Port-Id of its circuit, its address, and its octets
+abbrev pub stop_line : List ℕ → TermFacts → List ℕ
+stop_line id f = codes "stop " ++ id ++ codes " " ++ port_id f.circuit ++ codes " " ++ carried_text f
+
+-- a line for each of these Stops, where the run opened at this second
+abbrev pub stop_lines : ℕ → List TermFacts → List ℕ
+stop_lines wall [] = []
+stop_lines wall (f ∷ fs) = stop_line (session_id wall f.term) f ++ stop_lines wall fs

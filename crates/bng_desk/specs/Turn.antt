@@ -24,13 +24,14 @@ use Rattle.bng_desk.specs.Accounting.{Acknowledged, FormedRecord, RecordRequests
 use Rattle.bng_desk.specs.Control.{Heeded, has_stop, control_stretch}
 use Rattle.bng_desk.specs.Counting.{plus}
 use Rattle.bng_billing.specs.State.{BillingState, places_of}
+use Rattle.bng_billing.specs.Stopping.{StopsOnly}
 use Rattle.bng_engine.specs.Terms.{Stop}
 use Rattle.bng_lane.specs.State.{LaneState}
 use Rattle.bng_rad_client.specs.DueRequests.{IsDeadline}
 use Rattle.bng_verdict.specs.declared.question.QuestionNo.{QuestionNo}
 use Rattle.bng_desk.specs.Items.{DataReading, taken_items, ticks_of, ends_of, drawn_from, kept_of}
 use Rattle.bng_desk.specs.Logins.{Answered, Requests, Hears, TimesOut, SettlesLane, reply_items, timeout_items, auth_reading, requests_stretch, verdicts_most}
-use Rattle.bng_desk.specs.Model.{Desk, line_after}
+use Rattle.bng_desk.specs.Model.{Desk, grace_most, has_ended, line_after}
 use Rattle.bng_desk.specs.Reading.{receives, taken_in, ending_stretch, EndsRight, is_empty}
 use Rattle.bng_desk.specs.Round.{Round, IsRound, stops_of, holders_after, left_by, drops_in, sends_stretch, record_of, refused_of, refused_record, with_refused}
 
@@ -308,18 +309,26 @@ after_end d t = record (after_round d (ending_items d) t.round) {
   endings = d.endings + 1;
   unopened = (if is_opened t.round then 0 else d.unopened + 1);
   closed = d.closed || is_opened t.round;
+  closing = (if is_opened t.round then t.moment else d.closing);
 }
 
 -- the lane in a turn of the ending: its settlement alone
 abbrev pub LaneEnd : Desk → EndTurn → Type 0
 LaneEnd d t = SettlesLane t.moment d.lane (after_round d (ending_items d) t.round).shards d.handed d.seed (d.drawn + ending_draws d) t.requests t.lane t.handed
 
--- Accounting in a turn of the ending: its settlement alone.
+-- once no session is left, Starts and Interims are sent no longer and their identifiers are free
+abbrev pub Closes : Bool → BillingState → BillingState → Type 0
+Closes false b b' = b' ≡ b
+Closes true b b' = StopsOnly b b'
+
+-- Accounting in a turn of the ending: its settlement, and where no session is left after it, all but Stops are forgotten.
 pub record BillingEnd (d : Desk) (t : EndTurn) : Type 0 where
   pub booked : BillingState
   pub forms : Forms d.billing t.formed booked
   pub stops : AllZip (IsStopOf d.lines d.began t.moment t.wall) (stops_in t.round) t.formed
-  pub settles : SettlesRecords t.moment booked t.records t.billing
+  pub settled : BillingState
+  pub settles : SettlesRecords t.moment booked t.records settled
+  pub closes : Closes (has_ended (after_end d t)) settled t.billing
 
 -- A turn that wanted memory is None: it counts as one that opened no round.
 abbrev pub EndStep : Desk → Option EndTurn → Desk → Type 0
@@ -346,6 +355,52 @@ pub record MakesEnd (d d' : Desk) (o o' : Outside) (result : Turned) : Type 0 wh
   pub answer : result ≡ end_turned turn
   pub step : EndStep d turn d'
   pub told : Extends o o' (end_stretch d turn)
+  pub moment : d'.moment ≤ o'.clock.last
+
+-- The grace --------------------------------------------------------------------------------------------------------------
+
+-- A turn of the grace: its moments, what was taken from Acct and how its reading ended, the requests that were sent, and how accounting
+-- stands then, with its first deadline.
+pub record GraceTurn : Type 0 where
+  pub moment : ℕ
+  pub wall : ℕ
+  pub acknowledged : List Acknowledged
+  pub acct_end : Ended
+  pub records : RecordRequests
+  pub billing : BillingState
+  pub record_deadline : Option ℕ
+
+abbrev pub after_grace : Desk → GraceTurn → Desk
+after_grace d t = record d { moment = t.moment; billing = t.billing; graces = d.graces + 1 }
+
+-- Acct alone is read, at most 128 times; then the requests that are due are sent again, and the Stops that wait are sent.
+pub record GraceStep (d : Desk) (t : GraceTurn) (d' : Desk) : Type 0 where
+  pub moment : d.moment ≤ t.moment
+  pub acct : EndsRight acknowledged_most (length t.acknowledged) t.acct_end
+  pub heard : BillingState
+  pub hears : HearsRecords d.billing t.acknowledged heard
+  pub settles : SettlesRecords t.moment heard t.records t.billing
+  pub due : IsDeadline (places_of t.billing) t.record_deadline
+  pub after : d' ≡ after_grace d t
+
+-- a turn of the grace that took no datagram ends with one wait, until a request is due or the grace ends
+abbrev pub grace_stretch : Desk → GraceTurn → Stretch
+grace_stretch d t = record {
+  plant =
+      plant_joined (reading_stretch (acct_reading t.acknowledged t.acct_end))
+      (plant_joined (records_stretch d.billing.client.acct_server t.records)
+      (waiting_stretch (is_empty t.acknowledged) (wait_for (earliest t.record_deadline (Some (d.closing + grace_most))) t.moment)));
+  answers = Now t.moment ∷ Wall t.wall ∷ [];
+  rounds = [];
+  unnoted = false;
+}
+
+-- in its grace a call of `turn` is one turn of the grace; it takes no memory and tells the trace nothing
+pub record MakesGrace (d d' : Desk) (o o' : Outside) (result : Turned) : Type 0 where
+  pub turn : GraceTurn
+  pub answer : result ≡ Ok
+  pub step : GraceStep d turn d'
+  pub told : Extends o o' (grace_stretch d turn)
   pub moment : d'.moment ≤ o'.clock.last
 
 -- when all is over, it does nothing

@@ -1,9 +1,9 @@
 //! What a settlement writes to beside the shards: the lines of the circuits, and the records of their terms.
-ghost use Rattle.std.specs.Prelude.{◌≡◌, ◌==◌, ◌+◌, ◌≤◌, ◌<◌, ◌^◌, true, false, None, [], ◌∷◌, find, length, map};
+ghost use Rattle.std.specs.Prelude.{◌≡◌, ◌==◌, ◌+◌, ◌≤◌, ◌<◌, ◌^◌, true, false, None, [], ◌∷◌, IfOk, find, length, map};
 ghost use Rattle.std.specs.List.{All, AllPairs};
 ghost use Rattle.std.specs.Option.{option_copied};
 ghost use Rattle.bng_acct.specs.Roster.{of_term, same};
-ghost use Rattle.bng_acct.specs.Spool.{is_live};
+ghost use Rattle.bng_acct.specs.Spool.{is_live, unacked_stops};
 ghost use Rattle.bng_billing.specs.State.{places_of};
 ghost use Rattle.bng_engine.specs.Views.{row_keys};
 ghost use Rattle.bng_rad_client.specs.DueRequests.{IsDeadline};
@@ -11,18 +11,23 @@ ghost use Rattle.bng_shard.specs.Protocol.{key_of, stop_of};
 ghost use Rattle.bng_desk.specs.Accounting.{AreFactsOf, user_of};
 ghost use Rattle.bng_desk.specs.Intake.{SendsRecords, TakesAcknowledgements};
 ghost use Rattle.bng_desk.specs.Model.{line_after};
+ghost use Rattle.bng_desk.specs.Reading.{is_empty};
+ghost use Rattle.bng_desk.specs.Report.{stop_lines};
 ghost use Rattle.bng_desk.specs.Taking.{BooksStarts, BooksStops, TakesIn};
+ghost use Rattle.bng_desk.specs.Turn.{Closes};
 
 use crate::acknowledgements::take_acknowledgements;
 use crate::line::Line;
 use crate::opening::copied;
 use crate::records::send_records;
+use crate::unanswered::unanswered;
 use arrayvec::ArrayVec;
 use bng_acct::{Moment, TermFacts};
 use bng_base::{Book, Frame, SessionNo};
 use bng_billing::Billing;
 use bng_plant::Plant;
 use bng_shard::{EndedTerm, LiveTerm, Shard};
+use std::alloc::{AllocError, Global};
 use std::marker::Model;
 
 /// The lines of the circuits, and the records of their terms, which began at `began`, the moment of the opening.
@@ -151,6 +156,7 @@ impl Accounts {
         let _number = self.billing.stop(&facts, at);
         add_carried(&mut self.lines, ended);
     }
+
     /// Takes what came from the server of accounting, and says whether nothing was taken.
     pub(crate) fn hear<P: Plant>(&mut self, plant: &mut P, frame: &mut Frame) -> bool
         ensures takes { TakesAcknowledgements (P.told plant.old) (P.told plant.new) self.old.billing self.new.billing result }
@@ -173,6 +179,38 @@ impl Accounts {
     {
         self.billing.deadline()
     }
+
+    /// Forgets all Starts and Interims, if no session is left.
+    pub(crate) fn close(&mut self, ended: bool)
+        ensures closes { Closes ended self.old.billing self.new.billing }
+        ensures others { self.new ≡ record self.old { billing = self.new.billing } }
+    {
+        if ended {
+            self.billing.stops_only();
+        }
+    }
+
+    /// Whether each Stop was acknowledged.
+    pub(crate) fn is_acknowledged(&self) -> bool
+        ensures { result ≡ is_empty (unacked_stops self.now.billing.spool) }
+    {
+        self.billing.unacked_stops() == 0
+    }
+
+    /// The number of Stops that are not acknowledged.
+    pub(crate) fn unacked_stops(&self) -> u32
+        ensures { result ≡ length (unacked_stops self.now.billing.spool) }
+    {
+        self.billing.unacked_stops()
+    }
+
+    /// A line for each Stop that is not acknowledged, by session and term number.
+    pub(crate) fn unanswered(&self, alloc: Global) -> Result<Vec<u8>, AllocError>
+        ensures { IfOk result (λ text. text.items ≡ stop_lines self.now.billing.spool.rules.wall (unacked_stops self.now.billing.spool)) }
+    {
+        unanswered(alloc, &self.billing)
+    }
+
     /// The provisioned circuits.
     pub(crate) fn lines(&self) -> &[Line]
         ensures { result.now ≡ self.now.lines }

@@ -1,10 +1,11 @@
-ghost use Rattle.std.specs.Prelude.{◌≡◌, ◌+◌, ◌≤◌, ◌<◌, ◌^◌, ◌++◌, [], true, not, if◌then◌else◌, vec_capacity, IfOk, OnOk, OnErr};
+ghost use Rattle.std.specs.Prelude.{◌≡◌, ◌+◌, ◌≤◌, ◌<◌, ◌^◌, ◌++◌, ◌||◌, [], true, not, nat_le, if◌then◌else◌, length, vec_capacity, IfOk, OnOk, OnErr};
 ghost use Rattle.std.specs.List.{All};
+ghost use Rattle.bng_acct.specs.Spool.{unacked_stops};
 ghost use Rattle.bng_config.specs.Rules.{KeepsRules};
 ghost use Rattle.bng_shard.specs.Protocol.{profiles_there};
-ghost use Rattle.bng_desk.specs.Model.{state_of, all_carried, HasOneRule};
+ghost use Rattle.bng_desk.specs.Model.{state_of, all_carried, HasOneRule, grace_most, graces_most};
 ghost use Rattle.bng_desk.specs.Opening.{IsOpened};
-ghost use Rattle.bng_desk.specs.Report.{by_number, report_text};
+ghost use Rattle.bng_desk.specs.Report.{by_number, report_text, stop_lines};
 
 use crate::drops::NO_DROPS;
 use crate::flags::{both, either};
@@ -23,6 +24,12 @@ use std::marker::Model;
 /// So many turns of the ending in a row that open no round are the end.
 const UNOPENED_MOST: u64 = 1_000_000;
 
+/// So many milliseconds after the last round of Ends the grace is over.
+pub(crate) const GRACE_MOST: u64 = 30_000;
+
+/// So many turns of the grace are its end.
+const GRACES_MOST: u64 = 1_000_000;
+
 /// The most items that stay of a round: 128 verdicts, and an End for each of 64 shards.
 const KEPT_MOST: usize = 192;
 
@@ -33,7 +40,8 @@ pub enum DeskError {
 }
 
 /// Where a desk stands. While it serves, a turn reads what came. In `Ending` a turn is one round in which sessions end, until none
-/// is left. `Starved` is the end where no such round could be opened. `Grace` comes with records, and does not come yet.
+/// is left. In `Grace` a turn hears the server of accounting, until it has acknowledged each Stop, or for 30 seconds. `Starved` is the
+/// end where no round could be opened.
 #[derive(Clone, Copy, PartialEq, Eq, Debug)]
 pub enum DeskState {
     Serving,
@@ -65,6 +73,8 @@ pub struct Desk {
     pub(crate) endings: u64,
     pub(crate) unopened: u64,
     pub(crate) closed: bool,
+    pub(crate) closing: u64,
+    pub(crate) graces: u64,
 }
 
 impl Model for Desk {
@@ -78,9 +88,9 @@ impl Model for Desk {
 
     ghost coded = { Prim.hlevel (codes, state_code) };
 
-    ghost view = { λ d. record { rules = d.rules; lines = d.works.accounts.lines; rounds = d.rounds; turns = d.turns; stopped = d.stopped; shards = map rested d.works.shards.items; holders = d.works.pool; tallies = d.works.tally ∷ []; seed = d.works.draws.seed; drawn = d.works.draws.drawn; drops = d.works.drops; moment = d.moment; told = d.told; lane = d.works.lane; handed = d.works.handed.items; began = d.works.accounts.began; billing = d.works.accounts.billing; endings = d.endings; unopened = d.unopened; closed = d.closed; kept = d.works.kept.items } };
+    ghost view = { λ d. record { rules = d.rules; lines = d.works.accounts.lines; rounds = d.rounds; turns = d.turns; stopped = d.stopped; shards = map rested d.works.shards.items; holders = d.works.pool; tallies = d.works.tally ∷ []; seed = d.works.draws.seed; drawn = d.works.draws.drawn; drops = d.works.drops; moment = d.moment; told = d.told; lane = d.works.lane; handed = d.works.handed.items; began = d.works.accounts.began; billing = d.works.accounts.billing; endings = d.endings; unopened = d.unopened; closed = d.closed; closing = d.closing; graces = d.graces; kept = d.works.kept.items } };
 
-    ghost invariant = { λ d. IsKept (record { rules = d.rules; lines = d.works.accounts.lines; rounds = d.rounds; turns = d.turns; stopped = d.stopped; shards = d.works.shards.items; holders = d.works.pool; tallies = d.works.tally ∷ []; seed = d.works.draws.seed; drawn = d.works.draws.drawn; drops = d.works.drops; moment = d.moment; told = d.told; lane = d.works.lane; handed = d.works.handed.items; began = d.works.accounts.began; billing = d.works.accounts.billing; endings = d.endings; unopened = d.unopened; closed = d.closed; kept = d.works.kept.items }) × (192 ≤ vec_capacity d.works.kept) };
+    ghost invariant = { λ d. IsKept (record { rules = d.rules; lines = d.works.accounts.lines; rounds = d.rounds; turns = d.turns; stopped = d.stopped; shards = d.works.shards.items; holders = d.works.pool; tallies = d.works.tally ∷ []; seed = d.works.draws.seed; drawn = d.works.draws.drawn; drops = d.works.drops; moment = d.moment; told = d.told; lane = d.works.lane; handed = d.works.handed.items; began = d.works.accounts.began; billing = d.works.accounts.billing; endings = d.endings; unopened = d.unopened; closed = d.closed; closing = d.closing; graces = d.graces; kept = d.works.kept.items }) × (192 ≤ vec_capacity d.works.kept) };
 }
 
 // An empty list with room for all items that may stay of a round.
@@ -93,14 +103,24 @@ fn room_to_keep(alloc: Global) -> Result<Vec<Item>, DeskError>
     }
 }
 
+// Whether the grace is over: each Stop was acknowledged, or so much time went by since the last round of Ends, or so many turns were made.
+fn is_grace_over(acknowledged: bool, closing: u64, moment: u64, graces: u64) -> bool
+    requires { closing ≤ moment }
+    ensures { result ≡ (acknowledged || (nat_le (closing + grace_most) moment || nat_le graces_most graces)) }
+{
+    acknowledged || GRACE_MOST <= moment - closing || GRACES_MOST <= graces
+}
+
 // Where a desk stands.
-fn stands(over: bool, ended: bool, starved: bool) -> DeskState
-    ensures { result ≡ (if not over then DeskState.Serving else (if ended then DeskState.Ended else (if starved then DeskState.Starved else DeskState.Ending))) }
+fn stands(over: bool, ended: bool, done: bool, starved: bool) -> DeskState
+    ensures { result ≡ (if not over then DeskState.Serving else (if ended then (if done then DeskState.Ended else DeskState.Grace) else (if starved then DeskState.Starved else DeskState.Ending))) }
 {
     if !over {
         DeskState::Serving
-    } else if ended {
+    } else if ended && done {
         DeskState::Ended
+    } else if ended {
+        DeskState::Grace
     } else if starved {
         DeskState::Starved
     } else {
@@ -181,19 +201,24 @@ impl Desk {
             endings: 0,
             unopened: 0,
             closed: false,
+            closing: now,
+            graces: 0,
         })
     }
 
     /// Whether the desk serves, or where it stands in ending. However it stands, each shard works by the desk's rules, and fewer than
-    /// 2^37 turns of the ending were made.
+    /// 2^37 turns of the ending were made, and at most 1,000,000 of the grace.
     pub fn state(&self) -> DeskState
         ensures stands { result ≡ state_of self.now }
         ensures rules { HasOneRule self.now }
         ensures few { self.now.endings < 2 ^ 37 }
+        ensures few_graces { self.now.graces ≤ graces_most }
     {
         let over = either(self.stopped, self.turns == self.rounds);
         let ended = both(self.closed, sessions_in(self.works.shards.as_slice()) == 0);
-        stands(over, ended, UNOPENED_MOST <= self.unopened)
+        let acknowledged = self.works.accounts.is_acknowledged();
+        let done = is_grace_over(acknowledged, self.closing, self.moment, self.graces);
+        stands(over, ended, done, UNOPENED_MOST <= self.unopened)
     }
 
     /// Ends serving, as a `stop` from Control does.
@@ -218,6 +243,21 @@ impl Desk {
         };
         match out.extend_from_slice(text.as_bytes()) {
             Ok(()) => Ok(()),
+            Err(_) => Err(DeskError::OutOfMemory),
+        }
+    }
+
+    /// Appends a line for each Stop that the server of accounting did not acknowledge, by session and term number, and answers their
+    /// number.
+    pub fn unanswered(&self, alloc: Global, out: &mut Vec<u8>) -> Result<u32, DeskError>
+        ensures appended { IfOk result (λ n. (out.new.items ≡ out.old.items ++ stop_lines self.now.billing.spool.rules.wall (unacked_stops self.now.billing.spool)) × (n ≡ length (unacked_stops self.now.billing.spool))) }
+        ensures kept { OnErr result (out.new.items ≡ out.old.items) }
+    {
+        let Ok(text) = self.works.accounts.unanswered(alloc) else {
+            return Err(DeskError::OutOfMemory);
+        };
+        match out.extend_from_slice(text.as_slice()) {
+            Ok(()) => Ok(self.works.accounts.unacked_stops()),
             Err(_) => Err(DeskError::OutOfMemory),
         }
     }

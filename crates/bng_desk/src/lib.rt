@@ -31,6 +31,7 @@ mod settlement;
 mod stops;
 mod sums;
 mod turns;
+mod unanswered;
 
 pub use crate::desk::{Desk, DeskError, DeskState, Turned};
 pub use crate::drops::Drops;

@@ -72,13 +72,19 @@ fn push_drop_lines(text: &mut String, drops: &[u64; 9]) -> Result<(), AllocError
     Ok(())
 }
 
-fn push_quantities(text: &mut String, input: u128, output: u128) -> Result<(), AllocError>
+/// Appends octets in and out, and the end of the line.
+pub(crate) fn push_quantities(
+    text: &mut String,
+    input: u128,
+    output: u128,
+) -> Result<(), AllocError>
     ensures { OnOk result (string_bytes text.new ≡ string_bytes text.old ++ quantities input output) }
 {
     write!(text, " in={input} out={output}\n")
 }
 
-fn push_address(text: &mut String, address: Ip4) -> Result<(), AllocError>
+/// Appends an address.
+pub(crate) fn push_address(text: &mut String, address: Ip4) -> Result<(), AllocError>
     ensures { OnOk result (string_bytes text.new ≡ string_bytes text.old ++ address_text address) }
 {
     let number = address.0;

@@ -1,18 +1,20 @@
 //! The turns of a desk.
 ghost use Rattle.std.specs.Prelude.{◌≡◌, ◌+◌, ◌≤◌, ◌<◌, ◌^◌, ◌⊎◌, if◌then◌else◌};
 ghost use Rattle.bng_base.specs.Stretch.{ExtendsPlant};
+ghost use Rattle.bng_base.specs.Told.{TraceTold};
 ghost use Rattle.bng_desk.specs.Model.{state_of, left_of};
-ghost use Rattle.bng_desk.specs.Turn.{MakesTurn, MakesEnd, DoesNothing, answer_if, waiting_stretch};
+ghost use Rattle.bng_desk.specs.Turn.{MakesTurn, MakesEnd, MakesGrace, DoesNothing, answer_if, waiting_stretch};
 ghost use Rattle.bng_desk.specs.Turn.{told_after as number_after};
 
 use crate::control::heed;
-use crate::desk::{Desk, DeskState, Turned};
+use crate::desk::{Desk, DeskState, GRACE_MOST, Turned};
 use crate::due::{deadline_of, earlier, wait_until};
 use crate::ends::to_end;
 use crate::flags::{both, either};
 use crate::gathering::gather;
 use crate::holding::Named;
 use crate::settlement::{Settled, settle};
+use crate::sums::sessions_in;
 use bng_base::Frame;
 use bng_plant::{Clock, Gate, Plant, Trace};
 use std::alloc::Global;
@@ -45,6 +47,13 @@ fn unopened_after(is_opened: bool, unopened: u64) -> u64
     ensures { result ≡ (if is_opened then 0 else unopened + 1) }
 {
     if is_opened { 0 } else { unopened + 1 }
+}
+
+// The moment of the last round of Ends that was opened, after one more.
+fn closing_after(is_opened: bool, moment: u64, closing: u64) -> u64
+    ensures { result ≡ (if is_opened then moment else closing) }
+{
+    if is_opened { moment } else { closing }
 }
 
 // The number of the last round that the trace took, after one more.
@@ -165,7 +174,32 @@ impl Desk {
         self.endings += 1;
         self.unopened = unopened_after(is_opened, self.unopened);
         self.closed = either(self.closed, is_opened);
+        self.closing = closing_after(is_opened, now, self.closing);
+        let sessions = sessions_in(self.works.shards.as_slice());
+        self.works.accounts.close(both(self.closed, sessions == 0));
         answer(noted)
+    }
+
+    // A turn of the grace, in which Acct alone is read.
+    fn grace<P: Plant, C: Clock>(&mut self, plant: &mut P, clock: &mut C) -> Turned
+        requires state { state_of self.old ≡ DeskState.Grace }
+        requires later { self.old.moment ≤ (C.told clock.old).last }
+        ensures makes { (trace : TraceTold) → MakesGrace self.old self.new
+            (record { plant = P.told plant.old; clock = C.told clock.old; trace = trace })
+            (record { plant = P.told plant.new; clock = C.told clock.new; trace = trace }) result }
+        ensures nearer { left_of self.new < left_of self.old }
+    {
+        let now = clock.now();
+        let _wall = clock.wall();
+        let mut frame = Frame::new();
+        let unacknowledged = self.works.accounts.hear(plant, &mut frame);
+        self.works.accounts.send(plant, now);
+        let last = Some(self.closing + GRACE_MOST);
+        let due = earlier(self.works.accounts.deadline(), last);
+        self.moment = now;
+        self.graces += 1;
+        wait_if(plant, unacknowledged, wait_until(due, now));
+        Turned::Ok
     }
 
     /// One turn. While the desk serves: it reads Control, then Acct, then Auth, then the access ports and then the core, and answers
@@ -175,7 +209,9 @@ impl Desk {
     /// sent to its circuit, forms a Stop of each term that ended, sends the requests that are due again and those of the questions
     /// (RFC 2865 section 2.5) and of the records that wait, and tells the trace the round; where nothing was taken it waits. Where the
     /// round could not be opened, its verdicts stand first in the next one, and Auth is not read until they were handled. While it ends:
-    /// a round of what stays and of one End for each shard, after which fewer turns are left. When all is over it does nothing.
+    /// a round of what stays and of one End for each shard; once no session is left, Starts and Interims are forgotten. In its grace it
+    /// reads Acct, sends the requests that are due again and those of the Stops that wait, and waits where nothing was taken. After each
+    /// turn of the ending or of the grace fewer are left. When all is over it does nothing.
     pub fn turn<R, P: Plant, C: Clock, T: Trace, G>(
         &mut self,
         _rt: &R,
@@ -195,7 +231,10 @@ impl Desk {
         ensures ending { state_of self.old ≡ DeskState.Ending → MakesEnd self.old self.new
             (record { plant = P.told plant.old; clock = C.told clock.old; trace = T.told trace.old })
             (record { plant = P.told plant.new; clock = C.told clock.new; trace = T.told trace.new }) result }
-        ensures nearer { state_of self.old ≡ DeskState.Ending → left_of self.new < left_of self.old }
+        ensures grace { state_of self.old ≡ DeskState.Grace → MakesGrace self.old self.new
+            (record { plant = P.told plant.old; clock = C.told clock.old; trace = T.told trace.old })
+            (record { plant = P.told plant.new; clock = C.told clock.new; trace = T.told trace.new }) result }
+        ensures nearer { (state_of self.old ≡ DeskState.Ending) ⊎ (state_of self.old ≡ DeskState.Grace) → left_of self.new < left_of self.old }
         ensures over { (state_of self.old ≡ DeskState.Ended) ⊎ (state_of self.old ≡ DeskState.Starved) → DoesNothing self.old self.new
             (record { plant = P.told plant.old; clock = C.told clock.old; trace = T.told trace.old })
             (record { plant = P.told plant.new; clock = C.told clock.new; trace = T.told trace.new }) result }
@@ -203,7 +242,8 @@ impl Desk {
         match self.state() {
             DeskState::Serving => self.serve(alloc, plant, clock, trace),
             DeskState::Ending => self.end(alloc, plant, clock, trace),
-            DeskState::Grace | DeskState::Ended | DeskState::Starved => Turned::Ok,
+            DeskState::Grace => self.grace(plant, clock),
+            DeskState::Ended | DeskState::Starved => Turned::Ok,
         }
     }
 }

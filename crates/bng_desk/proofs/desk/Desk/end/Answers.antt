@@ -1,4 +1,4 @@
-use Rattle.std.proofs.Common.{◌≡◌, ℕ, ◌+◌, ◌-◌, ◌*◌, ◌<◌, ◌≤◌, ◌==◌, true, ◌||◌, cond, List, [], ◌∷◌, ◌++◌, length, map, replicate, refl, sym, ap, subst, arith, ◌∙◌}
+use Rattle.std.proofs.Common.{◌≡◌, ℕ, ◌+◌, ◌-◌, ◌*◌, ◌<◌, ◌≤◌, ◌==◌, Bool, true, ◌&&◌, ◌||◌, cond, List, [], ◌∷◌, ◌++◌, length, map, replicate, refl, sym, ap, subst, arith, ◌∙◌}
 use Rattle.std.proofs.lemmas.Bool.{false≢true}
 use Rattle.std.proofs.lemmas.List.{length-map}
 use Rattle.bng_base.specs.declared.item.Item.{Item}
@@ -6,20 +6,22 @@ use Rattle.bng_base.specs.Stretch.{Outside}
 use Rattle.bng_desk.specs.declared.holding.Named.{Named}
 use Rattle.bng_desk.specs.declared.settlement.Works.{Works}
 use Rattle.bng_desk.specs.Items.{drawn_from, ends_of}
-use Rattle.bng_desk.specs.Kept.{rested, octets_most, drops_most}
-use Rattle.bng_desk.specs.Model.{Desk, is_over, left_of, rounds_left, sessions_in, state_of, unopened_most}
+use Rattle.bng_desk.specs.Kept.{IsKept, rested, octets_most, drops_most}
+use Rattle.bng_desk.specs.Model.{Desk, graces_most, is_over, left_of, rounds_left, sessions_in, state_of, unopened_most}
 use Rattle.bng_desk.specs.Random.{Drawn}
-use Rattle.bng_desk.specs.Turn.{MakesEnd, ending_items, has_end}
+use Rattle.bng_desk.specs.Taking.{Accounts}
+use Rattle.bng_desk.specs.Turn.{Closes, MakesEnd, ending_items, has_end}
 use Rattle.bng_desk.proofs.DropLaws.{within_wider}
 use Rattle.bng_desk.proofs.Dwindling.{Nears}
 use Rattle.bng_desk.proofs.Ending.{ended, after_ending}
+use Rattle.bng_desk.proofs.Gracing.{closing_low, left_closed}
 use Rattle.bng_desk.proofs.Joining.{low_wider, books_wider}
 use Rattle.bng_desk.proofs.Keeping.{AreKept, IsNearer, Ends, kept_ended, ends_of_state, ends_few_kept, ends_kept, few_told, is_nearer, are_ends_of, none_kept, few_draws, one_low}
 use Rattle.bng_desk.proofs.Leaving.{ends_near, is_left, is_ready, kept_by}
 use Rattle.bng_desk.proofs.OneMore.{low_more}
 use Rattle.bng_desk.proofs.Resting.{sessions_rested}
 use Rattle.bng_desk.proofs.Staying.{AreEnds, items_of_ends, outs_of_ending, stays_few}
-use Rattle.bng_desk.proofs.Works.{seen_with}
+use Rattle.bng_desk.proofs.Works.{billed_by, kept_with, seen_with}
 use Rattle.bng_desk.proofs.desk.Desk.end.Given.{Over}
 use Rattle.bng_desk.proofs.desk.Desk.end.Goals as goal
 use Rattle.bng_desk.proofs.desk.Desk.end.Goals.{After-to_end, After-answer}
@@ -50,6 +52,8 @@ module _ (g : Over) (c : After-to_end g) where
     endings = c.self.inside.endings;
     unopened = c.self.inside.unopened;
     closed = c.self.inside.closed;
+    closing = c.self.inside.closing;
+    graces = c.self.inside.graces;
     kept = works.kept.items;
   }
 
@@ -123,6 +127,8 @@ invariant_of-self g c =
         while_serving = λ serves. absurd (false≢true (sym serves ∙ over));
         handed = was.handed;
         began = was.began;
+        closing = was.closing;
+        graces = was.graces;
         billed = was.billed;
       },
       c.self.invariant.1,
@@ -161,6 +167,16 @@ module _ (g : Over) (c : After-answer g) where
   so_far = (goal.at.invariant_of-self-2 g c).After-to_end
 
   -- fewer sessions are left, where a round was opened
+  -- what the turn works on in the end
+  accounts_are : c.close.new.self ≡ record c.settle-noted.new.works.accounts { billing = c.close.new.self.billing }
+  accounts_are = c.close.ensures.others
+
+  closes : Closes (c.either-self-inside.result && (sessions_in c.settle-noted.new.works.shards.items == 0)) c.settle-noted.new.works.accounts.billing c.close.new.self.billing
+  closes =
+      let after = c.settle-noted.new.works in
+      subst (λ (b : Bool). Closes b after.accounts.billing c.close.new.self.billing)
+      (c.both.ensures ∙ ap (λ (n : ℕ). c.either-self-inside.result && (n == 0)) (c.sessions_in-sessions.ensures ∙ ap sessions_in c.as_slice.ensures.value)) c.close.ensures.closes
+
   nearer : Nears c.settle-noted.result.is_opened (sessions_in (works g so_far).shards.items) (sessions_in c.settle-noted.new.works.shards.items)
   nearer =
       ends_near (desk g so_far) (works g so_far) c.settle-noted.new.works (works g so_far).accounts.billing (works g so_far).lane c.to_end.new.draws c.to_end.new.kept c.take.new.self (named g so_far) c.to_end.new.items.items (g.P.Plant.told c.args.plant.now) (g.P.Plant.told c.settle-noted.new.plant) (g.T.Trace.told c.args.trace.now) (g.T.Trace.told c.settle-noted.new.trace)
@@ -180,10 +196,12 @@ invariant_of-self-2 g c =
     let e : Ends (seen_with d w) = ends_of_state (seen_with d w) (ap (λ (x : Desk). state_of x) c.self.view_is ∙ c.requires.state) in
     let near : IsNearer d after.shards.items c.unopened_after-self-inside.result c.either-self-inside.result =
     is_nearer d after.shards.items c.settle-noted.result.is_opened c.unopened_after-self-inside.result c.either-self-inside.result (record { over = e.over; low = e.low; some = λ closed. omega (arith, e.some closed, sessions_rested w.shards.items) }) (nearer g c) c.self.invariant.0.left c.unopened_after-self-inside.ensures c.either-self-inside.ensures in (
-      kept_ended d after c.unopened_after-self-inside.result c.either-self-inside.result c.now-now.result c.told_after-self-inside.result c.self.invariant.0 e.over near (later g b)
-          (is_left d w after w.accounts.billing w.lane c.to_end.new.draws c.to_end.new.kept c.take.new.self (named g b) items (told c.args.plant.now) (told c.settle-noted.new.plant) (trace c.args.trace.now) (trace c.settle-noted.new.trace) c.settle-noted.result c.self.invariant.0 settles keeps (few_drawn g b))
+      subst (λ (a : Accounts). IsKept (after_ending (kept_with d (record after { accounts = a })) c.unopened_after-self-inside.result c.either-self-inside.result c.closing_after-self-inside.result c.now-now.result c.told_after-self-inside.result)) (sym (accounts_are g c))
+          (kept_ended d (billed_by after c.close.new.self.billing) c.unopened_after-self-inside.result c.either-self-inside.result c.closing_after-self-inside.result c.now-now.result c.told_after-self-inside.result c.self.invariant.0 e.over near (later g b)
+          (closing_low c.settle-noted.result.is_opened c.self.inside.closing c.now-now.result c.closing_after-self-inside.result (omega (arith, c.self.invariant.0.closing, later g b)) c.closing_after-self-inside.ensures)
+          (left_closed d after (c.either-self-inside.result && (sessions_in after.shards.items == 0)) c.close.new.self.billing (closes g c) (is_left d w after w.accounts.billing w.lane c.to_end.new.draws c.to_end.new.kept c.take.new.self (named g b) items (told c.args.plant.now) (told c.settle-noted.new.plant) (trace c.args.trace.now) (trace c.settle-noted.new.trace) c.settle-noted.result c.self.invariant.0 settles keeps (few_drawn g b)))
           (subst (λ (n : ℕ). n ≤ c.self.inside.told + 1) (sym c.told_after-self-inside.ensures) (few_told c.settle-noted.result.noted c.self.inside.told))
-          (kept_by d w after w.accounts.billing w.lane c.to_end.new.draws c.to_end.new.kept c.take.new.self (named g b) items (told c.args.plant.now) (told c.settle-noted.new.plant) (trace c.args.trace.now) (trace c.settle-noted.new.trace) c.settle-noted.result (AreKept d) settles (none_kept d) (ends_kept d items c.self.invariant.0 (are_ends g b))),
+          (kept_by d w after w.accounts.billing w.lane c.to_end.new.draws c.to_end.new.kept c.take.new.self (named g b) items (told c.args.plant.now) (told c.settle-noted.new.plant) (trace c.args.trace.now) (trace c.settle-noted.new.trace) c.settle-noted.result (AreKept d) settles (none_kept d) (ends_kept d items c.self.invariant.0 (are_ends g b)))),
       omega (arith, keeps.room, c.to_end.ensures.kept_room, c.self.invariant.1),
     )
 
@@ -202,7 +220,7 @@ returns-clause-nearer g c =
     subst (λ (k : ℕ). d.endings + unopened_most * (k + cond d.closed 0 1) ≤ unopened_most * 65410 + d.unopened) was c.self.invariant.0.left in
     let near = is_nearer d (map rested ws) c.settle-noted.result.is_opened n closed (ends_of_state d (ap (λ (x : Desk). state_of x) c.self.view_is ∙ c.requires.state)) nears left
     c.unopened_after-self-inside.ensures c.either-self-inside.ensures in
-    subst (λ (x : Desk). unopened_most * (sessions_in (map rested ws) + cond closed 0 1) + (unopened_most - n) < left_of x) c.self.view_is near.less
+    subst (λ (x : Desk). unopened_most * (sessions_in (map rested ws) + cond closed 0 1) + (unopened_most - n) + (graces_most - d.graces) < left_of x) c.self.view_is near.less
 
 pub returns-clause-makes : goal.returns-clause-makes
 returns-clause-makes g c =
@@ -216,8 +234,10 @@ returns-clause-makes g c =
     let before_is : Outside = record { plant = told c.args.plant.now; clock = clock c.args.clock.now; trace = trace c.args.trace.now } in
     let behind_is : Outside = record { plant = told c.settle-noted.new.plant; clock = clock c.wall-wall.new.self; trace = trace c.settle-noted.new.trace } in
     let count : length w.shards.items ≡ length (map rested w.shards.items) = sym (length-map w.shards.items rested) in
-    let made = ended d w after c.to_end.new.draws c.to_end.new.kept c.take.new.self (named g b) c.to_end.new.items.items c.settle-noted.result (told c.args.plant.now) (told c.settle-noted.new.plant) (trace c.args.trace.now) (trace c.settle-noted.new.trace)
+    let made = ended d w after c.to_end.new.draws c.to_end.new.kept c.take.new.self (named g b) c.to_end.new.items.items c.settle-noted.result c.close.new.self.billing (told c.args.plant.now) (told c.settle-noted.new.plant) (trace c.args.trace.now) (trace c.settle-noted.new.trace)
     refl (items_are g b ∙ ap (λ (n : ℕ). ending_with g b n) count) (draws_are g b ∙ ap (λ (n : ℕ). drawn_with g b n) count) c.settle-noted.ensures.settles
     (later g b) (clock c.args.clock.now) (clock c.now-now.new.self) (clock c.wall-wall.new.self) c.now-now.ensures.answers c.wall-wall.ensures.answers (c.wall-wall.ensures.last ∙ c.now-now.ensures.last)
-    c.answer.result c.answer.ensures c.unopened_after-self-inside.result c.unopened_after-self-inside.ensures c.either-self-inside.result c.either-self-inside.ensures c.told_after-self-inside.result c.told_after-self-inside.ensures in
-    subst (λ (x : Desk). MakesEnd x (after_ending (seen_with d after) c.unopened_after-self-inside.result c.either-self-inside.result c.now-now.result c.told_after-self-inside.result) before_is behind_is c.answer.result) c.self.view_is made
+    c.answer.result c.answer.ensures c.unopened_after-self-inside.result c.unopened_after-self-inside.ensures c.either-self-inside.result c.either-self-inside.ensures
+    c.closing_after-self-inside.result c.closing_after-self-inside.ensures (closes g c) c.told_after-self-inside.result c.told_after-self-inside.ensures in
+    subst (λ (x : Desk). MakesEnd x (after_ending (seen_with d (record after { accounts = c.close.new.self })) c.unopened_after-self-inside.result c.either-self-inside.result c.closing_after-self-inside.result c.now-now.result c.told_after-self-inside.result) before_is behind_is c.answer.result) c.self.view_is
+    (subst (λ (a : Accounts). MakesEnd (seen_with d w) (after_ending (seen_with d (record after { accounts = a })) c.unopened_after-self-inside.result c.either-self-inside.result c.closing_after-self-inside.result c.now-now.result c.told_after-self-inside.result) before_is behind_is c.answer.result) (sym (accounts_are g c)) made)

@@ -99,7 +99,7 @@ invariant_of-result c =
           (omega (arith, c.requires.rules.some_port, ap (λ (ps : List AccessPort). length ps) rules.access)) (omega (arith, c.requires.rules.few_ports, ap (λ (ps : List AccessPort). length ps) rules.access))
           (omega (arith, c.requires.rules.some_shard, rules.shards)) (omega (arith, c.requires.rules.few_shards, rules.shards))
           (subst (λ (hs : List Holder). All (λ (h : Holder). h.shard < (made c).shards) hs) (sym (holders_are c)) (All-map (λ (h : Holder). h.shard < (made c).shards) holder_of c.args.config.statics (λ k d l. omega (arith, (c.requires.rules.sharded k d l).shard, rules.shards))))
-          c.requires.most refl refl refl refl refl (ap (λ (x : Drawn). x.drawn) (draws_are c)) refl (tallies_are c) c.in_ok-kept.ensures.0 (handed_are c) (opens_accounts c).booked.began
+          c.requires.most refl refl refl refl refl (ap (λ (x : Drawn). x.drawn) (draws_are c)) refl (tallies_are c) c.in_ok-kept.ensures.0 (handed_are c) (opens_accounts c).booked.began refl refl
           (subst (λ (ks : List Key). AreBilled ks c.in_ok-accounts.accounts.billing) (keys_are c) (opens_accounts c).billed),
       c.in_ok-kept.ensures.1,
     )
@@ -129,6 +129,8 @@ returns c =
       endings = 0;
       unopened = 0;
       closed = false;
+      closing = c.args.now;
+      graces = 0;
       kept = kept;
     } in x in
     let first : Drawn = record { seed = c.args.seed; drawn = 1 } in

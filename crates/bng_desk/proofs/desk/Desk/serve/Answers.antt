@@ -55,6 +55,8 @@ module _ (g : Over) (c : After-gather-quiet g) where
     endings = c.self.inside.endings;
     unopened = c.self.inside.unopened;
     closed = c.self.inside.closed;
+    closing = c.self.inside.closing;
+    graces = c.self.inside.graces;
     kept = works.kept.items;
   }
 
@@ -163,7 +165,7 @@ invariant_of-self g c =
         holders = was.holders;
         most = was.most;
         made = omega (arith, left);
-        serving = λ _. record { endings = u.endings; unopened = u.unopened; closed = u.closed };
+        serving = λ _. record { endings = u.endings; unopened = u.unopened; closed = u.closed; graces = u.graces };
         endings = was.endings;
         unopened = was.unopened;
         left = was.left;
@@ -180,6 +182,8 @@ invariant_of-self g c =
         while_serving = λ _. was.while_serving serves;
         handed = was.handed;
         began = was.began;
+        closing = was.closing;
+        graces = was.graces;
         billed = was.billed;
       },
       c.self.invariant.1,
