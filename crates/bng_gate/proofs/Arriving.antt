@@ -18,11 +18,11 @@ use Rattle.bng_desk.specs.Logins.{Answered, reply_in, reply_items, silence, time
 use Rattle.bng_desk.specs.Model.{Desk}
 use Rattle.bng_desk.specs.Reading.{taken_in}
 use Rattle.bng_desk.specs.Round.{Round}
-use Rattle.bng_desk.specs.Turn.{Turn, EndTurn, RoundOf, Step, EndStep, ending_items, has_end, items_of, new_items}
+use Rattle.bng_desk.specs.Turn.{Turn, RoundOf, Step, ending_items, has_end, items_of, new_items}
 use Rattle.bng_desk.proofs.Drawing.{drawn_all}
 use Rattle.bng_desk.proofs.ItemLaws.{all_due, all_ends}
 use Rattle.bng_gate.specs.Granted.{HandledIn, Stage, held_of, round_of_turn, round_of_end, stage_at, stage_in, stages_of}
-use Rattle.bng_gate.specs.Serving.{Made, MadeEnd, Goes, GoesEnding, Run, EndRun}
+use Rattle.bng_gate.specs.Serving.{Made, MadeEnd, Late, Ends, Waits, LateStep, Goes, GoesEnding, Run, EndRun}
 use Rattle.bng_gate.proofs.Entries.{entry_holds}
 use Rattle.bng_gate.proofs.LoginsAt.{stage_is}
 use Rattle.bng_gate.proofs.Places.{InFirst, InSecond, chain_end, in_both, link_at}
@@ -149,9 +149,10 @@ step_keeps d d' (Some t) step kept =
     let items = items_of d t in
     subst (All IsElse) (sym (ap (λ (x : Desk). x.kept) step.4)) (kept_after IsElse d items t.round (All-from_recursion IsElse (kept_of items) (kept_else items)))
 
-end_keeps : (d d' : Desk) (t : Option EndTurn) → EndStep d t d' → AreElse d → AreElse d'
-end_keeps d d' None step kept = subst (All IsElse) (sym (ap (λ (x : Desk). x.kept) step)) kept
-end_keeps d d' (Some t) step kept =
+end_keeps : (d d' : Desk) (t : Late) → LateStep d t d' → AreElse d → AreElse d'
+end_keeps d d' (Ends None) step kept = subst (All IsElse) (sym (ap (λ (x : Desk). x.kept) step)) kept
+end_keeps d d' (Waits t) step kept = subst (All IsElse) (sym (ap (λ (x : Desk). x.kept) step.after)) kept
+end_keeps d d' (Ends (Some t)) step kept =
     let items = ending_items d in
     subst (All IsElse) (sym (ap (λ (x : Desk). x.kept) step.4)) (kept_after IsElse d items t.round (All-from_recursion IsElse (kept_of items) (kept_else items)))
 
@@ -170,11 +171,12 @@ turn_among d d' None e step kept r opened place earlier later h journal = absurd
 turn_among d d' (Some t) e step kept r opened place earlier later h journal =
     handled_is (IsAmong (taken_of t.readings)) d t.moment (items_of d t) t.round r opened step.1 (items_among d t kept) place earlier later h journal
 
-end_turn_else : (d d' : Desk) (t : Option EndTurn) → EndStep d t d' → AreElse d → (r : Round) → round_of_end t ≡ Some r
+end_turn_else : (d d' : Desk) (t : Late) → LateStep d t d' → AreElse d → (r : Round) → round_of_end t ≡ Some r
     → (place : ℕ) (earlier later : List Handled) (h : Handled) → option_map (λ v. v.journal) (slice_get r.shards place) ≡ Some (earlier ++ h ∷ later)
     → IsElse h.deed.entry.item
-end_turn_else d d' None step kept r opened place earlier later h journal = absurd cc
-end_turn_else d d' (Some t) step kept r opened place earlier later h journal =
+end_turn_else d d' (Ends None) step kept r opened place earlier later h journal = absurd cc
+end_turn_else d d' (Waits t) step kept r opened place earlier later h journal = absurd cc
+end_turn_else d d' (Ends (Some t)) step kept r opened place earlier later h journal =
     handled_is IsElse d t.moment (ending_items d) t.round r opened step.1 (ending_else d kept) place earlier later h journal
 
 module _ (opening over last : Desk) (turns : List Made) (endings : List MadeEnd) (run : Run opening turns over) (ending : EndRun over endings last) (fresh : opening.kept ≡ []) where

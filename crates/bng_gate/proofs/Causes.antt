@@ -11,19 +11,20 @@ use Rattle.bng_gate.specs.declared.texts.Opening.TheVariants.{Configuration, See
 use Rattle.bng_config.proofs.Exclusive.{no_fault}
 use Rattle.bng_gate.specs.Words.{Serves}
 use Rattle.bng_config.specs.Configuration.{HasFault}
-use Rattle.bng_gate.specs.Run.{World, outside, Prepares, Fails, WantsToServe, WantsConfiguration, WantsService, IsUnwritten, RunEnds, IsUnfailed, IsFaultless}
+use Rattle.bng_gate.specs.Run.{World, outside, Prepares, Fails, WantsToServe, WantsConfiguration, WantsService, IsRun, IsUnwritten, RunEnds, IsUnfailed, IsFaultless}
 
 -- the statuses, one by one
-by_status : (status : ℕ) (Q : Type 0) → status ≤ 5 → (status ≡ 0 → Q) → (status ≡ 1 → Q) → (status ≡ 2 → Q) → (status ≡ 3 → Q) → (status ≡ 4 → Q) → (status ≡ 5 → Q) → Q
-by_status status Q le q0 q1 q2 q3 q4 q5 =
+by_status : (status : ℕ) (Q : Type 0) → status ≤ 6 → (status ≡ 0 → Q) → (status ≡ 1 → Q) → (status ≡ 2 → Q) → (status ≡ 3 → Q) → (status ≡ 4 → Q) → (status ≡ 5 → Q) → (status ≡ 6 → Q) → Q
+by_status status Q le q0 q1 q2 q3 q4 q5 q6 =
     ⊎_elim (λ t. q0 t.1) (λ f0.
     ⊎_elim (λ t. q1 t.1) (λ f1.
     ⊎_elim (λ t. q2 t.1) (λ f2.
     ⊎_elim (λ t. q3 t.1) (λ f3.
     ⊎_elim (λ t. q4 t.1) (λ f4.
-    let n0 : status ≢ 0 = f0.1 in let n1 : status ≢ 1 = f1.1 in let n2 : status ≢ 2 = f2.1 in let n3 : status ≢ 3 = f3.1 in let n4 : status ≢ 4 = f4.1 in
-    q5 (omega arith))
-    (eqb_tells status 4)) (eqb_tells status 3)) (eqb_tells status 2)) (eqb_tells status 1)) (eqb_tells status 0)
+    ⊎_elim (λ t. q5 t.1) (λ f5.
+    let n0 : status ≢ 0 = f0.1 in let n1 : status ≢ 1 = f1.1 in let n2 : status ≢ 2 = f2.1 in let n3 : status ≢ 3 = f3.1 in let n4 : status ≢ 4 = f4.1 in let n5 : status ≢ 5 = f5.1 in
+    q6 (omega arith))
+    (eqb_tells status 5)) (eqb_tells status 4)) (eqb_tells status 3)) (eqb_tells status 2)) (eqb_tells status 1)) (eqb_tells status 0)
 
 -- who opens a file has words that serve it
 fails_serves : (words : List (List ℕ)) (old new : World) (what : Opening) → Fails words old new what → (name : List ℕ) × Serves words name
@@ -35,19 +36,21 @@ fails_serves words old new (Access number) f = (f.ready.prepares.opens.name, f.r
 fails_serves words old new Auth f = (f.ready.prepares.opens.name, f.ready.prepares.opens.command)
 fails_serves words old new Acct f = (f.ready.prepares.opens.name, f.ready.prepares.opens.command)
 
-wants_serves : (words : List (List ℕ)) (old new : World) → WantsConfiguration words old new ⊎ WantsService words old new → (name : List ℕ) × Serves words name
+wants_serves : (words : List (List ℕ)) (old new : World) → WantsConfiguration words old new ⊎ (WantsService words old new ⊎ IsRun words old new) → (name : List ℕ) × Serves words name
 wants_serves words old new (inl w) = (w.wants.name, w.wants.command)
-wants_serves words old new (inr w) = (w.ready.prepares.opens.name, w.ready.prepares.opens.command)
+wants_serves words old new (inr (inl w)) = (w.ready.prepares.opens.name, w.ready.prepares.opens.command)
+wants_serves words old new (inr (inr w)) = (w.ready.prepares.opens.name, w.ready.prepares.opens.command)
 
 pub no_command : (words : List (List ℕ)) (old new : World) (status : ℕ) → RunEnds words old new status → ((name : List ℕ) → ¬ Serves words name) → (status ≡ 1) ⊎ (status ≡ 5)
 no_command words old new status r none =
     by_status status ((status ≡ 1) ⊎ (status ≡ 5)) r.no_other
-    (λ s. let x = r.served s in absurd (none x.ready.prepares.opens.name x.ready.prepares.opens.command))
+    (λ s. let x = r.served s in absurd (none x.run.ready.prepares.opens.name x.run.ready.prepares.opens.command))
     (λ s. inl s)
     (λ s. let x = r.refused s in absurd (none x.1.why.faulty.opens.name x.1.why.faulty.opens.command))
     (λ s. let x = r.unopened s in let y = fails_serves words old new x.0 x.1.why.fails in absurd (none y.0 y.1))
     (λ s. let y = wants_serves words old new (r.starved s).why in absurd (none y.0 y.1))
     (λ s. inr s)
+    (λ s. let x = r.unanswered s in absurd (none x.run.ready.prepares.opens.name x.run.ready.prepares.opens.command))
 
 one_more : {X : Type 0} (xs : List X) (x : X) → xs ≡ xs ++ x ∷ [] → ⊥
 one_more xs x e = omega (arith, ap length e, length-append xs (x ∷ []))
@@ -85,12 +88,13 @@ pub faulty : (words : List (List ℕ)) (old new : World) (status : ℕ) → RunE
     → Grows old.files.contents new.files.contents (text ∷ []) → HasFault text fault → (status ≡ 2) ⊎ (status ≡ 4) ⊎ (status ≡ 5)
 faulty words old new status r some text fault grew broken =
     by_status status ((status ≡ 2) ⊎ (status ≡ 4) ⊎ (status ≡ 5)) r.no_other
-    (λ s. let x = r.served s in absurd (read_well words old.files new.files x.config text fault x.ready.prepares some grew broken))
+    (λ s. let x = r.served s in absurd (read_well words old.files new.files x.run.config text fault x.run.ready.prepares some grew broken))
     (λ s. let x = r.usage s in absurd (unread old.files.contents new.files.contents text some grew (ap (λ (f : FilesTold). f.contents) x.why.command.unread)))
     (λ s. inl s)
     (λ s. let x = r.unopened s in absurd (fails_read words old new x.0 text fault x.1.why.fails some grew broken))
     (λ s. inr (inl s))
     (λ s. inr (inr s))
+    (λ s. let x = r.unanswered s in absurd (read_well words old.files new.files x.run.config text fault x.run.ready.prepares some grew broken))
 
 fails_rose : (words : List (List ℕ)) (old new : World) (what : Opening) → Fails words old new what → IsFaultless old new → ⊥
 fails_rose words old new Configuration f none = none.files f.fails.rose
@@ -104,26 +108,29 @@ fails_rose words old new Acct f none = none.plant f.fails.rose
 unwritten_rose : (words : List (List ℕ)) (old new : World) → IsUnwritten words old new → IsFaultless old new → ⊥
 unwritten_rose words old new (inl f) none = none.trace f.why.fails.rose
 unwritten_rose words old new (inr (inl f)) none = none.out f.why.fails.fails.fails.rose
-unwritten_rose words old new (inr (inr f)) none = none.err f.fails.rose
+unwritten_rose words old new (inr (inr (inl f))) none = none.err f.fails.rose
+unwritten_rose words old new (inr (inr (inr f))) none = none.err f.fails.fails.rose
 
 pub complete : (words : List (List ℕ)) (old new : World) (status : ℕ) → RunEnds words old new status → (name : List ℕ) → Serves words name
-    → ((text : List ℕ) (fault : Fault) → Grows old.files.contents new.files.contents (text ∷ []) → ¬ HasFault text fault) → IsFaultless old new → (status ≡ 0) ⊎ (status ≡ 4)
+    → ((text : List ℕ) (fault : Fault) → Grows old.files.contents new.files.contents (text ∷ []) → ¬ HasFault text fault) → IsFaultless old new → (status ≡ 0) ⊎ (status ≡ 4) ⊎ (status ≡ 6)
 complete words old new status r name serves sound none =
-    by_status status ((status ≡ 0) ⊎ (status ≡ 4)) r.no_other
+    by_status status ((status ≡ 0) ⊎ (status ≡ 4) ⊎ (status ≡ 6)) r.no_other
     (λ s. inl s)
     (λ s. let x = r.usage s in absurd (x.why.command.none name serves))
     (λ s. let x = r.refused s in absurd (sound x.1.why.faulty.text x.0 x.1.why.faulty.opens.content x.1.why.faulty.broken))
     (λ s. let x = r.unopened s in absurd (fails_rose words old new x.0 x.1.why.fails none))
-    (λ s. inr s)
+    (λ s. inr (inl s))
     (λ s. absurd (unwritten_rose words old new (r.unwritten s) none))
+    (λ s. inr (inr s))
 
 serve_unfailed : (config : Config) (seed : List ℕ) (old new : World) → WantsToServe config seed (outside old) (outside new) → new.trace.faults ≡ old.trace.faults
 serve_unfailed config seed old new (inl w) = ap (λ (t : TraceTold). t.faults) w.1
 serve_unfailed config seed old new (inr c) = c.course.told.uncounted c.whole.noted ∙ ap (λ (t : TraceTold). t.faults) c.course.untraced
 
-wants_unfailed : (words : List (List ℕ)) (old new : World) → WantsConfiguration words old new ⊎ WantsService words old new → IsUnfailed old new
+wants_unfailed : (words : List (List ℕ)) (old new : World) → WantsConfiguration words old new ⊎ (WantsService words old new ⊎ IsRun words old new) → IsUnfailed old new
 wants_unfailed words old new (inl w) = record { files = w.wants.unfailed; entropy = ap (λ (e : EntropyTold). e.faults) w.unseeded; trace = ap (λ (t : TraceTold). t.faults) w.untouched.trace }
-wants_unfailed words old new (inr w) = record { files = w.ready.prepares.opens.unfailed; entropy = w.ready.seeds.unfailed; trace = serve_unfailed w.config w.seed old new w.wants }
+wants_unfailed words old new (inr (inl w)) = record { files = w.ready.prepares.opens.unfailed; entropy = w.ready.seeds.unfailed; trace = serve_unfailed w.config w.seed old new w.wants }
+wants_unfailed words old new (inr (inr w)) = record { files = w.ready.prepares.opens.unfailed; entropy = w.ready.seeds.unfailed; trace = serve_unfailed w.config w.seed old new (inr w.runs.completes) }
 
 pub unfailed : (words : List (List ℕ)) (old new : World) (status : ℕ) → RunEnds words old new status → status ≡ 4 → IsUnfailed old new
 unfailed words old new status r s = wants_unfailed words old new (r.starved s).why

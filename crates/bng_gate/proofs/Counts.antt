@@ -36,14 +36,14 @@ use Rattle.bng_desk.specs.Logins.{reply_items, timeout_items}
 use Rattle.bng_desk.specs.Model.{Desk}
 use Rattle.bng_desk.specs.Reading.{EndsRight}
 use Rattle.bng_desk.specs.Round.{Round, AreParts, entries_of, left_by, of_seat, views_of}
-use Rattle.bng_desk.specs.Turn.{Turn, EndTurn, Step, EndStep, RoundOf, after_round, data_roles, ending_items, has_end, items_of, most_of, new_items, ports_up_to}
+use Rattle.bng_desk.specs.Turn.{Turn, Step, RoundOf, after_round, data_roles, ending_items, has_end, items_of, most_of, new_items, ports_up_to}
 use Rattle.bng_desk.proofs.Drawing.{drawn_length, ends_length, ticks_length}
 use Rattle.bng_desk.proofs.GatherLaws.{auth_few}
 use Rattle.bng_desk.proofs.LoginLaws.{timeouts_length}
 use Rattle.bng_desk.proofs.Staying.{IsStaying, serving_stays}
 use Rattle.bng_desk.proofs.TakeLaws.{taken_within}
 use Rattle.bng_gate.specs.Granted.{Held, HandledIn, held_of, round_of_end, round_of_turn}
-use Rattle.bng_gate.specs.Serving.{Made, MadeEnd, Run, EndRun}
+use Rattle.bng_gate.specs.Serving.{Made, MadeEnd, Late, Ends, Waits, LateStep, Run, EndRun, endings_most}
 use Rattle.bng_gate.proofs.Follows.{left_after, step_follows, end_follows}
 use Rattle.bng_gate.proofs.HeldRuns.{HasCount}
 use Rattle.bng_gate.proofs.OpeningFacts.{OpeningFacts}
@@ -404,22 +404,25 @@ closing_items d low = ending_by (has_end d.kept) (length d.shards) d.kept d.seed
 closing_few : (d : Desk) → IsClosing d → length (ending_items d) ≤ entries_most
 closing_few d low = omega (arith, closing_items d low, any_few (has_end (ending_items d)) (length d.shards), low.few_shards)
 
-ends_few : (d d' : Desk) (t : Option EndTurn) → EndStep d t d' → IsClosing d → AreFew d.shards (round_of_end t)
-ends_few d d' None step low = tt
-ends_few d d' (Some t) step low = round_few d t.moment (ending_items d) t.round step.1 (closing_few d low)
+ends_few : (d d' : Desk) (t : Late) → LateStep d t d' → IsClosing d → AreFew d.shards (round_of_end t)
+ends_few d d' (Ends None) step low = tt
+ends_few d d' (Waits t) step low = tt
+ends_few d d' (Ends (Some t)) step low = round_few d t.moment (ending_items d) t.round step.1 (closing_few d low)
 
-end_left : (d d' : Desk) (t : Option EndTurn) → EndStep d t d' → d'.shards ≡ left_after d.shards (round_of_end t)
-end_left d d' None step = (end_follows d d' None step).shards
-end_left d d' (Some t) step = (end_follows d d' (Some t) step).shards
+end_left : (d d' : Desk) (t : Late) → LateStep d t d' → d'.shards ≡ left_after d.shards (round_of_end t)
+end_left d d' (Ends None) step = (end_follows d d' (Ends None) step).shards
+end_left d d' (Ends (Some t)) step = (end_follows d d' (Ends (Some t)) step).shards
+end_left d d' (Waits t) step = (end_follows d d' (Waits t) step).shards
 
-ended_kept : (d d' : Desk) (t : Option EndTurn) → EndStep d t d' → IsClosing d → IsEnding (length d.shards) d'.kept
-ended_kept d d' None step low = subst (IsEnding (length d.shards)) (sym (ap (λ (u : Desk). u.kept) step)) low.kept
-ended_kept d d' (Some t) step low =
+ended_kept : (d d' : Desk) (t : Late) → LateStep d t d' → IsClosing d → IsEnding (length d.shards) d'.kept
+ended_kept d d' (Ends None) step low = subst (IsEnding (length d.shards)) (sym (ap (λ (u : Desk). u.kept) step)) low.kept
+ended_kept d d' (Waits t) step low = subst (IsEnding (length d.shards)) (sym (ap (λ (u : Desk). u.kept) step.after)) low.kept
+ended_kept d d' (Ends (Some t)) step low =
     let items = ending_items d in
     subst (IsEnding (length d.shards)) (sym (ap (λ (u : Desk). u.kept) step.4))
     (kept_after (IsEnding (length d.shards)) d items t.round (none_ending (length d.shards)) (kept_ending (length d.shards) items (closing_items d low)))
 
-end_closing : (d d' : Desk) (t : Option EndTurn) → EndStep d t d' → IsClosing d → IsClosing d'
+end_closing : (d d' : Desk) (t : Late) → LateStep d t d' → IsClosing d → IsClosing d'
 end_closing d d' t step low =
     let same = shards_stay d d' (round_of_end t) (end_left d d' t step) (ends_few d d' t step low) in
     record {
@@ -453,8 +456,8 @@ opening_served config d facts = record {
   verdicts = subst (All is_verdict) (sym facts.kept) (All-nil is_verdict);
 }
 
--- Of at most 2 ^ 40 turns of serving and 2 ^ 37 of the ending no count of questions comes to its end.
-pub has_count : (config : Config) (opening over last : Desk) (turns : List Made) (endings : List MadeEnd) → OpeningFacts config opening → Run opening turns over → EndRun over endings last → length turns ≤ 2 ^ 40 → length endings ≤ 2 ^ 37
+-- Of so many turns no count of questions comes to its end.
+pub has_count : (config : Config) (opening over last : Desk) (turns : List Made) (endings : List MadeEnd) → OpeningFacts config opening → Run opening turns over → EndRun over endings last → length turns ≤ 2 ^ 40 → length endings ≤ endings_most
     → HasCount (held_of turns endings)
 has_count config opening over last turns endings facts run ending few_turns few_endings k s h x =
     let served = opening_served config opening facts in

@@ -5,10 +5,10 @@ use Rattle.bng_desk.specs.declared.drops.Drops.{Drops}
 use Rattle.bng_desk.specs.Counting.{no_drops, plus}
 use Rattle.bng_desk.specs.Model.{Desk}
 use Rattle.bng_desk.specs.Round.{Round}
-use Rattle.bng_desk.specs.Turn.{Turn, EndTurn, Step, EndStep, after_round, items_of, ending_items}
+use Rattle.bng_desk.specs.Turn.{Turn, Step, after_round, items_of, ending_items}
 use Rattle.bng_desk.proofs.DropLaws.{same}
 use Rattle.bng_gate.specs.Rounds.{round_drops, drops_made, drops_ended, all_drops, drops_of_run}
-use Rattle.bng_gate.specs.Serving.{Made, MadeEnd, Run, EndRun}
+use Rattle.bng_gate.specs.Serving.{Made, MadeEnd, Late, Ends, Waits, LateStep, Run, EndRun}
 
 plus_assoc : (a b c : Drops) → plus (plus a b) c ≡ plus a (plus b c)
 plus_assoc a b c = same _ _ (omega arith) (omega arith) (omega arith) (omega arith) (omega arith) (omega arith) (omega arith) (omega arith) (omega arith)
@@ -32,9 +32,10 @@ step_drops : (d d' : Desk) (t : Option Turn) → Step d t d' → d'.drops ≡ pl
 step_drops d d' None step = ap (λ (x : Desk). x.drops) step ∙ sym (plus_none d.drops)
 step_drops d d' (Some t) step = ap (λ (x : Desk). x.drops) step.4 ∙ drops_after d (items_of d t) t.round
 
-end_drops : (d d' : Desk) (t : Option EndTurn) → EndStep d t d' → d'.drops ≡ plus d.drops (drops_ended d t)
-end_drops d d' None step = ap (λ (x : Desk). x.drops) step ∙ sym (plus_none d.drops)
-end_drops d d' (Some t) step = ap (λ (x : Desk). x.drops) step.4 ∙ drops_after d (ending_items d) t.round
+end_drops : (d d' : Desk) (t : Late) → LateStep d t d' → d'.drops ≡ plus d.drops (drops_ended d t)
+end_drops d d' (Ends None) step = ap (λ (x : Desk). x.drops) step ∙ sym (plus_none d.drops)
+end_drops d d' (Waits t) step = ap (λ (x : Desk). x.drops) step.after ∙ sym (plus_none d.drops)
+end_drops d d' (Ends (Some t)) step = ap (λ (x : Desk). x.drops) step.4 ∙ drops_after d (ending_items d) t.round
 
 run_drops : (d d' : Desk) (turns : List Made) → Run d turns d' → d'.drops ≡ plus d.drops (all_drops (map (λ m. drops_made m.desk m.turn) turns))
 run_drops d d' [] run = ap (λ (x : Desk). x.drops) run ∙ sym (plus_none d.drops)

@@ -1,34 +1,39 @@
 -- A run ends with the status of what happened.
-use Rattle.std.proofs.Common.{◌≡◌, ℕ, inl, inr, List, refl, arith}
+use Rattle.std.proofs.Common.{◌≡◌, ℕ, inl, inr, List, [], refl, sym, subst, arith}
 use Rattle.bng_base.specs.Told.{PlantTold, ClockTold, EntropyTold, FilesTold, TraceTold, SinkTold, Grows}
 use Rattle.bng_config.specs.declared.config.Config.{Config}
 use Rattle.bng_config.specs.declared.fault.Fault.{Fault}
+use Rattle.bng_desk.specs.Model.{Desk}
 use Rattle.bng_gate.specs.declared.texts.Opening.{Opening}
 use Rattle.bng_gate.specs.declared.texts.Opening.TheVariants.{Configuration, Seed, Control, Core, Access, Auth, Acct}
 use Rattle.bng_gate.specs.declared.texts.Refusal.{Refusal}
 use Rattle.bng_gate.specs.declared.texts.Refusal.TheVariants.{Usage, Refused, CannotOpen, OutOfMemory, TraceFailed, OutputFailed}
 use Rattle.bng_gate.specs.Texts.{refusal_text, status_of}
-use Rattle.bng_gate.specs.Run.{World, outside, Prepares, IsUnprepared, FailsToSeed, Seeds, SeedsOnce, IsReady, Runs, IsUnserved, Told, IsServed, Why, Refuses, IsUnwritten, RunEnds}
+use Rattle.bng_gate.specs.Run.{World, outside, Prepares, IsUnprepared, FailsToSeed, Seeds, SeedsOnce, IsReady, Runs, RunsTo, Concludes, IsUnserved, Told, IsRun, IsServed, IsUnanswered, Why, Refuses, IsUnwritten, RunEnds}
+use Rattle.bng_gate.specs.Unanswered.{unanswered_of, NamesStops, FailsToName}
 
 -- Each status by itself.
 module _ (words : List (List ℕ)) (old new : World) (status : ℕ) (seeds : SeedsOnce old.entropy new.entropy) where
   ends_served : status ≡ 0 → IsServed words old new → RunEnds words old new status
-  ends_served is x = record { served = λ s. x; usage = λ s. absurd (omega arith); refused = λ s. absurd (omega arith); unopened = λ s. absurd (omega arith); starved = λ s. absurd (omega arith); unwritten = λ s. absurd (omega arith); no_other = omega arith; seeds = seeds }
+  ends_served is x = record { served = λ s. x; usage = λ s. absurd (omega arith); refused = λ s. absurd (omega arith); unopened = λ s. absurd (omega arith); starved = λ s. absurd (omega arith); unwritten = λ s. absurd (omega arith); unanswered = λ s. absurd (omega arith); no_other = omega arith; seeds = seeds }
 
   ends_usage : status ≡ 1 → Refuses words old new Usage → RunEnds words old new status
-  ends_usage is x = record { served = λ s. absurd (omega arith); usage = λ s. x; refused = λ s. absurd (omega arith); unopened = λ s. absurd (omega arith); starved = λ s. absurd (omega arith); unwritten = λ s. absurd (omega arith); no_other = omega arith; seeds = seeds }
+  ends_usage is x = record { served = λ s. absurd (omega arith); usage = λ s. x; refused = λ s. absurd (omega arith); unopened = λ s. absurd (omega arith); starved = λ s. absurd (omega arith); unwritten = λ s. absurd (omega arith); unanswered = λ s. absurd (omega arith); no_other = omega arith; seeds = seeds }
 
   ends_refused : status ≡ 2 → (fault : Fault) → Refuses words old new (Refused fault) → RunEnds words old new status
-  ends_refused is fault x = record { served = λ s. absurd (omega arith); usage = λ s. absurd (omega arith); refused = λ s. (fault, x); unopened = λ s. absurd (omega arith); starved = λ s. absurd (omega arith); unwritten = λ s. absurd (omega arith); no_other = omega arith; seeds = seeds }
+  ends_refused is fault x = record { served = λ s. absurd (omega arith); usage = λ s. absurd (omega arith); refused = λ s. (fault, x); unopened = λ s. absurd (omega arith); starved = λ s. absurd (omega arith); unwritten = λ s. absurd (omega arith); unanswered = λ s. absurd (omega arith); no_other = omega arith; seeds = seeds }
 
   ends_unopened : status ≡ 3 → (what : Opening) → Refuses words old new (CannotOpen what) → RunEnds words old new status
-  ends_unopened is what x = record { served = λ s. absurd (omega arith); usage = λ s. absurd (omega arith); refused = λ s. absurd (omega arith); unopened = λ s. (what, x); starved = λ s. absurd (omega arith); unwritten = λ s. absurd (omega arith); no_other = omega arith; seeds = seeds }
+  ends_unopened is what x = record { served = λ s. absurd (omega arith); usage = λ s. absurd (omega arith); refused = λ s. absurd (omega arith); unopened = λ s. (what, x); starved = λ s. absurd (omega arith); unwritten = λ s. absurd (omega arith); unanswered = λ s. absurd (omega arith); no_other = omega arith; seeds = seeds }
 
   ends_starved : status ≡ 4 → Refuses words old new OutOfMemory → RunEnds words old new status
-  ends_starved is x = record { served = λ s. absurd (omega arith); usage = λ s. absurd (omega arith); refused = λ s. absurd (omega arith); unopened = λ s. absurd (omega arith); starved = λ s. x; unwritten = λ s. absurd (omega arith); no_other = omega arith; seeds = seeds }
+  ends_starved is x = record { served = λ s. absurd (omega arith); usage = λ s. absurd (omega arith); refused = λ s. absurd (omega arith); unopened = λ s. absurd (omega arith); starved = λ s. x; unwritten = λ s. absurd (omega arith); unanswered = λ s. absurd (omega arith); no_other = omega arith; seeds = seeds }
 
   ends_unwritten : status ≡ 5 → IsUnwritten words old new → RunEnds words old new status
-  ends_unwritten is x = record { served = λ s. absurd (omega arith); usage = λ s. absurd (omega arith); refused = λ s. absurd (omega arith); unopened = λ s. absurd (omega arith); starved = λ s. absurd (omega arith); unwritten = λ s. x; no_other = omega arith; seeds = seeds }
+  ends_unwritten is x = record { served = λ s. absurd (omega arith); usage = λ s. absurd (omega arith); refused = λ s. absurd (omega arith); unopened = λ s. absurd (omega arith); starved = λ s. absurd (omega arith); unwritten = λ s. x; unanswered = λ s. absurd (omega arith); no_other = omega arith; seeds = seeds }
+
+  ends_unanswered : status ≡ 6 → IsUnanswered words old new → RunEnds words old new status
+  ends_unanswered is x = record { served = λ s. absurd (omega arith); usage = λ s. absurd (omega arith); refused = λ s. absurd (omega arith); unopened = λ s. absurd (omega arith); starved = λ s. absurd (omega arith); unwritten = λ s. absurd (omega arith); unanswered = λ s. x; no_other = omega arith; seeds = seeds }
 
   -- by why it came to no report, and whether the line was written
   said : (refusal : Refusal) → Why words old new refusal → status ≡ status_of refusal → Grows old.err.bytes new.err.bytes (refusal_text refusal) → RunEnds words old new status
@@ -41,7 +46,7 @@ module _ (words : List (List ℕ)) (old new : World) (status : ℕ) (seeds : See
 
   ends_with : (refusal : Refusal) → Why words old new refusal → Told old.err new.err refusal status → RunEnds words old new status
   ends_with refusal why (inl t) = said refusal why t.0 t.1
-  ends_with refusal why (inr t) = ends_unwritten t.0 (inr (inr (record { refusal = refusal; why = why; fails = t.1 })))
+  ends_with refusal why (inr t) = ends_unwritten t.0 (inr (inr (inl (record { refusal = refusal; why = why; fails = t.1 }))))
 
 -- No configuration was read: the rest of the world is as before, but what was told on the sink.
 module _ (words : List (List ℕ)) (f f' : FilesTold) (p : PlantTold) (k : ClockTold) (n : EntropyTold) (t : TraceTold) (o e e' : SinkTold) (status : ℕ) where
@@ -100,9 +105,22 @@ module _ (words : List (List ℕ)) (config : Config) (seed : List ℕ) (f f' : F
   given : Seeds n n' seed → SeedsOnce n n'
   given seeds = inr (inr (seed, seeds))
 
-  pub served : Prepares words f f' config → Seeds n n' seed → Runs config seed (outside first) (outside last) o o' → e' ≡ e → status ≡ 0 → RunEnds words first last status
-  served prepares seeds runs silent is =
-      ends_served words first last status (given seeds) is (record { config = config; seed = seed; ready = record { prepares = prepares; seeds = seeds }; runs = runs; silent = silent })
+  abbrev is_run : IsReady words first last config seed → Runs config seed (outside first) (outside last) o o' → IsRun words first last
+  is_run ready runs = record { config = config; seed = seed; ready = ready; runs = runs }
+
+  -- it came to its report
+  pub concluded : Prepares words f f' config → Seeds n n' seed → (d : Desk) → RunsTo config seed (outside first) (outside last) o o' d → Concludes d e e' status → RunEnds words first last status
+  concluded prepares seeds d to (inl c) =
+      let run = is_run (record { prepares = prepares; seeds = seeds }) to.runs in
+      ends_served words first last status (given seeds) c.0 (record { run = run; acknowledged = subst (λ (x : Desk). unanswered_of x ≡ []) (sym to.last) c.1; silent = c.2 })
+  concluded prepares seeds d to (inr (inl c)) =
+      let run = is_run (record { prepares = prepares; seeds = seeds }) to.runs in
+      ends_unanswered words first last status (given seeds) c.0 (record { run = run; names = subst (λ (x : Desk). NamesStops x e e') (sym to.last) c.1 })
+  concluded prepares seeds d to (inr (inr (inl c))) =
+      let run = is_run (record { prepares = prepares; seeds = seeds }) to.runs in
+      ends_unwritten words first last status (given seeds) c.0 (inr (inr (inr (record { run = run; fails = subst (λ (x : Desk). FailsToName x e e') (sym to.last) c.1 }))))
+  concluded prepares seeds d to (inr (inr (inr told))) =
+      ends_with words first last status (given seeds) OutOfMemory (inr (inr (is_run (record { prepares = prepares; seeds = seeds }) to.runs))) told
 
   why_unserved : IsReady words first last config seed → (refusal : Refusal) → IsUnserved config seed (outside first) (outside last) o o' refusal → Why words first last refusal
   why_unserved ready Usage w = absurd w
@@ -125,7 +143,7 @@ module _ (words : List (List ℕ)) (config : Config) (seed : List ℕ) (f f' : F
       record { fails = record { config = config; seed = seed; ready = ready; fails = w.0; clock = w.1; trace = w.2; out = w.3 }; heard = w.0.before.heard; taken = w.0.before.taken; sent = w.0.before.sent; out = w.3 }
   why_unserved ready (CannotOpen Acct) w =
       record { fails = record { config = config; seed = seed; ready = ready; fails = w.0; clock = w.1; trace = w.2; out = w.3 }; heard = w.0.before.heard; taken = w.0.before.taken; sent = w.0.before.sent; out = w.3 }
-  why_unserved ready OutOfMemory w = inr (record { config = config; seed = seed; ready = ready; wants = w.0; out = w.1 })
+  why_unserved ready OutOfMemory w = inr (inl (record { config = config; seed = seed; ready = ready; wants = w.0; out = w.1 }))
   why_unserved ready TraceFailed w = record { config = config; seed = seed; ready = ready; fails = w.0; out = w.1 }
   why_unserved ready OutputFailed w = record { config = config; seed = seed; ready = ready; fails = w }
 

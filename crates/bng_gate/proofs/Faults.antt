@@ -4,9 +4,9 @@ use Rattle.std.specs.List.{list_any}
 use Rattle.std.proofs.lemmas.Bool.{true≢false}
 use Rattle.bng_base.specs.Stretch.{Outside, Extends}
 use Rattle.bng_base.proofs.ChainLaws.{chain_more}
-use Rattle.bng_desk.specs.Model.{Desk}
-use Rattle.bng_desk.specs.Turn.{Turn, Step, stretch_of, EndTurn, EndStep, end_stretch}
-use Rattle.bng_gate.specs.Serving.{Made, MadeEnd, Goes, GoesEnding, Run, EndRun, endings_most, run_stretch, ending_stretch, took_stop, AreNoted, FailsServing, FailsFinishing}
+use Rattle.bng_desk.specs.Model.{Desk, state_of}
+use Rattle.bng_desk.specs.Turn.{Turn, Step, stretch_of}
+use Rattle.bng_gate.specs.Serving.{Made, MadeEnd, Late, LateStep, late_stretch, made_in, Goes, GoesEnding, Run, EndRun, endings_most, run_stretch, ending_stretch, took_stop, AreNoted, FailsServing, FailsFinishing}
 use Rattle.bng_gate.proofs.Turns.{told_turn, unnoted_turn, told_end, unnoted_end}
 
 not_noted : (b : Bool) → b ≡ true → ¬ (b ≡ false)
@@ -30,18 +30,18 @@ module _ (d mid d' : Desk) (o o₁ o₂ : Outside) where
         rose = told.cause.cause (unnoted_turn turns m unnoted);
       }
 
-  pub fails_finishing : (ends : List MadeEnd) (t : Option EndTurn) → EndRun d ends mid → EndStep mid t d' → Extends o o₁ (ending_stretch ends) → Extends o₁ o₂ (end_stretch mid t)
-      → AreNoted (ending_stretch ends) → (end_stretch mid t).unnoted ≡ true → length ends < endings_most → FailsFinishing d d' o o₂
-  fails_finishing ends t run step so_far here noted unnoted within =
+  pub fails_finishing : (ends : List MadeEnd) (t : Late) → EndRun d ends mid → LateStep mid t d' → state_of mid ≡ made_in t → Extends o o₁ (ending_stretch ends) → Extends o₁ o₂ (late_stretch mid t)
+      → AreNoted (ending_stretch ends) → (late_stretch mid t).unnoted ≡ true → length ends < endings_most → FailsFinishing d d' o o₂
+  fails_finishing ends t run step stands so_far here noted unnoted within =
       let m : MadeEnd = record { desk = mid; turn = t } in
       let told = told_end ends m o o₁ o₂ so_far here in
       record {
         ends = ends;
         fault = m;
-        run = chain_more GoesEnding d mid d' ends m run (refl, step);
+        run = chain_more GoesEnding d mid d' ends m run (refl, step, stands);
         told = told;
         noted = noted;
-        unnoted = not_noted (end_stretch mid t).unnoted unnoted;
+        unnoted = not_noted (late_stretch mid t).unnoted unnoted;
         within = within;
         rose = told.cause.cause (unnoted_end ends m unnoted);
       }

@@ -11,9 +11,9 @@ use Rattle.bng_shard.specs.Protocol.{ShardState}
 use Rattle.bng_desk.specs.declared.line.Line.{Line}
 use Rattle.bng_desk.specs.Model.{Desk, line_after}
 use Rattle.bng_desk.specs.Round.{Round, IsRound, holders_after, left_by, stops_of}
-use Rattle.bng_desk.specs.Turn.{Turn, EndTurn, RoundOf, Step, EndStep, after_round, items_of, ending_items}
+use Rattle.bng_desk.specs.Turn.{Turn, RoundOf, Step, after_round, items_of, ending_items}
 use Rattle.bng_gate.specs.Rounds.{round_in, end_round_in, rounds_in}
-use Rattle.bng_gate.specs.Serving.{Made, MadeEnd, Goes, GoesEnding, Run, EndRun}
+use Rattle.bng_gate.specs.Serving.{Made, MadeEnd, Late, Ends, Waits, LateStep, Goes, GoesEnding, Run, EndRun}
 
 -- the shards after a round, or after one that was not opened
 abbrev pub left_after : List (ShardView ShardState Entry) → Option Round → List (ShardView ShardState Entry)
@@ -92,8 +92,8 @@ step_follows d d' (Some t) step = record {
   lines = ap (λ (x : Desk). x.lines) step.4 ∙ lines_there d (items_of d t) t.round;
 }
 
-pub end_follows : (d d' : Desk) (t : Option EndTurn) → EndStep d t d' → Follows d (end_round_in t) d'
-end_follows d d' None step = record {
+pub end_follows : (d d' : Desk) (t : Late) → LateStep d t d' → Follows d (end_round_in t) d'
+end_follows d d' (Ends None) step = record {
   is_round = tt;
   shards = ap (λ (x : Desk). x.shards) step;
   tallies = ap (λ (x : Desk). x.tallies) step;
@@ -101,13 +101,21 @@ end_follows d d' None step = record {
   rules = ap (λ (x : Desk). x.rules) step;
   lines = ap (λ (x : Desk). x.lines) step;
 }
-end_follows d d' (Some t) step = record {
+end_follows d d' (Ends (Some t)) step = record {
   is_round = is_of d t.moment (ending_items d) t.round step.1;
   shards = ap (λ (x : Desk). x.shards) step.4 ∙ shards_after d (ending_items d) t.round;
   tallies = ap (λ (x : Desk). x.tallies) step.4 ∙ tallies_left d (ending_items d) t.round;
   holders = ap (λ (x : Desk). x.holders) step.4 ∙ holders_there d (ending_items d) t.round;
   rules = ap (λ (x : Desk). x.rules) step.4 ∙ rules_after d (ending_items d) t.round;
   lines = ap (λ (x : Desk). x.lines) step.4 ∙ lines_there d (ending_items d) t.round;
+}
+end_follows d d' (Waits t) step = record {
+  is_round = tt;
+  shards = ap (λ (x : Desk). x.shards) step.after;
+  tallies = ap (λ (x : Desk). x.tallies) step.after;
+  holders = ap (λ (x : Desk). x.holders) step.after;
+  rules = ap (λ (x : Desk). x.rules) step.after;
+  lines = ap (λ (x : Desk). x.lines) step.after;
 }
 
 -- a chain, seen by what each of its links has

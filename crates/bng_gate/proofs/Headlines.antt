@@ -1,11 +1,14 @@
 -- The headline of a run, from its turns.
 use Rattle.std.proofs.Common.{◌≡◌, ◌⊎◌, inl, inr, ℕ, List, [], ◌∷◌, map, Option, refl, sym, ap, subst, ◌∙◌, arith}
+use Rattle.std.specs.Prelude.{◌↔◌}
 use Rattle.std.specs.List.{All, AllByRecursion, AllZip, range_with_len}
 use Rattle.std.proofs.lemmas.List.Elements.{All-from_recursion}
 use Rattle.bng_base.specs.declared.outside.Datagram.{Datagram}
 use Rattle.bng_base.specs.declared.outside.Heard.{Heard}
 use Rattle.bng_base.specs.Chain.{Chain}
 use Rattle.bng_base.specs.Told.{PlantTold, Grows, GrowsIfTold}
+use Rattle.bng_billing.specs.Calls.{StopsAreAcknowledged}
+use Rattle.bng_billing.proofs.Stops.{stops_acknowledged}
 use Rattle.bng_config.specs.declared.config.Config.{Config}
 use Rattle.bng_config.specs.Configuration.{IsRead}
 use Rattle.bng_config.specs.Rules.{KeepsRules}
@@ -30,7 +33,7 @@ use Rattle.bng_desk.specs.declared.desk.DeskState.TheVariants.{Ended}
 use Rattle.bng_desk.specs.declared.drops.Drops.{Drops}
 use Rattle.bng_desk.specs.declared.line.Line.{Line}
 use Rattle.bng_desk.specs.Model.{Desk, carried_on, all_carried, input_of, line_after, output_of, state_of}
-use Rattle.bng_desk.specs.Opening.{line_of, holder_of, opened_shards}
+use Rattle.bng_desk.specs.Opening.{billing_rules, line_of, holder_of, opened_shards}
 use Rattle.bng_desk.specs.Report.{report_text, by_number}
 use Rattle.bng_desk.specs.Round.{view_of}
 use Rattle.bng_gate.specs.declared.texts.Refusal.{Refusal}
@@ -38,10 +41,12 @@ use Rattle.bng_gate.specs.declared.texts.Refusal.TheVariants.{Usage, Refused, Ca
 use Rattle.bng_gate.specs.Granted.{Granted}
 use Rattle.bng_gate.specs.Recorded.{Recorded}
 use Rattle.bng_gate.specs.Replied.{AreReplied}
-use Rattle.bng_gate.specs.Headline.{AreStopped, Headline, IsSafe, IsQuiet, StopsAccount, WasSafe, all_traffic}
+use Rattle.bng_gate.specs.Unanswered.{unanswered_of, NamesStops}
+use Rattle.bng_gate.specs.Headline.{AreStopped, calls_in_run, Headline, IsSafe, IsQuiet, StopsAccount, WasSafe, all_traffic}
 use Rattle.bng_gate.specs.Rounds.{rounds_in, rounds_of, plant_of, on_data, drops_of_run}
-use Rattle.bng_gate.specs.Run.{World, turns_most, outside, Course, Runs, IsReady, IsUntouched, WantsToServe, Why, IsUnwritten, RunEnds}
+use Rattle.bng_gate.specs.Run.{World, turns_most, outside, Prepares, Course, Runs, IsReady, IsUntouched, WantsToServe, Why, IsUnwritten, RunEnds}
 use Rattle.bng_gate.proofs.Addressing.{all_addressed}
+use Rattle.bng_gate.proofs.Agreed.{agreed}
 use Rattle.bng_gate.proofs.Drops.{all_dropped}
 use Rattle.bng_gate.proofs.Follows.{Follows, run_follows}
 use Rattle.bng_gate.proofs.Going.{Leads, stands_itself, rounds_lead}
@@ -199,11 +204,18 @@ module _ (text : List ℕ) (config : Config) (read : IsRead text config) (seed :
     all_out : output_of (all_traffic config sent) ≡ told_of pppoe_reader Octets is_output sent
     all_out = output_all config rules sent (stops_of rounds) known exact
 
-module _ (text : List ℕ) (config : Config) (read : IsRead text config) (seed : List ℕ) (old new : World) (run : Runs config seed (outside old) (outside new) old.out new.out) where
+    -- no Stop is open exactly where each was acknowledged
+    answered : (unanswered_of course.last ≡ []) ↔ StopsAreAcknowledged (calls_in_run config seed old new course)
+    answered =
+        stops_acknowledged (billing_rules config course.begins.bound.wall) recorded.opened course.last.billing (calls_in_run config seed old new course) recorded.is_new recorded.calls
+        (agreed config turns_most seed course.begins.bound.now course.begins.bound.wall course.opening course.over course.last course.turns course.endings course.begins.is_opened course.run course.ending ended)
+
+module _ (text : List ℕ) (config : Config) (read : IsRead text config) (status : ℕ) (seed : List ℕ) (old new : World) (run : Runs config seed (outside old) (outside new) old.out new.out)
+    (none : status ≡ 0 → unanswered_of run.completes.course.last ≡ []) (some : status ≡ 6 → NamesStops run.completes.course.last old.err new.err) where
   abbrev turned : Course config seed (outside old) (outside new)
   turned = run.completes.course
 
-  headline_of : Headline config old new
+  headline_of : Headline config status old new
   unfolding safe_of
   headline_of = record {
     seed = seed;
@@ -214,10 +226,20 @@ module _ (text : List ℕ) (config : Config) (read : IsRead text config) (seed :
     printed = subst (λ (text : List ℕ). Grows old.out.bytes new.out.bytes text) (report text config read seed old new turned run.ended) run.reports.printed;
     all_input = all_in text config read seed old new turned run.ended;
     all_output = all_out text config read seed old new turned run.ended;
+    acknowledged = λ s. (answered text config read seed old new turned run.ended).0 (none s);
+    unacknowledged = λ s. let names = some s in (λ all. names.some ((answered text config read seed old new turned run.ended).1 all), names);
   }
 
-pub headline : (text : List ℕ) (config : Config) (seed : List ℕ) (old new : World) → IsRead text config → Runs config seed (outside old) (outside new) old.out new.out → Headline config old new
-headline text config seed old new read run = headline_of text config read seed old new run
+-- with status 0 or 6
+pub headline : (words : List (List ℕ)) (old new : World) (status : ℕ) → RunEnds words old new status → (status ≡ 0) ⊎ (status ≡ 6) → (config : Config) × Prepares words old.files new.files config × Headline config status old new
+headline words old new status r (inl s) =
+    let x = r.served s in
+    let prepares = x.run.ready.prepares in
+    (x.run.config, prepares, headline_of prepares.text x.run.config prepares.read status x.run.seed old new x.run.runs (λ _. x.acknowledged) (λ six. absurd (omega (arith, s, six))))
+headline words old new status r (inr s) =
+    let x = r.unanswered s in
+    let prepares = x.run.ready.prepares in
+    (x.run.config, prepares, headline_of prepares.text x.run.config prepares.read status x.run.seed old new x.run.runs (λ none. absurd (omega (arith, s, none))) (λ _. x.names))
 
 -- Where a run came to no report, it was quiet, or its turns were safe ----------------------------------------------------------
 
@@ -242,14 +264,16 @@ module _ (words : List (List ℕ)) (old new : World) where
   why_safe (Refused fault) w = untouched w.untouched
   why_safe (CannotOpen what) w = inl (record { heard = w.heard; taken = w.taken; sent = w.sent })
   why_safe OutOfMemory (inl w) = untouched w.untouched
-  why_safe OutOfMemory (inr w) = wants_safe w.config w.seed w.ready w.wants
+  why_safe OutOfMemory (inr (inl w)) = wants_safe w.config w.seed w.ready w.wants
+  why_safe OutOfMemory (inr (inr w)) = turned_safe w.config w.seed w.ready w.runs.completes.course
   why_safe TraceFailed w = turned_safe w.config w.seed w.ready w.fails.course
   why_safe OutputFailed w = turned_safe w.config w.seed w.ready w.fails.completes.course
 
   unwritten_safe : IsUnwritten words old new → QuietOrSafe
   unwritten_safe (inl r) = why_safe TraceFailed r.why
   unwritten_safe (inr (inl r)) = why_safe OutputFailed r.why
-  unwritten_safe (inr (inr f)) = why_safe f.refusal f.why
+  unwritten_safe (inr (inr (inl f))) = why_safe f.refusal f.why
+  unwritten_safe (inr (inr (inr f))) = turned_safe f.run.config f.run.seed f.run.ready f.run.runs.completes.course
 
   -- with status 4 or 5
   pub safe : (status : ℕ) → RunEnds words old new status → (status ≡ 4) ⊎ (status ≡ 5) → IsQuiet old new ⊎ WasSafe words old new

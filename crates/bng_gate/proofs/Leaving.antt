@@ -15,7 +15,7 @@ use Rattle.bng_engine.specs.Views.{ShardView, Row, row_keys, rows_where}
 use Rattle.bng_slots.specs.Listed.{values}
 use Rattle.bng_shard.specs.Protocol.{ShardState, Handled, pppoe, row_at, sessions_of, terms_at, terms_of}
 use Rattle.bng_desk.specs.declared.desk.DeskState.TheVariants.{Ended}
-use Rattle.bng_desk.specs.Model.{Desk, has_ended, has_starved, is_over, no_traffic, sessions_in, state_of, traffic_at, traffic_or}
+use Rattle.bng_desk.specs.Model.{Desk, grace_is_over, has_ended, has_starved, is_over, no_traffic, sessions_in, state_of, traffic_at, traffic_or}
 use Rattle.bng_desk.specs.Round.{views_of}
 use Rattle.bng_gate.specs.Headline.{AreStopped}
 use Rattle.bng_gate.proofs.States.{ended_by}
@@ -33,7 +33,7 @@ all_empty (v ∷ vs) e =
 
 pub ended_empty : (d : Desk) → state_of d ≡ Ended → AllByRecursion IsEmpty d.shards
 ended_empty d e =
-    let ended = ended_by (is_over d) (has_ended d) (has_starved d) e in
+    let ended = ended_by (is_over d) (has_ended d) (grace_is_over d) (has_starved d) e in
     all_empty d.shards (eqb-true (sessions_in d.shards) 0 (and_parts d.closed _ ended).1)
 
 -- then it has no term

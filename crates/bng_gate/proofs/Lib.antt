@@ -39,6 +39,8 @@ pub mod Lines
 pub mod Telling
 pub mod Staging
 pub mod OnAcct
+pub mod Calling
+pub mod Agreed
 pub mod Recording
 pub mod Addressing
 pub mod Traffic

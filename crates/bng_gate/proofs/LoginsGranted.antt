@@ -16,8 +16,7 @@ pub logins_granted : (config : Config) (rounds : ℕ) (seed : List ℕ) (now wal
     → Run opening turns over → EndRun over endings last → length turns ≤ turns_most → length endings ≤ endings_most → Granted config seed turns endings
 logins_granted config rounds seed now wall opening over last turns endings rules opened run ending few few_ends =
     let facts = opening_facts config rules rounds seed now wall opening opened in
-    let fewer : length endings ≤ 2 ^ 37 = omega (arith, few_ends) in
     let access : opening.rules.access ≡ config.access = ap (λ (d : Desk). d.rules.access) opened.desk ∙ opened.are_rules.access in
     granted_of config seed opening over last turns endings run ending facts.kept (are_fresh config opening facts) opening.rules (λ p v at. (facts.fresh p v at).rules) access
-    (has_count config opening over last turns endings facts run ending few fewer)
+    (has_count config opening over last turns endings facts run ending few few_ends)
     (replies_of config rounds seed now wall opening over turns opened run)

@@ -23,13 +23,13 @@ use Rattle.bng_desk.specs.Control.{Heeded, reply, is_answered}
 use Rattle.bng_desk.specs.Logins.{lane_datagram, lane_sends}
 use Rattle.bng_desk.specs.Model.{Desk}
 use Rattle.bng_desk.specs.Round.{Round}
-use Rattle.bng_desk.specs.Turn.{Turn, EndTurn, stretch_of, end_stretch}
+use Rattle.bng_desk.specs.Turn.{Turn, stretch_of}
 use Rattle.bng_gate.specs.Granted.{Stage, stage_in, end_stage_in, stages_of}
 use Rattle.bng_gate.specs.Rounds.{end_round_in, is_acct, on_acct, plant_of, round_in, rounds_in, rounds_of}
-use Rattle.bng_gate.specs.Serving.{Made, MadeEnd, run_stretch, ending_stretch}
+use Rattle.bng_gate.specs.Serving.{Made, MadeEnd, Late, Ends, Waits, late_stretch, run_stretch, ending_stretch}
 use Rattle.bng_gate.proofs.Keys.{IsOurs}
 use Rattle.bng_gate.proofs.Stopping.{all_left, all_right}
-use Rattle.bng_gate.proofs.Telling.{end_out, requested, sends_are, sends_in, turn_out}
+use Rattle.bng_gate.proofs.Telling.{end_out, grace_out, requested, sends_are, sends_in, turn_out}
 
 abbrev pub IsElse : OutRecord → Type 0
 IsElse o = is_acct o.role ≡ false
@@ -113,9 +113,10 @@ turn_sent d (Some t) elsewhere =
     ∙ ap (λ (ds : List Datagram). ds ++ on_acct rest) (no_answers (filter is_answered t.control))
     ∙ settled_sent d t.round (lane_sends t.requests) (record_sends t.records) elsewhere
 
-end_sent : (d : Desk) (t : Option EndTurn) → AllByRecursion IsElse (sends_in (end_round_in t)) → on_acct (end_stretch d t).plant.sent ≡ (end_stage_in d t).records
-end_sent d None elsewhere = refl
-end_sent d (Some t) elsewhere = ap on_acct (end_out d t) ∙ settled_sent d t.round (lane_sends t.requests) (record_sends t.records) elsewhere
+end_sent : (d : Desk) (t : Late) → AllByRecursion IsElse (sends_in (end_round_in t)) → on_acct (late_stretch d t).plant.sent ≡ (end_stage_in d t).records
+end_sent d (Ends None) elsewhere = refl
+end_sent d (Waits t) elsewhere = ap on_acct (grace_out d t) ∙ all_recorded d.billing.client.acct_server (record_sends t.records)
+end_sent d (Ends (Some t)) elsewhere = ap on_acct (end_out d t) ∙ settled_sent d t.round (lane_sends t.requests) (record_sends t.records) elsewhere
 
 -- What the turns send ------------------------------------------------------------------------------------------------------------------
 
@@ -136,7 +137,7 @@ endings_sent [] elsewhere = refl
 endings_sent (m ∷ endings) elsewhere =
     let here = sends_in (end_round_in m.turn) in
     let later = flat_map sends_in (map (λ (x : MadeEnd). end_round_in x.turn) endings) in
-    acct_append (end_stretch m.desk m.turn).plant.sent (ending_stretch endings).plant.sent
+    acct_append (late_stretch m.desk m.turn).plant.sent (ending_stretch endings).plant.sent
     ∙ ap (λ (ds : List Datagram). ds ++ on_acct (ending_stretch endings).plant.sent) (end_sent m.desk m.turn (all_left IsElse here later elsewhere))
     ∙ ap (λ (ds : List Datagram). (end_stage_in m.desk m.turn).records ++ ds) (endings_sent endings (all_right IsElse here later elsewhere))
 

@@ -1,5 +1,5 @@
 -- What a run did with accounting, from its turns.
-use Rattle.std.proofs.Common.{◌≡◌, ℕ, List, [], ◌∷◌, ◌++◌, map, Option, Some, None, refl, sym, ap, subst, ◌∙◌, append-nil, append_assoc}
+use Rattle.std.proofs.Common.{◌≡◌, ℕ, Bool, true, false, List, [], ◌∷◌, ◌++◌, map, Option, Some, None, refl, sym, ap, subst, ◌∙◌, append-nil, append_assoc}
 use Rattle.std.specs.List.{AllByRecursion, AllZip, flat_map}
 use Rattle.std.proofs.lemmas.List.Concat.{flat_map-append}
 use Rattle.bng_base.specs.declared.address.Peer.{Peer}
@@ -8,79 +8,26 @@ use Rattle.bng_base.specs.declared.outside.Role.TheVariants.{Acct}
 use Rattle.bng_base.specs.Chain.{Chain}
 use Rattle.bng_base.proofs.ChainLaws.{chain_append, chain_keeps}
 use Rattle.bng_billing.specs.Calls.{BillingCall, Formed, Given, Again, Told, Heard, Stopped, Does}
-use Rattle.bng_billing.specs.Records.{IsFormedBy}
-use Rattle.bng_billing.specs.Replies.{Takes}
 use Rattle.bng_billing.specs.State.{BillingState}
 use Rattle.bng_billing.proofs.Following.{answers_of}
 use Rattle.bng_config.specs.declared.config.Config.{Config}
 use Rattle.bng_engine.specs.Laws.{sends_of, stops_of}
 use Rattle.bng_engine.specs.Terms.{Stop}
 use Rattle.bng_lane.specs.Sends.{LaneSend}
-use Rattle.bng_desk.specs.Accounting.{Acknowledged, FormedRecord, IsStopOf, RecordRequests, RecordSend, Resends, Gives, SettlesRecords, record_datagram, record_sends}
-use Rattle.bng_desk.specs.Model.{Desk}
+use Rattle.bng_desk.specs.Accounting.{Acknowledged, FormedRecord, IsStopOf, RecordRequests, RecordSend, record_datagram, record_sends}
+use Rattle.bng_desk.specs.Model.{Desk, has_ended}
 use Rattle.bng_desk.specs.Opening.{IsOpened, billing_rules}
 use Rattle.bng_desk.specs.Reading.{taken_in}
 use Rattle.bng_desk.specs.Round.{Round, stops_of as stops_of_round}
-use Rattle.bng_desk.specs.Turn.{Turn, EndTurn, Step, EndStep, BillingTurn, BillingEnd, stops_in}
+use Rattle.bng_desk.specs.Turn.{Turn, Step, after_end, stops_in}
 use Rattle.bng_gate.specs.Granted.{Stage, stage_in, end_stage_in, stages_of}
-use Rattle.bng_gate.specs.Recorded.{Recorded, SaysStop, formed_in, end_formed_in, formed_of, formed_call, heard_call, again_calls, given_calls, request_calls, calls_in, end_calls_in, calls_of, sent_by_calls, taken_for}
+use Rattle.bng_gate.specs.Recorded.{Recorded, SaysStop, formed_in, end_formed_in, formed_of, formed_call, heard_call, again_calls, given_calls, request_calls, calls_in, stopped_if, end_calls_in, calls_of, sent_by_calls, taken_for}
 use Rattle.bng_gate.specs.Rounds.{plant_of, round_in, end_round_in, rounds_in, rounds_of, turns_of}
-use Rattle.bng_gate.specs.Serving.{Made, MadeEnd, Run, EndRun}
-use Rattle.bng_gate.proofs.Follows.{chain_map}
+use Rattle.bng_gate.specs.Serving.{Made, MadeEnd, Late, Ends, Waits, LateStep, Run, EndRun}
+use Rattle.bng_gate.proofs.Calling.{ending_calls, forms_calls, made_calls, run_calls, step_calls}
 use Rattle.bng_gate.proofs.Lines.{round_stops}
 use Rattle.bng_gate.proofs.OnAcct.{IsElse, stages_recorded}
 use Rattle.bng_gate.proofs.Staging.{stages_acknowledged}
-
--- The calls lead from turn to turn -------------------------------------------------------------------------------------------------
-
--- a chain, seen by a chain for each of its links
-chain_flat : {S T U : Type 0} (step : S → T → S → Type 0) (other : S → U → S → Type 0) (f : T → List U) → ((s : S) (t : T) (s' : S) → step s t s' → Chain other s (f t) s') → (s s' : S) (ts : List T) → Chain step s ts s' → Chain other s (flat_map f ts) s'
-chain_flat step other f each s s' [] run = run
-chain_flat step other f each s s' (t ∷ ts) run = chain_append other s run.0 s' (f t) (flat_map f ts) (each s t run.0 run.1) (chain_flat step other f each run.0 s' ts run.2)
-
-forms_calls : (b b' : BillingState) (fs : List FormedRecord) → Chain (λ x (f : FormedRecord) y. IsFormedBy x f.status f.facts f.moment f.number y) b fs b' → Chain Does b (map formed_call fs) b'
-forms_calls b b' fs run = chain_map (λ x (f : FormedRecord) y. IsFormedBy x f.status f.facts f.moment f.number y) Does formed_call (λ s f s' h. h) b b' fs run
-
-hears_calls : (b b' : BillingState) (as' : List Acknowledged) → Chain (λ x (a : Acknowledged) y. Takes x a.arrival.from a.arrival.octets a.found y) b as' b' → Chain Does b (map heard_call as') b'
-hears_calls b b' as' run = chain_map (λ x (a : Acknowledged) y. Takes x a.arrival.from a.arrival.octets a.found y) Does heard_call (λ s a s' h. h) b b' as' run
-
-settles_calls : (moment : ℕ) (b b' : BillingState) (q : RecordRequests) → SettlesRecords moment b q b' → Chain Does b (request_calls moment q) b'
-settles_calls moment b b' q s =
-    chain_append Does b s.mid b' (flat_map (again_calls moment) q.again) (flat_map (given_calls moment) q.given)
-    (chain_flat (Resends moment) Does (again_calls moment) (λ x (u : LaneSend) y by. (by.0, by.1, (y, by.2, refl))) b s.mid q.again s.resends)
-    (chain_flat (Gives moment) Does (given_calls moment) (λ x (r : RecordSend) y by. (by.0, by.1, (y, by.2, refl))) s.mid b' q.given s.gives)
-
-turn_calls : (d : Desk) (t : Turn) → BillingTurn d t → Chain Does d.billing (calls_in (Some t)) t.billing
-turn_calls d t by =
-    chain_append Does d.billing by.heard t.billing (map heard_call t.acknowledged) (map formed_call t.formed ++ request_calls t.moment t.records)
-    (hears_calls d.billing by.heard t.acknowledged by.hears)
-    (chain_append Does by.heard by.booked t.billing (map formed_call t.formed) (request_calls t.moment t.records)
-    (forms_calls by.heard by.booked t.formed by.forms)
-    (settles_calls t.moment by.booked t.billing t.records by.settles))
-
-end_calls : (d : Desk) (t : EndTurn) → BillingEnd d t → Chain Does d.billing (end_calls_in (Some t)) t.billing
-end_calls d t by =
-    chain_append Does d.billing by.booked t.billing (map formed_call t.formed) (request_calls t.moment t.records)
-    (forms_calls d.billing by.booked t.formed by.forms)
-    (settles_calls t.moment by.booked t.billing t.records by.settles)
-
-step_calls : (d d' : Desk) (t : Option Turn) → Step d t d' → Chain Does d.billing (calls_in t) d'.billing
-step_calls d d' None step = ap (λ (x : Desk). x.billing) step
-step_calls d d' (Some t) step = subst (λ (b : BillingState). Chain Does d.billing (calls_in (Some t)) b) (sym (ap (λ (x : Desk). x.billing) step.4)) (turn_calls d t step.3)
-
-end_step_calls : (d d' : Desk) (t : Option EndTurn) → EndStep d t d' → Chain Does d.billing (end_calls_in t) d'.billing
-end_step_calls d d' None step = ap (λ (x : Desk). x.billing) step
-end_step_calls d d' (Some t) step = subst (λ (b : BillingState). Chain Does d.billing (end_calls_in (Some t)) b) (sym (ap (λ (x : Desk). x.billing) step.4)) (end_calls d t step.3)
-
-run_calls : (d d' : Desk) (turns : List Made) → Run d turns d' → Chain Does d.billing (flat_map (λ m. calls_in m.turn) turns) d'.billing
-run_calls d d' [] run = ap (λ (x : Desk). x.billing) run
-run_calls d d' (m ∷ turns) run =
-    chain_append Does d.billing run.0.billing d'.billing (calls_in m.turn) (flat_map (λ (x : Made). calls_in x.turn) turns) (step_calls d run.0 m.turn run.1.1) (run_calls run.0 d' turns run.2)
-
-ending_calls : (d d' : Desk) (endings : List MadeEnd) → EndRun d endings d' → Chain Does d.billing (flat_map (λ m. end_calls_in m.turn) endings) d'.billing
-ending_calls d d' [] run = ap (λ (x : Desk). x.billing) run
-ending_calls d d' (m ∷ endings) run =
-    chain_append Does d.billing run.0.billing d'.billing (end_calls_in m.turn) (flat_map (λ (x : MadeEnd). end_calls_in x.turn) endings) (end_step_calls d run.0 m.turn run.1.1) (ending_calls run.0 d' endings run.2)
 
 -- The Stops ------------------------------------------------------------------------------------------------------------------------
 
@@ -110,9 +57,10 @@ step_stops : (d d' : Desk) (t : Option Turn) → Step d t d' → AllZip SaysStop
 step_stops d d' None step = tt
 step_stops d d' (Some t) step = all_said d t.moment t.wall (stops_in t.round) t.formed step.3.stops
 
-end_step_stops : (d d' : Desk) (t : Option EndTurn) → EndStep d t d' → AllZip SaysStop (stops_in (end_round_in t)) (end_formed_in t)
-end_step_stops d d' None step = tt
-end_step_stops d d' (Some t) step = all_said d t.moment t.wall (stops_in t.round) t.formed step.3.stops
+end_step_stops : (d d' : Desk) (t : Late) → LateStep d t d' → AllZip SaysStop (stops_in (end_round_in t)) (end_formed_in t)
+end_step_stops d d' (Ends None) step = tt
+end_step_stops d d' (Waits t) step = tt
+end_step_stops d d' (Ends (Some t)) step = all_said d t.moment t.wall (stops_in t.round) t.formed step.3.stops
 
 run_stops : (d d' : Desk) (turns : List Made) → Run d turns d' → AllZip SaysStop (flat_map stops_in (map (λ m. round_in m.turn) turns)) (flat_map (λ m. formed_in m.turn) turns)
 run_stops d d' [] run = tt
@@ -210,10 +158,26 @@ module _ (server : Peer) where
       ∙ booked_sends t.moment t.formed t.records rest
       ∙ ap (λ (p : Peer). flat_map (record_datagram p) (record_sends t.records) ++ sent_by_calls server rest) (sym is)
 
-  end_sends : (d : Desk) (t : Option EndTurn) (rest : List BillingCall) → IsAt server d.billing → sent_by_calls server (end_calls_in t ++ rest) ≡ (end_stage_in d t).records ++ sent_by_calls server rest
-  end_sends d None rest is = refl
-  end_sends d (Some t) rest is =
-      booked_sends t.moment t.formed t.records rest
+  stopped_sends : (none_left : Bool) (rest : List BillingCall) → sent_by_calls server (stopped_if none_left ++ rest) ≡ sent_by_calls server rest
+  stopped_sends false rest = refl
+  stopped_sends true rest = refl
+
+  end_sends : (d : Desk) (t : Late) (rest : List BillingCall) → IsAt server d.billing → sent_by_calls server (end_calls_in d t ++ rest) ≡ (end_stage_in d t).records ++ sent_by_calls server rest
+  end_sends d (Ends None) rest is = refl
+  end_sends d (Ends (Some t)) rest is =
+      let stopped = stopped_if (has_ended (after_end d t)) in
+      let requests = request_calls t.moment t.records in
+      ap (sent_by_calls server) (append_assoc (map formed_call t.formed) (requests ++ stopped) rest)
+      ∙ formed_sends t.formed ((requests ++ stopped) ++ rest)
+      ∙ ap (sent_by_calls server) (append_assoc requests stopped rest)
+      ∙ request_sends t.moment t.records (stopped ++ rest)
+      ∙ ap (λ (ds : List Datagram). flat_map (record_datagram server) (record_sends t.records) ++ ds) (stopped_sends (has_ended (after_end d t)) rest)
+      ∙ ap (λ (p : Peer). flat_map (record_datagram p) (record_sends t.records) ++ sent_by_calls server rest) (sym is)
+  end_sends d (Waits t) rest is =
+      let requests = request_calls t.moment t.records in
+      ap (sent_by_calls server) (append_assoc (map heard_call t.acknowledged) requests rest)
+      ∙ heard_sends t.acknowledged (requests ++ rest)
+      ∙ request_sends t.moment t.records rest
       ∙ ap (λ (p : Peer). flat_map (record_datagram p) (record_sends t.records) ++ sent_by_calls server rest) (sym is)
 
   abbrev records_in : Stage → List Datagram
@@ -231,12 +195,12 @@ module _ (server : Peer) where
       ∙ sym (append_assoc (stage_in m.desk m.turn).records stages (sent_by_calls server rest))
 
   ending_sends : (d d' : Desk) (endings : List MadeEnd) → EndRun d endings d' → IsAt server d.billing
-      → sent_by_calls server (flat_map (λ m. end_calls_in m.turn) endings) ≡ flat_map records_in (map (λ m. end_stage_in m.desk m.turn) endings)
+      → sent_by_calls server (flat_map (λ m. end_calls_in m.desk m.turn) endings) ≡ flat_map records_in (map (λ m. end_stage_in m.desk m.turn) endings)
   ending_sends d d' [] run is = refl
   ending_sends d d' (m ∷ endings) run is =
-      let later = flat_map (λ (x : MadeEnd). end_calls_in x.turn) endings in
+      let later = flat_map (λ (x : MadeEnd). end_calls_in x.desk x.turn) endings in
       end_sends m.desk m.turn later (subst (λ (x : Desk). IsAt server x.billing) (sym run.1.0) is)
-      ∙ ap (λ (ds : List Datagram). (end_stage_in m.desk m.turn).records ++ ds) (ending_sends run.0 d' endings run.2 (stays_at server d.billing run.0.billing (end_calls_in m.turn) (end_step_calls d run.0 m.turn run.1.1) is))
+      ∙ ap (λ (ds : List Datagram). (end_stage_in m.desk m.turn).records ++ ds) (ending_sends run.0 d' endings run.2 (stays_at server d.billing run.0.billing (end_calls_in m.desk m.turn) (made_calls d run.0 m run.1.0 run.1.1) is))
 
   all_sends : (starts : List FormedRecord) (d over last : Desk) (turns : List Made) (endings : List MadeEnd) → Run d turns over → EndRun over endings last → IsAt server d.billing
       → flat_map records_in (stages_of turns endings) ≡ sent_by_calls server (calls_of starts turns endings)
@@ -244,7 +208,7 @@ module _ (server : Peer) where
       let serving = map (λ (m : Made). stage_in m.desk m.turn) turns in
       let closing = map (λ (m : MadeEnd). end_stage_in m.desk m.turn) endings in
       let calls = flat_map (λ (m : Made). calls_in m.turn) turns in
-      let closes = flat_map (λ (m : MadeEnd). end_calls_in m.turn) endings in
+      let closes = flat_map (λ (m : MadeEnd). end_calls_in m.desk m.turn) endings in
       flat_map-append records_in serving closing
       ∙ ap (λ (ds : List Datagram). flat_map records_in serving ++ ds) (sym (ending_sends over last endings ending (stays_at server d.billing over.billing calls (run_calls d over turns run) is)))
       ∙ sym (run_sends d over turns closes run is)
@@ -268,28 +232,49 @@ given_takes : (moment : ℕ) (rs : List RecordSend) → flat_map taken_for (flat
 given_takes moment [] = refl
 given_takes moment (r ∷ rs) = given_takes moment rs
 
-booked_takes : (moment : ℕ) (fs : List FormedRecord) (q : RecordRequests) → flat_map taken_for (map formed_call fs ++ request_calls moment q) ≡ []
-booked_takes moment fs q =
+request_takes : (moment : ℕ) (q : RecordRequests) → flat_map taken_for (request_calls moment q) ≡ []
+request_takes moment q =
     let again = flat_map (again_calls moment) q.again in
     let given = flat_map (given_calls moment) q.given in
-    flat_map-append taken_for (map formed_call fs) (again ++ given)
-    ∙ ap (λ (ds : List Datagram). ds ++ flat_map taken_for (again ++ given)) (formed_takes fs)
-    ∙ flat_map-append taken_for again given
+    flat_map-append taken_for again given
     ∙ ap (λ (ds : List Datagram). ds ++ flat_map taken_for given) (again_takes moment q.again)
     ∙ given_takes moment q.given
+
+booked_takes : (fs : List FormedRecord) (rest : List BillingCall) → flat_map taken_for rest ≡ [] → flat_map taken_for (map formed_call fs ++ rest) ≡ []
+booked_takes fs rest none =
+    flat_map-append taken_for (map formed_call fs) rest
+    ∙ ap (λ (ds : List Datagram). ds ++ flat_map taken_for rest) (formed_takes fs)
+    ∙ none
+
+-- what is heard is taken, and nothing after it
+heard_first : (as' : List Acknowledged) (rest : List BillingCall) → flat_map taken_for rest ≡ [] → flat_map taken_for (map heard_call as' ++ rest) ≡ taken_in Acct (map (λ a. a.arrival) as')
+heard_first as' rest none =
+    let arrivals = map (λ (a : Acknowledged). a.arrival) as' in
+    flat_map-append taken_for (map heard_call as') rest
+    ∙ ap (λ (ds : List Datagram). ds ++ flat_map taken_for rest) (heard_takes as')
+    ∙ ap (λ (ds : List Datagram). taken_in Acct arrivals ++ ds) none
+    ∙ append-nil (taken_in Acct arrivals)
 
 turn_takes : (d : Desk) (t : Option Turn) → flat_map taken_for (calls_in t) ≡ (stage_in d t).acknowledged
 turn_takes d None = refl
 turn_takes d (Some t) =
-    let arrivals = map (λ (a : Acknowledged). a.arrival) t.acknowledged in
-    flat_map-append taken_for (map heard_call t.acknowledged) (map formed_call t.formed ++ request_calls t.moment t.records)
-    ∙ ap (λ (ds : List Datagram). ds ++ flat_map taken_for (map formed_call t.formed ++ request_calls t.moment t.records)) (heard_takes t.acknowledged)
-    ∙ ap (λ (ds : List Datagram). taken_in Acct arrivals ++ ds) (booked_takes t.moment t.formed t.records)
-    ∙ append-nil (taken_in Acct arrivals)
+    let requests = request_calls t.moment t.records in
+    heard_first t.acknowledged (map formed_call t.formed ++ requests) (booked_takes t.formed requests (request_takes t.moment t.records))
 
-end_takes : (d : Desk) (t : Option EndTurn) → flat_map taken_for (end_calls_in t) ≡ (end_stage_in d t).acknowledged
-end_takes d None = refl
-end_takes d (Some t) = booked_takes t.moment t.formed t.records
+stopped_takes : (none_left : Bool) → flat_map taken_for (stopped_if none_left) ≡ []
+stopped_takes false = refl
+stopped_takes true = refl
+
+end_takes : (d : Desk) (t : Late) → flat_map taken_for (end_calls_in d t) ≡ (end_stage_in d t).acknowledged
+end_takes d (Ends None) = refl
+end_takes d (Ends (Some t)) =
+    let stopped = stopped_if (has_ended (after_end d t)) in
+    let requests = request_calls t.moment t.records in
+    booked_takes t.formed (requests ++ stopped)
+    (flat_map-append taken_for requests stopped
+    ∙ ap (λ (ds : List Datagram). ds ++ flat_map taken_for stopped) (request_takes t.moment t.records)
+    ∙ stopped_takes (has_ended (after_end d t)))
+end_takes d (Waits t) = heard_first t.acknowledged (request_calls t.moment t.records) (request_takes t.moment t.records)
 
 abbrev acknowledged_in : Stage → List Datagram
 acknowledged_in s = s.acknowledged
@@ -302,11 +287,11 @@ run_takes (m ∷ turns) =
     ∙ ap (λ (ds : List Datagram). ds ++ flat_map taken_for later) (turn_takes m.desk m.turn)
     ∙ ap (λ (ds : List Datagram). (stage_in m.desk m.turn).acknowledged ++ ds) (run_takes turns)
 
-ending_takes : (endings : List MadeEnd) → flat_map taken_for (flat_map (λ m. end_calls_in m.turn) endings) ≡ flat_map acknowledged_in (map (λ m. end_stage_in m.desk m.turn) endings)
+ending_takes : (endings : List MadeEnd) → flat_map taken_for (flat_map (λ m. end_calls_in m.desk m.turn) endings) ≡ flat_map acknowledged_in (map (λ m. end_stage_in m.desk m.turn) endings)
 ending_takes [] = refl
 ending_takes (m ∷ endings) =
-    let later = flat_map (λ (x : MadeEnd). end_calls_in x.turn) endings in
-    flat_map-append taken_for (end_calls_in m.turn) later
+    let later = flat_map (λ (x : MadeEnd). end_calls_in x.desk x.turn) endings in
+    flat_map-append taken_for (end_calls_in m.desk m.turn) later
     ∙ ap (λ (ds : List Datagram). ds ++ flat_map taken_for later) (end_takes m.desk m.turn)
     ∙ ap (λ (ds : List Datagram). (end_stage_in m.desk m.turn).acknowledged ++ ds) (ending_takes endings)
 
@@ -315,7 +300,7 @@ all_takes starts turns endings =
     let serving = map (λ (m : Made). stage_in m.desk m.turn) turns in
     let closing = map (λ (m : MadeEnd). end_stage_in m.desk m.turn) endings in
     let calls = flat_map (λ (m : Made). calls_in m.turn) turns in
-    let closes = flat_map (λ (m : MadeEnd). end_calls_in m.turn) endings in
+    let closes = flat_map (λ (m : MadeEnd). end_calls_in m.desk m.turn) endings in
     flat_map-append acknowledged_in serving closing
     ∙ sym (flat_map-append taken_for (map formed_call starts) (calls ++ closes)
     ∙ ap (λ (ds : List Datagram). ds ++ flat_map taken_for (calls ++ closes)) (formed_takes starts)
@@ -330,7 +315,7 @@ pub recorded_of : (config : Config) (rounds : ℕ) (seed : List ℕ) (now wall :
 recorded_of config rounds seed now wall opening over last turns endings is run ending elsewhere =
     let first = map formed_call is.starts in
     let calls = flat_map (λ (m : Made). calls_in m.turn) turns in
-    let closes = flat_map (λ (m : MadeEnd). end_calls_in m.turn) endings in
+    let closes = flat_map (λ (m : MadeEnd). end_calls_in m.desk m.turn) endings in
     let from : opening.billing ≡ is.billing = ap (λ (d : Desk). d.billing) is.desk in
     let starts : Chain Does is.new_billing first opening.billing = subst (Chain Does is.new_billing first) (sym from) (forms_calls is.new_billing is.billing is.starts is.forms) in
     let chain : Chain Does is.new_billing (calls_of is.starts turns endings) last.billing =

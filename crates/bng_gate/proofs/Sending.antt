@@ -17,9 +17,9 @@ use Rattle.bng_engine.proofs.Journals.{after_more}
 use Rattle.bng_shard.specs.Protocol.{ShardState, Handled, pppoe}
 use Rattle.bng_desk.specs.Model.{Desk}
 use Rattle.bng_desk.specs.Round.{Round, views_of}
-use Rattle.bng_desk.specs.Turn.{Turn, EndTurn, RoundOf}
+use Rattle.bng_desk.specs.Turn.{Turn, RoundOf}
 use Rattle.bng_gate.specs.Granted.{Held, SentBy, held_of, sent_by, stage_in, end_stage_in, stage_at, stages_of, round_of_turn, round_of_end}
-use Rattle.bng_gate.specs.Serving.{Made, MadeEnd}
+use Rattle.bng_gate.specs.Serving.{Made, MadeEnd, Late, Ends, Waits}
 use Rattle.bng_gate.proofs.Addressing.{all_map}
 use Rattle.bng_gate.proofs.HeldRuns.{Holds, HeldRun}
 use Rattle.bng_gate.proofs.Lists.{all_by_place}
@@ -101,9 +101,10 @@ turn_sent : (d : Desk) (t : Option Turn) → (stage_in d t).sent ≡ sent_by (ro
 turn_sent d None = refl
 turn_sent d (Some t) = refl
 
-end_sent : (d : Desk) (t : Option EndTurn) → (end_stage_in d t).sent ≡ sent_by (round_of_end t)
-end_sent d None = refl
-end_sent d (Some t) = refl
+end_sent : (d : Desk) (t : Late) → (end_stage_in d t).sent ≡ sent_by (round_of_end t)
+end_sent d (Ends None) = refl
+end_sent d (Ends (Some t)) = refl
+end_sent d (Waits t) = refl
 
 sent_is : (turns : List Made) (endings : List MadeEnd) (k : ℕ) → (stage_at (stages_of turns endings) k).sent ≡ sent_of (slice_get (held_of turns endings) k)
 sent_is [] [] k = refl

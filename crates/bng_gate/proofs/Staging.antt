@@ -19,11 +19,11 @@ use Rattle.bng_desk.specs.Logins.{Answered}
 use Rattle.bng_desk.specs.Model.{Desk}
 use Rattle.bng_desk.specs.Reading.{is_empty, taken_in}
 use Rattle.bng_desk.specs.Round.{Round}
-use Rattle.bng_desk.specs.Turn.{Turn, EndTurn, ReadsWhere, Step, auth_stretch, data_stretch, round_stretch, stretch_of, end_stretch}
+use Rattle.bng_desk.specs.Turn.{Turn, GraceTurn, ReadsWhere, Step, auth_stretch, data_stretch, round_stretch, stretch_of, grace_stretch}
 use Rattle.bng_gate.specs.Granted.{Stage, sent_by, stage_in, end_stage_in, stages_of}
 use Rattle.bng_gate.specs.Rounds.{plant_of, is_acct, is_auth, is_control, on_acct, on_auth, on_data, beside_control, readings_in, readings_of}
-use Rattle.bng_gate.specs.Serving.{Made, MadeEnd, Run, run_stretch, ending_stretch}
-use Rattle.bng_gate.proofs.Telling.{end_out, endings_taken, requested, sends_in, taken_are, taken_by_reading, turn_out}
+use Rattle.bng_gate.specs.Serving.{Made, MadeEnd, Late, Ends, Waits, Run, late_stretch, run_stretch, ending_stretch}
+use Rattle.bng_gate.proofs.Telling.{end_out, grace_out, requested, round_takes, sends_in, taken_are, taken_by_reading, turn_out}
 
 -- What was sent ------------------------------------------------------------------------------------------------------------
 
@@ -50,9 +50,10 @@ turn_sent d (Some t) =
     ∙ ap (λ (ds : List Datagram). ds ++ beside_control rest) (no_answers (filter is_answered t.control))
     ∙ ap (λ (ds : List Datagram). beside_control (ds ++ requested d t.requests t.records)) (sent_by_round t.round)
 
-end_sent : (d : Desk) (t : Option EndTurn) → beside_control (end_stretch d t).plant.sent ≡ beside_control (out_of (end_stage_in d t))
-end_sent d None = refl
-end_sent d (Some t) = ap beside_control (end_out d t) ∙ ap (λ (ds : List Datagram). beside_control (ds ++ requested d t.requests t.records)) (sent_by_round t.round)
+end_sent : (d : Desk) (t : Late) → beside_control (late_stretch d t).plant.sent ≡ beside_control (out_of (end_stage_in d t))
+end_sent d (Ends None) = refl
+end_sent d (Waits t) = ap beside_control (grace_out d t)
+end_sent d (Ends (Some t)) = ap beside_control (end_out d t) ∙ ap (λ (ds : List Datagram). beside_control (ds ++ requested d t.requests t.records)) (sent_by_round t.round)
 
 -- one more
 more_sent : (here stage later stages : List Datagram) → beside_control here ≡ beside_control stage → beside_control later ≡ beside_control stages → beside_control (here ++ later) ≡ beside_control (stage ++ stages)
@@ -71,7 +72,7 @@ turns_sent (m ∷ turns) =
 endings_sent : (endings : List MadeEnd) → beside_control (ending_stretch endings).plant.sent ≡ beside_control (flat_map out_of (map (λ m. end_stage_in m.desk m.turn) endings))
 endings_sent [] = refl
 endings_sent (m ∷ endings) =
-    more_sent (end_stretch m.desk m.turn).plant.sent (out_of (end_stage_in m.desk m.turn)) (ending_stretch endings).plant.sent (flat_map out_of (map (λ (x : MadeEnd). end_stage_in x.desk x.turn) endings))
+    more_sent (late_stretch m.desk m.turn).plant.sent (out_of (end_stage_in m.desk m.turn)) (ending_stretch endings).plant.sent (flat_map out_of (map (λ (x : MadeEnd). end_stage_in x.desk x.turn) endings))
     (end_sent m.desk m.turn) (endings_sent endings)
 
 -- what was sent, but for Control, are what the stages sent, in their order
@@ -134,18 +135,20 @@ module _ (is : Role → Bool) (no_control : is Control ≡ false) (no_port : (nu
       ∙ only_append (acct ++ []) (auth ++ rest)
       ∙ ap (λ (ds : List Datagram). only ds ++ only (auth ++ rest)) (append-nil acct)
       ∙ ap (λ (ds : List Datagram). only acct ++ ds) (only_append auth rest)
-      ∙ ap (λ (ds : List Datagram). only acct ++ (only auth ++ only ((data_stretch t.readings).taken ++ (ds ++ [])))) (round_taken t.round)
+      ∙ ap (λ (ds : List Datagram). only acct ++ (only auth ++ only ((data_stretch t.readings).taken ++ (ds ++ [])))) (round_takes t.round)
       ∙ ap (λ (ds : List Datagram). only acct ++ (only auth ++ only ds)) (append-nil (data_stretch t.readings).taken)
       ∙ ap (λ (ds : List Datagram). only acct ++ (only auth ++ ds)) (none_read t.readings roles)
       ∙ ap (λ (ds : List Datagram). only acct ++ ds) (append-nil (only auth))
-    where
-      round_taken : (round : Option Round) → (round_stretch round).taken ≡ []
-      round_taken None = refl
-      round_taken (Some round) = refl
 
-  -- so what is taken over all turns, where each stage tells it of its turn, and none of the ending takes anything
+  -- what one of the grace takes from Acct
+  grace_takes : (d : Desk) (t : GraceTurn) → only (grace_stretch d t).plant.taken ≡ only (taken_in Acct (map (λ a. a.arrival) t.acknowledged))
+  grace_takes d t =
+      let acct = taken_in Acct (map (λ (a : Acknowledged). a.arrival) t.acknowledged) in
+      ap only (append-nil (acct ++ [])) ∙ ap only (append-nil acct)
+
+  -- so what is taken over all turns, where each stage tells it of its turn
   module _ (told : Stage → List Datagram) (turn : (d d' : Desk) (t : Option Turn) → Step d t d' → (e : Desk) → only (stretch_of e t).plant.taken ≡ told (stage_in e t))
-      (none : (d : Desk) (t : Option EndTurn) → told (end_stage_in d t) ≡ []) where
+      (late : (d : Desk) (t : Late) → only (late_stretch d t).plant.taken ≡ told (end_stage_in d t)) where
     turns_tell : (d d' : Desk) (turns : List Made) → Run d turns d' → only (run_stretch turns).plant.taken ≡ flat_map told (map (λ m. stage_in m.desk m.turn) turns)
     turns_tell d d' [] run = refl
     turns_tell d d' (m ∷ turns) run =
@@ -153,19 +156,20 @@ module _ (is : Role → Bool) (no_control : is Control ≡ false) (no_port : (nu
         ∙ ap (λ (ds : List Datagram). ds ++ only (run_stretch turns).plant.taken) (turn d run.0 m.turn run.1.1 m.desk)
         ∙ ap (λ (ds : List Datagram). told (stage_in m.desk m.turn) ++ ds) (turns_tell run.0 d' turns run.2)
 
-    endings_tell : (endings : List MadeEnd) → flat_map told (map (λ m. end_stage_in m.desk m.turn) endings) ≡ []
+    endings_tell : (endings : List MadeEnd) → only (ending_stretch endings).plant.taken ≡ flat_map told (map (λ m. end_stage_in m.desk m.turn) endings)
     endings_tell [] = refl
-    endings_tell (m ∷ endings) = ap (λ (ds : List Datagram). ds ++ flat_map told (map (λ (x : MadeEnd). end_stage_in x.desk x.turn) endings)) (none m.desk m.turn) ∙ endings_tell endings
+    endings_tell (m ∷ endings) =
+        only_append (late_stretch m.desk m.turn).plant.taken (ending_stretch endings).plant.taken
+        ∙ ap (λ (ds : List Datagram). ds ++ only (ending_stretch endings).plant.taken) (late m.desk m.turn)
+        ∙ ap (λ (ds : List Datagram). told (end_stage_in m.desk m.turn) ++ ds) (endings_tell endings)
 
     stages_tell : (d d' : Desk) (turns : List Made) (endings : List MadeEnd) → Run d turns d' → only (plant_of turns endings).taken ≡ flat_map told (stages_of turns endings)
     stages_tell d d' turns endings run =
         let serving = map (λ (m : Made). stage_in m.desk m.turn) turns in
         let ending = map (λ (m : MadeEnd). end_stage_in m.desk m.turn) endings in
-        ap (λ (ds : List Datagram). only ((run_stretch turns).plant.taken ++ ds)) (endings_taken endings)
-        ∙ ap only (append-nil (run_stretch turns).plant.taken)
-        ∙ turns_tell d d' turns run
-        ∙ sym (append-nil (flat_map told serving))
-        ∙ ap (λ (ds : List Datagram). flat_map told serving ++ ds) (sym (endings_tell endings))
+        only_append (run_stretch turns).plant.taken (ending_stretch endings).plant.taken
+        ∙ ap (λ (ds : List Datagram). ds ++ only (ending_stretch endings).plant.taken) (turns_tell d d' turns run)
+        ∙ ap (λ (ds : List Datagram). flat_map told serving ++ ds) (endings_tell endings)
         ∙ sym (flat_map-append told serving ending)
 
 -- Auth is read, or nothing was taken from it
@@ -184,9 +188,12 @@ turn_heard d d' (Some t) step e =
     ∙ ap (λ (ds : List Datagram). ds ++ on_auth (auth_stretch t.answers t.auth_end).taken) (none_of is_auth refl (λ n. refl) refl Acct arrivals refl)
     ∙ auth_taken (is_empty d.kept) t.answers t.auth_end step.0.auth
 
-end_heard : (d : Desk) (t : Option EndTurn) → (end_stage_in d t).heard ≡ []
-end_heard d None = refl
-end_heard d (Some t) = refl
+end_heard : (d : Desk) (t : Late) → on_auth (late_stretch d t).plant.taken ≡ (end_stage_in d t).heard
+end_heard d (Ends None) = refl
+end_heard d (Ends (Some t)) = ap (λ (ds : List Datagram). on_auth (ds ++ [])) (round_takes t.round)
+end_heard d (Waits t) =
+    let arrivals = map (λ (a : Acknowledged). a.arrival) t.acknowledged in
+    grace_takes is_auth refl (λ n. refl) refl d t ∙ none_of is_auth refl (λ n. refl) refl Acct arrivals refl
 
 -- what was taken from Auth is what the stages heard, in their order
 pub stages_heard : (d d' : Desk) (turns : List Made) (endings : List MadeEnd) → Run d turns d' → on_auth (plant_of turns endings).taken ≡ flat_map (λ s. s.heard) (stages_of turns endings)
@@ -208,9 +215,12 @@ turn_acknowledged d d' (Some t) step e =
     ∙ append-nil (on_acct (taken_in Acct arrivals))
     ∙ all_of is_acct refl (λ n. refl) refl Acct arrivals refl
 
-end_acknowledged : (d : Desk) (t : Option EndTurn) → (end_stage_in d t).acknowledged ≡ []
-end_acknowledged d None = refl
-end_acknowledged d (Some t) = refl
+end_acknowledged : (d : Desk) (t : Late) → on_acct (late_stretch d t).plant.taken ≡ (end_stage_in d t).acknowledged
+end_acknowledged d (Ends None) = refl
+end_acknowledged d (Ends (Some t)) = ap (λ (ds : List Datagram). on_acct (ds ++ [])) (round_takes t.round)
+end_acknowledged d (Waits t) =
+    let arrivals = map (λ (a : Acknowledged). a.arrival) t.acknowledged in
+    grace_takes is_acct refl (λ n. refl) refl d t ∙ all_of is_acct refl (λ n. refl) refl Acct arrivals refl
 
 -- and so what was taken from Acct
 pub stages_acknowledged : (d d' : Desk) (turns : List Made) (endings : List MadeEnd) → Run d turns d' → on_acct (plant_of turns endings).taken ≡ flat_map (λ s. s.acknowledged) (stages_of turns endings)
@@ -234,9 +244,10 @@ endings_took : (endings : List MadeEnd) → flat_map taken_of (map (λ m. end_st
 endings_took [] = refl
 endings_took (m ∷ endings) = ap (λ (ds : List Datagram). ds ++ flat_map taken_of (map (λ (x : MadeEnd). end_stage_in x.desk x.turn) endings)) (end_took m.desk m.turn) ∙ endings_took endings
   where
-    end_took : (d : Desk) (t : Option EndTurn) → (end_stage_in d t).taken ≡ []
-    end_took d None = refl
-    end_took d (Some t) = refl
+    end_took : (d : Desk) (t : Late) → (end_stage_in d t).taken ≡ []
+    end_took d (Ends None) = refl
+    end_took d (Ends (Some t)) = refl
+    end_took d (Waits t) = refl
 
 -- what was taken from the access ports and the core is what the stages took there, in their order
 pub stages_taken : (d d' : Desk) (turns : List Made) (endings : List MadeEnd) → Run d turns d' → on_data (plant_of turns endings).taken ≡ flat_map (λ s. s.taken) (stages_of turns endings)

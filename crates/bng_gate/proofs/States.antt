@@ -1,62 +1,67 @@
 -- Where a desk stands, by its tests.
-use Rattle.std.proofs.Common.{◌≡◌, ◌⊎◌, inl, inr, Bool, true, false, not, cond, Option, Some, None, refl, sym, ap, ◌∙◌}
+use Rattle.std.proofs.Common.{◌≡◌, ◌≤◌, ◌⊎◌, inl, inr, Bool, true, false, not, cond, Option, Some, None, refl, sym, ap, ◌∙◌}
 use Rattle.bng_desk.specs.declared.desk.DeskState.{DeskState}
-use Rattle.bng_desk.specs.declared.desk.DeskState.TheVariants.{Serving, Ending, Ended, Starved}
+use Rattle.bng_desk.specs.declared.desk.DeskState.TheVariants.{Serving, Ending, Grace, Ended, Starved}
 use Rattle.bng_desk.specs.declared.desk.Turned.{Turned}
-use Rattle.bng_desk.specs.Model.{Desk, is_over, has_ended, has_starved, state_of}
-use Rattle.bng_desk.specs.Turn.{Turn, EndTurn, stretch_of, end_stretch, answer_if, turned_of, end_turned}
-use Rattle.bng_gate.specs.Serving.{is_serving, is_ending, is_starved, is_fault}
+use Rattle.bng_base.specs.Stretch.{Outside, Extends}
+use Rattle.bng_desk.specs.Model.{Desk, grace_is_over, is_over, has_ended, has_starved, state_of}
+use Rattle.bng_desk.specs.Turn.{Turn, EndTurn, MakesEnd, MakesGrace, stretch_of, end_stretch, answer_if, turned_of, end_turned}
+use Rattle.bng_gate.specs.Serving.{Late, Ends, Waits, LateStep, late_stretch, made_in, is_serving, is_late, is_starved, is_fault}
 
 -- over the tests alone
-abbrev state_by : Bool → Bool → Bool → DeskState
-state_by over ended starved = cond (not over) Serving (cond ended Ended (cond starved Starved Ending))
+abbrev state_by : (over ended done starved : Bool) → DeskState
+state_by over ended done starved = cond (not over) Serving (cond ended (cond done Ended Grace) (cond starved Starved Ending))
 
-serving_by : (over ended starved : Bool) → is_serving (state_by over ended starved) ≡ true → (state_by over ended starved ≡ Serving) × (over ≡ false)
-serving_by true true starved e = cc
-serving_by true false true e = cc
-serving_by true false false e = cc
-serving_by false ended starved e = (refl, refl)
+serving_by : (over ended done starved : Bool) → is_serving (state_by over ended done starved) ≡ true → (state_by over ended done starved ≡ Serving) × (over ≡ false)
+serving_by true true true starved e = cc
+serving_by true true false starved e = cc
+serving_by true false done true e = cc
+serving_by true false done false e = cc
+serving_by false ended done starved e = (refl, refl)
 
-over_by : (over ended starved : Bool) → is_serving (state_by over ended starved) ≡ false → over ≡ true
-over_by true ended starved e = refl
-over_by false ended starved e = cc
+over_by : (over ended done starved : Bool) → is_serving (state_by over ended done starved) ≡ false → over ≡ true
+over_by true ended done starved e = refl
+over_by false ended done starved e = cc
 
-not_serving_by : (over ended starved : Bool) → ¬ (state_by over ended starved ≡ Serving) → over ≡ true
-not_serving_by true ended starved no_serving = refl
-not_serving_by false ended starved no_serving = absurd (no_serving refl)
+not_serving_by : (over ended done starved : Bool) → ¬ (state_by over ended done starved ≡ Serving) → over ≡ true
+not_serving_by true ended done starved no_serving = refl
+not_serving_by false ended done starved no_serving = absurd (no_serving refl)
 
-ending_by : (over ended starved : Bool) → is_ending (state_by over ended starved) ≡ true → (state_by over ended starved ≡ Ending) × (starved ≡ false)
-ending_by true true starved e = cc
-ending_by true false true e = cc
-ending_by true false false e = (refl, refl)
-ending_by false ended starved e = cc
+late_by : (over ended done starved : Bool) → is_late (state_by over ended done starved) ≡ true → (state_by over ended done starved ≡ Ending) ⊎ (state_by over ended done starved ≡ Grace)
+late_by true true true starved e = cc
+late_by true true false starved e = inr refl
+late_by true false done true e = cc
+late_by true false done false e = inl refl
+late_by false ended done starved e = cc
 
-left_by : (over ended starved : Bool) → over ≡ true → is_ending (state_by over ended starved) ≡ false → (state_by over ended starved ≡ Ended) ⊎ (state_by over ended starved ≡ Starved)
-left_by true true starved now e = inl refl
-left_by true false true now e = inr refl
-left_by true false false now e = cc
-left_by false ended starved now e = cc
+left_by : (over ended done starved : Bool) → over ≡ true → is_late (state_by over ended done starved) ≡ false
+    → (state_by over ended done starved ≡ Ended) ⊎ (state_by over ended done starved ≡ Starved)
+left_by true true true starved now e = inl refl
+left_by true true false starved now e = cc
+left_by true false done true now e = inr refl
+left_by true false done false now e = cc
+left_by false ended done starved now e = cc
 
-pub ended_by : (over ended starved : Bool) → state_by over ended starved ≡ Ended → ended ≡ true
-ended_by true true starved e = refl
-ended_by true false true e = cc
-ended_by true false false e = cc
-ended_by false ended starved e = cc
+pub ended_by : (over ended done starved : Bool) → state_by over ended done starved ≡ Ended → ended ≡ true
+ended_by true true done starved e = refl
+ended_by true false done true e = cc
+ended_by true false done false e = cc
+ended_by false ended done starved e = cc
 
 pub serving : (d : Desk) → is_serving (state_of d) ≡ true → (state_of d ≡ Serving) × (is_over d ≡ false)
-serving d e = serving_by (is_over d) (has_ended d) (has_starved d) e
+serving d e = serving_by (is_over d) (has_ended d) (grace_is_over d) (has_starved d) e
 
 pub over : (d : Desk) → is_serving (state_of d) ≡ false → is_over d ≡ true
-over d e = over_by (is_over d) (has_ended d) (has_starved d) e
+over d e = over_by (is_over d) (has_ended d) (grace_is_over d) (has_starved d) e
 
 pub not_serving : (d : Desk) → ¬ (state_of d ≡ Serving) → is_over d ≡ true
-not_serving d no_serving = not_serving_by (is_over d) (has_ended d) (has_starved d) no_serving
+not_serving d no_serving = not_serving_by (is_over d) (has_ended d) (grace_is_over d) (has_starved d) no_serving
 
-pub ending : (d : Desk) → is_ending (state_of d) ≡ true → (state_of d ≡ Ending) × (has_starved d ≡ false)
-ending d e = ending_by (is_over d) (has_ended d) (has_starved d) e
+pub late : (d : Desk) → is_late (state_of d) ≡ true → (state_of d ≡ Ending) ⊎ (state_of d ≡ Grace)
+late d e = late_by (is_over d) (has_ended d) (grace_is_over d) (has_starved d) e
 
-pub left : (d : Desk) → is_over d ≡ true → is_ending (state_of d) ≡ false → (state_of d ≡ Ended) ⊎ (state_of d ≡ Starved)
-left d now e = left_by (is_over d) (has_ended d) (has_starved d) now e
+pub left : (d : Desk) → is_over d ≡ true → is_late (state_of d) ≡ false → (state_of d ≡ Ended) ⊎ (state_of d ≡ Starved)
+left d now e = left_by (is_over d) (has_ended d) (grace_is_over d) (has_starved d) now e
 
 -- a test that fails is no state
 pub serving_no : (s : DeskState) → is_serving s ≡ false → ¬ (s ≡ Serving)
@@ -78,6 +83,24 @@ pub fault_of : (d : Desk) (t : Option Turn) (answer : Turned) → answer ≡ tur
 fault_of d None answer e = sym (ap is_fault e)
 fault_of d (Some t) answer e = sym (ap is_fault e ∙ fault_if t.noted)
 
-pub end_fault_of : (d : Desk) (t : Option EndTurn) (answer : Turned) → answer ≡ end_turned t → (end_stretch d t).unnoted ≡ is_fault answer
+end_fault_of : (d : Desk) (t : Option EndTurn) (answer : Turned) → answer ≡ end_turned t → (end_stretch d t).unnoted ≡ is_fault answer
 end_fault_of d None answer e = sym (ap is_fault e)
 end_fault_of d (Some t) answer e = sym (ap is_fault e ∙ fault_if t.noted)
+
+-- A call of `turn` of a desk that has served and is to go on: one turn of the ending, or one of the grace.
+pub record MakesLate (d d' : Desk) (o o' : Outside) (result : Turned) : Type 0 where
+  pub turn : Late
+  pub stands : state_of d ≡ made_in turn
+  pub fault : (late_stretch d turn).unnoted ≡ is_fault result
+  pub step : LateStep d turn d'
+  pub told : Extends o o' (late_stretch d turn)
+  pub moment : d'.moment ≤ o'.clock.last
+
+pub makes_late : (d d' : Desk) (o o' : Outside) (result : Turned) → (state_of d ≡ Ending → MakesEnd d d' o o' result) → (state_of d ≡ Grace → MakesGrace d d' o o' result)
+    → (state_of d ≡ Ending) ⊎ (state_of d ≡ Grace) → MakesLate d d' o o' result
+makes_late d d' o o' result ending grace (inl is) =
+    let here = ending is in
+    record { turn = Ends here.turn; stands = is; fault = end_fault_of d here.turn result here.answer; step = here.step; told = here.told; moment = here.moment }
+makes_late d d' o o' result ending grace (inr is) =
+    let here = grace is in
+    record { turn = Waits here.turn; stands = is; fault = sym (ap is_fault here.answer); step = here.step; told = here.told; moment = here.moment }

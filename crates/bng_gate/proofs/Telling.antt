@@ -30,9 +30,9 @@ use Rattle.bng_desk.specs.Logins.{Answered, Requests, lane_datagram, lane_sends,
 use Rattle.bng_desk.specs.Model.{Desk}
 use Rattle.bng_desk.specs.Reading.{taken_in}
 use Rattle.bng_desk.specs.Round.{Round, not_sent}
-use Rattle.bng_desk.specs.Turn.{Turn, EndTurn, Step, auth_stretch, data_stretch, round_stretch, stretch_of, end_stretch}
+use Rattle.bng_desk.specs.Turn.{Turn, EndTurn, GraceTurn, Step, auth_stretch, data_stretch, round_stretch, stretch_of, end_stretch, grace_stretch}
 use Rattle.bng_gate.specs.Rounds.{round_in, end_round_in, rounds_in, turns_of, rounds_of, plant_of, on_data, readings_in, readings_of, requests_in, end_requests_in, requests_of, records_in, end_records_in, records_of, is_unsent}
-use Rattle.bng_gate.specs.Serving.{Made, MadeEnd, Run, run_stretch, ending_stretch}
+use Rattle.bng_gate.specs.Serving.{Made, MadeEnd, Late, Ends, Waits, Run, late_stretch, run_stretch, ending_stretch}
 
 on_data_append : (a b : List Datagram) → on_data (a ++ b) ≡ on_data a ++ on_data b
 on_data_append a b = filter-append (λ (d : Datagram). is_data d.role) a b
@@ -117,6 +117,10 @@ turn_out d t =
 pub end_out : (d : Desk) (t : EndTurn) → (end_stretch d (Some t)).plant.sent ≡ went (sends_in t.round) ++ requested d t.requests t.records
 end_out d t = ap (λ (ds : List Datagram). ds ++ requested d t.requests t.records) (round_sent t.round)
 
+-- and one of the grace: the requests of accounting alone
+pub grace_out : (d : Desk) (t : GraceTurn) → (grace_stretch d t).plant.sent ≡ flat_map (record_datagram d.billing.client.acct_server) (record_sends t.records)
+grace_out d t = append-nil (flat_map (record_datagram d.billing.client.acct_server) (record_sends t.records))
+
 turn_sent : (d : Desk) (t : Option Turn) → on_data (stretch_of d t).plant.sent ≡ on_data (went (sends_in (round_in t)))
 turn_sent d None = refl
 turn_sent d (Some t) =
@@ -126,9 +130,10 @@ turn_sent d (Some t) =
     ∙ ap (λ (ds : List Datagram). ds ++ on_data rest) (no_replies (filter is_answered t.control))
     ∙ beside_requested (went (sends_in t.round)) d t.requests t.records
 
-end_sent : (d : Desk) (t : Option EndTurn) → on_data (end_stretch d t).plant.sent ≡ on_data (went (sends_in (end_round_in t)))
-end_sent d None = refl
-end_sent d (Some t) = ap on_data (end_out d t) ∙ beside_requested (went (sends_in t.round)) d t.requests t.records
+end_sent : (d : Desk) (t : Late) → on_data (late_stretch d t).plant.sent ≡ on_data (went (sends_in (end_round_in t)))
+end_sent d (Ends None) = refl
+end_sent d (Waits t) = ap on_data (grace_out d t) ∙ no_records d.billing.client.acct_server (record_sends t.records)
+end_sent d (Ends (Some t)) = ap on_data (end_out d t) ∙ beside_requested (went (sends_in t.round)) d t.requests t.records
 
 turns_sent : (turns : List Made) → on_data (run_stretch turns).plant.sent ≡ on_data (went (flat_map sends_in (map (λ m. round_in m.turn) turns)))
 turns_sent [] = refl
@@ -145,7 +150,7 @@ endings_sent [] = refl
 endings_sent (m ∷ endings) =
     let here = went (sends_in (end_round_in m.turn)) in
     let later = flat_map sends_in (map (λ (x : MadeEnd). end_round_in x.turn) endings) in
-    on_data_append (end_stretch m.desk m.turn).plant.sent (ending_stretch endings).plant.sent
+    on_data_append (late_stretch m.desk m.turn).plant.sent (ending_stretch endings).plant.sent
     ∙ ap (λ (ds : List Datagram). ds ++ on_data (ending_stretch endings).plant.sent) (end_sent m.desk m.turn)
     ∙ ap (λ (ds : List Datagram). on_data here ++ ds) (endings_sent endings)
     ∙ sym (ap on_data (went_append (sends_in (end_round_in m.turn)) later) ∙ on_data_append here (went later))
@@ -199,6 +204,11 @@ ports_data : (n m : ℕ) → AllByRecursion (λ role. is_data role ≡ true) (ma
 ports_data n zero = (refl, tt)
 ports_data n (suc m) = (refl, ports_data (n + 1) m)
 
+-- a round takes nothing
+pub round_takes : (round : Option Round) → (round_stretch round).taken ≡ []
+round_takes None = refl
+round_takes (Some round) = refl
+
 turn_taken : (d d' : Desk) (t : Option Turn) → Step d t d' → (e : Desk) → on_data (stretch_of e t).plant.taken ≡ flat_map taken_by_reading (readings_in t)
 turn_taken d d' None step e = refl
 turn_taken d d' (Some t) step e =
@@ -217,13 +227,9 @@ turn_taken d d' (Some t) step e =
     ∙ ap (λ (ds : List Datagram). ds ++ on_data (auth ++ rest)) (none_of_role Acct acknowledged refl)
     ∙ on_data_append auth rest
     ∙ ap (λ (ds : List Datagram). ds ++ on_data rest) (auth_taken t.answers t.auth_end)
-    ∙ ap (λ (ds : List Datagram). on_data ((data_stretch t.readings).taken ++ (ds ++ []))) (round_taken t.round)
+    ∙ ap (λ (ds : List Datagram). on_data ((data_stretch t.readings).taken ++ (ds ++ []))) (round_takes t.round)
     ∙ ap on_data (append-nil (data_stretch t.readings).taken)
     ∙ data_taken t.readings roles
-  where
-    round_taken : (round : Option Round) → (round_stretch round).taken ≡ []
-    round_taken None = refl
-    round_taken (Some round) = refl
 
 turns_taken : (d d' : Desk) (turns : List Made) → Run d turns d' → on_data (run_stretch turns).plant.taken ≡ flat_map taken_by_reading (readings_of turns)
 turns_taken d d' [] run = refl
@@ -233,23 +239,29 @@ turns_taken d d' (m ∷ turns) run =
     ∙ ap (λ (ds : List Datagram). flat_map taken_by_reading (readings_in m.turn) ++ ds) (turns_taken run.0 d' turns run.2)
     ∙ sym (flat_map-append taken_by_reading (readings_in m.turn) (readings_of turns))
 
-end_taken : (d : Desk) (t : Option EndTurn) → (end_stretch d t).plant.taken ≡ []
-end_taken d None = refl
-end_taken d (Some t) = ap (λ (ds : List Datagram). ds ++ []) (round_taken t.round)
-  where
-    round_taken : (round : Option Round) → (round_stretch round).taken ≡ []
-    round_taken None = refl
-    round_taken (Some round) = refl
+end_taken : (d : Desk) (t : Late) → on_data (late_stretch d t).plant.taken ≡ []
+end_taken d (Ends None) = refl
+end_taken d (Ends (Some t)) = ap (λ (ds : List Datagram). on_data (ds ++ [])) (round_takes t.round)
+end_taken d (Waits t) =
+    let arrivals = map (λ (a : Acknowledged). a.arrival) t.acknowledged in
+    ap on_data (append-nil (taken_in Acct arrivals ++ []))
+    ∙ ap on_data (append-nil (taken_in Acct arrivals))
+    ∙ none_of_role Acct arrivals refl
 
-pub endings_taken : (endings : List MadeEnd) → (ending_stretch endings).plant.taken ≡ []
+-- nothing is taken from them once serving is over
+endings_taken : (endings : List MadeEnd) → on_data (ending_stretch endings).plant.taken ≡ []
 endings_taken [] = refl
-endings_taken (m ∷ endings) = ap (λ (ds : List Datagram). ds ++ (ending_stretch endings).plant.taken) (end_taken m.desk m.turn) ∙ endings_taken endings
+endings_taken (m ∷ endings) =
+    on_data_append (late_stretch m.desk m.turn).plant.taken (ending_stretch endings).plant.taken
+    ∙ ap (λ (ds : List Datagram). ds ++ on_data (ending_stretch endings).plant.taken) (end_taken m.desk m.turn)
+    ∙ endings_taken endings
 
 -- what was taken from them are the datagrams of the readings
 pub taken_are : (d d' : Desk) (turns : List Made) (endings : List MadeEnd) → Run d turns d' → on_data (plant_of turns endings).taken ≡ flat_map taken_by_reading (readings_of turns)
 taken_are d d' turns endings run =
-    ap (λ (ds : List Datagram). on_data ((run_stretch turns).plant.taken ++ ds)) (endings_taken endings)
-    ∙ ap on_data (append-nil (run_stretch turns).plant.taken)
+    on_data_append (run_stretch turns).plant.taken (ending_stretch endings).plant.taken
+    ∙ ap (λ (ds : List Datagram). on_data (run_stretch turns).plant.taken ++ ds) (endings_taken endings)
+    ∙ append-nil (on_data (run_stretch turns).plant.taken)
     ∙ turns_taken d d' turns run
 
 -- What failed --------------------------------------------------------------------------------------------------------
@@ -274,9 +286,10 @@ turn_failed : (d : Desk) (t : Option Turn) → count_by not_sent (sends_in (roun
 turn_failed d None = omega arith
 turn_failed d (Some t) = omega (arith, round_failed t.round, requests_failed d.lane.client.auth_server t.requests, records_failed d.billing.client.acct_server t.records)
 
-end_failed : (d : Desk) (t : Option EndTurn) → count_by not_sent (sends_in (end_round_in t)) + count_by is_unsent (end_requests_in t) + count_by is_unsent (end_records_in t) ≤ (end_stretch d t).plant.failed
-end_failed d None = omega arith
-end_failed d (Some t) = omega (arith, round_failed t.round, requests_failed d.lane.client.auth_server t.requests, records_failed d.billing.client.acct_server t.records)
+end_failed : (d : Desk) (t : Late) → count_by not_sent (sends_in (end_round_in t)) + count_by is_unsent (end_requests_in t) + count_by is_unsent (end_records_in t) ≤ (late_stretch d t).plant.failed
+end_failed d (Ends None) = omega arith
+end_failed d (Waits t) = omega (arith, records_failed d.billing.client.acct_server t.records)
+end_failed d (Ends (Some t)) = omega (arith, round_failed t.round, requests_failed d.lane.client.auth_server t.requests, records_failed d.billing.client.acct_server t.records)
 
 abbrev of_serving : List Made → List LaneSend
 of_serving turns = flat_map (λ m. requests_in m.turn) turns

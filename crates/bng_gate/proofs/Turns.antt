@@ -1,4 +1,4 @@
--- A run of serving, and one of the ending, goes on by one turn.
+-- A run of serving, and one of the ending and the grace, goes on by one turn.
 use Rattle.std.proofs.Common.{◌≡◌, ℕ, ◌+◌, ◌-◌, ◌<◌, ◌≤◌, Bool, true, false, ◌||◌, ◌==◌, List, [], ◌∷◌, ◌++◌, Option, Some, None, length, take, refl, sym, ap, ◌∙◌, arith, length-append, ◌≢◌, ⊎_elim}
 use Rattle.std.specs.List.{list_any}
 use Rattle.std.specs.Prelude.{eqb}
@@ -11,8 +11,8 @@ use Rattle.bng_base.specs.Stretch.{Outside, Stretch, Extends}
 use Rattle.bng_base.proofs.ChainLaws.{all_stretches_more, told_more_turn}
 use Rattle.bng_desk.specs.Model.{Desk, is_over}
 use Rattle.bng_desk.specs.Round.{Round}
-use Rattle.bng_desk.specs.Turn.{Turn, Step, after_round, items_of, EndTurn, EndStep, ending_items}
-use Rattle.bng_gate.specs.Serving.{Made, MadeEnd, Run, EndRun, made_stretch, made_end_stretch, run_stretch, ending_stretch, took, took_stop, AreNoted, EndsServing}
+use Rattle.bng_desk.specs.Turn.{Turn, Step, after_round, items_of, ending_items}
+use Rattle.bng_gate.specs.Serving.{Made, MadeEnd, Late, Ends, Waits, LateStep, Run, EndRun, made_stretch, made_end_stretch, run_stretch, ending_stretch, took, took_stop, AreNoted, EndsServing}
 
 or_assoc : (a b c : Bool) → ((a || b) || c) ≡ (a || (b || c))
 or_assoc true b c = refl
@@ -30,6 +30,10 @@ kept_rounds d items (Some round) = refl
 kept_turns : (d : Desk) (items : List Item) (round : Option Round) → (after_round d items round).turns ≡ d.turns
 kept_turns d items None = refl
 kept_turns d items (Some round) = refl
+
+kept_graces : (d : Desk) (items : List Item) (round : Option Round) → (after_round d items round).graces ≡ d.graces
+kept_graces d items None = refl
+kept_graces d items (Some round) = refl
 
 kept_stopped : (d : Desk) (items : List Item) (round : Option Round) → (after_round d items round).stopped ≡ d.stopped
 kept_stopped d items None = refl
@@ -96,26 +100,28 @@ ended d d' turns run fresh serving over within before = record {
       omega (arith, eqb-true d'.turns d'.rounds all, run_turns d d' turns run, run_rounds d d' turns run);
 }
 
--- a turn of the ending leaves serving over
+-- a turn of the ending or of the grace leaves serving over
 end_over : (d d' : Desk) → d'.stopped ≡ d.stopped → d'.turns ≡ d.turns → d'.rounds ≡ d.rounds → is_over d' ≡ is_over d
 end_over d d' stopped turns rounds = cc
 
-pub stays_over : (d d' : Desk) (t : Option EndTurn) → EndStep d t d' → is_over d' ≡ is_over d
-stays_over d d' None step = ap is_over step
-stays_over d d' (Some t) step =
+pub stays_over : (d d' : Desk) (t : Late) → LateStep d t d' → is_over d' ≡ is_over d
+stays_over d d' (Ends None) step = ap is_over step
+stays_over d d' (Waits t) step = ap is_over step.after
+stays_over d d' (Ends (Some t)) step =
     end_over d d'
     (ap (λ (u : Desk). u.stopped) step.4 ∙ kept_stopped d (ending_items d) t.round)
     (ap (λ (u : Desk). u.turns) step.4 ∙ kept_turns d (ending_items d) t.round)
     (ap (λ (u : Desk). u.rounds) step.4 ∙ kept_rounds d (ending_items d) t.round)
 
--- the desk counts the turns of its ending
-step_endings : (d d' : Desk) (t : Option EndTurn) → EndStep d t d' → d'.endings ≡ d.endings + 1
-step_endings d d' None step = ap (λ (u : Desk). u.endings) step
-step_endings d d' (Some t) step = ap (λ (u : Desk). u.endings) step.4
+-- the desk counts the turns of its ending and of its grace
+step_late : (d d' : Desk) (t : Late) → LateStep d t d' → d'.endings + d'.graces ≡ d.endings + d.graces + 1
+step_late d d' (Ends None) step = omega (arith, ap (λ (u : Desk). u.endings) step, ap (λ (u : Desk). u.graces) step)
+step_late d d' (Ends (Some t)) step = omega (arith, ap (λ (u : Desk). u.endings) step.4, ap (λ (u : Desk). u.graces) step.4, kept_graces d (ending_items d) t.round)
+step_late d d' (Waits t) step = omega (arith, ap (λ (u : Desk). u.endings) step.after, ap (λ (u : Desk). u.graces) step.after)
 
-pub endings_made : (d d' : Desk) (endings : List MadeEnd) → EndRun d endings d' → d'.endings ≡ d.endings + length endings
-endings_made d d' [] run = omega (arith, ap (λ (u : Desk). u.endings) run)
-endings_made d d' (m ∷ endings) run = omega (arith, endings_made run.0 d' endings run.2, step_endings d run.0 m.turn run.1.1)
+pub late_made : (d d' : Desk) (endings : List MadeEnd) → EndRun d endings d' → d'.endings + d'.graces ≡ d.endings + d.graces + length endings
+late_made d d' [] run = omega (arith, ap (λ (u : Desk). u.endings) run, ap (λ (u : Desk). u.graces) run)
+late_made d d' (m ∷ endings) run = omega (arith, late_made run.0 d' endings run.2, step_late d run.0 m.turn run.1.1)
 
 both_noted : (a b : Bool) → a ≡ false → b ≡ false → (a || b) ≡ false
 both_noted a b x y = cc

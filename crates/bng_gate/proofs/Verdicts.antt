@@ -10,10 +10,10 @@ use Rattle.bng_desk.specs.Items.{drawn_from, ends_of, kept_of, taken_items, tick
 use Rattle.bng_desk.specs.Logins.{reply_items, timeout_items}
 use Rattle.bng_desk.specs.Model.{Desk}
 use Rattle.bng_desk.specs.Round.{Round}
-use Rattle.bng_desk.specs.Turn.{Turn, EndTurn, RoundOf, Step, EndStep, IsReading, after_round, ending_items, has_end, items_of, new_items}
+use Rattle.bng_desk.specs.Turn.{Turn, RoundOf, Step, IsReading, after_round, ending_items, has_end, items_of, new_items}
 use Rattle.bng_desk.proofs.Drawing.{drawn_all}
 use Rattle.bng_gate.specs.Granted.{Held, HandledIn, held_of, round_of_turn, round_of_end}
-use Rattle.bng_gate.specs.Serving.{Made, MadeEnd, Goes, GoesEnding, Run, EndRun}
+use Rattle.bng_gate.specs.Serving.{Made, MadeEnd, Late, Ends, Waits, LateStep, Goes, GoesEnding, Run, EndRun}
 use Rattle.bng_gate.proofs.Entries.{entry_holds}
 use Rattle.bng_gate.proofs.Places.{InFirst, InSecond, link_at, chain_end, in_both}
 use Rattle.bng_gate.proofs.YesItems.{HasCause, WasTaken, question_no, later_cause, drawn_caused, ends_caused, kept_caused, replies_caused, taken_caused, ticks_caused, timeout_caused, readings_else}
@@ -65,9 +65,10 @@ module _ (turns : List Made) where
       by true = kept
       by false = All-append (Caused k) d.kept (drawn_from d.seed d.drawn (ends_of (length d.shards))) kept (drawn_all (Caused k) (drawn_caused turns k) d.seed d.drawn (ends_of (length d.shards)) (ends_caused turns k (length d.shards)))
 
-  end_keeps : (k : ℕ) (d d' : Desk) (t : Option EndTurn) → EndStep d t d' → AreCaused k d → AreCaused k d'
-  end_keeps k d d' None step kept = subst (All (Caused k)) (sym (ap (λ (x : Desk). x.kept) step)) kept
-  end_keeps k d d' (Some t) step kept =
+  end_keeps : (k : ℕ) (d d' : Desk) (t : Late) → LateStep d t d' → AreCaused k d → AreCaused k d'
+  end_keeps k d d' (Ends None) step kept = subst (All (Caused k)) (sym (ap (λ (x : Desk). x.kept) step)) kept
+  end_keeps k d d' (Waits t) step kept = subst (All (Caused k)) (sym (ap (λ (x : Desk). x.kept) step.after)) kept
+  end_keeps k d d' (Ends (Some t)) step kept =
       subst (All (Caused k)) (sym (ap (λ (x : Desk). x.kept) step.4))
       (kept_after (Caused k) d (ending_items d) t.round (kept_caused turns k (ending_items d) (ending_caused k d kept)))
 
@@ -89,11 +90,12 @@ module _ (turns : List Made) where
   turn_caused k d d' (Some t) at step kept r opened place earlier later h journal =
       handled_caused (k + 1) d t.moment (items_of d t) t.round r opened step.1 (items_caused k d t at step.0 kept) place earlier later h journal
 
-  end_turn_caused : (k : ℕ) (d d' : Desk) (t : Option EndTurn) → EndStep d t d' → AreCaused k d → (r : Round) → round_of_end t ≡ Some r
+  end_turn_caused : (k : ℕ) (d d' : Desk) (t : Late) → LateStep d t d' → AreCaused k d → (r : Round) → round_of_end t ≡ Some r
       → (place : ℕ) (earlier later : List Handled) (h : Handled) → option_map (λ v. v.journal) (slice_get r.shards place) ≡ Some (earlier ++ h ∷ later)
       → Caused k h.deed.entry.item
-  end_turn_caused k d d' None step kept r opened place earlier later h journal = absurd cc
-  end_turn_caused k d d' (Some t) step kept r opened place earlier later h journal =
+  end_turn_caused k d d' (Ends None) step kept r opened place earlier later h journal = absurd cc
+  end_turn_caused k d d' (Waits t) step kept r opened place earlier later h journal = absurd cc
+  end_turn_caused k d d' (Ends (Some t)) step kept r opened place earlier later h journal =
       handled_caused k d t.moment (ending_items d) t.round r opened step.1 (ending_caused k d kept) place earlier later h journal
 
 abbrev pub of_made : Made → Held

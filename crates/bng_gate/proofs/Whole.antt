@@ -9,7 +9,7 @@ use Rattle.bng_config.specs.declared.config.Config.{Config}
 use Rattle.bng_desk.specs.Model.{Desk, state_of}
 use Rattle.bng_gate.specs.declared.texts.Refusal.{Refusal}
 use Rattle.bng_gate.specs.declared.texts.Refusal.TheVariants.{Usage, Refused, CannotOpen, OutOfMemory, TraceFailed, OutputFailed}
-use Rattle.bng_gate.specs.Run.{turns_most, Begins, Completes, FailsToNote, Reports, IsUnreported, Runs, IsUnserved}
+use Rattle.bng_gate.specs.Run.{turns_most, Begins, Completes, FailsToNote, Reports, IsUnreported, RunsTo, IsUnserved}
 use Rattle.bng_gate.specs.Serving.{Made, run_stretch, ending_stretch, EndsServing, MakesTurns, FailsTurning}
 use Rattle.bng_gate.proofs.States.{ended_of}
 
@@ -51,8 +51,8 @@ module _ (config : Config) (seed : List ℕ) (old between new : Outside) (openin
     };
   }
 
-  pub runs_of : (out out' : SinkTold) → MakesTurns opening last between new → Reports last out out' → Runs config seed old new out out'
-  runs_of out out' made reports = record { completes = completes_of made; ended = ended_of (state_of last) made.finishes.over reports.unstarved; reports = reports }
+  pub runs_to : (out out' : SinkTold) → MakesTurns opening last between new → Reports last out out' → RunsTo config seed old new out out' last
+  runs_to out out' made reports = record { runs = record { completes = completes_of made; ended = ended_of (state_of last) made.finishes.over reports.unstarved; reports = reports }; last = refl }
 
   -- the report was not written
   pub unprinted_of : (out out' : SinkTold) → MakesTurns opening last between new → (refusal : Refusal) → IsUnreported last out out' refusal → IsUnserved config seed old new out out' refusal

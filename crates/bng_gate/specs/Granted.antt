@@ -39,8 +39,8 @@ use Rattle.bng_desk.specs.Opening.{lane_rules}
 use Rattle.bng_desk.specs.Random.{draw}
 use Rattle.bng_desk.specs.Reading.{taken_in}
 use Rattle.bng_desk.specs.Round.{Round}
-use Rattle.bng_desk.specs.Turn.{Turn, EndTurn}
-use Rattle.bng_gate.specs.Serving.{Made, MadeEnd}
+use Rattle.bng_desk.specs.Turn.{Turn}
+use Rattle.bng_gate.specs.Serving.{Made, MadeEnd, Late, Ends, Waits}
 
 -- Of a turn, in their order: the datagrams that it took from Acct, those that it took from Auth, those that it took from the access
 -- ports and the core, the datagrams of its round that were sent, the questions that it asked after them, each with the octets of its
@@ -75,9 +75,10 @@ stage_in d (Some t) = record {
   records = flat_map (record_datagram d.billing.client.acct_server) (record_sends t.records);
 }
 
-abbrev pub end_stage_in : Desk → Option EndTurn → Stage
-end_stage_in d None = nothing
-end_stage_in d (Some t) = record {
+-- of a turn of the ending, and of one of the grace, which reads Acct alone and sends there alone
+abbrev pub end_stage_in : Desk → Late → Stage
+end_stage_in d (Ends None) = nothing
+end_stage_in d (Ends (Some t)) = record {
   acknowledged = [];
   heard = [];
   taken = [];
@@ -86,8 +87,17 @@ end_stage_in d (Some t) = record {
   requests = flat_map (lane_datagram d.lane.client.auth_server) (lane_sends t.requests);
   records = flat_map (record_datagram d.billing.client.acct_server) (record_sends t.records);
 }
+end_stage_in d (Waits t) = record {
+  acknowledged = taken_in Acct (map (λ a. a.arrival) t.acknowledged);
+  heard = [];
+  taken = [];
+  sent = [];
+  asked = [];
+  requests = [];
+  records = flat_map (record_datagram d.billing.client.acct_server) (record_sends t.records);
+}
 
--- all turns of a run: those of serving, and then those of the ending
+-- all turns of a run: those of serving, and then those of the ending and of the grace
 abbrev pub stages_of : List Made → List MadeEnd → List Stage
 stages_of turns endings = map (λ m. stage_in m.desk m.turn) turns ++ map (λ m. end_stage_in m.desk m.turn) endings
 
@@ -177,9 +187,10 @@ abbrev pub round_of_turn : Option Turn → Option Round
 round_of_turn None = None
 round_of_turn (Some t) = t.round
 
-abbrev pub round_of_end : Option EndTurn → Option Round
-round_of_end None = None
-round_of_end (Some t) = t.round
+abbrev pub round_of_end : Late → Option Round
+round_of_end (Ends None) = None
+round_of_end (Ends (Some t)) = t.round
+round_of_end (Waits t) = None
 
 abbrev pub held_of : List Made → List MadeEnd → List Held
 held_of turns endings = map (λ m. record { desk = m.desk; round = round_of_turn m.turn }) turns ++ map (λ m. record { desk = m.desk; round = round_of_end m.turn }) endings

@@ -17,6 +17,7 @@ use Rattle.bng_base.specs.Ipv4Grammar.{IsIpv4}
 use Rattle.bng_base.specs.Listed.{Same}
 use Rattle.bng_base.specs.Roles.{is_core, is_access}
 use Rattle.bng_base.specs.Told.{Grows, GrowsIfTold}
+use Rattle.bng_billing.specs.Calls.{BillingCall, StopsAreAcknowledged}
 use Rattle.bng_config.specs.declared.config.Config.{Config}
 use Rattle.bng_engine.specs.Accounted.{Balanced}
 use Rattle.bng_engine.specs.Exact.{ConservedAt}
@@ -36,10 +37,11 @@ use Rattle.bng_desk.specs.Reading.{taken_in}
 use Rattle.bng_desk.specs.Report.{report_text, by_number}
 use Rattle.bng_desk.specs.Round.{not_sent, view_of}
 use Rattle.bng_gate.specs.Granted.{Granted, stages_of}
-use Rattle.bng_gate.specs.Recorded.{Recorded}
+use Rattle.bng_gate.specs.Recorded.{Recorded, calls_of}
 use Rattle.bng_gate.specs.Replied.{AreReplied}
 use Rattle.bng_gate.specs.Rounds.{rounds_of, history_of, plant_of, on_auth, on_data, on_acct, beside_control, readings_of, requests_of, records_of, is_unsent, drops_of_run}
 use Rattle.bng_gate.specs.Run.{World, outside, Prepares, Course, Runs}
+use Rattle.bng_gate.specs.Unanswered.{NamesStops}
 
 -- the octets are an IPv4 packet of which this holds, and nothing else
 pub record IsWhole (Holds : Ipv4 → Type 0) (octets : List ℕ) : Type 0 where
@@ -165,9 +167,14 @@ pub record IsSafe (config : Config) (seed : List ℕ) (old new : World) (course 
   -- rose, unless that stands at its end.
   pub unsent : HasCauses old.plant.faults new.plant.faults (count_by not_sent (sends_of (rounds_of course.turns course.endings)) + count_by is_unsent (requests_of course.turns course.endings) + count_by is_unsent (records_of course.turns course.endings))
 
--- What holds of a run that ended with its report.
-pub record Headline (config : Config) (old new : World) : Type 0 where
-  -- The run was turns of serving from the opening on, and turns of the ending, until no session was left.
+-- the calls of accounting in a run
+abbrev pub calls_in_run : (config : Config) (seed : List ℕ) (old new : World) → Course config seed (outside old) (outside new) → List BillingCall
+calls_in_run config seed old new course = calls_of course.begins.is_opened.starts course.turns course.endings
+
+-- What holds of a run that ended with its report, with status 0 or 6.
+pub record Headline (config : Config) (status : ℕ) (old new : World) : Type 0 where
+  -- The run was turns of serving from the opening on, and turns of the ending, until no session was left, and of the grace, until it was
+  -- over.
   pub seed : List ℕ
   pub run : Runs config seed (outside old) (outside new) old.out new.out
   pub safe : IsSafe config seed old new run.completes.course
@@ -180,6 +187,10 @@ pub record Headline (config : Config) (old new : World) : Type 0 where
   pub printed : Grows old.out.bytes new.out.bytes (report_text (map line_of config.statics) (all_traffic config safe.sent) (by_number (drops_of_run run.completes.course.turns run.completes.course.endings)))
   pub all_input : input_of (all_traffic config safe.sent) ≡ told_of pppoe_reader Octets is_input safe.sent
   pub all_output : output_of (all_traffic config safe.sent) ≡ told_of pppoe_reader Octets is_output safe.sent
+  -- With status 0 each Stop that was formed was acknowledged by a datagram that was heard later. With status 6 some was not, and the
+  -- lines of those that were not were written.
+  pub acknowledged : status ≡ 0 → StopsAreAcknowledged (calls_in_run config seed old new run.completes.course)
+  pub unacknowledged : status ≡ 6 → ¬ StopsAreAcknowledged (calls_in_run config seed old new run.completes.course) × NamesStops run.completes.course.last old.err new.err
 
 -- nothing was heard or sent
 pub record IsQuiet (old new : World) : Type 0 where

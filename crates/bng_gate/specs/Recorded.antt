@@ -1,6 +1,6 @@
 -- What a run did with accounting (RFC 2866): the records that were formed, the requests that went out for them, and what acknowledged
 -- them.
-use Rattle.std.specs.Prelude.{◌≡◌, ℕ, List, [], ◌∷◌, ◌++◌, Option, Some, None, map, if◌then◌else◌}
+use Rattle.std.specs.Prelude.{◌≡◌, ℕ, Bool, true, false, List, [], ◌∷◌, ◌++◌, Option, Some, None, map, if◌then◌else◌}
 use Rattle.std.specs.List.{AllZip, flat_map}
 use Rattle.bng_acct.specs.declared.facts.StatusType.TheVariants.{Stop as OfStop}
 use Rattle.bng_base.specs.declared.address.Peer.{Peer}
@@ -15,11 +15,11 @@ use Rattle.bng_engine.specs.Laws.{stops_of}
 use Rattle.bng_engine.specs.Terms.{Stop}
 use Rattle.bng_lane.specs.Sends.{LaneSend}
 use Rattle.bng_desk.specs.Accounting.{Acknowledged, FormedRecord, RecordSend, RecordRequests}
-use Rattle.bng_desk.specs.Model.{Desk}
+use Rattle.bng_desk.specs.Model.{Desk, has_ended}
 use Rattle.bng_desk.specs.Opening.{billing_rules}
-use Rattle.bng_desk.specs.Turn.{Turn, EndTurn}
+use Rattle.bng_desk.specs.Turn.{Turn, after_end}
 use Rattle.bng_gate.specs.Rounds.{on_acct, rounds_of}
-use Rattle.bng_gate.specs.Serving.{Made, MadeEnd}
+use Rattle.bng_gate.specs.Serving.{Made, MadeEnd, Late, Ends, Waits}
 
 -- The records that were formed in the turns, in their order ----------------------------------------------------------------------
 
@@ -27,9 +27,10 @@ abbrev pub formed_in : Option Turn → List FormedRecord
 formed_in None = []
 formed_in (Some t) = t.formed
 
-abbrev pub end_formed_in : Option EndTurn → List FormedRecord
-end_formed_in None = []
-end_formed_in (Some t) = t.formed
+abbrev pub end_formed_in : Late → List FormedRecord
+end_formed_in (Ends None) = []
+end_formed_in (Ends (Some t)) = t.formed
+end_formed_in (Waits t) = []
 
 abbrev pub formed_of : List Made → List MadeEnd → List FormedRecord
 formed_of turns endings = flat_map (λ m. formed_in m.turn) turns ++ flat_map (λ m. end_formed_in m.turn) endings
@@ -67,13 +68,21 @@ abbrev pub calls_in : Option Turn → List BillingCall
 calls_in None = []
 calls_in (Some t) = map heard_call t.acknowledged ++ (map formed_call t.formed ++ request_calls t.moment t.records)
 
-abbrev pub end_calls_in : Option EndTurn → List BillingCall
-end_calls_in None = []
-end_calls_in (Some t) = map formed_call t.formed ++ request_calls t.moment t.records
+-- once no session is left, all but Stops are forgotten
+abbrev pub stopped_if : (none_left : Bool) → List BillingCall
+stopped_if false = []
+stopped_if true = Stopped ∷ []
+
+-- One of the ending hears nothing: it forms the records of its round's Stops and gives requests out, and where no session is left after
+-- it, all but Stops are forgotten. One of the grace hears Acct, and gives requests out.
+abbrev pub end_calls_in : Desk → Late → List BillingCall
+end_calls_in d (Ends None) = []
+end_calls_in d (Ends (Some t)) = map formed_call t.formed ++ (request_calls t.moment t.records ++ stopped_if (has_ended (after_end d t)))
+end_calls_in d (Waits t) = map heard_call t.acknowledged ++ request_calls t.moment t.records
 
 -- those of a run: the Starts of the opening, and then the turns
 abbrev pub calls_of : List FormedRecord → List Made → List MadeEnd → List BillingCall
-calls_of starts turns endings = map formed_call starts ++ (flat_map (λ m. calls_in m.turn) turns ++ flat_map (λ m. end_calls_in m.turn) endings)
+calls_of starts turns endings = map formed_call starts ++ (flat_map (λ m. calls_in m.turn) turns ++ flat_map (λ m. end_calls_in m.desk m.turn) endings)
 
 -- What the calls say was sent and taken -------------------------------------------------------------------------------------------
 

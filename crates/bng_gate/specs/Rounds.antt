@@ -19,19 +19,20 @@ use Rattle.bng_desk.specs.Items.{DataReading}
 use Rattle.bng_desk.specs.Accounting.{record_sends}
 use Rattle.bng_desk.specs.Logins.{lane_sends}
 use Rattle.bng_desk.specs.Round.{Round, view_of, drops_in, refused_of, with_refused}
-use Rattle.bng_desk.specs.Turn.{Turn, EndTurn, items_of, ending_items}
-use Rattle.bng_gate.specs.Serving.{Made, MadeEnd, run_stretch, ending_stretch}
+use Rattle.bng_desk.specs.Turn.{Turn, items_of, ending_items}
+use Rattle.bng_gate.specs.Serving.{Made, MadeEnd, Late, Ends, Waits, run_stretch, ending_stretch}
 
--- the round of a turn, where one was opened
+-- the round of a turn, where one was opened; a turn of the grace has none
 abbrev pub round_in : Option Turn → Option Round
 round_in None = None
 round_in (Some t) = t.round
 
-abbrev pub end_round_in : Option EndTurn → Option Round
-end_round_in None = None
-end_round_in (Some t) = t.round
+abbrev pub end_round_in : Late → Option Round
+end_round_in (Ends None) = None
+end_round_in (Ends (Some t)) = t.round
+end_round_in (Waits t) = None
 
--- those of all turns: of serving, and then of the ending
+-- those of all turns: of serving, and then of the ending and of the grace
 abbrev pub rounds_in : List Made → List MadeEnd → List (Option Round)
 rounds_in turns endings = map (λ m. round_in m.turn) turns ++ map (λ m. end_round_in m.turn) endings
 
@@ -108,11 +109,12 @@ abbrev pub requests_in : Option Turn → List LaneSend
 requests_in None = []
 requests_in (Some t) = lane_sends t.requests
 
-abbrev pub end_requests_in : Option EndTurn → List LaneSend
-end_requests_in None = []
-end_requests_in (Some t) = lane_sends t.requests
+abbrev pub end_requests_in : Late → List LaneSend
+end_requests_in (Ends None) = []
+end_requests_in (Ends (Some t)) = lane_sends t.requests
+end_requests_in (Waits t) = []
 
--- those of all turns: of serving, and then of the ending
+-- those of all turns: of serving, and then of the ending and of the grace
 abbrev pub requests_of : List Made → List MadeEnd → List LaneSend
 requests_of turns endings = flat_map (λ m. requests_in m.turn) turns ++ flat_map (λ m. end_requests_in m.turn) endings
 
@@ -121,9 +123,10 @@ abbrev pub records_in : Option Turn → List LaneSend
 records_in None = []
 records_in (Some t) = record_sends t.records
 
-abbrev pub end_records_in : Option EndTurn → List LaneSend
-end_records_in None = []
-end_records_in (Some t) = record_sends t.records
+abbrev pub end_records_in : Late → List LaneSend
+end_records_in (Ends None) = []
+end_records_in (Ends (Some t)) = record_sends t.records
+end_records_in (Waits t) = record_sends t.records
 
 -- those of all turns
 abbrev pub records_of : List Made → List MadeEnd → List LaneSend
@@ -139,14 +142,15 @@ abbrev pub round_drops : List Item → Option Round → Drops
 round_drops items None = with_refused (length (refused_of items))
 round_drops items (Some round) = drops_in (items ∷ []) round
 
--- a turn that wanted memory took nothing, and drops nothing
+-- a turn that wanted memory took nothing, and drops nothing; nor does one of the grace
 abbrev pub drops_made : Desk → Option Turn → Drops
 drops_made d None = no_drops
 drops_made d (Some t) = round_drops (items_of d t) t.round
 
-abbrev pub drops_ended : Desk → Option EndTurn → Drops
-drops_ended d None = no_drops
-drops_ended d (Some t) = round_drops (ending_items d) t.round
+abbrev pub drops_ended : Desk → Late → Drops
+drops_ended d (Ends None) = no_drops
+drops_ended d (Ends (Some t)) = round_drops (ending_items d) t.round
+drops_ended d (Waits t) = no_drops
 
 -- cause by cause, the sums
 abbrev pub all_drops : List Drops → Drops

@@ -22,6 +22,7 @@ use Rattle.bng_gate.specs.declared.texts.Refusal.TheVariants.{Usage, Refused, Ca
 use Rattle.bng_gate.specs.Words.{Serves as ServesFile}
 use Rattle.bng_gate.specs.Texts.{refusal_text, status_of}
 use Rattle.bng_gate.specs.Saying.{FailsToSay}
+use Rattle.bng_gate.specs.Unanswered.{unanswered_of, NamesStops, FailsToName}
 use Rattle.bng_gate.specs.Serving.{Made, MadeEnd, Run, EndRun, endings_most, run_stretch, ending_stretch, made_stretch, made_end_stretch, took_stop, EndsServing, AreNoted}
 
 -- what all objects of a run tell
@@ -190,8 +191,8 @@ IsUnbegun config plant plant' clock clock' OutOfMemory = IsBound config plant pl
 IsUnbegun config plant plant' clock clock' TraceFailed = ⊥
 IsUnbegun config plant plant' clock clock' OutputFailed = ⊥
 
--- The turns of a run from its opening on: those of serving, and then those of the ending, each from the desk that the one before
--- left, and no more than a run makes. What is told grew by theirs, one after another, and by nothing else.
+-- The turns of a run from its opening on: those of serving, and then those of the ending and of the grace, each from the desk that the
+-- one before left, and no more than a run makes. What is told grew by theirs, one after another, and by nothing else.
 pub record Course (config : Config) (seed : List ℕ) (old new : Outside) : Type 0 where
   pub opening_outside : Outside
   pub opening : Desk
@@ -207,8 +208,8 @@ pub record Course (config : Config) (seed : List ℕ) (old new : Outside) : Type
   pub few_endings : length endings ≤ endings_most
   pub told : Extends opening_outside new (joined (run_stretch turns) (ending_stretch endings))
 
--- The turns came to their end: those of serving to `stop` or to the last of all, those of the ending to a desk with no session
--- left, or to one that starved. The trace took each round.
+-- The turns came to their end: those of serving to `stop` or to the last of all, those after them to a desk with no session left whose
+-- grace is over, or to one that starved. The trace took each round.
 pub record IsWhole (turns : List Made) (endings : List MadeEnd) (last : Desk) : Type 0 where
   pub ends : EndsServing turns_most turns
   pub over : (state_of last ≡ Ended) ⊎ (state_of last ≡ Starved)
@@ -271,13 +272,18 @@ IsUnreported last out out' OutOfMemory = out' ≡ out
 IsUnreported last out out' TraceFailed = ⊥
 IsUnreported last out out' OutputFailed = FailsToReport last out out'
 
--- The run came to its end with no session left, and the report of the last desk was written.
+-- The run came to its end with no session left and its grace over, and the report of the last desk was written.
 pub record Runs (config : Config) (seed : List ℕ) (old new : Outside) (out out' : SinkTold) : Type 0 where
   pub completes : Completes config seed old new
   pub ended : state_of completes.course.last ≡ Ended
   pub reports : Reports completes.course.last out out'
 
--- The run came to its end with no session left, and a front of the report was written.
+-- and this desk was left
+pub record RunsTo (config : Config) (seed : List ℕ) (old new : Outside) (out out' : SinkTold) (d : Desk) : Type 0 where
+  pub runs : Runs config seed old new out out'
+  pub last : runs.completes.course.last ≡ d
+
+-- The run came to its end with no session left and its grace over, and a front of the report was written.
 pub record FailsToPrint (config : Config) (seed : List ℕ) (old new : Outside) (out out' : SinkTold) : Type 0 where
   pub completes : Completes config seed old new
   pub ended : state_of completes.course.last ≡ Ended
@@ -301,6 +307,12 @@ IsUnserved config seed old new out out' OutputFailed = FailsToPrint config seed 
 abbrev pub Told : SinkTold → SinkTold → Refusal → ℕ → Type 0
 Told old new refusal status = ((status ≡ status_of refusal) × Grows old.bytes new.bytes (refusal_text refusal)) ⊎ ((status ≡ 5) × FailsToSay old new (refusal_text refusal))
 
+-- How a run ends after its report: each Stop was acknowledged, and nothing more was written (0); some was not, and the lines of those
+-- were written (6), or a front of them (5); or memory was wanted for them.
+abbrev pub Concludes : Desk → SinkTold → SinkTold → ℕ → Type 0
+Concludes last old new status =
+    ((status ≡ 0) × (unanswered_of last ≡ []) × (new ≡ old)) ⊎ (((status ≡ 6) × NamesStops last old new) ⊎ (((status ≡ 5) × FailsToName last old new) ⊎ Told old new OutOfMemory status))
+
 -- The statuses --------------------------------------------------------------------------------------------------------------
 
 abbrev pub outside : World → Outside
@@ -319,12 +331,30 @@ pub record IsReady (words : List (List ℕ)) (old new : World) (config : Config)
   pub seeds : Seeds old.entropy new.entropy seed
 
 -- the configuration was read, and the run was its turns and its report
-pub record IsServed (words : List (List ℕ)) (old new : World) : Type 0 where
+pub record IsRun (words : List (List ℕ)) (old new : World) : Type 0 where
   pub config : Config
   pub seed : List ℕ
   pub ready : IsReady words old new config seed
   pub runs : Runs config seed (outside old) (outside new) old.out new.out
+
+abbrev pub last_of : (words : List (List ℕ)) (old new : World) → IsRun words old new → Desk
+last_of words old new run = run.runs.completes.course.last
+
+-- and each Stop was acknowledged
+pub record IsServed (words : List (List ℕ)) (old new : World) : Type 0 where
+  pub run : IsRun words old new
+  pub acknowledged : unanswered_of (last_of words old new run) ≡ []
   pub silent : new.err ≡ old.err
+
+-- or some Stop was not, and the lines of those were written
+pub record IsUnanswered (words : List (List ℕ)) (old new : World) : Type 0 where
+  pub run : IsRun words old new
+  pub names : NamesStops (last_of words old new run) old.err new.err
+
+-- or a front of these lines
+pub record IsUnnamed (words : List (List ℕ)) (old new : World) : Type 0 where
+  pub run : IsRun words old new
+  pub fails : FailsToName (last_of words old new run) old.err new.err
 
 -- the words are no command
 pub record IsUsage (words : List (List ℕ)) (old new : World) : Type 0 where
@@ -408,12 +438,12 @@ pub record IsUnprinted (words : List (List ℕ)) (old new : World) : Type 0 wher
   pub ready : IsReady words old new config seed
   pub fails : FailsToPrint config seed (outside old) (outside new) old.out new.out
 
--- why a run came to no report
+-- why a run came to no report, or for want of memory not to the lines after it
 abbrev pub Why : List (List ℕ) → World → World → Refusal → Type 0
 Why words old new Usage = IsUsage words old new
 Why words old new (Refused fault) = IsRefused words old new fault
 Why words old new (CannotOpen what) = IsUnopened words old new what
-Why words old new OutOfMemory = WantsConfiguration words old new ⊎ WantsService words old new
+Why words old new OutOfMemory = WantsConfiguration words old new ⊎ (WantsService words old new ⊎ IsRun words old new)
 Why words old new TraceFailed = IsUnnoted words old new
 Why words old new OutputFailed = IsUnprinted words old new
 
@@ -430,7 +460,7 @@ pub record FailsToTell (words : List (List ℕ)) (old new : World) : Type 0 wher
 
 -- Status 5: the trace, `out` or `err` failed.
 abbrev pub IsUnwritten : List (List ℕ) → World → World → Type 0
-IsUnwritten words old new = Refuses words old new TraceFailed ⊎ (Refuses words old new OutputFailed ⊎ FailsToTell words old new)
+IsUnwritten words old new = Refuses words old new TraceFailed ⊎ (Refuses words old new OutputFailed ⊎ (FailsToTell words old new ⊎ IsUnnamed words old new))
 
 -- at most one seed was asked for
 abbrev pub SeedsOnce : EntropyTold → EntropyTold → Type 0
@@ -444,7 +474,8 @@ pub record RunEnds (words : List (List ℕ)) (old new : World) (status : ℕ) : 
   pub unopened : status ≡ 3 → (what : Opening) × Refuses words old new (CannotOpen what)
   pub starved : status ≡ 4 → Refuses words old new OutOfMemory
   pub unwritten : status ≡ 5 → IsUnwritten words old new
-  pub no_other : status ≤ 5
+  pub unanswered : status ≡ 6 → IsUnanswered words old new
+  pub no_other : status ≤ 6
   pub seeds : SeedsOnce old.entropy new.entropy
 
 -- no read, no seed and no note failed

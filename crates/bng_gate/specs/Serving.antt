@@ -1,5 +1,5 @@
--- A run as a list of turns: those of serving, and then those of the ending.
-use Rattle.std.specs.Prelude.{◌≡◌, ℕ, ◌-◌, ◌^◌, ◌≤◌, ◌<◌, ◌⊎◌, Bool, true, false, List, [], ◌∷◌, ◌++◌, Option, Some, None, length, take}
+-- A run as a list of turns: those of serving, and then those of the ending and of the grace.
+use Rattle.std.specs.Prelude.{◌≡◌, ℕ, ◌+◌, ◌-◌, ◌^◌, ◌≤◌, ◌<◌, ◌⊎◌, Bool, true, false, List, [], ◌∷◌, ◌++◌, Option, Some, None, length, take}
 use Rattle.std.specs.List.{list_any}
 use Rattle.bng_base.specs.Causes.{Rose}
 use Rattle.bng_base.specs.Stretch.{Outside, Stretch, Extends}
@@ -9,23 +9,41 @@ use Rattle.bng_desk.specs.declared.desk.DeskState.TheVariants.{Serving, Ending, 
 use Rattle.bng_desk.specs.declared.desk.Turned.{Turned}
 use Rattle.bng_desk.specs.declared.desk.Turned.TheVariants.{Ok, TraceFault, WantOfMemory}
 use Rattle.bng_desk.specs.Control.{has_stop}
-use Rattle.bng_desk.specs.Model.{Desk, state_of}
-use Rattle.bng_desk.specs.Turn.{Turn, Step, stretch_of, EndTurn, EndStep, end_stretch}
+use Rattle.bng_desk.specs.Model.{Desk, graces_most, state_of}
+use Rattle.bng_desk.specs.Turn.{Turn, Step, stretch_of, EndTurn, EndStep, end_stretch, GraceTurn, GraceStep, grace_stretch}
 
 -- a turn, and the desk from which it was made
 pub record Made : Type 0 where
   pub desk : Desk
   pub turn : Option Turn
 
+-- a turn once serving is over: one of the ending, which is None where it wanted memory, or one of the grace
+pub data Late : Type 0 where
+  Ends : Option EndTurn → Late
+  Waits : GraceTurn → Late
+
+-- where the desk stands from which it is made
+abbrev pub made_in : Late → DeskState
+made_in (Ends t) = Ending
+made_in (Waits t) = Grace
+
+abbrev pub LateStep : Desk → Late → Desk → Type 0
+LateStep d (Ends t) d' = EndStep d t d'
+LateStep d (Waits t) d' = GraceStep d t d'
+
+abbrev pub late_stretch : Desk → Late → Stretch
+late_stretch d (Ends t) = end_stretch d t
+late_stretch d (Waits t) = grace_stretch d t
+
 pub record MadeEnd : Type 0 where
   pub desk : Desk
-  pub turn : Option EndTurn
+  pub turn : Late
 
 abbrev pub Goes : Desk → Made → Desk → Type 0
 Goes d m d' = (m.desk ≡ d) × Step d m.turn d'
 
 abbrev pub GoesEnding : Desk → MadeEnd → Desk → Type 0
-GoesEnding d m d' = (m.desk ≡ d) × EndStep d m.turn d'
+GoesEnding d m d' = (m.desk ≡ d) × LateStep d m.turn d' × (state_of d ≡ made_in m.turn)
 
 -- these turns lead from the first desk to the last, each from the desk that the one before left
 abbrev pub Run : Desk → List Made → Desk → Type 0
@@ -38,7 +56,7 @@ abbrev pub made_stretch : Made → Stretch
 made_stretch m = stretch_of m.desk m.turn
 
 abbrev pub made_end_stretch : MadeEnd → Stretch
-made_end_stretch m = end_stretch m.desk m.turn
+made_end_stretch m = late_stretch m.desk m.turn
 
 -- what the turns add to what the outside tells, one after another
 abbrev pub run_stretch : List Made → Stretch
@@ -85,11 +103,11 @@ pub record FailsServing (d d' : Desk) (o o' : Outside) : Type 0 where
   pub none_before : list_any took_stop turns ≡ false
   pub rose : Rose o.trace.faults o'.trace.faults
 
--- the most turns of the ending that a run makes
+-- the most turns of the ending and of the grace that a run makes
 abbrev pub endings_most : ℕ
-endings_most = 2 ^ 37
+endings_most = 2 ^ 37 + graces_most
 
--- a call of `finish` was these turns of the ending, and the trace took their rounds
+-- a call of `finish` was these turns of the ending and of the grace, and the trace took their rounds
 pub record Finishes (d d' : Desk) (o o' : Outside) : Type 0 where
   pub ends : List MadeEnd
   pub run : EndRun d ends d'
@@ -134,12 +152,13 @@ is_serving Grace = false
 is_serving Ended = false
 is_serving Starved = false
 
-abbrev pub is_ending : DeskState → Bool
-is_ending Serving = false
-is_ending Ending = true
-is_ending Grace = false
-is_ending Ended = false
-is_ending Starved = false
+-- serving is over, and turns are still to be made
+abbrev pub is_late : DeskState → Bool
+is_late Serving = false
+is_late Ending = true
+is_late Grace = true
+is_late Ended = false
+is_late Starved = false
 
 abbrev pub is_starved : DeskState → Bool
 is_starved Serving = false

@@ -1,8 +1,8 @@
-//! Serving and the ending, turn by turn.
-ghost use Rattle.std.specs.Prelude.{◌≡◌, ◌≤◌, ◌<◌, ◌⊎◌, false, OnOk, OnErr};
-ghost use Rattle.bng_desk.specs.Model.{state_of};
-ghost use Rattle.bng_gate.specs.Serving.{Serves, FailsServing, Finishes, FailsFinishing, endings_most};
-ghost use Rattle.bng_gate.specs.Serving.{is_serving as stands_serving, is_ending as stands_ending, is_starved as stands_starved, is_fault as answers_fault};
+//! Serving, the ending and the grace, turn by turn.
+ghost use Rattle.std.specs.Prelude.{◌≡◌, ◌≤◌, ◌<◌, ◌^◌, false, OnOk, OnErr};
+ghost use Rattle.bng_desk.specs.Model.{graces_most, state_of};
+ghost use Rattle.bng_gate.specs.Serving.{Serves, FailsServing, Finishes, FailsFinishing};
+ghost use Rattle.bng_gate.specs.Serving.{is_serving as stands_serving, is_late as stands_late, is_starved as stands_starved, is_fault as answers_fault};
 
 use bng_desk::{Desk, DeskState, Turned};
 use bng_plant::{Clock, Gate, Plant, Trace};
@@ -23,13 +23,15 @@ fn is_serving(desk: &Desk) -> bool
     }
 }
 
-fn is_ending(desk: &Desk) -> bool
-    ensures stands { result ≡ stands_ending (state_of desk.now) }
-    ensures few { desk.now.endings < endings_most }
+// Whether serving is over and turns are still to be made.
+fn is_late(desk: &Desk) -> bool
+    ensures stands { result ≡ stands_late (state_of desk.now) }
+    ensures few { desk.now.endings < 2 ^ 37 }
+    ensures few_graces { desk.now.graces ≤ graces_most }
 {
     match desk.state() {
-        DeskState::Ending => true,
-        DeskState::Serving | DeskState::Grace | DeskState::Ended | DeskState::Starved => false,
+        DeskState::Ending | DeskState::Grace => true,
+        DeskState::Serving | DeskState::Ended | DeskState::Starved => false,
     }
 }
 
@@ -85,7 +87,8 @@ where
     Ok(())
 }
 
-/// Turns of a desk that has served, until no session is left or it starved, or until the trace did not take a round.
+/// Turns of a desk that has served: of the ending, until no session is left or it starved, and then of the grace, until that is over;
+/// or until the trace did not take a round.
 pub fn finish<R, P: Plant, C: Clock, T: Trace, G>(
     rt: &R,
     alloc: Global,
@@ -107,7 +110,7 @@ where
         (record { plant = P.told plant.old; clock = C.told clock.old; trace = T.told trace.old })
         (record { plant = P.told plant.new; clock = C.told clock.new; trace = T.told trace.new })) }
 {
-    'ending: while is_ending(desk) {
+    'ending: while is_late(desk) {
         let made = desk.turn(rt, alloc, plant, clock, trace, gate);
         if is_fault(made) {
             return Err(TraceFault);

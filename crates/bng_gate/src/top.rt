@@ -10,8 +10,8 @@ ghost use Rattle.bng_shard.specs.Protocol.{profiles_there};
 ghost use Rattle.bng_gate.specs.Headline.{Headline, IsQuiet, WasSafe};
 ghost use Rattle.bng_gate.specs.Words.{Serves};
 ghost use Rattle.bng_gate.specs.Words.{texts as words_of};
-ghost use Rattle.bng_gate.specs.Run.{Prepares, IsUnprepared, Binds, binds_most, BindsPorts, FailsAtPort, FailsAt, Seeds, FailsToSeed, Runs, IsUnserved, Told, RunEnds, IsUnfailed, IsFaultless};
-ghost use Rattle.bng_gate.specs.Run.{Begins, IsUnbegun, Reports, IsUnreported};
+ghost use Rattle.bng_gate.specs.Run.{Prepares, IsUnprepared, Binds, binds_most, BindsPorts, FailsAtPort, FailsAt, Seeds, FailsToSeed, IsUnserved, Told, RunEnds, IsUnfailed, IsFaultless};
+ghost use Rattle.bng_gate.specs.Run.{Begins, IsUnbegun, Reports, IsUnreported, RunsTo, Concludes};
 ghost use Rattle.bng_gate.specs.Serving.{MakesTurns, FailsTurning};
 
 use crate::saying::say;
@@ -31,6 +31,9 @@ const DONE: u8 = 0;
 
 /// A text could not be written.
 const OUTPUT_FAILED: u8 = 5;
+
+/// Some Stop was not acknowledged.
+const UNANSWERED: u8 = 6;
 
 /// The most turns that a run makes.
 const TURNS_MOST: u64 = 1 << 40;
@@ -160,7 +163,7 @@ fn open_desk<P: Plant, C: Clock>(
     }
 }
 
-// Makes the turns of a new desk, those of serving and those of the ending.
+// Makes the turns of a new desk: those of serving, of the ending and of the grace.
 fn make_turns<R, P: Plant, C: Clock, T: Trace, G>(
     rt: &R,
     alloc: Global,
@@ -205,7 +208,7 @@ fn report<O: Sink>(alloc: Global, desk: &Desk, out: &mut O) -> Result<(), Refusa
     }
 }
 
-// Serves a configuration, from the binds to the report.
+// Serves a configuration, from the binds to the report, and gives the desk that is left.
 fn serve_all<R, P: Plant, C: Clock, T: Trace, O: Sink, G>(
     rt: &R,
     alloc: Global,
@@ -216,16 +219,16 @@ fn serve_all<R, P: Plant, C: Clock, T: Trace, O: Sink, G>(
     trace: &mut T,
     out: &mut O,
     gate: &G,
-) -> Result<(), Refusal>
+) -> Result<Desk, Refusal>
 where
     R: Threads + Wait + Sync,
     G: Gate + Sync,
     requires rules { KeepsRules config }
     requires profiles { All (λ c. c.profile < profiles_there) config.statics }
-    ensures served { OnOk result (Runs config seed
+    ensures served { IfOk result (λ desk. RunsTo config seed
         (record { plant = P.told plant.old; clock = C.told clock.old; trace = T.told trace.old })
         (record { plant = P.told plant.new; clock = C.told clock.new; trace = T.told trace.new })
-        (O.told out.old) (O.told out.new)) }
+        (O.told out.old) (O.told out.new) desk) }
     ensures refused { IfErr result (λ refusal. IsUnserved config seed
         (record { plant = P.told plant.old; clock = C.told clock.old; trace = T.told trace.old })
         (record { plant = P.told plant.new; clock = C.told clock.new; trace = T.told trace.new })
@@ -235,9 +238,12 @@ where
         Ok(desk) => desk,
         Err(refusal) => return Err(refusal),
     };
-    match make_turns(rt, alloc, &mut desk, plant, clock, trace, gate) {
-        Ok(()) => report(alloc, &desk, out),
-        Err(TraceFault) => Err(Refusal::TraceFailed),
+    if let Err(TraceFault) = make_turns(rt, alloc, &mut desk, plant, clock, trace, gate) {
+        return Err(Refusal::TraceFailed);
+    }
+    match report(alloc, &desk, out) {
+        Ok(()) => Ok(desk),
+        Err(refusal) => Err(refusal),
     }
 }
 
@@ -247,6 +253,23 @@ fn refuse<X: Sink>(err: &mut X, refusal: Refusal) -> u8
 {
     match say(err, &texts::line_of(refusal)) {
         Wrote::Ok => texts::status(refusal),
+        Wrote::Failed => OUTPUT_FAILED,
+    }
+}
+
+// Writes a line for each Stop that was not acknowledged, and answers the status of a run that came to its report.
+fn conclude<X: Sink>(alloc: Global, desk: &Desk, err: &mut X) -> u8
+    ensures { Concludes desk.now (X.told err.old) (X.told err.new) result }
+{
+    let mut text = Vec::new(alloc);
+    let Ok(stops) = desk.unanswered(alloc, &mut text) else {
+        return refuse(err, Refusal::OutOfMemory);
+    };
+    if stops == 0 {
+        return DONE;
+    }
+    match err.write(text.as_slice()) {
+        Wrote::Ok => UNANSWERED,
         Wrote::Failed => OUTPUT_FAILED,
     }
 }
@@ -281,7 +304,7 @@ where
         return refuse(err, Refusal::CannotOpen(Opening::Seed));
     };
     match serve_all(rt, alloc, config, seed, plant, clock, trace, out, gate) {
-        Ok(()) => DONE,
+        Ok(desk) => conclude(alloc, &desk, err),
         Err(refusal) => refuse(err, refusal),
     }
 }
@@ -311,9 +334,10 @@ where
         (record { files = F.told files.new; plant = P.told plant.new; clock = C.told clock.new; entropy = E.told entropy.new; trace = T.told trace.new; out = O.told out.new; err = X.told err.new })
         result }
 
-    // With status 0: no two live sessions ever held one address; the packets sent, their circuits and addresses; each circuit's
-    // term has its Stop, and the Stops say exactly what was sent; and the octets and drops printed.
-    ensures headline { result ≡ 0 → (config : Settings) × Prepares (words_of words.now.items) (F.told files.old) (F.told files.new) config × Headline config
+    // With status 0 or 6: no two live sessions ever held one address; the packets sent, their circuits and addresses; each circuit's
+    // term has its Stop, and the Stops say exactly what was sent; and the octets and drops printed. With status 0 each Stop was
+    // acknowledged; with status 6 the lines of those that were not were written.
+    ensures headline { (result ≡ 0) ⊎ (result ≡ 6) → (config : Settings) × Prepares (words_of words.now.items) (F.told files.old) (F.told files.new) config × Headline config result
         (record { files = F.told files.old; plant = P.told plant.old; clock = C.told clock.old; entropy = E.told entropy.old; trace = T.told trace.old; out = O.told out.old; err = X.told err.old })
         (record { files = F.told files.new; plant = P.told plant.new; clock = C.told clock.new; entropy = E.told entropy.new; trace = T.told trace.new; out = O.told out.new; err = X.told err.new }) }
 
@@ -337,13 +361,14 @@ where
     ensures faulty { IsSome (F.told files.old).contents → (text : List ℕ) (fault : Rule) → Grows (F.told files.old).contents (F.told files.new).contents (text ∷ []) → HasFault text fault
         → (result ≡ 2) ⊎ (result ≡ 4) ⊎ (result ≡ 5) }
 
-    // Where no count rose, words that serve a configuration without a fault give status 0, if there is memory.
+    // Where no count rose, words that serve a configuration without a fault give status 0, or 6 where a Stop was not acknowledged, if
+    // there is memory.
     ensures complete { (name : List ℕ) → Serves (words_of words.now.items) name
         → ((text : List ℕ) (fault : Rule) → Grows (F.told files.old).contents (F.told files.new).contents (text ∷ []) → ¬ HasFault text fault)
         → IsFaultless
         (record { files = F.told files.old; plant = P.told plant.old; clock = C.told clock.old; entropy = E.told entropy.old; trace = T.told trace.old; out = O.told out.old; err = X.told err.old })
         (record { files = F.told files.new; plant = P.told plant.new; clock = C.told clock.new; entropy = E.told entropy.new; trace = T.told trace.new; out = O.told out.new; err = X.told err.new })
-        → (result ≡ 0) ⊎ (result ≡ 4) }
+        → (result ≡ 0) ⊎ (result ≡ 4) ⊎ (result ≡ 6) }
 {
     run_to_end(
         rt, alloc, words, files, plant, clock, entropy, trace, out, err, gate,

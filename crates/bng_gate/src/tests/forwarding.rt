@@ -1,4 +1,4 @@
-//! Packets of provisioned circuits.
+//! Packets of provisioned circuits, beside a server of accounting that says nothing: so the Stops go out again until the grace is over.
 use super::{
     CONFIGURATION, PACKET, SERVE, TWO_PORTS, accounts, frame_and_stop, loopback, run_over,
     script_of, sends,
@@ -117,14 +117,18 @@ fn a_packet_is_forwarded_with_ttl_and_sum_changed(rt: HostRuntime) -> Result<(),
     let alloc = rt.alloc();
     let script = frame_and_stop(alloc, &PACKET)?;
     let ended = run_over(&rt, alloc, &SERVE, CONFIGURATION, script, &[], &[])?;
-    assert_eq!(rt; ended.status, 0);
+    assert_eq!(rt; ended.status, 6);
     assert_eq!(rt;
         ended.out.text(),
         b"total in=84 out=0\nstatic 10.0.0.2 in=84 out=0\ndrop Malformed 0\ndrop NoSession 0\ndrop NotOpen 0\ndrop Expired 0\ndrop Spoofed 0\ndrop TooBig 0\ndrop Exceeded 0\ndrop LinkFailed 0\ndrop WantOfMemory 0\n".as_slice()
     );
-    assert!(rt; ended.err.text().is_empty());
+    assert_eq!(rt;
+        ended.err.text(),
+        b"stop 6553f1000401000000000001 p1/020000000001/1025 10.0.0.2 in=84 out=0\n".as_slice()
+    );
     let sent = ended.plant.sent();
-    assert_eq!(rt; sent.len(), 4);
+    // The packet, the Start, `stopping` and the Stop, and in 30 s ten times the Stop again, 3 s after the time before.
+    assert_eq!(rt; sent.len(), 14);
     assert_eq!(rt; sent[0].role, Role::Core);
     assert_eq!(rt; sent[0].peer, loopback(9001));
     let packet = sent[0].octets.as_slice();
@@ -135,6 +139,12 @@ fn a_packet_is_forwarded_with_ttl_and_sum_changed(rt: HostRuntime) -> Result<(),
     assert_eq!(rt; sent[2].role, Role::Control);
     assert_eq!(rt; sent[2].octets.as_slice(), b"stopping\n".as_slice());
     accounts(&rt, &ended, 3, &[STOP, SESSION_ID, PACKET_IN, NOTHING_OUT]);
+    let stop = sent[3].octets.as_slice();
+    assert!(rt;
+        sent.iter()
+            .skip(4)
+            .all(|again| again.octets.as_slice() == stop)
+    );
     Ok(())
 }
 
@@ -144,20 +154,20 @@ fn a_packet_that_does_not_go_is_counted_as_a_drop_alone(rt: HostRuntime) -> Resu
     let script = frame_and_stop(alloc, &PACKET)?;
     // Five binds, the receives of Control, of Acct, of Auth, twice of the access port and of the core, and then the send to the core.
     let failed = run_over(&rt, alloc, &SERVE, CONFIGURATION, script, &[12], &[])?;
-    assert_eq!(rt; failed.status, 0);
+    assert_eq!(rt; failed.status, 6);
     assert_eq!(rt;
         failed.out.text(),
         b"total in=0 out=0\nstatic 10.0.0.2 in=0 out=0\ndrop Malformed 0\ndrop NoSession 0\ndrop NotOpen 0\ndrop Expired 0\ndrop Spoofed 0\ndrop TooBig 0\ndrop Exceeded 0\ndrop LinkFailed 1\ndrop WantOfMemory 0\n".as_slice()
     );
     let script = frame_and_stop(alloc, &SPOOFED)?;
     let spoofed = run_over(&rt, alloc, &SERVE, CONFIGURATION, script, &[], &[])?;
-    assert_eq!(rt; spoofed.status, 0);
+    assert_eq!(rt; spoofed.status, 6);
     assert_eq!(rt;
         spoofed.out.text(),
         b"total in=0 out=0\nstatic 10.0.0.2 in=0 out=0\ndrop Malformed 0\ndrop NoSession 0\ndrop NotOpen 0\ndrop Expired 0\ndrop Spoofed 1\ndrop TooBig 0\ndrop Exceeded 0\ndrop LinkFailed 0\ndrop WantOfMemory 0\n".as_slice()
     );
-    // The Start, `stopping` and the Stop.
-    assert_eq!(rt; spoofed.plant.sent().len(), 3);
+    // The Start, `stopping` and eleven times the Stop.
+    assert_eq!(rt; spoofed.plant.sent().len(), 13);
     accounts(&rt, &spoofed, 2, &[STOP, NOTHING_IN, NOTHING_OUT]);
     Ok(())
 }
@@ -172,7 +182,7 @@ fn what_comes_after_a_failed_send_is_sent(rt: HostRuntime) -> Result<(), Fail> {
     let script = script_of(alloc, &list)?;
     // Five binds, the receives of Control, of Acct, of Auth, three times of the access port and of the core, and then the first send.
     let ended = run_over(&rt, alloc, &SERVE, CONFIGURATION, script, &[13], &[])?;
-    assert_eq!(rt; ended.status, 0);
+    assert_eq!(rt; ended.status, 6);
     assert_eq!(rt;
         ended.out.text(),
         b"total in=20 out=0\nstatic 10.0.0.2 in=20 out=0\ndrop Malformed 0\ndrop NoSession 0\ndrop NotOpen 0\ndrop Expired 0\ndrop Spoofed 0\ndrop TooBig 0\ndrop Exceeded 0\ndrop LinkFailed 1\ndrop WantOfMemory 0\n".as_slice()
@@ -195,7 +205,7 @@ fn packets_pass_both_ways_without_their_padding(rt: HostRuntime) -> Result<(), F
     ];
     let script = script_of(alloc, &list)?;
     let ended = run_over(&rt, alloc, &SERVE, CONFIGURATION, script, &[], &[])?;
-    assert_eq!(rt; ended.status, 0);
+    assert_eq!(rt; ended.status, 6);
     assert_eq!(rt;
         ended.out.text(),
         b"total in=20 out=20\nstatic 10.0.0.2 in=20 out=20\ndrop Malformed 0\ndrop NoSession 0\ndrop NotOpen 0\ndrop Expired 0\ndrop Spoofed 0\ndrop TooBig 0\ndrop Exceeded 0\ndrop LinkFailed 0\ndrop WantOfMemory 0\n".as_slice()
@@ -221,7 +231,7 @@ fn each_circuit_gets_its_own_packets_on_its_own_port(rt: HostRuntime) -> Result<
     ];
     let script = script_of(alloc, &list)?;
     let ended = run_over(&rt, alloc, &SERVE, TWO_PORTS, script, &[], &[])?;
-    assert_eq!(rt; ended.status, 0);
+    assert_eq!(rt; ended.status, 6);
     assert_eq!(rt;
         ended.out.text(),
         b"total in=20 out=40\nstatic 10.0.0.2 in=20 out=20\nstatic 10.0.0.3 in=0 out=20\ndrop Malformed 1\ndrop NoSession 0\ndrop NotOpen 0\ndrop Expired 0\ndrop Spoofed 0\ndrop TooBig 0\ndrop Exceeded 0\ndrop LinkFailed 0\ndrop WantOfMemory 0\n".as_slice()
@@ -248,7 +258,7 @@ fn circuits_stand_in_any_order(rt: HostRuntime) -> Result<(), Fail> {
     ];
     let script = script_of(alloc, &list)?;
     let ended = run_over(&rt, alloc, &SERVE, FALLING_NUMBERS, script, &[], &[])?;
-    assert_eq!(rt; ended.status, 0);
+    assert_eq!(rt; ended.status, 6);
     assert_eq!(rt;
         ended.out.text(),
         b"total in=20 out=40\nstatic 10.0.0.2 in=20 out=20\nstatic 10.0.0.3 in=0 out=20\ndrop Malformed 0\ndrop NoSession 0\ndrop NotOpen 0\ndrop Expired 0\ndrop Spoofed 0\ndrop TooBig 0\ndrop Exceeded 0\ndrop LinkFailed 0\ndrop WantOfMemory 0\n".as_slice()
@@ -290,12 +300,12 @@ fn what_does_not_pass_is_counted_by_its_cause(rt: HostRuntime) -> Result<(), Fai
     ];
     let script = script_of(alloc, &list)?;
     let ended = run_over(&rt, alloc, &SERVE, CONFIGURATION, script, &[], &[])?;
-    assert_eq!(rt; ended.status, 0);
+    assert_eq!(rt; ended.status, 6);
     assert_eq!(rt;
         ended.out.text(),
         b"total in=0 out=0\nstatic 10.0.0.2 in=0 out=0\ndrop Malformed 2\ndrop NoSession 3\ndrop NotOpen 0\ndrop Expired 1\ndrop Spoofed 0\ndrop TooBig 0\ndrop Exceeded 0\ndrop LinkFailed 0\ndrop WantOfMemory 0\n".as_slice()
     );
-    assert_eq!(rt; ended.plant.sent().len(), 4);
+    assert_eq!(rt; ended.plant.sent().len(), 14);
     assert_eq!(rt; ended.plant.sent()[0].octets.as_slice().get(15), Some(&7));
     Ok(())
 }

@@ -3,10 +3,7 @@ use Rattle.bng_gate.proofs.Headlines.{headline, safe}
 use Rattle.bng_gate.proofs.top.run.Goals as goal
 
 pub returns-clause-headline : goal.returns-clause-headline
-returns-clause-headline g c = λ done.
-    let served = c.run_to_end.ensures.served done in
-    let prepares = served.ready.prepares in
-    (served.config, prepares, headline prepares.text served.config served.seed _ _ prepares.read served.runs)
+returns-clause-headline g c = headline _ _ _ _ c.run_to_end.ensures
 
 pub returns-clause-safe : goal.returns-clause-safe
 returns-clause-safe g c = safe _ _ _ _ c.run_to_end.ensures

@@ -1,6 +1,5 @@
-use Rattle.std.proofs.Common.{refl}
 use Rattle.bng_gate.specs.Words.{texts}
-use Rattle.bng_gate.proofs.Ends.{served, unprepared, unseeded, unserved}
+use Rattle.bng_gate.proofs.Ends.{concluded, unprepared, unseeded, unserved}
 use Rattle.bng_gate.proofs.top.run_to_end.Goals as goal
 
 pub returns-in_default : goal.returns-in_default
@@ -26,8 +25,8 @@ returns-in-Err g c =
 
 pub returns-in-Ok-serve_all : goal.returns-in-Ok-serve_all
 returns-in-Ok-serve_all g c =
-    served (texts c.args.words.now.items) c.in-Ok.config c.in-Some.seed (g.F.Files.told c.args.files.now) (g.F.Files.told c.prepare.new.files)
+    concluded (texts c.args.words.now.items) c.in-Ok.config c.in-Some.seed (g.F.Files.told c.args.files.now) (g.F.Files.told c.prepare.new.files)
     (g.P.Plant.told c.args.plant.now) (g.P.Plant.told c.serve_all.new.plant) (g.C.Clock.told c.args.clock.now) (g.C.Clock.told c.serve_all.new.clock)
     (g.E.Entropy.told c.args.entropy.now) (g.E.Entropy.told c.draw_seed.new.entropy) (g.T.Trace.told c.args.trace.now) (g.T.Trace.told c.serve_all.new.trace)
-    (g.O.Sink.told c.args.out.now) (g.O.Sink.told c.serve_all.new.out) (g.X.Sink.told c.args.err.now) (g.X.Sink.told c.args.err.now) 0
-    c.in-Ok.ensures.prepared c.in-Some.ensures.given c.in-Ok-serve_all.ensures.served refl refl
+    (g.O.Sink.told c.args.out.now) (g.O.Sink.told c.serve_all.new.out) (g.X.Sink.told c.args.err.now) (g.X.Sink.told c.conclude.new.err) c.conclude.result
+    c.in-Ok.ensures.prepared c.in-Some.ensures.given c.in-Ok-serve_all.desk c.in-Ok-serve_all.ensures.served c.conclude.ensures
