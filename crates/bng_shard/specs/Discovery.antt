@@ -69,6 +69,7 @@ new_session number port mac host_uniq link = record {
   port = port;
   mac = mac;
   service = Discovered (record { host_uniq = host_uniq; link = link; question = None; ended = false });
+  lease = None;
 }
 
 -- which number a new session gets: the lowest that is not used, if there is one
@@ -84,9 +85,10 @@ pub record Makes (r : Rules) (s : State) (e : Entry) (number : ℕ) (port : Acce
   pub new : IsNewLink e.item.random link
   pub outs : List OutRecord
   pub x : Session
+  pub cause : Option ℕ
   pub asked : ℕ
-  pub starts : Drives r (at_of s e) s.asked (new_session session number p.src (host_uniq_of tags) link) (told r e Start) outs x asked
-  pub done : d ≡ handled s e (frame_outs (at_of s e) number port (pads_of offers p.src session tags) ++ outs) (with_driven s session x asked)
+  pub starts : Drives r (at_of s e) s.asked (new_session session number p.src (host_uniq_of tags) link) (told r e Start) outs cause x asked
+  pub done : d ≡ handled s e (frame_outs (at_of s e) number port (pads_of offers p.src session tags) ++ outs) (with_driven s session None cause x asked)
 
 -- the PADS of the session that was made for the same request before
 pub record Repeats (s : State) (e : Entry) (number : ℕ) (port : AccessPort) (offers : PortRules) (p : PppoeFrame) (tags : List PppoeTag) (d : Deed) : Type 0 where

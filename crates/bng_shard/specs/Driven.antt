@@ -7,7 +7,7 @@ use Rattle.bng_shard.specs.declared.session.Session.{Session}
 use Rattle.bng_shard.specs.Link.{Drives, LinkStep}
 
 -- The session's link made this step: what it says stands after what was to be sent, and the session keeps the new link.
-pub record Driven (r : Rules) (a : At) (Steps : LinkStep) (asked : ℕ) (x x' : Session) (asked' : ℕ) (outs outs' : List OutRecord) : Type 0 where
+pub record Driven (r : Rules) (a : At) (Steps : LinkStep) (asked : ℕ) (x : Session) (cause : Option ℕ) (x' : Session) (asked' : ℕ) (outs outs' : List OutRecord) : Type 0 where
   pub more : List OutRecord
-  pub drives : Drives r a asked x Steps more x' asked'
+  pub drives : Drives r a asked x Steps more cause x' asked'
   pub outs_are : outs' ≡ outs ++ more

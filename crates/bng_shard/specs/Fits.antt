@@ -1,15 +1,15 @@
 -- What the fields of a shard keep.
-use Rattle.std.specs.Prelude.{◌≡◌, ℕ, ◌+◌, ◌*◌, ◌<◌, ◌≤◌, Some, cond, List, length, vec_capacity}
+use Rattle.std.specs.Prelude.{◌≡◌, ◌≢◌, ℕ, ◌+◌, ◌*◌, ◌^◌, ◌<◌, ◌≤◌, Some, cond, List, length, vec_capacity}
+use Rattle.std.specs.List.{All, AllPairs, flat_map}
 use Rattle.bng_base.specs.declared.item.Entry.{Entry}
 use Rattle.bng_base.specs.declared.settings.AccessPort.{AccessPort}
-use Rattle.bng_engine.specs.Terms.{keys}
-use Rattle.bng_engine.specs.Views.{row_keys}
 use Rattle.bng_shard.specs.declared.rules.Rules.{Rules}
 use Rattle.bng_shard.specs.declared.session.Session.{Session}
 use Rattle.bng_shard.specs.declared.shard.Shard.TheInside.{Inside}
-use Rattle.bng_shard.specs.Protocol.{terms_of}
+use Rattle.bng_shard.specs.declared.terms.Running.{Running}
+use Rattle.bng_shard.specs.Protocol.{claimed_by}
 use Rattle.bng_shard.specs.Room.{has_tick, has_end}
-use Rattle.bng_shard.specs.Running.{rows_in, AreRising}
+use Rattle.bng_shard.specs.Running.{AreTied, tenures_in}
 use Rattle.bng_shard.specs.State.{port_at}
 use Rattle.bng_slots.specs.Sessions.{Sessions, value_at}
 
@@ -21,13 +21,22 @@ owed journal = cond (has_tick journal) 0 320 + cond (has_end journal) 0 320
 abbrev pub ArePlaced : Rules → Sessions Session → Type 0
 ArePlaced r sessions = (n : ℕ) (x : Session) → value_at sessions n ≡ Some x → (port : AccessPort) × (port_at r.access x.port ≡ Some port)
 
--- A row for each term, by rising numbers, a way to authenticate, and what each access port offers. Where a round has room for an
--- entry, there is room for it and for its outs.
+-- how many terms the entries of a journal began
+abbrev pub begun_in : List Entry → ℕ
+begun_in journal = length (flat_map (λ (e : Entry). claimed_by e.claim) journal)
+
+-- No term has a number above those that began, no two have one address, and each session's lease is that of a live term. As many terms may
+-- begin still as the allowance is above those that began in the round. A way to authenticate, and what each access port offers. Where a
+-- round has room for an entry, there is room for it, for its outs, and for a term that it begins.
 pub record Fits (a : Inside) : Type 0 where
-  pub rows : row_keys (rows_in a.rows.items) ≡ keys (terms_of (record { rules = a.rules; slots = a.served }))
-  pub rising : AreRising a.rows.items
+  pub numbered : All (λ (r : Running). r.term.serial ≤ a.served.begun) a.terms.rows
+  pub apart : AllPairs (λ (b c : Running). b.lease ≢ c.lease) a.terms.rows
+  pub tied : AreTied a.served.sessions (tenures_in a.terms.rows)
+  pub left : a.left + begun_in a.journal.items ≡ a.allowance
+  pub numbers : 0 < a.left → a.served.begun + a.left < 2 ^ 48
   pub placed : ArePlaced a.rules a.served.sessions
   pub auth : 0 < length a.rules.link.auth.items
   pub offers : length a.rules.offers ≡ length a.rules.access
   pub journal_room : length a.journal.items + a.room ≤ vec_capacity a.journal
   pub outs_room : 0 < a.room → length a.outs.items + 10 * a.room + owed a.journal.items ≤ vec_capacity a.outs
+  pub terms_room : a.room ≤ a.terms.room

@@ -1,6 +1,6 @@
 -- Datagrams of the access ports and of the core.
 use Rattle.std.specs.Prelude.{◌≡◌, ◌≢◌, ◌⊎◌, ℕ, Bool, true, false, List, [], ◌∷◌, Option, Some, None, IsTrue, IsFalse}
-use Rattle.std.specs.Option.{option_map, option_and_then}
+use Rattle.std.specs.Option.{option_map}
 use Rattle.bng_base.specs.declared.address.Ip4.{Ip4}
 use Rattle.bng_base.specs.declared.fate.DropCause.TheVariants.{Malformed, NoSession}
 use Rattle.bng_base.specs.declared.fate.Fate.{Fate}
@@ -12,6 +12,7 @@ use Rattle.bng_base.specs.declared.item.OutRecord.{OutRecord}
 use Rattle.bng_base.specs.declared.outside.Role.TheVariants.{Access, Core}
 use Rattle.bng_base.specs.declared.settings.AccessPort.{AccessPort}
 use Rattle.bng_base.specs.PppoeGrammar.{PppoeFrame}
+use Rattle.bng_engine.specs.Lists.{AnyOf}
 use Rattle.bng_forward.specs.declared.view.TermView.{TermView}
 use Rattle.bng_forward.specs.Fates.{IsFrame, IsCorePacket, NamesSession, Carries, UpFate, DownFate}
 use Rattle.bng_forward.specs.Framed.{circuit_frame, IsFrameTo}
@@ -22,9 +23,9 @@ use Rattle.bng_shard.specs.declared.session.Lease.{Lease}
 use Rattle.bng_shard.specs.declared.session.Service.TheVariants.{Provisioned, Discovered}
 use Rattle.bng_shard.specs.declared.session.Service.{Service}
 use Rattle.bng_shard.specs.declared.session.Session.{Session}
-use Rattle.bng_shard.specs.State.{State, circuit_of, session_of, holder_of, lease_of, view_of, with_session, with_driven, port_at}
+use Rattle.bng_shard.specs.State.{State, IsTermOf, circuit_of, session_of, holder_of, is_kept, view_of, with_ended, with_driven, port_at}
 use Rattle.bng_shard.specs.Deed.{Deed, at_of, out, only, ignored, dropped, handled, arrival_in}
-use Rattle.bng_shard.specs.Link.{Drives, ended, hears}
+use Rattle.bng_shard.specs.Link.{Drives, ended, hears, user_request}
 use Rattle.bng_shard.specs.Discovery.{Discovers}
 
 -- whose packet passes: the session's term
@@ -41,20 +42,26 @@ charge_of x l input octets = record {
 abbrev pub forwarded : State → Entry → OutRecord → Deed
 forwarded s e o = record { entry = e; fate = Forwarded; outs = o ∷ []; next = s }
 
--- what is known of the session of a frame: whether there is one, and the view of its term, whether that has ended or not
+-- what is known of the session of a frame: whether there is one, and the view of its live term, if it has one
 abbrev pub found_up : State → ℕ → PppoeFrame → Option (Option TermView)
 found_up s number p = option_map view_of (session_of s number p.src p.session)
 
--- the view of the term whose address this is, whether it has ended or not
+-- the view of the live term whose address this is; else that of a term that has ended and still has it, which is not open
+abbrev pub found_among : Option Session → Bool → Ip4 → Option TermView
+found_among (Some x) kept a = view_of x
+found_among None true a = Some (record { lease = a; opened = false })
+found_among None false a = None
+
 abbrev pub found_down : State → Ip4 → Option TermView
-found_down s a = option_and_then view_of (holder_of s a)
+found_down s a = found_among (holder_of s a) (is_kept s a) a
 
 -- the packet of a session's frame goes to the core
 pub record GoesUp (r : Rules) (s : State) (e : Entry) (number : ℕ) (p : PppoeFrame) (info : List ℕ) (d : Deed) : Type 0 where
   pub x : Session
   pub found : session_of s number p.src p.session ≡ Some x
   pub lease : Lease
-  pub live : lease_of x ≡ Some lease
+  pub live : x.lease ≡ Some lease
+  pub term : AnyOf (IsTermOf x lease) s.terms
   pub header : Ipv4
   pub packet : List ℕ
   pub source : header.src ≡ lease.address
@@ -70,14 +77,16 @@ HearsData r s e number p info d = (fate : Fate) × UpFate (found_up s number p) 
 abbrev pub HearsPpp : Rules → State → Entry → Session → Made → PppoeFrame → Deed → Type 0
 HearsPpp r s e x made p d =
     (IsTrue made.ended × (d ≡ ignored s e))
-    ⊎ (IsFalse made.ended × (outs : List OutRecord) × (x' : Session) × (asked' : ℕ) × Drives r (at_of s e) s.asked x (hears r e p.payload) outs x' asked'
-    × (d ≡ handled s e outs (with_driven s p.session x' asked')))
+    ⊎ (IsFalse made.ended × (outs : List OutRecord) × (cause : Option ℕ) × (x' : Session) × (asked' : ℕ)
+    × Drives r (at_of s e) s.asked x (hears r e p.payload) outs cause x' asked'
+    × (d ≡ handled s e outs (with_driven s p.session x.lease cause x' asked')))
 
--- A PADT ends a session that discovery made, which gets none back. A provisioned circuit ignores all but data.
+-- A PADT ends a session that discovery made, which gets none back, and its live term by User Request (RFC 2866 section 5.10). A
+-- provisioned circuit ignores all but data.
 abbrev pub HearsControl : Service → Rules → State → Entry → Session → PppoeFrame → Deed → Type 0
 HearsControl (Provisioned v) r s e x p d = d ≡ ignored s e
 HearsControl (Discovered made) r s e x p d =
-    ((p.discovery ≡ true) × (d ≡ handled s e [] (with_session s p.session (ended x))))
+    ((p.discovery ≡ true) × (d ≡ handled s e [] (with_ended s p.session x.lease user_request (ended x))))
     ⊎ ((p.discovery ≡ false) × HearsPpp r s e x made p d)
 
 abbrev pub HearsIn : Option Session → Rules → State → Entry → PppoeFrame → Deed → Type 0
@@ -104,7 +113,8 @@ pub record GoesDown (r : Rules) (s : State) (e : Entry) (v : Ipv4) (d : Deed) : 
   pub x : Session
   pub found : holder_of s v.dst ≡ Some x
   pub lease : Lease
-  pub live : lease_of x ≡ Some lease
+  pub live : x.lease ≡ Some lease
+  pub term : AnyOf (IsTermOf x lease) s.terms
   pub address : v.dst ≡ lease.address
   pub port : AccessPort
   pub its_port : port_at r.access x.port ≡ Some port

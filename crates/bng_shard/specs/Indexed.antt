@@ -3,12 +3,12 @@ use Rattle.std.specs.Prelude.{Option}
 use Rattle.std.specs.Option.{option_map}
 use Rattle.bng_base.specs.declared.address.Ip4.{Ip4}
 use Rattle.bng_base.specs.declared.circuit.TermId.{TermId}
+use Rattle.bng_shard.specs.declared.session.Lease.{Lease}
 use Rattle.bng_shard.specs.declared.session.Session.{Session}
-use Rattle.bng_shard.specs.State.{held_in}
 
--- the address that it holds, and its term
+-- the address of its live term, and that term
 abbrev pub address_of : Session → Option Ip4
-address_of x = option_map (λ l. l.address) (held_in x.service)
+address_of x = option_map (λ (l : Lease). l.address) x.lease
 
 abbrev pub term_of : Session → Option TermId
-term_of x = option_map (λ l. record { session = x.number; serial = l.serial }) (held_in x.service)
+term_of x = option_map (λ (l : Lease). record { session = x.number; serial = l.serial }) x.lease

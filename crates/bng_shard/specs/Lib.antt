@@ -1,15 +1,16 @@
 pub mod Made
+pub mod Tenures
 pub mod State
 pub mod Codes
 pub mod Indexed
 pub mod Listing
 pub mod Serving
-pub mod Ending
 pub mod Opening
 pub mod Controlling
 pub mod Deed
 pub mod Link
 pub mod Questions
+pub mod Wishes
 pub mod Verdicts
 pub mod Discovery
 pub mod Frames

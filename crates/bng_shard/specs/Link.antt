@@ -1,6 +1,7 @@
 -- What a session's link makes of an input, and what goes out for it.
 use Rattle.std.specs.Prelude.{◌≡◌, ℕ, ◌+◌, ◌-◌, ◌^◌, min, Bool, true, false, List, [], ◌++◌, Option, Some, None, if◌then◌else◌}
 use Rattle.std.specs.List.{flat_map}
+use Rattle.bng_base.specs.declared.address.Ip4.{Ip4}
 use Rattle.bng_base.specs.declared.item.Entry.{Entry}
 use Rattle.bng_base.specs.declared.item.OutRecord.{OutRecord}
 use Rattle.bng_base.specs.declared.settings.AccessPort.{AccessPort}
@@ -16,7 +17,6 @@ use Rattle.bng_ppp.specs.PppRelation.{PppSaid, PppSteps, ended_by, after_turn, s
 use Rattle.bng_ppp.specs.PppState.{PppState, is_open}
 use Rattle.bng_ppp.specs.Verdict.{Settles}
 use Rattle.bng_ppp.specs.WholeFrame.{HearsOctets}
-use Rattle.bng_verdict.specs.Verdicts.{Saying}
 use Rattle.bng_shard.specs.Made.{Made, Question}
 use Rattle.bng_shard.specs.declared.rules.Rules.{Rules}
 use Rattle.bng_shard.specs.declared.sending.At.{At}
@@ -24,6 +24,7 @@ use Rattle.bng_shard.specs.declared.session.Service.{Service}
 use Rattle.bng_shard.specs.declared.session.Service.TheVariants.{Provisioned, Discovered}
 use Rattle.bng_shard.specs.declared.session.Session.{Session}
 use Rattle.bng_shard.specs.State.{port_at, offers_at}
+use Rattle.bng_shard.specs.Tenures.{kept_lease}
 use Rattle.bng_shard.specs.Deed.{frame_outs}
 
 -- the session's port, and what it offers
@@ -65,23 +66,28 @@ question_after asked (Some claim) begun question = Some (record { ask = next_ask
 question_after asked None true question = question
 question_after asked None false question = None
 
--- the session with another link after a step that said this; where LCP finished it has ended
+-- the session with another link after a step that said this: where LCP finished it has ended, and where the step ended its live term it
+-- has no lease any longer
 abbrev pub with_link : Session → Made → ℕ → PppSaid → PppState → Session
 with_link x made asked says link = record x {
   service = Discovered (record made { link = link; question = question_after asked says.asked (is_begun link.auth) made.question; ended = says.finished });
+  lease = kept_lease says.term_ended x.lease;
 }
 
--- the cause of an end by the gateway's own stop (RFC 2866 section 5.10, NAS Request)
+-- the causes of an end (RFC 2866 section 5.10): by the subscriber's PADT, User Request; by the gateway's own stop, NAS Request
+abbrev pub user_request : ℕ
+user_request = 1
+
 abbrev pub nas_request : ℕ
 nas_request = 10
 
 abbrev pub ended_service : Service → Service
-ended_service (Provisioned p) = Provisioned (record p { cause = Some nas_request })
+ended_service (Provisioned over) = Provisioned true
 ended_service (Discovered made) = Discovered (record made { ended = true })
 
--- a session once it has ended; the term of a provisioned circuit ends by the gateway's own stop alone
+-- a session once it has ended: no term of it is live
 abbrev pub ended : Session → Session
-ended x = record x { service = ended_service x.service }
+ended x = record x { service = ended_service x.service; lease = None }
 
 -- a step of a link, by the link before, what it says and the link after
 abbrev pub LinkStep : Type 1
@@ -101,18 +107,26 @@ pub record HearsPppFrame (r : LinkRules) (octets : List ℕ) (now : ℕ) (random
 abbrev pub hears : Rules → Entry → List ℕ → LinkStep
 hears r e octets old says new = HearsPppFrame r.link octets e.moment e.item.random old says new
 
--- The link is told what was found of its peer. A peer that is accepted gets no address yet.
-pub record IsToldVerdict (r : LinkRules) (v : Saying) (now : ℕ) (random : List ℕ) (old : PppState) (says : PppSaid) (new : PppState) : Type 0 where
+-- What a link is told of its peer: whether it is accepted, the address that it has then, if it has one, and the text of the reply. And
+-- what the records of its term say of the Class attributes of the Accept.
+pub record Told : Type 0 where
+  pub yes : Bool
+  pub lease : Option Ip4
+  pub text : List ℕ
+  pub class : List ℕ
+
+pub record IsToldVerdict (r : LinkRules) (t : Told) (now : ℕ) (random : List ℕ) (old : PppState) (says : PppSaid) (new : PppState) : Type 0 where
   pub turn : Turn
-  pub settles : Settles (is_open old.auth) v.yes r None v.text now random old turn
+  pub settles : Settles (is_open old.auth) t.yes r t.lease t.text now random old turn
   pub said : says ≡ said_of turn None
   pub state : new ≡ after_turn turn
 
-abbrev pub settles : Rules → Entry → Saying → LinkStep
-settles r e v old says new = IsToldVerdict r.link v e.moment e.item.random old says new
+abbrev pub settles : Rules → Entry → Told → LinkStep
+settles r e t old says new = IsToldVerdict r.link t e.moment e.item.random old says new
 
--- The session's link made a step, and so many questions had been asked before it and after it.
-pub record Drives (r : Rules) (a : At) (asked : ℕ) (x : Session) (Steps : LinkStep) (outs : List OutRecord) (x' : Session) (asked' : ℕ) : Type 0 where
+-- The session's link made a step, and so many questions had been asked before it and after it. Where the step ended the session's live
+-- term, this is the cause.
+pub record Drives (r : Rules) (a : At) (asked : ℕ) (x : Session) (Steps : LinkStep) (outs : List OutRecord) (cause : Option ℕ) (x' : Session) (asked' : ℕ) : Type 0 where
   pub made : Made
   pub is_made : x.service ≡ Discovered made
   pub port : AccessPort
@@ -122,5 +136,6 @@ pub record Drives (r : Rules) (a : At) (asked : ℕ) (x : Session) (Steps : Link
   pub link : PppState
   pub steps : Steps made.link says link
   pub outs_are : outs ≡ said_outs a x port offers says
+  pub closes : cause ≡ says.term_ended
   pub session : x' ≡ with_link x made asked says link
   pub count : asked' ≡ asked_after asked says.asked

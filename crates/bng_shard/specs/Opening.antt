@@ -1,12 +1,14 @@
 -- A shard at its opening: the sessions of its provisioned circuits.
-use Rattle.std.specs.Prelude.{ℕ, ◌+◌, ◌*◌, ◌==◌, List, [], ◌∷◌, None, length, filter}
+use Rattle.std.specs.Prelude.{ℕ, ◌+◌, ◌*◌, ◌==◌, Bool, false, List, [], ◌∷◌, Option, Some, None, length, filter}
 use Rattle.std.specs.List.{flat_map, range_with_len}
 use Rattle.std.specs.FinMap.{from_sorted}
+use Rattle.bng_base.specs.declared.circuit.Circuit.TheVariants.{Pppoe}
 use Rattle.bng_base.specs.declared.settings.Static.{Static}
 use Rattle.bng_shard.specs.declared.session.Lease.{Lease}
 use Rattle.bng_shard.specs.declared.session.Service.TheVariants.{Provisioned}
 use Rattle.bng_shard.specs.declared.session.Session.{Session}
 use Rattle.bng_shard.specs.State.{State}
+use Rattle.bng_shard.specs.Tenures.{Tenure}
 
 -- what a circuit leases, by a term with this number
 abbrev pub lease_from : Static → ℕ → Lease
@@ -18,7 +20,8 @@ provisioned c serial = record {
   number = c.session;
   port = c.port;
   mac = c.mac;
-  service = Provisioned (record { lease = lease_from c serial; cause = None });
+  service = Provisioned false;
+  lease = Some (lease_from c serial);
 }
 
 -- these, by their session numbers, with their terms numbered on after n
@@ -34,10 +37,30 @@ circuit_at circuits n = filter (λ c. c.session.0 == n) circuits
 abbrev pub in_order : ℕ → List Static → List Static
 in_order shard circuits = flat_map (circuit_at circuits) (range_with_len (shard * 1024 + 1) 1022)
 
--- what stands in a shard at its opening
-abbrev pub opened_slots : ℕ → List Static → State
-opened_slots number circuits = record {
+-- the term of a provisioned circuit, with this number, which began at this moment; no Access-Accept gave it a Class
+abbrev pub tenure_from : ℕ → Static → ℕ → Tenure
+tenure_from now c serial = record {
+  term = record { session = c.session; serial = serial };
+  circuit = Pppoe c.port c.mac c.session;
+  address = c.address;
+  profile = c.profile;
+  user = c.user.items;
+  class = [];
+  began = now;
+  cause = None;
+}
+
+-- those of these circuits, numbered on after n
+abbrev pub tenures_after : ℕ → ℕ → List Static → List Tenure
+tenures_after now n [] = []
+tenures_after now n (c ∷ cs) = tenure_from now c (n + 1) ∷ tenures_after now (n + 1) cs
+
+-- what stands in a shard at its opening, which is at this moment: of each term a Start is formed then
+abbrev pub opened_slots : ℕ → List Static → ℕ → State
+opened_slots number circuits now = record {
   sessions = record { shard = number; by_number = from_sorted (numbered_after 0 (in_order number circuits)) };
   begun = length circuits;
   asked = 0;
+  terms = tenures_after now 0 (in_order number circuits);
+  news = [];
 }

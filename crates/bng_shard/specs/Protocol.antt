@@ -1,13 +1,15 @@
 -- The protocol of a shard, as the engine reads it.
-use Rattle.std.specs.Prelude.{◌≡◌, ◌⊎◌, ℕ, ◌+◌, ◌≤◌, ◌==◌, Bool, true, false, List, [], ◌∷◌, ◌++◌, Option, Some, None, filter, is_some, length, map, find, sum_by}
-use Rattle.std.specs.List.{flat_map, AllByRecursion}
+use Rattle.std.specs.Prelude.{◌≡◌, ◌⊎◌, ℕ, ◌+◌, ◌≤◌, ◌==◌, Bool, true, false, List, [], ◌∷◌, ◌++◌, Option, Some, None, filter, length, map, find, slice_get, sum_by}
+use Rattle.std.specs.List.{flat_map, range_with_len, All, AllByRecursion}
 use Rattle.bng_base.specs.declared.book.Book.{Book}
+use Rattle.bng_base.specs.declared.book.Range.{Range}
 use Rattle.bng_base.specs.declared.fate.Fate.{Fate}
 use Rattle.bng_base.specs.declared.item.Claim.{Claim}
 use Rattle.bng_base.specs.declared.item.Claim.TheVariants.{NoClaim, Claimed, Held, Exhausted}
 use Rattle.bng_base.specs.declared.item.Entry.{Entry}
 use Rattle.bng_base.specs.declared.item.Item.{Item}
 use Rattle.bng_base.specs.declared.item.OutRecord.{OutRecord}
+use Rattle.bng_base.specs.declared.settings.NamedRange.{NamedRange}
 use Rattle.bng_base.specs.declared.settings.Static.{Static}
 use Rattle.bng_engine.specs.Protocol.{Protocol}
 use Rattle.bng_engine.specs.Quantities.{Quantity, empty_book}
@@ -15,20 +17,21 @@ use Rattle.bng_engine.specs.Showing.{HandlesEntry}
 use Rattle.bng_engine.specs.Sums.{passed_sum, stopped_where}
 use Rattle.bng_engine.specs.Terms.{Key, Stop, Term, ComesBefore, is_ended, keys}
 use Rattle.bng_engine.specs.Views.{ShardView, Row, new_row, row_keys, rows_where}
+use Rattle.bng_pool.specs.Plain.{PlainView}
+use Rattle.bng_pool.specs.Ranges.{InRange, size_of}
+use Rattle.bng_pool.specs.Tables.{Table, IsTaken, Puts, entry}
 use Rattle.bng_shard.specs.declared.rules.Rules.{Rules}
-use Rattle.bng_slots.specs.Listed.{values}
-use Rattle.bng_shard.specs.declared.session.Lease.{Lease}
-use Rattle.bng_shard.specs.declared.session.Service.{Service}
-use Rattle.bng_shard.specs.declared.session.Service.TheVariants.{Provisioned, Discovered}
-use Rattle.bng_shard.specs.declared.session.Session.{Session}
 use Rattle.bng_shard.specs.declared.term.EndedTerm.{EndedTerm}
 use Rattle.bng_shard.specs.declared.term.LiveTerm.{LiveTerm}
-use Rattle.bng_shard.specs.State.{State, circuit_of, count_in, settled}
+use Rattle.bng_slots.specs.Sessions.{value_at}
+use Rattle.bng_shard.specs.declared.session.Session.{Session}
+use Rattle.bng_shard.specs.Link.{nas_request}
+use Rattle.bng_shard.specs.State.{State, count_in, made_one, reaped, settled}
+use Rattle.bng_shard.specs.Tenures.{Tenure, is_over}
 use Rattle.bng_shard.specs.Deed.{Deed}
 use Rattle.bng_shard.specs.Due.{due_of}
 use Rattle.bng_shard.specs.Hearing.{outs_most}
-use Rattle.bng_shard.specs.Link.{nas_request}
-use Rattle.bng_shard.specs.Opening.{in_order, lease_from, opened_slots, provisioned}
+use Rattle.bng_shard.specs.Opening.{in_order, opened_slots, tenures_after}
 use Rattle.bng_shard.specs.Reader.{pppoe_reader, tells_pppoe}
 use Rattle.bng_shard.specs.Step.{Step}
 use Rattle.bng_shard.specs.Sums.{Rises}
@@ -38,45 +41,32 @@ pub record ShardState : Type 0 where
   pub rules : Rules
   pub slots : State
 
--- an entry as it was handled: what it did, and whether it found the shard's allowance of new terms used up
+-- an entry as it was handled: what it did, whether it found the shard's allowance of new terms used up, and the addresses that it was told
+-- to be held
 pub record Handled : Type 0 where
   pub deed : Deed
   pub limited : Bool
+  pub refused : List ℕ
 
 -- the cause of its end, 0 as long as it is live
 abbrev pub cause_in : Option ℕ → ℕ
 cause_in None = 0
 cause_in (Some cause) = cause
 
--- the term of a session with this lease, which has ended where it has a cause
-abbrev pub term_of : Session → Lease → Option ℕ → Term
-term_of x l cause = record {
-  key = record { term = record { session = x.number; serial = l.serial }; circuit = circuit_of x; lease = l.address };
-  profile = l.profile;
-  ended = is_some cause;
-  cause = cause_in cause;
-}
+-- what never changes of a term, and the term, as the engine reads them
+abbrev pub key_in : Tenure → Key
+key_in t = record { term = t.term; circuit = t.circuit; lease = t.address }
 
-abbrev pub terms_in : Session → Service → List Term
-terms_in x (Provisioned p) = term_of x p.lease p.cause ∷ []
-terms_in x (Discovered m) = []
+abbrev pub term_in : Tenure → Term
+term_in t = record { key = key_in t; profile = t.profile; ended = is_over t; cause = cause_in t.cause }
 
-abbrev pub terms_at : Session → List Term
-terms_at x = terms_in x x.service
-
--- The terms of a shard, by rising session number. Each provisioned circuit has one from the opening on, until it has its Stop. No
--- session that discovery made has one.
+-- The terms of a shard, in the order in which they began, until each has its Stop.
 abbrev pub terms_of : ShardState → List Term
-terms_of s = flat_map terms_at (values s.slots.sessions)
-
--- the terms of these circuits, numbered on after n
-abbrev pub terms_after : ℕ → List Static → List Term
-terms_after n [] = []
-terms_after n (c ∷ cs) = term_of (provisioned c (n + 1)) (lease_from c (n + 1)) None ∷ terms_after (n + 1) cs
+terms_of s = map term_in s.slots.terms
 
 -- the terms of a shard's circuits at its opening: numbered from 1 on, by rising session number
 abbrev pub terms_of_circuits : ℕ → List Static → List Term
-terms_of_circuits shard circuits = terms_after 0 (in_order shard circuits)
+terms_of_circuits shard circuits = map term_in (tenures_after 0 0 (in_order shard circuits))
 
 -- the earliest deadline of its sessions, if one has a deadline, and how many sessions there are, provisioned circuits among them
 abbrev pub deadline_of : ShardState → Option ℕ
@@ -91,12 +81,22 @@ claimed_by (Claimed a) = a.0 ∷ []
 claimed_by (Held a) = []
 claimed_by (Exhausted pool) = []
 
--- there is no pool yet that could be exhausted
-abbrev pub refused_by : Claim → List ℕ
-refused_by NoClaim = []
-refused_by (Claimed a) = []
-refused_by (Held a) = a.0 ∷ []
-refused_by (Exhausted pool) = []
+-- the addresses of a pool
+abbrev pub addresses_in : Option NamedRange → List ℕ
+addresses_in None = []
+addresses_in (Some p) = range_with_len p.range.first.0 (size_of p.range)
+
+-- the addresses that were told to be held: the one that was asked for, and each of a pool that was exhausted
+abbrev pub refused_by : List NamedRange → Claim → List ℕ
+refused_by pools NoClaim = []
+refused_by pools (Claimed a) = []
+refused_by pools (Held a) = a.0 ∷ []
+refused_by pools (Exhausted k) = addresses_in (slice_get pools k)
+
+-- by these rules an entry was handled in this state: it is a step, and these addresses it was told to be held
+pub record HandlesStep (r : Rules) (s : State) (h : Handled) : Type 0 where
+  pub step : Step r s h.limited h.deed
+  pub refused : h.refused ≡ refused_by r.pools h.deed.entry.claim
 
 -- how many profiles there are: as long as none is configured, one that meters nothing
 abbrev pub profiles_there : ℕ
@@ -110,8 +110,8 @@ pppoe = record {
   entry = λ h. h.deed.entry;
   limited = λ h. h.limited;
   claimed = λ h. claimed_by h.deed.entry.claim;
-  refused = λ h. refused_by h.deed.entry.claim;
-  is_step = λ s h. Step s.rules s.slots h.deed;
+  refused = λ h. h.refused;
+  is_step = λ s h. HandlesStep s.rules s.slots h;
   outs = λ s h. h.deed.outs;
   next = λ s h. record s { slots = h.deed.next };
   packet_in = pppoe_reader;
@@ -123,25 +123,48 @@ pppoe = record {
 abbrev pub packet_octets : List OutRecord → ℕ
 packet_octets outs = passed_sum (λ c. c.octets) outs
 
--- the entry of an item that stood at this place of a seat's list; it asks for no address
-abbrev pub entry_of : ℕ → ℕ → ℕ → Item → Entry
-entry_of seat place moment item = record { seat = seat; place = place; moment = moment; item = item; claim = NoClaim }
+-- the entry of an item that stood at this place of a seat's list, with what was answered where it asked for an address
+abbrev pub entry_with : Claim → ℕ → ℕ → ℕ → Item → Entry
+entry_with claim seat place moment item = record { seat = seat; place = place; moment = moment; item = item; claim = claim }
 
--- A shard handled one entry: what it did is a step, of at most 4,160 octets of packets and of few outs. What passed is in the
--- tally of the entry's seat.
-pub record Handles (v v' : ShardView ShardState Entry) (e : Entry) (fate : Fate) (tally tally' : Book) : Type 0 where
-  pub shown : HandlesEntry pppoe v e v'
+-- and of one that asked for none
+abbrev pub entry_of : ℕ → ℕ → ℕ → Item → Entry
+entry_of seat place moment item = entry_with NoClaim seat place moment item
+
+-- each pool of the rules is a range of the table, at its place
+abbrev pub HasPools : List NamedRange → List Range → Type 0
+HasPools pools ranges = (k : ℕ) (p : NamedRange) → slice_get pools k ≡ Some p → slice_get ranges k ≡ Some p.range
+
+-- each term of the shard with this number holds its address
+abbrev pub AreHeld : ℕ → List Term → Table → Type 0
+AreHeld shard terms table = All (λ (t : Term). entry table t.key.lease.0 ≡ Some shard) terms
+
+-- the table answered so: it gave the shard an address that was free, or it held what was asked for already, and is as it was
+abbrev pub AnswersClaim : ℕ → Claim → PlainView → PlainView → Type 0
+AnswersClaim shard NoClaim pool pool' = pool' ≡ pool
+AnswersClaim shard (Claimed a) pool pool' = Puts pool.table a.0 shard pool'.table × ((pool'.ranges ≡ pool.ranges) × (pool'.shards ≡ pool.shards))
+AnswersClaim shard (Held a) pool pool' = IsTaken pool.table a.0 × (pool' ≡ pool)
+AnswersClaim shard (Exhausted k) pool pool' =
+    ((r : Range) → slice_get pool.ranges k ≡ Some r → (b : ℕ) → InRange r b → IsTaken pool.table b) × (pool' ≡ pool)
+
+-- A shard handled one entry: what it did is a step, of at most 4,160 octets of packets and of few outs, and the table answered its claim.
+-- What passed is in the tally of the entry's seat. Each term of the shard holds its address, as before.
+pub record Handles (v v' : ShardView ShardState Entry) (pool pool' : PlainView) (e : Entry) (fate : Fate) (tally tally' : Book) : Type 0 where
+  pub claim : Claim
+  pub shown : HandlesEntry pppoe v (record e { claim = claim }) v'
+  pub answers : AnswersClaim v.number claim pool pool'
+  pub held : AreHeld v'.number (terms_of v'.state) pool'.table
   pub fate_is : shown.effect.deed.fate ≡ fate
   pub light : packet_octets shown.effect.deed.outs ≤ 4160
   pub few : length shown.effect.deed.outs ≤ outs_most e.item.kind
   pub tallied : Rises tally shown.effect.deed.outs tally'
 
--- a shard with these circuits, in which nothing has happened; their terms are numbered by rising session number
-abbrev pub opened : ℕ → Rules → List Static → ShardView ShardState Entry
-opened number rules circuits = record {
+-- a shard with these circuits, opened at this moment, in which nothing has happened; their terms are numbered by rising session number
+abbrev pub opened : ℕ → Rules → List Static → ℕ → ShardView ShardState Entry
+opened number rules circuits now = record {
   number = number;
-  state = record { rules = rules; slots = opened_slots number circuits };
-  rows = map new_row (keys (terms_of (record { rules = rules; slots = opened_slots number circuits })));
+  state = record { rules = rules; slots = opened_slots number circuits now };
+  rows = map new_row (keys (terms_of (record { rules = rules; slots = opened_slots number circuits now })));
   books = empty_book ∷ [];
   allowance = 0;
   journal = [];
@@ -152,7 +175,7 @@ opened number rules circuits = record {
   room = 0;
 }
 
--- the row of a session's term
+-- the row of the live term of a session
 abbrev pub row_at : List Row → ℕ → Option Row
 row_at rows session = find (λ (r : Row). r.key.term.session.0 == session) rows
 
@@ -163,6 +186,13 @@ stop_of e = record { key = record { term = e.term; circuit = e.circuit; lease = 
 -- the key of a term that is there
 abbrev pub key_of : LiveTerm → Key
 key_of t = record { term = t.term; circuit = t.circuit; lease = t.address }
+
+-- what is reported says what its records say of this term
+pub record SaysOf (user class : List ℕ) (began : ℕ) (k : Key) (t : Tenure) : Type 0 where
+  pub key : key_in t ≡ k
+  pub user_is : t.user ≡ user
+  pub class_is : t.class ≡ class
+  pub began_is : t.began ≡ began
 
 -- the terms that have ended and are still there
 abbrev pub ended_terms : ShardState → List Term
@@ -180,13 +210,23 @@ pub record Leaves (v v' : ShardView ShardState Entry) (s : Stop) : Type 0 where
   pub were : row_keys v.rows ≡ before ++ s.key ∷ after
   pub are : row_keys v'.rows ≡ before ++ after
   pub rules : v'.state.rules ≡ v.state.rules
-  pub slots : settled v'.state.slots ≡ settled v.state.slots
+  pub slots : reaped v'.state.slots ≡ reaped v.state.slots
   pub number : v'.number ≡ v.number
   pub books : v'.books ≡ v.books
   pub allowance : v'.allowance ≡ v.allowance
   pub journal : v'.journal ≡ v.journal
   pub outs : v'.outs ≡ v.outs
 
+-- One of the terms of whose beginning no Start was formed yet is told, the first in order, and counts no longer among them.
+pub record TellsNew (s s' : State) (t : Tenure) : Type 0 where
+  pub one : (f : Tenure → ℕ) → f t + sum_by f s'.news ≡ sum_by f s.news
+  pub least : AllByRecursion (λ (u : Tenure). ComesBefore (key_in t) (key_in u)) s'.news
+  pub others : s' ≡ record s { news = s'.news }
+
 -- A term before a step and after it: it is as it was, or it was live and has ended by the gateway's own stop.
 abbrev pub StaysOrEnds : Term → Term → Type 0
 StaysOrEnds t t' = (t' ≡ t) ⊎ ((t.ended ≡ false) × (t' ≡ record t { ended = true; cause = nas_request }))
+
+-- no session that discovery made has a term, as where no pool has an address for one
+abbrev pub HasNoLogins : State → Type 0
+HasNoLogins s = (n : ℕ) (x : Session) → value_at s.sessions n ≡ Some x → made_one x.service ≡ 1 → x.lease ≡ None

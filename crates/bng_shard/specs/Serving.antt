@@ -1,8 +1,10 @@
 -- What a shard keeps of its sessions, beside them.
-use Rattle.std.specs.Prelude.{◌≡◌, is_some, not, ℕ, ◌<◌, ◌&&◌, Bool, false, List, Some, IsSome, length, vec_capacity}
+use Rattle.std.specs.Prelude.{◌≡◌, is_some, not, ℕ, ◌<◌, ◌&&◌, Bool, false, true, List, Option, Some, IsSome, length, vec_capacity}
 use Rattle.bng_base.specs.declared.address.Ip4.{Ip4}
 use Rattle.bng_base.specs.declared.address.SessionNo.{SessionNo}
 use Rattle.bng_slots.specs.Sessions.{Sessions, IsNumberOf, read_at, value_at}
+use Rattle.bng_ppp.specs.Phases.{KeepsPhases}
+use Rattle.bng_shard.specs.declared.session.Lease.{Lease}
 use Rattle.bng_shard.specs.declared.session.Service.{Service}
 use Rattle.bng_shard.specs.declared.session.Service.TheVariants.{Provisioned, Discovered}
 use Rattle.bng_shard.specs.declared.session.Session.{Session}
@@ -48,11 +50,21 @@ is_young x = is_young_in x.service
 abbrev pub AreYoung : Sessions Session → List SessionNo → Type 0
 AreYoung sessions numbers = AreListed is_young sessions numbers
 
+-- A link keeps its phases (RFC 1661 section 3.2), and a session with a lease has a link on which a term is live. A provisioned circuit has
+-- no link.
+abbrev pub KeepsLease : Service → Option Lease → Type 0
+KeepsLease (Provisioned over) lease = Unit {0}
+KeepsLease (Discovered m) lease = KeepsPhases m.link × (IsSome lease → m.link.live ≡ true)
+
+abbrev pub AreLeased : Sessions Session → Type 0
+AreLeased sessions = (n : ℕ) (x : Session) → value_at sessions n ≡ Some x → KeepsLease x.service x.lease
+
 -- The numbers of the sessions that have ended, of those that have an open question, and of the young ones, for which there is room.
 pub record Keeps (a : Inside) : Type 0 where
   pub own : AreOwn a.sessions
   pub of_shard : AreOfShard a.sessions
   pub apart : AreApart a.sessions
+  pub leased : AreLeased a.sessions
   pub leaving : AreLeaving a.sessions a.leaving.items
   pub counted : passing_in leaves a.sessions ≡ length a.leaving.items
   pub room : 1022 < vec_capacity a.leaving

@@ -1,5 +1,5 @@
 -- What a shard serves: its sessions by number, each on a provisioned circuit or made by discovery.
-use Rattle.std.specs.Prelude.{ℕ, ◌-◌, ◌==◌, Bool, false, not, ◌&&◌, List, Option, Some, None, filter, find, is_some, length, slice_get, if◌then◌else◌}
+use Rattle.std.specs.Prelude.{◌≡◌, ℕ, ◌-◌, ◌==◌, Bool, true, false, not, ◌&&◌, List, [], Option, Some, None, filter, find, length, list_any, slice_get, option_map, option_map_or, if◌then◌else◌}
 use Rattle.std.specs.FinMap as map
 use Rattle.std.specs.Str.{bytes_eq}
 use Rattle.bng_base.specs.declared.address.Ip4.{Ip4}
@@ -9,18 +9,23 @@ use Rattle.bng_base.specs.declared.circuit.Circuit.TheVariants.{Pppoe}
 use Rattle.bng_base.specs.declared.settings.AccessPort.{AccessPort}
 use Rattle.bng_discovery.specs.declared.port.PortRules.{PortRules}
 use Rattle.bng_forward.specs.declared.view.TermView.{TermView}
+use Rattle.bng_ppp.specs.PppState.{passes}
 use Rattle.bng_slots.specs.Sessions.{Sessions, value_at, with_value}
 use Rattle.bng_slots.specs.Listed.{values}
 use Rattle.bng_shard.specs.declared.session.Lease.{Lease}
 use Rattle.bng_shard.specs.declared.session.Service.{Service}
 use Rattle.bng_shard.specs.declared.session.Service.TheVariants.{Provisioned, Discovered}
 use Rattle.bng_shard.specs.declared.session.Session.{Session}
+use Rattle.bng_shard.specs.Tenures.{Tenure, closed, has_kept, is_over}
 
--- The shard's number with its sessions, how many terms began in it, and how many questions were asked.
+-- The shard's number with its sessions, how many terms began in it, how many questions were asked, the terms that have no Stop yet, in
+-- the order in which they began, and those of whose beginning no Start was formed yet, in the same order.
 pub record State : Type 0 where
   pub sessions : Sessions Session
   pub begun : ℕ
   pub asked : ℕ
+  pub terms : List Tenure
+  pub news : List Tenure
 
 -- the access port with this number, from 1 on, and what it offers
 abbrev pub port_at : List AccessPort → ℕ → Option AccessPort
@@ -45,52 +50,47 @@ where_on port mac (Some x) = if is_on port mac x then Some x else None
 abbrev pub session_of : State → ℕ → Mac → ℕ → Option Session
 session_of s port mac n = where_on port mac (value_at s.sessions n)
 
--- A provisioned circuit has a term from the opening on, which is live until it has a cause of its end.
-abbrev pub live_lease : Option ℕ → Lease → Option Lease
-live_lease None l = Some l
-live_lease (Some cause) l = None
+-- data passes: of a session that discovery made, once LCP and IPCP are Opened; a provisioned circuit has no LCP, and counts as Opened
+abbrev pub passes_in : Service → Bool
+passes_in (Provisioned over) = true
+passes_in (Discovered m) = passes m.link
 
--- what a session's lease is, where its term is live
-abbrev pub lease_in : Service → Option Lease
-lease_in (Provisioned p) = live_lease p.cause p.lease
-lease_in (Discovered m) = None
-
-abbrev pub lease_of : Session → Option Lease
-lease_of x = lease_in x.service
-
--- the lease whose address it holds: that of its term, until that has its Stop
-abbrev pub held_in : Service → Option Lease
-held_in (Provisioned p) = Some p.lease
-held_in (Discovered m) = None
-
--- what forwarding looks at of a session's term, until that has its Stop: a provisioned circuit has no LCP, and counts as Opened as
--- long as its term is live
-abbrev pub view_in : Service → Option TermView
-view_in (Provisioned p) = Some (record { lease = p.lease.address; opened = not (is_some p.cause) })
-view_in (Discovered m) = None
-
+-- what forwarding looks at of a session's live term
 abbrev pub view_of : Session → Option TermView
-view_of x = view_in x.service
+view_of x = option_map (λ (l : Lease). record { lease = l.address; opened = passes_in x.service }) x.lease
 
--- the session holds this address
-abbrev pub leases_in : Service → Ip4 → Bool
-leases_in (Provisioned p) a = p.lease.address.0 == a.0
-leases_in (Discovered m) a = false
-
+-- the session's live term has this address
 abbrev pub leases : Ip4 → Session → Bool
-leases a x = leases_in x.service a
+leases a x = option_map_or (λ (l : Lease). l.address.0 == a.0) x.lease false
 
--- the session that has an address
+-- the session whose live term has an address
 abbrev pub holder_of : State → Ip4 → Option Session
 holder_of s a = find (leases a) (values s.sessions)
+
+-- a term that has ended still has this address
+abbrev pub is_kept : State → Ip4 → Bool
+is_kept s a = list_any (has_kept a) s.terms
+
+-- the term is the live one of the session, by this lease: it is on the session's circuit
+pub record IsTermOf (x : Session) (l : Lease) (t : Tenure) : Type 0 where
+  pub term : t.term ≡ record { session = x.number; serial = l.serial }
+  pub circuit : t.circuit ≡ circuit_of x
+  pub address : t.address ≡ l.address
+  pub profile : t.profile ≡ l.profile
+  pub live : t.cause ≡ None
 
 -- a session of this number is another one, or a new one
 abbrev pub with_session : State → ℕ → Session → State
 with_session s n x = record s { sessions = with_value s.sessions n x }
 
--- and so many questions were asked
-abbrev pub with_driven : State → ℕ → Session → ℕ → State
-with_driven s n x asked = record (with_session s n x) { asked = asked }
+-- The same after a step of the link of this number's session, which had this lease before: so many questions were asked, and where the
+-- step ended the live term by a cause, that has ended.
+abbrev pub with_driven : State → ℕ → Option Lease → Option ℕ → Session → ℕ → State
+with_driven s n lease cause x asked = record (with_session s n x) { asked = asked; terms = closed lease cause s.terms }
+
+-- The same once a session has ended, with the live term of this lease, if it had one, by this cause.
+abbrev pub with_ended : State → ℕ → Option Lease → ℕ → Session → State
+with_ended s n lease cause x = record (with_session s n x) { terms = closed lease (Some cause) s.terms }
 
 -- discovery made the session
 abbrev pub made_one : Service → ℕ
@@ -103,12 +103,19 @@ count_in s = length (values s.sessions)
 
 -- the session has ended, and leaves when the round is settled
 abbrev pub leaves_in : Service → Bool
-leaves_in (Provisioned p) = is_some p.cause
+leaves_in (Provisioned over) = over
 leaves_in (Discovered m) = m.ended
 
 abbrev pub leaves : Session → Bool
 leaves x = leaves_in x.service
 
--- a session stays until the round is settled in which it ended
+-- Once all Stops of a round were formed: the terms that ended have left, and the sessions that ended.
+abbrev pub reaped : State → State
+reaped s = record s {
+  sessions = record s.sessions { by_number = map.from_sorted (filter (λ e. not (leaves e.1)) (map.entries s.sessions.by_number)) };
+  terms = filter (λ t. not (is_over t)) s.terms;
+}
+
+-- and once all its Starts were formed too
 abbrev pub settled : State → State
-settled s = record s { sessions = record s.sessions { by_number = map.from_sorted (filter (λ e. not (leaves e.1)) (map.entries s.sessions.by_number)) } }
+settled s = record (reaped s) { news = [] }

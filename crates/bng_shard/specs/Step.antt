@@ -1,5 +1,6 @@
 -- A step of a shard: what it does with one entry.
-use Rattle.std.specs.Prelude.{◌≡◌}
+use Rattle.std.specs.Prelude.{◌≡◌, Bool}
+use Rattle.bng_base.specs.declared.item.Claim.{Claim}
 use Rattle.bng_base.specs.declared.item.Claim.TheVariants.{NoClaim}
 use Rattle.bng_base.specs.declared.item.Entry.{Entry}
 use Rattle.bng_base.specs.declared.item.ItemKind.{ItemKind}
@@ -11,17 +12,27 @@ use Rattle.bng_shard.specs.Frames.{HearsAccess, HearsCore}
 use Rattle.bng_shard.specs.Timers.{HearsTick, HearsEnd}
 use Rattle.bng_shard.specs.Verdicts.{HearsVerdict}
 
--- by the kind of the item; a kind that no protocol here hears does nothing
-abbrev pub Hears : ItemKind → Rules → State → Entry → Deed → Type 0
-Hears (Access number) r s e d = HearsAccess r s e number d
-Hears Core r s e d = HearsCore r s e d
-Hears Tunnel r s e d = d ≡ ignored s e
-Hears Verdict r s e d = HearsVerdict r s e d
-Hears Change r s e d = d ≡ ignored s e
-Hears Tick r s e d = HearsTick r s e d
-Hears End r s e d = HearsEnd r s e d
+-- by the kind of the item, and whether the shard's allowance of new terms is used up; a kind that no protocol here hears does nothing
+abbrev pub Hears : ItemKind → Rules → State → Bool → Entry → Deed → Type 0
+Hears (Access number) r s limited e d = HearsAccess r s e number d
+Hears Core r s limited e d = HearsCore r s e d
+Hears Tunnel r s limited e d = d ≡ ignored s e
+Hears Verdict r s limited e d = HearsVerdict r s e limited d
+Hears Change r s limited e d = d ≡ ignored s e
+Hears Tick r s limited e d = HearsTick r s e d
+Hears End r s limited e d = HearsEnd r s e d
 
--- An entry asks for no address, and does what its item calls for.
-pub record Step (r : Rules) (s : State) (d : Deed) : Type 0 where
-  pub claim : d.entry.claim ≡ NoClaim
-  pub hears : Hears d.entry.item.kind r s d.entry d
+-- a verdict alone asks for an address
+abbrev pub MayClaim : ItemKind → Claim → Type 0
+MayClaim (Access number) claim = claim ≡ NoClaim
+MayClaim Core claim = claim ≡ NoClaim
+MayClaim Tunnel claim = claim ≡ NoClaim
+MayClaim Verdict claim = Unit {0}
+MayClaim Change claim = claim ≡ NoClaim
+MayClaim Tick claim = claim ≡ NoClaim
+MayClaim End claim = claim ≡ NoClaim
+
+-- An entry does what its item calls for; its claim is what was answered where it asked for an address.
+pub record Step (r : Rules) (s : State) (limited : Bool) (d : Deed) : Type 0 where
+  pub claim : MayClaim d.entry.item.kind d.entry.claim
+  pub hears : Hears d.entry.item.kind r s limited d.entry d

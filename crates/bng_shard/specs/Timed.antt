@@ -1,5 +1,5 @@
 -- What a Tick and an End leave.
-use Rattle.std.specs.Prelude.{◌≡◌, ℕ, ◌≤◌, Bool, true, false, List, ◌++◌, Some, length}
+use Rattle.std.specs.Prelude.{◌≡◌, ℕ, ◌≤◌, Bool, true, false, List, ◌++◌, Option, Some, length}
 use Rattle.bng_base.specs.declared.item.Entry.{Entry}
 use Rattle.bng_base.specs.declared.item.OutRecord.{OutRecord}
 use Rattle.bng_ppp.specs.declared.whole_input.WholeInput.TheVariants.{Timer}
@@ -8,9 +8,9 @@ use Rattle.bng_slots.specs.Sessions.{value_at}
 use Rattle.bng_shard.specs.declared.rules.Rules.{Rules}
 use Rattle.bng_shard.specs.declared.sending.At.{At}
 use Rattle.bng_shard.specs.declared.session.Session.{Session}
-use Rattle.bng_shard.specs.State.{State, with_session, with_driven}
+use Rattle.bng_shard.specs.State.{State, with_ended, with_driven}
 use Rattle.bng_shard.specs.Deed.{at_of}
-use Rattle.bng_shard.specs.Link.{ended}
+use Rattle.bng_shard.specs.Link.{ended, nas_request}
 use Rattle.bng_shard.specs.Driven.{Driven}
 use Rattle.bng_shard.specs.Timers.{Ticks, Ends, IsFirstDue, NoneIsDue, IsLowest, NoneStays, TellsEnd}
 
@@ -19,14 +19,14 @@ abbrev pub TickedOnce : Bool → Rules → At → ℕ → List ℕ → State →
 TickedOnce false r a now random s s' outs outs' = NoneIsDue s now × (s' ≡ s) × (outs' ≡ outs)
 TickedOnce true r a now random s s' outs outs' =
     (n : ℕ) × IsFirstDue s now n × (x x' : Session) × (value_at s.sessions n ≡ Some x)
-    × (asked' : ℕ) × Driven r a (PppSteps r.link Timer now random) s.asked x x' asked' outs outs' × (s' ≡ with_driven s n x' asked')
+    × (cause : Option ℕ) × (asked' : ℕ) × Driven r a (PppSteps r.link Timer now random) s.asked x cause x' asked' outs outs' × (s' ≡ with_driven s n x.lease cause x' asked')
 
 -- The session with the lowest number ended; or all had ended, and all is as before.
 abbrev pub EndedOnce : Bool → Rules → At → State → State → List OutRecord → List OutRecord → Type 0
 EndedOnce false r a s s' outs outs' = NoneStays s × (s' ≡ s) × (outs' ≡ outs)
 EndedOnce true r a s s' outs outs' =
     (n : ℕ) × IsLowest s n × (x : Session) × (value_at s.sessions n ≡ Some x)
-    × (padt : List OutRecord) × TellsEnd x.service r a x padt × (s' ≡ with_session s n (ended x)) × (outs' ≡ outs ++ padt)
+    × (padt : List OutRecord) × TellsEnd x.service r a x padt × (s' ≡ with_ended s n x.lease nas_request (ended x)) × (outs' ≡ outs ++ padt)
 
 -- So many due deadlines at most were handled: what that sends stands after what was to be sent.
 pub record Ticked (most : ℕ) (r : Rules) (a : At) (now : ℕ) (random : List ℕ) (s s' : State) (outs outs' : List OutRecord) : Type 0 where

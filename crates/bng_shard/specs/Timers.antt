@@ -12,9 +12,9 @@ use Rattle.bng_shard.specs.declared.session.Service.{Service}
 use Rattle.bng_shard.specs.declared.session.Service.TheVariants.{Provisioned, Discovered}
 use Rattle.bng_shard.specs.declared.session.Session.{Session}
 use Rattle.bng_shard.specs.declared.sending.At.{At}
-use Rattle.bng_shard.specs.State.{State, leaves, with_session, with_driven}
+use Rattle.bng_shard.specs.State.{State, leaves, with_ended, with_driven}
 use Rattle.bng_shard.specs.Deed.{Deed, at_of, handled}
-use Rattle.bng_shard.specs.Link.{Drives, EndsWith, ended, told}
+use Rattle.bng_shard.specs.Link.{Drives, EndsWith, ended, nas_request, told}
 
 -- the first moment at which a link's Timer does something
 abbrev pub link_deadline : PppState → Option ℕ
@@ -59,8 +59,8 @@ Ticks zero r e s outs s' = (outs ≡ []) × (s' ≡ s)
 Ticks (suc k) r e s outs s' =
     (NoneIsDue s e.moment × (outs ≡ []) × (s' ≡ s))
     ⊎ ((n : ℕ) × IsFirstDue s e.moment n × (x x' : Session) × (value_at s.sessions n ≡ Some x)
-    × (first : List OutRecord) × (asked' : ℕ) × Drives r (at_of s e) s.asked x (told r e Timer) first x' asked'
-    × (rest : List OutRecord) × Ticks k r e (with_driven s n x' asked') rest s' × (outs ≡ first ++ rest))
+    × (first : List OutRecord) × (cause : Option ℕ) × (asked' : ℕ) × Drives r (at_of s e) s.asked x (told r e Timer) first cause x' asked'
+    × (rest : List OutRecord) × Ticks k r e (with_driven s n x.lease cause x' asked') rest s' × (outs ≡ first ++ rest))
 
 -- how many sessions a Tick and an End take
 abbrev pub at_once : ℕ
@@ -109,7 +109,7 @@ Ends (suc k) r e s outs s' =
     (NoneStays s × (outs ≡ []) × (s' ≡ s))
     ⊎ ((n : ℕ) × IsLowest s n × (x : Session) × (value_at s.sessions n ≡ Some x)
     × (padt rest : List OutRecord) × TellsEnd x.service r (at_of s e) x padt
-    × Ends k r e (with_session s n (ended x)) rest s' × (outs ≡ padt ++ rest))
+    × Ends k r e (with_ended s n x.lease nas_request (ended x)) rest s' × (outs ≡ padt ++ rest))
 
 abbrev pub HearsEnd : Rules → State → Entry → Deed → Type 0
 HearsEnd r s e d = (outs : List OutRecord) × (s' : State) × Ends at_once r e s outs s' × (d ≡ handled s e outs s')

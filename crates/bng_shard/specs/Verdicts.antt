@@ -1,30 +1,69 @@
 -- Verdicts on the questions of sessions.
-use Rattle.std.specs.Prelude.{◌≡◌, ◌⊎◌, ℕ, List, Some, None}
+use Rattle.std.specs.Prelude.{◌≡◌, ◌⊎◌, ℕ, ◌+◌, List, [], ◌∷◌, ◌++◌, Option, Some, None, Bool}
+use Rattle.bng_base.specs.declared.address.Ip4.{Ip4}
 use Rattle.bng_base.specs.declared.item.Entry.{Entry}
+use Rattle.bng_base.specs.declared.item.Claim.TheVariants.{NoClaim}
 use Rattle.bng_base.specs.declared.item.OutRecord.{OutRecord}
 use Rattle.bng_slots.specs.Sessions.{value_at}
-use Rattle.bng_verdict.specs.Verdicts.{Saying, IsVerdict}
+use Rattle.bng_shard.specs.Made.{Question}
 use Rattle.bng_shard.specs.declared.rules.Rules.{Rules}
+use Rattle.bng_shard.specs.declared.session.Lease.{Lease}
 use Rattle.bng_shard.specs.declared.session.Session.{Session}
-use Rattle.bng_shard.specs.State.{State, with_driven}
+use Rattle.bng_shard.specs.State.{State, circuit_of, with_driven}
+use Rattle.bng_shard.specs.Tenures.{Tenure}
 use Rattle.bng_shard.specs.Deed.{Deed, at_of, handled, ignored}
-use Rattle.bng_shard.specs.Link.{Drives, settles}
-use Rattle.bng_shard.specs.Questions.{open_ask_at}
+use Rattle.bng_shard.specs.Link.{Drives, Told, settles}
+use Rattle.bng_shard.specs.Questions.{open_ask_at, open_of}
+use Rattle.bng_shard.specs.Wishes.{Decides}
 
--- the session that the item names is told what was found
-pub record Judges (r : Rules) (s : State) (e : Entry) (v : Saying) (d : Deed) : Type 0 where
+-- the lease of the term that begins next, with this address; it has the first profile
+abbrev pub next_lease : State → Ip4 → Lease
+next_lease s a = record { serial = s.begun + 1; address = a; profile = 0 }
+
+-- that term: the session's peer answers to the name of its question (User-Name), and it begins at this moment
+abbrev pub next_term : State → Session → Question → List ℕ → ℕ → Ip4 → Tenure
+next_term s x q class moment a = record {
+  term = record { session = x.number; serial = s.begun + 1 };
+  circuit = circuit_of x;
+  address = a;
+  profile = 0;
+  user = q.claim.name;
+  class = class;
+  began = moment;
+  cause = None;
+}
+
+-- the state once a term has begun, of the session that is so after a step of its link
+abbrev pub with_term : State → ℕ → Session → ℕ → Ip4 → Tenure → State
+with_term s n x asked a t = record (with_driven s n None None (record x { lease = Some (next_lease s a) }) asked) {
+  begun = s.begun + 1;
+  terms = s.terms ++ t ∷ [];
+  news = s.news ++ t ∷ [];
+}
+
+-- A term begins where the peer is accepted with an address, and else none does.
+abbrev pub settled_by : State → ℕ → Session → Question → Told → ℕ → Session → ℕ → Option Ip4 → State
+settled_by s n x q t moment x' asked None = with_driven s n None None x' asked
+settled_by s n x q t moment x' asked (Some a) = with_term s n x' asked a (next_term s x q t.class moment a)
+
+-- the session that the item names has an open question, and no live term, and is told what was found
+pub record Judges (r : Rules) (s : State) (e : Entry) (t : Told) (d : Deed) : Type 0 where
   pub x : Session
   pub found : value_at s.sessions e.item.target ≡ Some x
+  pub no_term : x.lease ≡ None
+  pub question : Question
+  pub asks : open_of x ≡ Some question
   pub outs : List OutRecord
   pub after : Session
   pub asked : ℕ
-  pub drives : Drives r (at_of s e) s.asked x (settles r e v) outs after asked
-  pub done : d ≡ handled s e outs (with_driven s e.item.target after asked)
+  pub cause : Option ℕ
+  pub drives : Drives r (at_of s e) s.asked x (settles r e t) outs cause after asked
+  pub done : d ≡ handled s e outs (settled_by s e.item.target x question t e.moment after asked t.lease)
 
 -- The item names a session and a question by their numbers, and has the octets of a reply. Where that question of that session is
--- open, and the octets say something, the session's link is told so. Else nothing happens.
-abbrev pub HearsVerdict : Rules → State → Entry → Deed → Type 0
-HearsVerdict r s e d =
-    ((open_ask_at s e.item.target ≡ Some e.item.ask) × (v : Saying) × IsVerdict e.item.frame.payload (Some v) × Judges r s e v d)
-    ⊎ (((open_ask_at s e.item.target ≡ Some e.item.ask) × IsVerdict e.item.frame.payload None × (d ≡ ignored s e))
-    ⊎ ((¬ (open_ask_at s e.item.target ≡ Some e.item.ask)) × (d ≡ ignored s e)))
+-- open, and the octets say something, the session's link is told what they come to. Else nothing happens.
+abbrev pub HearsVerdict : Rules → State → Entry → Bool → Deed → Type 0
+HearsVerdict r s e limited d =
+    ((open_ask_at s e.item.target ≡ Some e.item.ask) × (t : Told) × Decides r.pools limited e.item.frame.payload e.claim (Some t) × Judges r s e t d)
+    ⊎ (((open_ask_at s e.item.target ≡ Some e.item.ask) × Decides r.pools limited e.item.frame.payload e.claim None × (d ≡ ignored s e))
+    ⊎ ((¬ (open_ask_at s e.item.target ≡ Some e.item.ask)) × (e.claim ≡ NoClaim) × (d ≡ ignored s e)))

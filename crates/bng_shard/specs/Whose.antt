@@ -1,6 +1,5 @@
 -- Which shard an item is for.
-use Rattle.std.specs.Prelude.{◌≡◌, ◌⊎◌, ℕ, ◌/◌, ◌%◌, ◌<◌, ◌≤◌, ◌==◌, not, List, Option, Some, None, filter, sum, find}
-use Rattle.bng_base.specs.declared.address.Ip4.{Ip4}
+use Rattle.std.specs.Prelude.{◌≡◌, ◌⊎◌, ℕ, ◌/◌, ◌%◌, ◌<◌, ◌≤◌, List, Option, Some, None, sum}
 use Rattle.bng_base.specs.declared.address.Mac.{Mac}
 use Rattle.bng_base.specs.declared.fate.DropCause.TheVariants.{Malformed, NoSession}
 use Rattle.bng_base.specs.declared.fate.Fate.TheVariants.{Consumed, Dropped}
@@ -11,8 +10,8 @@ use Rattle.bng_base.specs.declared.item.ItemKind.TheVariants.{Access, Core, Tunn
 use Rattle.bng_base.specs.FateOf.{arrival_of}
 use Rattle.bng_base.specs.PppoeGrammar.{PppoeFrame}
 use Rattle.bng_forward.specs.Fates.{IsFrame, NamesSession, IsCorePacket}
+use Rattle.bng_pool.specs.Tables.{Table, entry}
 use Rattle.bng_shard.specs.declared.rules.Rules.{Rules}
-use Rattle.bng_shard.specs.declared.pool.Holder.{Holder}
 use Rattle.bng_shard.specs.declared.whose.Whose.{Whose}
 use Rattle.bng_shard.specs.declared.whose.Whose.TheVariants.{Loose, Stands}
 
@@ -25,18 +24,6 @@ pub record NamesShard (r : Rules) (number : ℕ) : Type 0 where
   pub shard : number / 1024 < r.shards
   pub low : 1 ≤ number % 1024
   pub high : number % 1024 ≤ 1022
-
-abbrev pub shard_in : Option Holder → Option ℕ
-shard_in None = None
-shard_in (Some h) = Some h.shard
-
--- the shard that holds an address
-abbrev pub holder_of : List Holder → Ip4 → Option ℕ
-holder_of holders address = shard_in (find (λ h. h.address.0 == address.0) holders)
-
--- these once an address was given back
-abbrev pub without_holder : Ip4 → List Holder → List Holder
-without_holder address holders = filter (λ (h : Holder). not (h.address.0 == address.0)) holders
 
 -- A frame that names a session is for the shard of that number; another one for the shard of its SOURCE_ADDR.
 abbrev pub IsForFrame : Rules → PppoeFrame → Whose → Type 0
@@ -58,18 +45,18 @@ IsForSession r session whose =
     (NamesShard r session × (whose ≡ Stands (session / 1024))) ⊎ ((¬ (NamesShard r session)) × (whose ≡ Loose Consumed))
 
 -- By the kind of the item. What is outside its grammar is loose, and so is what leads to no shard.
-abbrev pub IsForKind : ItemKind → Rules → List Holder → Item → Whose → Type 0
-IsForKind (Access number) r holders item whose =
+abbrev pub IsForKind : ItemKind → Rules → Table → Item → Whose → Type 0
+IsForKind (Access number) r table item whose =
     (((p : PppoeFrame) → ¬ (IsFrame r.access number (arrival_of item) p)) × (whose ≡ Loose (Dropped Malformed)))
     ⊎ ((p : PppoeFrame) × IsFrame r.access number (arrival_of item) p × IsForFrame r p whose)
-IsForKind Core r holders item whose =
+IsForKind Core r table item whose =
     (((v : Ipv4) → ¬ (IsCorePacket r.core_peer (arrival_of item) v)) × (whose ≡ Loose (Dropped Malformed)))
-    ⊎ ((v : Ipv4) × IsCorePacket r.core_peer (arrival_of item) v × IsForHolder (holder_of holders v.dst) whose)
-IsForKind Tunnel r holders item whose = whose ≡ Loose (Dropped NoSession)
-IsForKind Verdict r holders item whose = IsForSession r item.target whose
-IsForKind Change r holders item whose = whose ≡ Loose Consumed
-IsForKind Tick r holders item whose = IsForTarget r item.target whose
-IsForKind End r holders item whose = IsForTarget r item.target whose
+    ⊎ ((v : Ipv4) × IsCorePacket r.core_peer (arrival_of item) v × IsForHolder (entry table v.dst.0) whose)
+IsForKind Tunnel r table item whose = whose ≡ Loose (Dropped NoSession)
+IsForKind Verdict r table item whose = IsForSession r item.target whose
+IsForKind Change r table item whose = whose ≡ Loose Consumed
+IsForKind Tick r table item whose = IsForTarget r item.target whose
+IsForKind End r table item whose = IsForTarget r item.target whose
 
-abbrev pub IsWhose : Rules → List Holder → Item → Whose → Type 0
-IsWhose r holders item whose = IsForKind item.kind r holders item whose
+abbrev pub IsWhose : Rules → Table → Item → Whose → Type 0
+IsWhose r table item whose = IsForKind item.kind r table item whose

@@ -13,26 +13,26 @@ mod hear;
 mod host_uniq;
 mod laws;
 mod leaving;
-mod pool;
 mod questions;
 mod replies;
 mod rules;
-mod running;
 mod sending;
 mod served;
 mod session;
 mod shard;
 mod sums;
 mod term;
+mod terms;
 mod timers;
 mod verdicts;
 mod whose;
+mod wish;
 mod young;
 
 pub use crate::laws::{
-    questions_are_heard, steps_meet_laws, terms_of_circuits_are_apart, yeses_are_granted,
+    gateways_without_pools_have_no_logins, questions_are_heard, steps_meet_laws,
+    terms_of_circuits_are_apart, yeses_are_granted,
 };
-pub use crate::pool::{Holder, PlainPool};
 pub use crate::questions::Handed;
 pub use crate::rules::Rules;
 pub use crate::shard::{Shard, ShardError};

@@ -1,4 +1,4 @@
-use bng_base::{AccessPort, Listed, Peer};
+use bng_base::{AccessPort, Listed, NamedRange, Peer};
 use bng_discovery::PortRules;
 use bng_ppp::LinkRules;
 
@@ -13,6 +13,9 @@ pub struct Rules {
     pub access: Listed<AccessPort>,
     /// What each access port offers, by the same numbers.
     pub offers: Listed<PortRules>,
+    /// The pools of addresses, at most 16, by their places in the table of addresses. Where there is none, a peer that is accepted gets
+    /// no address.
+    pub pools: Listed<NamedRange>,
     /// What each session's link is run by.
     pub link: LinkRules,
 }

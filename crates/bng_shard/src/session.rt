@@ -69,28 +69,21 @@ impl Model for Made {
 /// The cause of an end by the gateway's own stop (RFC 2866 section 5.10, NAS Request).
 const NAS_REQUEST: u8 = 10;
 
-/// What a provisioned circuit has from the opening on: a term with this lease, and the cause with which it ended, once it has.
-#[derive(Clone, Copy, PartialEq, Eq, Debug)]
-pub struct Provision {
-    pub(crate) lease: Lease,
-    pub(crate) cause: Option<u8>,
-}
-
-/// What serves a session: a provisioned circuit has a term from the opening on and no link; a session that discovery made has a
-/// link.
+/// What serves a session: a provisioned circuit has no link, and says whether it has ended; a session that discovery made has a link.
 #[derive(Drop)]
 pub enum Service {
-    Provisioned(Provision),
+    Provisioned { ended: bool },
     Discovered(Made),
 }
 
-/// A session, on the circuit of its port, the MAC of its subscriber and its SESSION_ID.
+/// A session, on the circuit of its port, the MAC of its subscriber and its SESSION_ID, with the lease of its live term, if it has one.
 #[derive(Drop)]
 pub struct Session {
     pub(crate) number: SessionNo,
     pub(crate) port: u8,
     pub(crate) mac: Mac,
     pub(crate) service: Service,
+    pub(crate) lease: Option<Lease>,
 }
 
 impl Slotted for Session {

@@ -20,13 +20,42 @@ use crate::term::LiveTerm;
 use bng_base::{Book, Charge, Circuit, Ip4, OutRecord, SessionNo, TermId};
 use std::alloc::{AllocError, Global};
 
-/// A term, its circuit and its address, with what its packets from the subscriber and towards it carried.
-#[derive(Clone, Copy)]
-pub(crate) struct Running {
+/// A term: its session and its number in its shard, its circuit, its address, the place of its profile, and what its packets from the
+/// subscriber and towards it carried. The User-Name and the Class attributes of its records, the moment at which it began, and the
+/// cause of its end, once it has ended.
+#[derive(Drop)]
+pub struct Running {
     pub(crate) term: TermId,
     pub(crate) circuit: Circuit,
     pub(crate) lease: Ip4,
+    pub(crate) profile: u8,
     pub(crate) carried: Book,
+    pub(crate) user: ArrayVec<u8, 128>,
+    pub(crate) class: ArrayVec<u8, 512>,
+    pub(crate) began: u64,
+    pub(crate) cause: Option<u8>,
+}
+
+/// The terms that have no Stop yet, in the order in which they began, and those of whose beginning no Start was formed yet; how many of
+/// the first have ended; and for how many more there is room.
+#[derive(Drop)]
+pub struct Terms {
+    rows: Vec<Running>,
+    news: Vec<Running>,
+    over: usize,
+    room: usize,
+}
+
+impl Model for Terms {
+    ghost use Rattle.std.specs.Prelude.{◌≡◌, ◌+◌, ◌≤◌, count_by, length, vec_capacity};
+    ghost use Rattle.bng_shard.specs.Running.{TermsView, AreRising, has_ended};
+
+    ghost Value = { TermsView };
+
+    ghost view = { λ t. record { rows = t.rows.items; news = t.news.items; room = t.room } };
+
+    ghost invariant = { λ t. AreRising t.rows.items × (t.over ≡ count_by has_ended t.rows.items)
+        × (length t.rows.items + t.room ≤ vec_capacity t.rows) × (length t.news.items + t.room ≤ vec_capacity t.news) };
 }
 
 // The row of the term of a session that begins.

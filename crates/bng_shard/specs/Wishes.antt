@@ -1,0 +1,92 @@
+-- What an Access-Accept asks of the pools of addresses, and what comes of the answer.
+use Rattle.std.specs.Prelude.{◌≡◌, ◌⊎◌, ℕ, Bool, true, false, ◌&&◌, List, [], Option, Some, None, nat_le, IsTrue, IsFalse, list_any, slice_get, if◌then◌else◌}
+use Rattle.std.specs.List.{position}
+use Rattle.std.specs.Str.{bytes_eq, codes}
+use Rattle.bng_base.specs.declared.address.Ip4.{Ip4}
+use Rattle.bng_base.specs.declared.book.Range.{Range}
+use Rattle.bng_base.specs.declared.item.Claim.{Claim}
+use Rattle.bng_base.specs.declared.item.Claim.TheVariants.{NoClaim, Claimed, Held, Exhausted}
+use Rattle.bng_base.specs.declared.settings.NamedRange.{NamedRange}
+use Rattle.bng_grant.specs.Grants.{Gift, IsGrant}
+use Rattle.bng_pool.specs.Ranges.{InRange}
+use Rattle.bng_verdict.specs.Verdicts.{Saying, IsVerdict}
+use Rattle.bng_shard.specs.declared.wish.Wish.{Wish}
+use Rattle.bng_shard.specs.declared.wish.Wish.TheVariants.{Nothing, Address, Pool}
+use Rattle.bng_shard.specs.Link.{Told}
+
+abbrev pub is_named : List ℕ → NamedRange → Bool
+is_named name p = bytes_eq p.name.items name
+
+-- the place of the pool that an Accept names (Framed-Pool, RFC 2869 section 5.18), and of the first where it names none
+abbrev pub pool_for : List NamedRange → Option (List ℕ) → Option ℕ
+pool_for pools None = Some 0
+pool_for pools (Some name) = position (is_named name) pools
+
+abbrev pub is_within : ℕ → NamedRange → Bool
+is_within a p = nat_le p.range.first.0 a && nat_le a p.range.last.0
+
+-- A Framed-IP-Address is asked for itself (RFC 2865 section 5.8), where a pool has it; else any address of the pool is.
+abbrev pub wish_in : List NamedRange → Option ℕ → ℕ → Wish
+wish_in pools None k = Pool k
+wish_in pools (Some a) k = if list_any (is_within a) pools then Address (record { 0 = a }) else Nothing
+
+abbrev pub wish_at : List NamedRange → Bool → Option ℕ → Option ℕ → Wish
+wish_at pools limited address None = Nothing
+wish_at pools true address (Some k) = Nothing
+wish_at pools false address (Some k) = wish_in pools address k
+
+abbrev pub has_none : List NamedRange → Bool
+has_none [] = true
+has_none (p ∷ ps) = false
+
+-- What an Accept that gives this asks of the pools. A gateway without pools has no address to give; and an Accept that names no pool that
+-- is there, or that found the shard's allowance of new terms used up, asks for none.
+abbrev pub wish_of : List NamedRange → Bool → Gift → Wish
+wish_of pools limited g = if has_none pools then Nothing else wish_at pools limited g.address (pool_for pools g.pool)
+
+-- an answer to a wish
+abbrev pub IsAnswerTo : List NamedRange → Wish → Claim → Type 0
+IsAnswerTo pools Nothing claim = claim ≡ NoClaim
+IsAnswerTo pools (Address a) claim = (claim ≡ Claimed a) ⊎ (claim ≡ Held a)
+IsAnswerTo pools (Pool k) claim = ((a : Ip4) × (p : NamedRange) × (slice_get pools k ≡ Some p) × InRange p.range a.0 × (claim ≡ Claimed a)) ⊎ (claim ≡ Exhausted k)
+
+-- the peer is refused with this text
+abbrev pub refused_with : List ℕ → Told
+refused_with text = record { yes = false; lease = None; text = text; class = [] }
+
+-- it is accepted, with this address if there is one
+abbrev pub accepted_with : Option Ip4 → List ℕ → Gift → Told
+accepted_with lease text g = record { yes = true; lease = lease; text = text; class = g.class }
+
+-- what comes of the answer to a wish
+abbrev pub told_by : Claim → List ℕ → Gift → Told
+told_by NoClaim text g = refused_with (codes "no address")
+told_by (Claimed a) text g = accepted_with (Some a) text g
+told_by (Held a) text g = refused_with (codes "no address")
+told_by (Exhausted k) text g = refused_with (codes "no address")
+
+abbrev pub told_at : Bool → Option ℕ → Claim → List ℕ → Gift → Told
+told_at limited None claim text g = refused_with (codes "no pool")
+told_at true (Some k) claim text g = refused_with (codes "no record")
+told_at false (Some k) claim text g = told_by claim text g
+
+-- What an Accept comes to. A gateway without pools accepts the peer without an address. Else the first check that fails makes it a
+-- refusal, with a text of the gateway's own: the pool is there, a term may begin, and there is the address.
+abbrev pub told_of : List NamedRange → Bool → Claim → List ℕ → Gift → Told
+told_of pools limited claim text g = if has_none pools then accepted_with None text g else told_at limited (pool_for pools g.pool) claim text g
+
+-- What the octets of a reply come to, where what they ask of the pools was answered by this claim: nothing, where they say nothing; a
+-- refusal, where they say no; and what the Accept comes to, where they say yes.
+abbrev pub Decides : List NamedRange → Bool → List ℕ → Claim → Option Told → Type 0
+Decides pools limited octets claim told =
+    (IsVerdict octets None × (claim ≡ NoClaim) × (told ≡ None))
+    ⊎ (((v : Saying) × IsVerdict octets (Some v) × IsFalse v.yes × (claim ≡ NoClaim) × (told ≡ Some (refused_with v.text)))
+    ⊎ ((v : Saying) × IsVerdict octets (Some v) × IsTrue v.yes × (g : Gift) × IsGrant octets (Some g)
+        × IsAnswerTo pools (wish_of pools limited g) claim × (told ≡ Some (told_of pools limited claim v.text g))))
+
+-- what the octets of a reply ask of the pools
+abbrev pub Wishes : List NamedRange → Bool → List ℕ → Wish → Type 0
+Wishes pools limited octets wish =
+    (IsVerdict octets None × (wish ≡ Nothing))
+    ⊎ (((v : Saying) × IsVerdict octets (Some v) × IsFalse v.yes × (wish ≡ Nothing))
+    ⊎ ((v : Saying) × IsVerdict octets (Some v) × IsTrue v.yes × (g : Gift) × IsGrant octets (Some g) × (wish ≡ wish_of pools limited g)))
