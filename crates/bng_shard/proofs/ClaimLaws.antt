@@ -44,7 +44,7 @@ use Rattle.bng_shard.specs.Verdicts.{HearsVerdict}
 use Rattle.bng_shard.proofs.GrantLaws.{if_some, last_there, last_with, step_last}
 use Rattle.bng_shard.proofs.LinkSteps.{verdict_of, verdict_steps}
 use Rattle.bng_shard.proofs.OneEffect.{same_made}
-use Rattle.bng_shard.proofs.Terms.{at_number}
+use Rattle.bng_shard.proofs.TermLaws.{at_number}
 use Rattle.bng_shard.proofs.Values.{none_some, same_some}
 
 -- Sessions ----------------------------------------------------------------------------------------------------------------

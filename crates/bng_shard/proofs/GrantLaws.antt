@@ -55,7 +55,7 @@ use Rattle.bng_shard.proofs.Circuits.{Opens, circuit_found, circuit_none, opened
 use Rattle.bng_shard.proofs.Granted.{NoYes, both_no_yes, core_no_yes, discovery_no_yes, none_yes, packet_no_yes, padt_no_yes, said_yes}
 use Rattle.bng_shard.proofs.LinkSteps.{frame_of, verdict_of, frame_steps, verdict_steps}
 use Rattle.bng_shard.proofs.QuestionLaws.{asked_is_next, new_number}
-use Rattle.bng_shard.proofs.Terms.{at_number}
+use Rattle.bng_shard.proofs.TermLaws.{at_number}
 use Rattle.bng_shard.proofs.Values.{kept_from, none_some, same_some}
 
 -- Options -----------------------------------------------------------------------------------------------------------------

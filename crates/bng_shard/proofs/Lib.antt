@@ -2,7 +2,7 @@ pub mod RowSums
 pub mod Tallying
 pub mod Holding
 pub mod RowLaws
-pub mod Terms
+pub mod TermLaws
 pub mod Reading
 pub mod Spelling
 pub mod LinkSteps

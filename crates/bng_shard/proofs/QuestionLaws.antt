@@ -41,7 +41,7 @@ use Rattle.bng_shard.specs.Verdicts.{HearsVerdict}
 use Rattle.bng_ppp.proofs.WholeQuestions.{open_was_asked}
 use Rattle.bng_shard.proofs.LinkSteps.{frame_of, verdict_of, frame_steps, verdict_steps}
 use Rattle.bng_shard.proofs.OneEffect.{same_made}
-use Rattle.bng_shard.proofs.Terms.{at_number, next_of}
+use Rattle.bng_shard.proofs.TermLaws.{at_number, next_of}
 use Rattle.bng_shard.proofs.Values.{none_some, numbered, same_some, stands}
 
 -- Lists of questions ------------------------------------------------------------------------------------------------------

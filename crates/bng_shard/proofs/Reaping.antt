@@ -34,7 +34,7 @@ use Rattle.bng_shard.proofs.Done.{done_leaves}
 use Rattle.bng_shard.proofs.OfSession.{is_of, key_of, others, keys_of_kept, rows_kept, option_carried, found_one, only_one, any_passing, key_among, hits_in, hits_sum, no_hits}
 use Rattle.bng_shard.proofs.Splitting.{SplitsAt, one_splits}
 use Rattle.bng_shard.proofs.Stepping.{view}
-use Rattle.bng_shard.proofs.Terms.{all_live, settled_terms, terms_there}
+use Rattle.bng_shard.proofs.TermLaws.{all_live, settled_terms, terms_there}
 use Rattle.bng_shard.proofs.Values.{kept, none_kept, none_some, numbered, same_sessions, same_some, stands, sum_nothing, value_at-kept, values-kept}
 
 -- the term of a session whose term has ended

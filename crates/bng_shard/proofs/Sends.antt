@@ -45,7 +45,7 @@ use Rattle.bng_shard.specs.Verdicts.{HearsVerdict}
 use Rattle.bng_shard.proofs.LinkSteps.{frame_of, verdict_of, frame_steps, verdict_steps}
 use Rattle.bng_shard.proofs.Packets.{spelled_up, short_up, spelled_down}
 use Rattle.bng_shard.proofs.Spelling.{IsControl, AreControl, discovery_control, padt_control, said_control}
-use Rattle.bng_shard.proofs.Terms.{terms_there, at_number, term_at_number, term_passing}
+use Rattle.bng_shard.proofs.TermLaws.{terms_there, at_number, term_at_number, term_passing}
 
 -- nothing is charged, and what is sent is of the entry's seat
 pub record SendsNone (e : Entry) (d : Deed) : Type 0 where

@@ -24,7 +24,7 @@ use Rattle.bng_shard.specs.Step.{Step}
 use Rattle.bng_shard.proofs.Reading.{whole_read}
 use Rattle.bng_shard.proofs.Sends.{SendsNone, SendsOne, step_sends}
 use Rattle.bng_shard.proofs.Spelling.{IsControl, AreControl}
-use Rattle.bng_shard.proofs.Terms.{terms_there, step_remains, step_unchanged, settled_terms, zip_keys, zip_profiles}
+use Rattle.bng_shard.proofs.TermLaws.{terms_there, step_remains, step_unchanged, settled_terms, zip_keys, zip_profiles}
 
 -- Terms -----------------------------------------------------------------------------------------------------------------
 

@@ -24,7 +24,7 @@ use Rattle.bng_shard.specs.Fits.{ArePlaced, owed}
 use Rattle.bng_shard.specs.State.{State}
 use Rattle.bng_shard.specs.Step.{Step}
 use Rattle.bng_shard.specs.Sums.{Rises}
-use Rattle.bng_shard.proofs.Terms.{Remains, step_remains, terms_there, zip_keys}
+use Rattle.bng_shard.proofs.TermLaws.{Remains, step_remains, terms_there, zip_keys}
 use Rattle.bng_shard.proofs.StepLaws.{light}
 
 -- the outs that a round may still have -------------------------------------------------------------------------------------

@@ -1,8 +1,11 @@
 -- What one step of a session's link does to the session and to what is sent.
-use Rattle.std.specs.Prelude.{◌≡◌, ℕ, List, ◌++◌}
+use Rattle.std.specs.Prelude.{◌≡◌, ℕ, List, ◌++◌, Option, None}
 use Rattle.bng_base.specs.declared.item.OutRecord.{OutRecord}
+use Rattle.bng_ppp.specs.declared.whole_input.WholeInput.{WholeInput}
+use Rattle.bng_ppp.specs.declared.whole_input.WholeInput.TheVariants.{Start, Frame, Timer, Verdict, Close, Lost}
 use Rattle.bng_shard.specs.declared.rules.Rules.{Rules}
 use Rattle.bng_shard.specs.declared.sending.At.{At}
+use Rattle.bng_shard.specs.declared.session.Lease.{Lease}
 use Rattle.bng_shard.specs.declared.session.Session.{Session}
 use Rattle.bng_shard.specs.Link.{Drives, LinkStep}
 
@@ -11,3 +14,12 @@ pub record Driven (r : Rules) (a : At) (Steps : LinkStep) (asked : ℕ) (x : Ses
   pub more : List OutRecord
   pub drives : Drives r a asked x Steps more cause x' asked'
   pub outs_are : outs' ≡ outs ++ more
+
+-- A live term of a session goes on over this input until the link says its end. A verdict is told where there is none.
+abbrev pub LastsOver : WholeInput → Option Lease → Type 0
+LastsOver Start lease = Unit {0}
+LastsOver (Frame octets) lease = Unit {0}
+LastsOver Timer lease = Unit {0}
+LastsOver (Verdict yes address text) lease = lease ≡ None
+LastsOver Close lease = ⊥
+LastsOver Lost lease = ⊥

@@ -1,7 +1,9 @@
 -- What a shard keeps of its terms, with the sums of each.
-use Rattle.std.specs.Prelude.{◌≡◌, ◌<◌, ℕ, Bool, List, [], ◌∷◌, length, get_or, is_some, map, Option, Some, None}
-use Rattle.std.specs.List.{AllByRecursion}
+use Rattle.std.specs.Prelude.{◌≡◌, ◌≢◌, ◌<◌, ◌≤◌, ◌+◌, ◌^◌, ℕ, Bool, true, List, [], ◌∷◌, ◌++◌, length, filter, get_or, is_some, map, Option, Some, None}
+use Rattle.std.specs.List.{All, AllByRecursion}
+use Rattle.bng_base.specs.declared.address.Ip4.{Ip4}
 use Rattle.bng_engine.specs.Lists.{AnyOf}
+use Rattle.bng_engine.specs.Terms.{ComesBefore}
 use Rattle.bng_engine.specs.Views.{Row}
 use Rattle.bng_slots.specs.Sessions.{Sessions, value_at}
 use Rattle.bng_shard.specs.declared.terms.Running.{Running}
@@ -61,3 +63,28 @@ has_ended r = is_some r.cause
 -- each session that has a lease has its live term among these
 abbrev pub AreTied : Sessions Session → List Tenure → Type 0
 AreTied sessions terms = (n : ℕ) (x : Session) (l : Lease) → value_at sessions n ≡ Some x → x.lease ≡ Some l → AnyOf (IsTermOf x l) terms
+
+-- A term may begin that has this address: no term has it, there is room, and no number is above the count of those that began.
+pub record MayBegin (a : Ip4) (s : State) (t : TermsView) : Type 0 where
+  pub room : 0 < t.room
+  pub few : s.begun + 1 < 2 ^ 48
+  pub numbered : All (λ (r : Running). r.term.serial ≤ s.begun) t.rows
+  pub free : All (λ (r : Running). r.lease ≢ a) t.rows
+  pub tied : AreTied s.sessions (tenures_in t.rows)
+
+-- The first in order (by session number, then by the term's own) of the terms that have ended has left, and the others stand as they did.
+pub record LeavesFirst (rows : List Running) (r : Running) (rows' : List Running) : Type 0 where
+  pub before : List Running
+  pub after : List Running
+  pub were : rows ≡ before ++ r ∷ after
+  pub are : rows' ≡ before ++ after
+  pub over : has_ended r ≡ true
+  pub least : AllByRecursion (λ (p : Running). ComesBefore (row_from r).key (row_from p).key) (filter has_ended rows')
+
+-- The first in order of these has left, likewise.
+pub record TellsFirst (news : List Running) (r : Running) (news' : List Running) : Type 0 where
+  pub before : List Running
+  pub after : List Running
+  pub were : news ≡ before ++ r ∷ after
+  pub are : news' ≡ before ++ after
+  pub least : AllByRecursion (λ (p : Running). ComesBefore (row_from r).key (row_from p).key) news'

@@ -1,21 +1,24 @@
 //! Packets of the sessions' terms: from a circuit to the core, and from the core to a circuit.
-ghost use Rattle.std.specs.Prelude.{◌≡◌, ◌<◌, ℕ, List, length, vec_capacity, option_map};
-ghost use Rattle.std.specs.Option.{option_and_then, option_copied};
+ghost use Rattle.std.specs.Prelude.{◌≡◌, ◌<◌, ℕ, List, None as Nothing, length, list_any, vec_capacity, option_map};
+ghost use Rattle.std.specs.Option.{option_copied};
 ghost use Rattle.bng_base.specs.FateOf.{arrival_of};
 ghost use Rattle.bng_pppoe_wire.specs.View.{frame_of};
 ghost use Rattle.bng_forward.specs.Fates.{Carries, IsCorePacket, IsFrame};
 ghost use Rattle.bng_shard.specs.Doing.{DoesWith};
 ghost use Rattle.bng_shard.specs.Fits.{ArePlaced};
-ghost use Rattle.bng_shard.specs.Frames.{charge_of as charged_to, HearsCore, HearsData, HearsPacket};
+ghost use Rattle.bng_shard.specs.Frames.{charge_of as charged_to, found_among, HearsCore, HearsData, HearsPacket};
+ghost use Rattle.bng_shard.specs.Running.{AreTied, tenures_in, whole};
 ghost use Rattle.bng_shard.specs.State.{view_of as viewed};
+ghost use Rattle.bng_shard.specs.Tenures.{has_kept};
 
 use crate::drive::port_of;
 use crate::rules::Rules;
 use crate::sending::{At, push_out};
 use crate::served::Served;
 use crate::session::{Lease, Session};
+use crate::terms::Terms;
 use bng_base::{
-    Charge, Circuit, DropCause, Fate, Frame, Ipv4, Item, OutRecord, Role, SessionNo, TermId,
+    Charge, Circuit, DropCause, Fate, Frame, Ip4, Ipv4, Item, OutRecord, Role, SessionNo, TermId,
 };
 use bng_forward::{Arrived, TermView, down, packet_from, put_in_frame, take_from_frame, up};
 use bng_pppoe_wire::Pppoe;
@@ -62,16 +65,34 @@ fn view_of(session: Option<&Session>) -> Option<Option<TermView>>
     }
 }
 
-// The view of the term of an address's holder, if it has a holder.
-fn holder_view(holder: Option<&Session>) -> Option<TermView>
-    ensures { result ≡ option_and_then viewed (option_copied holder.entry) }
+// The view of the term that has this address: the live one of its holder, or one that has ended and is not open.
+fn holder_view(holder: Option<&Session>, terms: &Terms, address: Ip4) -> Option<TermView>
+    ensures { result ≡ found_among (option_copied holder.entry) (list_any (has_kept address) (tenures_in terms.now.rows)) address }
 {
-    holder?.view()
+    match holder {
+        Some(session) => session.view(),
+        None => kept_view(terms, address),
+    }
+}
+
+// The view of a term that has ended and still has this address.
+fn kept_view(terms: &Terms, address: Ip4) -> Option<TermView>
+    ensures { result ≡ found_among Nothing (list_any (has_kept address) (tenures_in terms.now.rows)) address }
+{
+    if terms.keeps(address) {
+        Some(TermView {
+            lease: address,
+            opened: false,
+        })
+    } else {
+        None
+    }
 }
 
 /// Handles a frame that came to the port with this number and carries an IPv4 packet of so many octets.
 pub(crate) fn hear_data(
     served: &Served,
+    terms: &Terms,
     rules: &Rules,
     at: At,
     number: u8,
@@ -82,10 +103,11 @@ pub(crate) fn hear_data(
 ) -> Fate
     requires whole { item.now.frame.headroom ≡ 64 }
     requires here { at.shard ≡ served.now.sessions.shard }
+    requires tied { AreTied served.now.sessions (tenures_in terms.now.rows) }
     requires room { length outs.old.items < vec_capacity outs.old }
     requires came { IsFrame rules.now.access number (arrival_of item.now) (frame_of frame.now) }
     requires carries { (info : List ℕ) × Carries (frame_of frame.now) info × (length info ≡ size) }
-    ensures does { (moment : ℕ) (info : List ℕ) → Carries (frame_of frame.now) info → DoesWith (λ e d. HearsData rules.now served.now e number (frame_of frame.now) info d) 1 served.now served.now outs.old.items outs.new.items at moment item.now result }
+    ensures does { (moment : ℕ) (info : List ℕ) → Carries (frame_of frame.now) info → DoesWith (λ e d. HearsData rules.now (whole served.now terms.now) e number (frame_of frame.now) info d) 1 (whole served.now terms.now) (whole served.now terms.now) outs.old.items outs.new.items at moment item.now result }
     ensures capacity { vec_capacity outs.new ≡ vec_capacity outs.old }
 {
     let session = served.session_of(number, frame.src, SessionNo(frame.session));
@@ -110,6 +132,7 @@ pub(crate) fn hear_data(
 // Handles a packet of the core that says this.
 fn hear_packet(
     served: &Served,
+    terms: &Terms,
     rules: &Rules,
     at: At,
     header: Ipv4,
@@ -118,15 +141,16 @@ fn hear_packet(
 ) -> Fate
     requires whole { item.now.frame.headroom ≡ 64 }
     requires here { at.shard ≡ served.now.sessions.shard }
+    requires tied { AreTied served.now.sessions (tenures_in terms.now.rows) }
     requires placed { ArePlaced rules.now served.now.sessions }
     requires room { length outs.old.items < vec_capacity outs.old }
     requires came { IsCorePacket rules.now.core_peer (arrival_of item.now) header }
-    ensures does { (moment : ℕ) → DoesWith (λ e d. HearsPacket rules.now served.now e header d) 1 served.now served.now outs.old.items outs.new.items at moment item.now result }
+    ensures does { (moment : ℕ) → DoesWith (λ e d. HearsPacket rules.now (whole served.now terms.now) e header d) 1 (whole served.now terms.now) (whole served.now terms.now) outs.old.items outs.new.items at moment item.now result }
     ensures capacity { vec_capacity outs.new ≡ vec_capacity outs.old }
 {
     let holder = served.holder_of(header.dst);
     let mut packet = copied(&item.frame);
-    let fate = down(holder_view(holder), header, &mut packet);
+    let fate = down(holder_view(holder, terms, header.dst), header, &mut packet);
     let Fate::Forwarded = fate else {
         return fate;
     };
@@ -155,6 +179,7 @@ fn hear_packet(
 /// Handles a datagram of the core.
 pub(crate) fn hear_core(
     served: &Served,
+    terms: &Terms,
     rules: &Rules,
     at: At,
     item: &Item,
@@ -162,9 +187,10 @@ pub(crate) fn hear_core(
 ) -> Fate
     requires whole { item.now.frame.headroom ≡ 64 }
     requires here { at.shard ≡ served.now.sessions.shard }
+    requires tied { AreTied served.now.sessions (tenures_in terms.now.rows) }
     requires placed { ArePlaced rules.now served.now.sessions }
     requires room { length outs.old.items < vec_capacity outs.old }
-    ensures does { (moment : ℕ) → DoesWith (λ e d. HearsCore rules.now served.now e d) 1 served.now served.now outs.old.items outs.new.items at moment item.now result }
+    ensures does { (moment : ℕ) → DoesWith (λ e d. HearsCore rules.now (whole served.now terms.now) e d) 1 (whole served.now terms.now) (whole served.now terms.now) outs.old.items outs.new.items at moment item.now result }
     ensures capacity { vec_capacity outs.new ≡ vec_capacity outs.old }
 {
     let arrived = Arrived {
@@ -173,7 +199,7 @@ pub(crate) fn hear_core(
         octets: item.frame.payload(),
     };
     match packet_from(rules.core_peer, &arrived) {
-        Some(header) => hear_packet(served, rules, at, header, item, outs),
+        Some(header) => hear_packet(served, terms, rules, at, header, item, outs),
         None => Fate::Dropped(DropCause::Malformed),
     }
 }

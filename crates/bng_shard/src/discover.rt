@@ -9,7 +9,9 @@ ghost use Rattle.bng_shard.specs.Driven.{Driven};
 ghost use Rattle.bng_shard.specs.Making.{IsNewSession};
 ghost use Rattle.bng_shard.specs.declared.session.Session.{Session as Seen};
 ghost use Rattle.bng_ppp.specs.PppRelation.{PppSteps};
-ghost use Rattle.std.specs.Prelude.{ℕ};
+ghost use Rattle.std.specs.Prelude.{ℕ, None as Nothing, Option as Maybe};
+ghost use Rattle.bng_shard.specs.Running.{TermsView, whole};
+ghost use Rattle.bng_shard.specs.Serving.{KeepsLease};
 ghost use Rattle.bng_shard.specs.State.{port_at, with_driven};
 ghost use Rattle.bng_slots.specs.Sessions.{IsLowestVacant};
 
@@ -57,7 +59,8 @@ fn new_session(
     now: u64,
 ) -> Session
     requires { IfSome asked (λ o. length o.now ≤ 64) }
-    ensures { IsNewSession number.0 port mac (option_map (λ o. o.now) asked.entry) random.now result }
+    ensures leased { KeepsLease result.service result.lease }
+    ensures is { IsNewSession number.0 port mac (option_map (λ o. o.now) asked.entry) random.now result }
 {
     Session {
         number,
@@ -69,6 +72,7 @@ fn new_session(
             question: None,
             ended: false,
         }),
+        lease: None,
     }
 }
 
@@ -91,13 +95,13 @@ fn make(
     requires offers { length rules.now.offers ≡ length rules.now.access }
     requires placed { (port : Port) × (port_at rules.now.access number ≡ Some port) }
     requires tags { (ts : List PppoeTag) × AreTags ts frame.now.payload.now × (length ts ≤ 64) × IfSome (host_uniq_of ts) (λ h. length h ≤ 64) }
-    ensures made { (ts : List PppoeTag) → AreTags ts frame.now.payload.now → (new : Seen) × (x : Seen) × (asked : ℕ) × IsNewSession session.0 number frame.now.src (host_uniq_of ts) random.now new × Driven rules.now at (PppSteps rules.now.link WholeInput.Start now random.now) served.old.asked new x asked outs.old.items outs.new.items × (served.new ≡ with_driven served.old session.0 x asked) }
+    ensures made { (ts : List PppoeTag) → AreTags ts frame.now.payload.now → (new : Seen) × (x : Seen) × (cause : Maybe ℕ) × (asked : ℕ) × IsNewSession session.0 number frame.now.src (host_uniq_of ts) random.now new × Driven rules.now at (PppSteps rules.now.link WholeInput.Start now random.now) served.old.asked new cause x asked outs.old.items outs.new.items × ((t : TermsView) → whole served.new t ≡ with_driven (whole served.old t) session.0 Nothing cause x asked) }
     ensures capacity { vec_capacity outs.new ≡ vec_capacity outs.old }
     ensures few { length outs.new.items ≤ length outs.old.items + 5 }
 {
     let wanted = host_uniq(frame);
     let mut made = new_session(session, number, frame.src, wanted, random, now);
-    let asked = drive(
+    let (asked, _cause) = drive(
         &mut made,
         served.asked(),
         rules,
@@ -130,7 +134,7 @@ pub(crate) fn hear_discovery(
     requires port { (port : Port) × (port_at rules.now.access number ≡ Some port) }
     requires is { IsDiscovery (frame_of frame.now) }
     requires few { (ts : List PppoeTag) × AreTags ts frame.now.payload.now × (length ts ≤ 64) }
-    ensures does { DoesWith (λ e d. Discovers rules.now served.old e number (frame_of frame.now) d) 6 served.old served.new outs.old.items outs.new.items at now item.now result }
+    ensures does { (t : TermsView) → DoesWith (λ e d. Discovers rules.now (whole served.old t) e number (frame_of frame.now) d) 6 (whole served.old t) (whole served.new t) outs.old.items outs.new.items at now item.now result }
     ensures capacity { vec_capacity outs.new ≡ vec_capacity outs.old }
 {
     let Some(port) = port_of(rules, number) else {

@@ -7,10 +7,11 @@ ghost use Rattle.bng_ppp.specs.Said.{payloads};
 ghost use Rattle.bng_base.specs.declared.item.OutRecord.{OutRecord as OutRecordOf};
 ghost use Rattle.bng_base.specs.declared.settings.AccessPort.{AccessPort as Port};
 ghost use Rattle.bng_shard.specs.State.{made_one, offers_at, port_at};
+ghost use Rattle.bng_shard.specs.Serving.{KeepsLease};
 ghost use Rattle.bng_shard.specs.Deed.{has_macs, frame_outs};
 ghost use Rattle.bng_shard.specs.Link.{ppp_outs, EndsWith};
 ghost use Rattle.bng_discovery.specs.Reply.{padt_of};
-ghost use Rattle.bng_shard.specs.Driven.{Driven};
+ghost use Rattle.bng_shard.specs.Driven.{Driven, LastsOver};
 
 use crate::rules::Rules;
 use crate::sending::{At, push_out};
@@ -159,7 +160,8 @@ pub(crate) fn send_padt(rules: &Rules, at: At, session: &Session, outs: &mut Vec
 }
 
 /// Tells a session's link an input and appends what goes out for it; so many questions had been asked in its shard. Where LCP
-/// finished the session has ended, and its PADT stands last. Answers how many questions were asked then.
+/// finished the session has ended, and its PADT stands last. Answers how many questions were asked then, and the cause, where the step
+/// ended the session's live term.
 pub(crate) fn drive(
     session: &mut Session,
     asked: u64,
@@ -169,14 +171,18 @@ pub(crate) fn drive(
     now: u64,
     random: &[u8; 16],
     outs: &mut Vec<OutRecord>,
-) -> u64
+) -> (u64, Option<u8>)
     requires moment { now < 2 ^ 60 }
     requires auth { 0 < length rules.now.link.auth.items }
     requires offers { length rules.now.offers ≡ length rules.now.access }
     requires placed { (port : Port) × (port_at rules.now.access session.old.port ≡ Some port) }
     requires made { made_one session.old.service ≡ 1 }
+    requires leased { KeepsLease session.old.service session.old.lease }
+    requires lasts { LastsOver input.entry session.old.lease }
     requires room { length outs.old.items + 5 ≤ vec_capacity outs.old }
-    ensures driven { Driven rules.now at (PppSteps rules.now.link input.entry now random.now) asked session.old session.new result outs.old.items outs.new.items }
+    ensures driven { Driven rules.now at (PppSteps rules.now.link input.entry now random.now) asked session.old result.1 session.new result.0 outs.old.items outs.new.items }
+    ensures leased { KeepsLease session.new.service session.new.lease }
+    ensures number { session.new.number ≡ session.old.number }
     ensures capacity { vec_capacity outs.new ≡ vec_capacity outs.old }
     ensures few { length outs.new.items ≤ length outs.old.items + 5 }
 {
@@ -186,5 +192,5 @@ pub(crate) fn drive(
     if steps.finished {
         send_padt(rules, at, session, outs);
     }
-    asked
+    (asked, steps.term_ended)
 }

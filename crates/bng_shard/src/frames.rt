@@ -4,13 +4,14 @@ ghost use Rattle.bng_pppoe_wire.specs.View.{frame_of};
 ghost use Rattle.bng_shard.specs.declared.session.Session.{Session as Seen};
 ghost use Rattle.bng_shard.specs.Controlling.{IsControl};
 ghost use Rattle.bng_shard.specs.Doing.{DoesWith};
-ghost use Rattle.bng_shard.specs.Driven.{Driven};
+ghost use Rattle.bng_shard.specs.Driven.{Driven, LastsOver};
 ghost use Rattle.bng_shard.specs.Fits.{ArePlaced};
 ghost use Rattle.bng_shard.specs.Frames.{HearsIn};
-ghost use Rattle.bng_shard.specs.Link.{ended};
+ghost use Rattle.bng_shard.specs.Link.{ended, user_request};
 ghost use Rattle.bng_ppp.specs.PppRelation.{PppSteps};
-ghost use Rattle.std.specs.Prelude.{ℕ};
-ghost use Rattle.bng_shard.specs.State.{session_of, with_driven, with_session};
+ghost use Rattle.std.specs.Prelude.{ℕ, Option as Maybe};
+ghost use Rattle.bng_shard.specs.Running.{whole};
+ghost use Rattle.bng_shard.specs.State.{session_of, with_driven, with_ended};
 ghost use Rattle.bng_shard.specs.Timers.{lives_at};
 ghost use Rattle.bng_slots.specs.Sessions.{value_at};
 
@@ -18,16 +19,21 @@ use crate::drive::drive;
 use crate::rules::Rules;
 use crate::sending::At;
 use crate::served::Served;
+use crate::terms::Terms;
 use bng_base::{DropCause, Fate, Item, OutRecord, SessionNo};
 use bng_ppp::WholeInput;
 use bng_pppoe_wire::Pppoe;
 
-// A session that lives ends.
-fn end_session(served: &mut Served, number: SessionNo)
+// The cause of an end by the subscriber (RFC 2866 section 5.10, User Request).
+const USER_REQUEST: u8 = 1;
+
+// A session that lives ends, by the subscriber's PADT.
+fn end_session(served: &mut Served, terms: &mut Terms, number: SessionNo)
     requires lives { lives_at served.old number.0 ≡ true }
-    ensures { (x : Seen) → value_at served.old.sessions number.0 ≡ Some x → served.new ≡ with_session served.old number.0 (ended x) }
+    ensures { (x : Seen) → value_at served.old.sessions number.0 ≡ Some x → whole served.new terms.new ≡ with_ended (whole served.old terms.old) number.0 x.lease user_request (ended x) }
 {
     let mut session = served.take(number);
+    terms.close(session.lease(), Some(USER_REQUEST));
     session.end();
     served.put(session);
 }
@@ -35,6 +41,7 @@ fn end_session(served: &mut Served, number: SessionNo)
 /// Tells the link of a session that lives an input, and appends what goes out for it.
 pub(crate) fn drive_at(
     served: &mut Served,
+    terms: &mut Terms,
     number: SessionNo,
     rules: &Rules,
     at: At,
@@ -48,13 +55,15 @@ pub(crate) fn drive_at(
     requires offers { length rules.now.offers ≡ length rules.now.access }
     requires placed { ArePlaced rules.now served.old.sessions }
     requires lives { lives_at served.old number.0 ≡ true }
+    requires lasts { (x : Seen) → value_at served.old.sessions number.0 ≡ Some x → LastsOver input.entry x.lease }
     requires room { length outs.old.items + 5 ≤ vec_capacity outs.old }
-    ensures driven { (x : Seen) → value_at served.old.sessions number.0 ≡ Some x → (x' : Seen) × (asked : ℕ) × Driven rules.now at (PppSteps rules.now.link input.entry now random.now) served.old.asked x x' asked outs.old.items outs.new.items × (served.new ≡ with_driven served.old number.0 x' asked) }
+    ensures driven { (x : Seen) → value_at served.old.sessions number.0 ≡ Some x → (x' : Seen) × (cause : Maybe ℕ) × (asked : ℕ) × Driven rules.now at (PppSteps rules.now.link input.entry now random.now) served.old.asked x cause x' asked outs.old.items outs.new.items × (whole served.new terms.new ≡ with_driven (whole served.old terms.old) number.0 x.lease cause x' asked) }
     ensures capacity { vec_capacity outs.new ≡ vec_capacity outs.old }
     ensures few { length outs.new.items ≤ length outs.old.items + 5 }
 {
     let mut session = served.take(number);
-    let asked = drive(
+    let lease = session.lease();
+    let (asked, cause) = drive(
         &mut session,
         served.asked(),
         rules,
@@ -64,6 +73,7 @@ pub(crate) fn drive_at(
         random,
         outs,
     );
+    terms.close(lease, cause);
     served.put(session);
     served.count_asked(asked);
 }
@@ -97,6 +107,7 @@ fn control_of(served: &Served, number: u8, frame: &Pppoe<'_>) -> Control
 /// Handles a frame that came to the port with this number, names a session and carries no IPv4 packet.
 pub(crate) fn hear_control(
     served: &mut Served,
+    terms: &mut Terms,
     rules: &Rules,
     at: At,
     now: u64,
@@ -112,7 +123,7 @@ pub(crate) fn hear_control(
     requires here { at.shard ≡ served.old.sessions.shard }
     requires room { length outs.old.items + 5 ≤ vec_capacity outs.old }
     requires ppp { frame.now.discovery ≡ false → 2 ≤ length frame.now.payload.now }
-    ensures does { DoesWith (λ e d. HearsIn (session_of served.old number frame.now.src frame.now.session) rules.now served.old e (frame_of frame.now) d) 5 served.old served.new outs.old.items outs.new.items at now item.now result }
+    ensures does { DoesWith (λ e d. HearsIn (session_of served.old number frame.now.src frame.now.session) rules.now (whole served.old terms.old) e (frame_of frame.now) d) 5 (whole served.old terms.old) (whole served.new terms.new) outs.old.items outs.new.items at now item.now result }
     ensures capacity { vec_capacity outs.new ≡ vec_capacity outs.old }
 {
     let session = SessionNo(frame.session);
@@ -121,11 +132,12 @@ pub(crate) fn hear_control(
         Control::Ignored => Fate::Consumed,
         Control::Heard => {
             if frame.discovery {
-                end_session(served, session);
+                end_session(served, terms, session);
                 return Fate::Consumed;
             }
             drive_at(
                 served,
+                terms,
                 session,
                 rules,
                 at,

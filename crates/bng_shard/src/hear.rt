@@ -7,8 +7,11 @@ ghost use Rattle.bng_shard.specs.Doing.{DoesWith};
 ghost use Rattle.bng_shard.specs.Fits.{ArePlaced};
 ghost use Rattle.bng_shard.specs.Frames.{HearsAccess, HearsFrame};
 ghost use Rattle.bng_shard.specs.Hearing.{Does, outs_most};
-ghost use Rattle.bng_shard.specs.Protocol.{entry_of};
+ghost use Rattle.bng_shard.specs.Protocol.{entry_with};
+ghost use Rattle.bng_base.specs.declared.address.Ip4.{Ip4 as Address};
+ghost use Rattle.bng_shard.specs.Running.{AreTied, MayBegin, tenures_in, whole};
 ghost use Rattle.bng_shard.specs.Step.{Step};
+ghost use Rattle.bng_shard.specs.Wished.{IsAnswered};
 
 use crate::data::{hear_core, hear_data};
 use crate::discover::hear_discovery;
@@ -16,15 +19,17 @@ use crate::frames::hear_control;
 use crate::rules::Rules;
 use crate::sending::At;
 use crate::served::Served;
+use crate::terms::Terms;
 use crate::timers::{end, tick};
 use crate::verdicts::hear_verdict;
-use bng_base::{DropCause, Fate, Item, ItemKind, OutRecord};
+use bng_base::{Claim, DropCause, Fate, Item, ItemKind, OutRecord};
 use bng_forward::{Arrived, carried, frame_at, names_session};
 use bng_pppoe_wire::Pppoe;
 
 // A frame that came to the port with this number.
 fn hear_frame(
     served: &mut Served,
+    terms: &mut Terms,
     rules: &Rules,
     at: At,
     now: u64,
@@ -37,25 +42,27 @@ fn hear_frame(
     requires auth { 0 < length rules.now.link.auth.items }
     requires offers { length rules.now.offers ≡ length rules.now.access }
     requires placed { ArePlaced rules.now served.old.sessions }
+    requires tied { AreTied served.old.sessions (tenures_in terms.old.rows) }
     requires whole { item.now.frame.headroom ≡ 64 }
     requires here { at.shard ≡ served.old.sessions.shard }
     requires room { length outs.old.items + 10 ≤ vec_capacity outs.old }
     requires came { IsFrame rules.now.access number (arrival_of item.now) (frame_of frame.now) }
-    ensures does { DoesWith (λ e d. HearsFrame rules.now served.old e number (frame_of frame.now) d) 10 served.old served.new outs.old.items outs.new.items at now item.now result }
+    ensures does { DoesWith (λ e d. HearsFrame rules.now (whole served.old terms.old) e number (frame_of frame.now) d) 10 (whole served.old terms.old) (whole served.new terms.new) outs.old.items outs.new.items at now item.now result }
     ensures capacity { vec_capacity outs.new ≡ vec_capacity outs.old }
 {
     if !names_session(frame) {
         return hear_discovery(served, rules, at, now, number, frame, item, outs);
     }
     match carried(frame) {
-        Some(info) => hear_data(served, rules, at, number, frame, info.len(), item, outs),
-        None => hear_control(served, rules, at, now, number, frame, item, outs),
+        Some(info) => hear_data(served, terms, rules, at, number, frame, info.len(), item, outs),
+        None => hear_control(served, terms, rules, at, now, number, frame, item, outs),
     }
 }
 
 // A datagram of the access port with this number.
 fn hear_access(
     served: &mut Served,
+    terms: &mut Terms,
     rules: &Rules,
     at: At,
     now: u64,
@@ -67,10 +74,11 @@ fn hear_access(
     requires auth { 0 < length rules.now.link.auth.items }
     requires offers { length rules.now.offers ≡ length rules.now.access }
     requires placed { ArePlaced rules.now served.old.sessions }
+    requires tied { AreTied served.old.sessions (tenures_in terms.old.rows) }
     requires whole { item.now.frame.headroom ≡ 64 }
     requires here { at.shard ≡ served.old.sessions.shard }
     requires room { length outs.old.items + 10 ≤ vec_capacity outs.old }
-    ensures does { DoesWith (λ e d. HearsAccess rules.now served.old e number d) 10 served.old served.new outs.old.items outs.new.items at now item.now result }
+    ensures does { DoesWith (λ e d. HearsAccess rules.now (whole served.old terms.old) e number d) 10 (whole served.old terms.old) (whole served.new terms.new) outs.old.items outs.new.items at now item.now result }
     ensures capacity { vec_capacity outs.new ≡ vec_capacity outs.old }
 {
     let arrived = Arrived {
@@ -79,43 +87,51 @@ fn hear_access(
         octets: item.frame.payload(),
     };
     match frame_at(rules.access.as_slice(), number, &arrived) {
-        Some(frame) => hear_frame(served, rules, at, now, number, &frame, item, outs),
+        Some(frame) => hear_frame(served, terms, rules, at, now, number, &frame, item, outs),
         None => Fate::Dropped(DropCause::Malformed),
     }
 }
 
-/// Handles an item at this moment in milliseconds, and answers its fate. What is to be sent for it stands after what stood in
+/// Handles an item at this moment in milliseconds, with what was answered where it asked for an address, and answers its fate. What is to be sent for it stands after what stood in
 /// `outs`, of which no memory is taken.
 pub(crate) fn hear(
     served: &mut Served,
+    terms: &mut Terms,
     rules: &Rules,
     at: At,
     now: u64,
     item: &Item,
+    claim: Claim,
+    limited: bool,
     outs: &mut Vec<OutRecord>,
 ) -> Fate
     requires moment { now < 2 ^ 60 }
     requires auth { 0 < length rules.now.link.auth.items }
     requires offers { length rules.now.offers ≡ length rules.now.access }
     requires placed { ArePlaced rules.now served.old.sessions }
+    requires tied { AreTied served.old.sessions (tenures_in terms.old.rows) }
     requires whole { item.now.frame.headroom ≡ 64 }
     requires place { at.shard ≡ served.old.sessions.shard }
+    requires asked { IsAnswered rules.now served.old item.now limited claim }
+    requires begins { (a : Address) → claim ≡ Claim.Claimed a → MayBegin a served.old terms.old }
     requires room { length outs.old.items + outs_most item.now.kind ≤ vec_capacity outs.old }
-    ensures does { Does (Step rules.now served.old) (outs_most item.now.kind) served.old served.new outs.old.items outs.new.items (entry_of at.seat at.place now item.now) result }
+    ensures does { Does (Step rules.now (whole served.old terms.old) limited) (outs_most item.now.kind) (whole served.old terms.old) (whole served.new terms.new) outs.old.items outs.new.items (entry_with claim at.seat at.place now item.now) result }
     ensures capacity { vec_capacity outs.new ≡ vec_capacity outs.old }
 {
     match item.kind {
-        ItemKind::Access(number) => hear_access(served, rules, at, now, number, item, outs),
-        ItemKind::Core => hear_core(served, rules, at, item, outs),
+        ItemKind::Access(number) => hear_access(served, terms, rules, at, now, number, item, outs),
+        ItemKind::Core => hear_core(served, terms, rules, at, item, outs),
         ItemKind::Tunnel => Fate::Consumed,
-        ItemKind::Verdict => hear_verdict(served, rules, at, now, item, outs),
+        ItemKind::Verdict => hear_verdict(
+            served, terms, rules, at, now, item, claim, limited, outs,
+        ),
         ItemKind::Change => Fate::Consumed,
         ItemKind::Tick => {
-            tick(served, rules, at, now, &item.random, outs);
+            tick(served, terms, rules, at, now, &item.random, outs);
             Fate::Consumed
         }
         ItemKind::End => {
-            end(served, rules, at, outs);
+            end(served, terms, rules, at, outs);
             Fate::Consumed
         }
     }

@@ -1,5 +1,6 @@
 //! The laws that the steps of a shard meet.
-ghost use Rattle.std.specs.Prelude.{◌≡◌, ◌≢◌, ◌⊎◌, ◌+◌, ◌-◌, ◌^◌, ◌/◌, ◌<◌, ◌≤◌, ℕ, List, [], Some, count_by, is_some, length, if◌then◌else◌};
+ghost use Rattle.std.specs.Prelude.{◌≡◌, ◌≢◌, ◌⊎◌, ◌+◌, ◌-◌, ◌^◌, ◌/◌, ◌<◌, ◌≤◌, ℕ, Bool, List, [], Some, count_by, is_some, length, if◌then◌else◌};
+ghost use Rattle.bng_base.specs.declared.item.Claim.TheVariants.{NoClaim};
 ghost use Rattle.bng_base.specs.declared.item.ItemKind.TheVariants.{End};
 ghost use Rattle.bng_engine.specs.Protocol.{Alike, StepLaws};
 ghost use Rattle.bng_engine.specs.Views.{row_keys};
@@ -10,7 +11,7 @@ ghost use Rattle.bng_base.specs.declared.settings.Static.{Static};
 ghost use Rattle.bng_slots.specs.Sessions.{IsNumberOf};
 ghost use Rattle.bng_shard.specs.declared.rules.Rules.{Rules};
 ghost use Rattle.bng_shard.specs.Deed.{Deed, is_forwarded};
-ghost use Rattle.bng_shard.specs.Protocol.{ShardState, Handled, StaysOrEnds, opened, pppoe, packet_octets, sessions_of, terms_of};
+ghost use Rattle.bng_shard.specs.Protocol.{ShardState, Handled, HasNoLogins, StaysOrEnds, opened, pppoe, packet_octets, sessions_of, terms_of};
 ghost use Rattle.bng_shard.specs.Claiming.{IsAskedBy};
 ghost use Rattle.bng_shard.specs.Granting.{IsGranted, IsGrantedOn, IsSound, IsYesOn, accepted_ask_at};
 ghost use Rattle.bng_shard.specs.Opening.{opened_slots};
@@ -20,25 +21,34 @@ ghost use Rattle.bng_shard.specs.State.{State, settled};
 ghost use Rattle.bng_shard.specs.Step.{Step};
 
 /// The steps of a shard meet the laws on which the accounts of a run rest: each packet that is charged is of a live term, on its
-/// circuit and with its address, and the octets of each datagram are read as its charge says. No step claims an address, and none is
-/// told that one is held; no term begins. Each datagram is a whole IPv4 packet as its charge says, or no packet of a
-/// subscriber. Only an End changes a term: it ends some, by the gateway's own stop. An End leaves no session, or 64 fewer. Of a datagram of at most 4,096 octets it sends at most
+/// circuit and with its address, and the octets of each datagram are read as its charge says. Each datagram is a whole IPv4 packet as its
+/// charge says, or no packet of a subscriber. An End leaves no session, or 64 fewer. Of a datagram of at most 4,096 octets it sends at most
 /// 4,160 octets of packets. It sends one packet where the fate is Forwarded, and else none. From one state and one entry there is
 /// one effect. The count of questions does not fall; until it has come to its end, each question that is open after a step was open
 /// before it, or has a number that the step gave.
 pub fn steps_meet_laws()
     ensures laws { StepLaws pppoe }
-    ensures claims { (s : ShardState) (h : Handled) → (pppoe).is_step s h → ((pppoe).claimed h ≡ []) × ((pppoe).refused h ≡ []) }
-    ensures whole { (r : Rules) (s : State) (d : Deed) → Step r s d → AllByRecursion IsWhole d.outs }
-    ensures begun { (r : Rules) (s : State) (d : Deed) → Step r s d → d.next.begun ≡ s.begun }
-    ensures terms { (r : Rules) (s : State) (d : Deed) → Step r s d → ¬ (d.entry.item.kind ≡ End) → terms_of (record { rules = r; slots = d.next }) ≡ terms_of (record { rules = r; slots = s }) }
-    ensures ends { (r : Rules) (s : State) (d : Deed) → Step r s d → AllZip StaysOrEnds (terms_of (record { rules = r; slots = s })) (terms_of (record { rules = r; slots = d.next })) }
+    ensures whole { (r : Rules) (s : State) (limited : Bool) (d : Deed) → Step r s limited d → AllByRecursion IsWhole d.outs }
     ensures fewer { (s : ShardState) (h : Handled) → (pppoe).is_step s h → h.deed.entry.item.kind ≡ End
         → (sessions_of ((pppoe).settled ((pppoe).next s h)) ≡ 0) ⊎ (sessions_of ((pppoe).settled ((pppoe).next s h)) + 64 ≤ sessions_of s) }
-    ensures light { (r : Rules) (s : State) (d : Deed) → Step r s d → length d.entry.item.frame.payload ≤ 4096 → packet_octets d.outs ≤ 4160 }
-    ensures fates { (r : Rules) (s : State) (d : Deed) → Step r s d → count_by (λ o. is_some o.charge) d.outs ≡ (if is_forwarded d.fate then 1 else 0) }
+    ensures light { (r : Rules) (s : State) (limited : Bool) (d : Deed) → Step r s limited d → length d.entry.item.frame.payload ≤ 4096 → packet_octets d.outs ≤ 4160 }
+    ensures fates { (r : Rules) (s : State) (limited : Bool) (d : Deed) → Step r s limited d → count_by (λ o. is_some o.charge) d.outs ≡ (if is_forwarded d.fate then 1 else 0) }
     ensures alike { Alike pppoe }
-    ensures questions { (r : Rules) (s : State) (d : Deed) → Step r s d → AsksOn s d.next }
+    ensures questions { (r : Rules) (s : State) (limited : Bool) (d : Deed) → Step r s limited d → AsksOn s d.next }
+{}
+
+/// A gateway without pools gives no address, so no session that discovery made has a term: none has one at the opening, and none from
+/// then on. No step claims an address, and no term begins. Only an End changes a term: it ends some, by the gateway's own stop.
+pub fn gateways_without_pools_have_no_logins()
+    ensures opened { (number : ℕ) (circuits : List Static) (now : ℕ) → number < 64 → All (λ c. IsNumberOf number c.session.0) circuits → AllPairs (λ a b. a.session ≢ b.session) circuits
+        → HasNoLogins (opened_slots number circuits now) }
+    ensures kept { (r : Rules) (s : State) (limited : Bool) (d : Deed) → Step r s limited d → r.pools ≡ [] → HasNoLogins s → HasNoLogins d.next }
+    ensures settled { (s : State) → HasNoLogins s → HasNoLogins (settled s) }
+    ensures claims { (r : Rules) (s : State) (limited : Bool) (d : Deed) → Step r s limited d → r.pools ≡ [] → d.entry.claim ≡ NoClaim }
+    ensures begun { (r : Rules) (s : State) (limited : Bool) (d : Deed) → Step r s limited d → r.pools ≡ [] → (d.next.begun ≡ s.begun) × (d.next.news ≡ s.news) }
+    ensures terms { (r : Rules) (s : State) (limited : Bool) (d : Deed) → Step r s limited d → r.pools ≡ [] → HasNoLogins s → ¬ (d.entry.item.kind ≡ End) → d.next.terms ≡ s.terms }
+    ensures ends { (r : Rules) (s : State) (limited : Bool) (d : Deed) → Step r s limited d → r.pools ≡ [] → HasNoLogins s
+        → AllZip StaysOrEnds (terms_of (record { rules = r; slots = s })) (terms_of (record { rules = r; slots = d.next })) }
 {}
 
 /// A peer is told that it is accepted, by Success of CHAP (RFC 1994 section 4.2) or Authenticate-Ack of PAP (RFC 1334 section 2.2.2),
@@ -47,16 +57,16 @@ pub fn steps_meet_laws()
 /// a number that the step gave, until the count of questions has come to its end; a step asks one question at most. It is so of each
 /// state that is sound, as a shard is at its opening and from then on.
 pub fn yeses_are_granted()
-    ensures opened { (number : ℕ) (circuits : List Static) → number < 64 → All (λ c. IsNumberOf number c.session.0) circuits → AllPairs (λ a b. a.session ≢ b.session) circuits
-        → IsSound (opened_slots number circuits) }
-    ensures kept { (r : Rules) (s : State) (d : Deed) → Step r s d → IsSound s → IsSound d.next }
+    ensures opened { (number : ℕ) (circuits : List Static) (now : ℕ) → number < 64 → All (λ c. IsNumberOf number c.session.0) circuits → AllPairs (λ a b. a.session ≢ b.session) circuits
+        → IsSound (opened_slots number circuits now) }
+    ensures kept { (r : Rules) (s : State) (limited : Bool) (d : Deed) → Step r s limited d → IsSound s → IsSound d.next }
     ensures settled { (s : State) → IsSound s → IsSound (settled s) }
-    ensures yes { (r : Rules) (s : State) (d : Deed) → Step r s d → IsSound s → (port : ℕ) (mac : Mac) (n : ℕ) (o : OutRecord) → Contains d.outs o
+    ensures yes { (r : Rules) (s : State) (limited : Bool) (d : Deed) → Step r s limited d → IsSound s → (port : ℕ) (mac : Mac) (n : ℕ) (o : OutRecord) → Contains d.outs o
         → IsYesOn port mac n o.role o.frame → IsGrantedOn s d.entry port mac n }
-    ensures accepted { (r : Rules) (s : State) (d : Deed) → Step r s d → (n ask : ℕ) → accepted_ask_at d.next n ≡ Some ask → IsGranted s d.entry n ask }
-    ensures last { (r : Rules) (s : State) (d : Deed) → Step r s d → d.next.asked < 2 ^ 64 - 1 → (n : ℕ) (a : Asking) → last_asking_at d.next n ≡ Some a
+    ensures accepted { (r : Rules) (s : State) (limited : Bool) (d : Deed) → Step r s limited d → (n ask : ℕ) → accepted_ask_at d.next n ≡ Some ask → IsGranted s d.entry n ask }
+    ensures last { (r : Rules) (s : State) (limited : Bool) (d : Deed) → Step r s limited d → d.next.asked < 2 ^ 64 - 1 → (n : ℕ) (a : Asking) → last_asking_at d.next n ≡ Some a
         → (last_asking_at s n ≡ Some a) ⊎ ((s.asked < a.number.ask) × (a.number.ask ≤ d.next.asked)) }
-    ensures few { (r : Rules) (s : State) (d : Deed) → Step r s d → d.next.asked ≤ s.asked + 1 }
+    ensures few { (r : Rules) (s : State) (limited : Bool) (d : Deed) → Step r s limited d → d.next.asked ≤ s.asked + 1 }
 {}
 
 /// A link asks only by a frame of its session. The question that a link asked last is the one of before, or the step's entry is a frame
@@ -65,17 +75,17 @@ pub fn yeses_are_granted()
 /// (RFC 1994 section 4.1). Until the count of questions has come to its end, a last question with a number of before is the same
 /// question.
 pub fn questions_are_heard()
-    ensures heard { (r : Rules) (s : State) (d : Deed) → Step r s d → IsSound s → (n : ℕ) (a : Asking) → last_asking_at d.next n ≡ Some a
+    ensures heard { (r : Rules) (s : State) (limited : Bool) (d : Deed) → Step r s limited d → IsSound s → (n : ℕ) (a : Asking) → last_asking_at d.next n ≡ Some a
         → (last_asking_at s n ≡ Some a) ⊎ IsAskedBy r s d n a }
-    ensures same { (r : Rules) (s : State) (d : Deed) → Step r s d → d.next.asked < 2 ^ 64 - 1 → (n : ℕ) (a b : Asking) → last_asking_at s n ≡ Some a → a.number.ask ≤ s.asked
+    ensures same { (r : Rules) (s : State) (limited : Bool) (d : Deed) → Step r s limited d → d.next.asked < 2 ^ 64 - 1 → (n : ℕ) (a b : Asking) → last_asking_at s n ≡ Some a → a.number.ask ≤ s.asked
         → last_asking_at d.next n ≡ Some b → b.number ≡ a.number → b ≡ a }
 {}
 
 /// The terms of a shard's circuits, as they are at its opening: each has a session number of the shard, 1,024 times the shard's own
 /// number and an index, and no two are of one session. So a session number tells of which shard a term is, and which one it is.
 pub fn terms_of_circuits_are_apart()
-    ensures own { (number : ℕ) (rules : Rules) (circuits : List Static) → number < 64 → All (λ c. IsNumberOf number c.session.0) circuits → AllPairs (λ a b. a.session ≢ b.session) circuits
-        → All (λ k. k.term.session.0 / 1024 ≡ number) (row_keys (opened number rules circuits).rows) }
-    ensures apart { (number : ℕ) (rules : Rules) (circuits : List Static) → number < 64 → All (λ c. IsNumberOf number c.session.0) circuits → AllPairs (λ a b. a.session ≢ b.session) circuits
-        → AllPairs (λ j k. j.term.session ≢ k.term.session) (row_keys (opened number rules circuits).rows) }
+    ensures own { (number : ℕ) (rules : Rules) (circuits : List Static) (now : ℕ) → number < 64 → All (λ c. IsNumberOf number c.session.0) circuits → AllPairs (λ a b. a.session ≢ b.session) circuits
+        → All (λ k. k.term.session.0 / 1024 ≡ number) (row_keys (opened number rules circuits now).rows) }
+    ensures apart { (number : ℕ) (rules : Rules) (circuits : List Static) (now : ℕ) → number < 64 → All (λ c. IsNumberOf number c.session.0) circuits → AllPairs (λ a b. a.session ≢ b.session) circuits
+        → AllPairs (λ j k. j.term.session ≢ k.term.session) (row_keys (opened number rules circuits now).rows) }
 {}

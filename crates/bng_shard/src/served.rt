@@ -1,5 +1,5 @@
 //! The sessions of a shard.
-ghost use Rattle.std.specs.Prelude.{◌≡◌, ◌≢◌, ◌<◌, ◌≤◌, ◌∷◌, [], ℕ, IsSome, Some, None as Nothing, true, IfOk, IfSome, IfNone, option_map};
+ghost use Rattle.std.specs.Prelude.{◌≡◌, ◌≢◌, ◌+◌, ◌<◌, ◌≤◌, ◌^◌, ◌∷◌, [], ℕ, IsSome, Some, None as Nothing, true, IfOk, IfSome, IfNone, option_map};
 ghost use Rattle.std.specs.List.{AllPairs, All};
 ghost use Rattle.std.specs.Option.{option_copied};
 ghost use Rattle.bng_slots.specs.Sessions.{value_at, without, IsNumberOf};
@@ -8,16 +8,15 @@ ghost use Rattle.bng_shard.specs.Due.{due_of};
 ghost use Rattle.bng_shard.specs.Opening.{circuit_at, opened_slots, provisioned as provisioned_at};
 ghost use Rattle.std.specs.Prelude.{drop, slice_get};
 ghost use Rattle.bng_shard.specs.Questions.{asking_from, handed_after, open_ask_at, place_of, waiting};
-ghost use Rattle.bng_shard.specs.Ending.{IsFirstDone, NoneIsDone};
 ghost use Rattle.bng_shard.specs.Indexed.{address_of};
 ghost use Rattle.bng_slots.specs.Sessions.{NoneShares};
-ghost use Rattle.bng_shard.specs.Serving.{AreOwn};
-ghost use Rattle.bng_shard.specs.State.{count_in, holder_of, session_of, settled, with_session};
+ghost use Rattle.bng_shard.specs.Serving.{KeepsLease};
+ghost use Rattle.bng_shard.specs.State.{count_in, holder_of, reaped, session_of, with_session};
 ghost use Rattle.bng_shard.specs.Timers.{IsFirstDue, IsLowest, NoneIsDue, NoneStays, stays_at};
 
-use crate::leaving::{list_leaving, lowest_done};
-use crate::questions::{Handed, copied, list, lowest_waiting, take_off, unlist};
-use crate::session::{Done, Lease, Provision, Service, Session};
+use crate::leaving::list_leaving;
+use crate::questions::{Handed, copied, list, lowest_waiting, unlist};
+use crate::session::{Lease, Service, Session};
 use crate::young::{list_young, lowest_repeated, unlist_young};
 use bng_base::{Ip4, Mac, SessionNo, Static};
 use bng_slots::Slots;
@@ -39,6 +38,7 @@ pub struct Served {
 }
 
 impl Model for Served {
+    ghost use Rattle.std.specs.Prelude.{[]};
     ghost use Rattle.bng_shard.specs.State.{State};
     ghost use Rattle.bng_shard.specs.Serving.{Keeps};
     ghost use Rattle.bng_shard.specs.Codes.{state_code};
@@ -47,7 +47,7 @@ impl Model for Served {
 
     ghost coded = { state_code };
 
-    ghost view = { λ a. record { sessions = a.sessions; begun = a.begun; asked = a.asked } };
+    ghost view = { λ a. record { sessions = a.sessions; begun = a.begun; asked = a.asked; terms = []; news = [] } };
 
     ghost invariant = { Keeps };
 }
@@ -55,8 +55,8 @@ impl Model for Served {
 /// So many session numbers are a shard's, from 1 past 1,024 times the shard's number on (`SessionNo`).
 const NUMBERS: u16 = 1022;
 
-// The circuit with this session number.
-fn circuit_with(circuits: &[Static], session: SessionNo) -> Option<&Static>
+/// The circuit with this session number.
+pub(crate) fn circuit_with(circuits: &[Static], session: SessionNo) -> Option<&Static>
     requires apart { AllPairs (λ a b. a.session ≢ b.session) circuits.now }
     ensures found { IfSome result (λ c. circuit_at circuits.now session.0 ≡ c.now ∷ []) }
     ensures none { IfNone result (circuit_at circuits.now session.0 ≡ []) }
@@ -72,13 +72,11 @@ fn provisioned(circuit: &Static, serial: u64) -> Session
         number: circuit.session,
         port: circuit.port,
         mac: circuit.mac,
-        service: Service::Provisioned(Provision {
-            lease: Lease {
-                serial,
-                address: circuit.address,
-                profile: circuit.profile,
-            },
-            cause: None,
+        service: Service::Provisioned { ended: false },
+        lease: Some(Lease {
+            serial,
+            address: circuit.address,
+            profile: circuit.profile,
         }),
     }
 }
@@ -94,7 +92,7 @@ impl Served {
         requires own { All (λ c. IsNumberOf number c.session.0) circuits.now }
         requires sessions { AllPairs (λ a b. a.session ≢ b.session) circuits.now }
         requires addresses { AllPairs (λ a b. a.address ≢ b.address) circuits.now }
-        ensures opened { IfOk result (λ s. s ≡ opened_slots number circuits.now) }
+        ensures opened { IfOk result (λ s. s ≡ record (opened_slots number circuits.now 0) { terms = [] }) }
     {
         let Ok(mut sessions) = Slots::open(alloc, number) else {
             return Err(AllocError);
@@ -148,6 +146,16 @@ impl Served {
         ensures { self.new ≡ record self.old { asked = asked } }
     {
         self.asked = asked;
+    }
+
+    /// One term more begins. Answers its number.
+    pub(crate) fn count_begun(&mut self) -> u64
+        requires few { self.old.begun + 1 < 2 ^ 48 }
+        ensures number { result ≡ self.old.begun + 1 }
+        ensures after { self.new ≡ record self.old { begun = self.old.begun + 1 } }
+    {
+        self.begun += 1;
+        self.begun
     }
 
     /// The number of the open question of the session with this number.
@@ -262,6 +270,7 @@ impl Served {
         ensures of_shard { IsNumberOf self.old.sessions.shard number.0 }
         ensures after { self.new ≡ record self.old { sessions = without self.old.sessions number.0 } }
         ensures apart { NoneShares address_of self.new.sessions result }
+        ensures leased { KeepsLease result.service result.lease }
     {
         let Some(session) = self.sessions.remove(number) else {
             unreachable!()
@@ -276,6 +285,7 @@ impl Served {
         requires number { IsNumberOf self.old.sessions.shard session.number.0 }
         requires vacant { value_at self.old.sessions session.number.0 ≡ Nothing }
         requires apart { NoneShares address_of self.old.sessions session }
+        requires leased { KeepsLease session.service session.lease }
         ensures { self.new ≡ with_session self.old session.number.0 session }
     {
         let number = session.number;
@@ -285,27 +295,9 @@ impl Served {
         self.sessions.put(number, session);
     }
 
-    /// Takes the session out that has the lowest number of those whose term has ended, and says what the term was; none exactly where
-    /// no term has ended that is still there.
-    pub(crate) fn take_done(&mut self) -> Option<(Session, Done)>
-        ensures own { AreOwn self.old.sessions }
-        ensures found { IfSome result (λ d. IsFirstDone self.old d.0 d.1 × (self.new ≡ record self.old { sessions = without self.old.sessions d.0.number.0 })) }
-        ensures none { IfNone result (NoneIsDone self.old × (self.new ≡ self.old)) }
-    {
-        let number = lowest_done(self.leaving.as_slice(), &self.sessions)?;
-        let Some(session) = self.sessions.remove(number) else {
-            unreachable!()
-        };
-        let Some(done) = session.done() else {
-            unreachable!()
-        };
-        take_off(&mut self.leaving, number);
-        Some((session, done))
-    }
-
     /// Lets the sessions that ended leave.
     pub(crate) fn settle(&mut self)
-        ensures { self.new ≡ settled self.old }
+        ensures { self.new ≡ record self.old { sessions = (reaped self.old).sessions } }
     {
         while let Some(number) = self.leaving.pop() {
             self.sessions.remove(number);

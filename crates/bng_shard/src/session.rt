@@ -7,10 +7,11 @@ ghost use Rattle.bng_ppp.specs.Said.{payloads};
 ghost use Rattle.bng_shard.specs.Link.{asked_after, ended, with_link};
 ghost use Rattle.std.specs.Option.{option_copied};
 ghost use Rattle.bng_shard.specs.Questions.{open_of};
+ghost use Rattle.bng_shard.specs.Driven.{LastsOver};
 ghost use Rattle.bng_shard.specs.Made.{Made as DiscoveredMade};
-ghost use Rattle.bng_shard.specs.Serving.{is_young};
-ghost use Rattle.bng_shard.specs.Ending.{done_from, done_of};
-ghost use Rattle.bng_shard.specs.State.{circuit_of, held_in, is_on, leaves, lease_of, live_lease, made_one, view_of};
+ghost use Rattle.bng_shard.specs.Serving.{is_young, KeepsLease};
+ghost use Rattle.bng_shard.specs.State.{circuit_of, is_on, leaves, made_one, passes_in, view_of};
+ghost use Rattle.bng_shard.specs.Tenures.{kept_lease};
 ghost use Rattle.bng_shard.specs.Timers.{deadline_of, lives_in};
 ghost use Rattle.bng_shard.specs.Indexed.{address_of, term_of};
 
@@ -66,9 +67,6 @@ impl Model for Made {
     ghost view = { λ m. record { host_uniq = option_map (λ h. h.items) m.host_uniq; link = m.link; question = m.question; ended = m.ended } };
 }
 
-/// The cause of an end by the gateway's own stop (RFC 2866 section 5.10, NAS Request).
-const NAS_REQUEST: u8 = 10;
-
 /// What serves a session: a provisioned circuit has no link, and says whether it has ended; a session that discovery made has a link.
 #[derive(Drop)]
 pub enum Service {
@@ -100,57 +98,21 @@ impl Slotted for Session {
     }
 
     fn address(&self) -> Option<Ip4> {
-        match &self.service {
-            Service::Provisioned(provision) => Some(provision.lease.address),
-            Service::Discovered(_) => None,
-        }
+        Some(self.lease?.address)
     }
 
     fn term(&self) -> Option<TermId> {
-        match &self.service {
-            Service::Provisioned(provision) => Some(TermId {
-                session: self.number,
-                serial: provision.lease.serial,
-            }),
-            Service::Discovered(_) => None,
-        }
+        Some(TermId {
+            session: self.number,
+            serial: self.lease?.serial,
+        })
     }
 
     fn deadline(&self) -> Option<u64> {
         match &self.service {
-            Service::Provisioned(_) => None,
+            Service::Provisioned { .. } => None,
             Service::Discovered(made) => made.deadline(),
         }
-    }
-}
-
-/// A lease whose term has ended, and the cause.
-#[derive(Clone, Copy, PartialEq, Eq, Debug)]
-pub(crate) struct Done {
-    pub(crate) lease: Lease,
-    pub(crate) cause: u8,
-}
-
-impl Provision {
-    // The lease, as long as its term is live.
-    fn live_lease(&self) -> Option<Lease>
-        ensures { result ≡ live_lease self.now.cause self.now.lease }
-    {
-        match self.cause {
-            Some(_) => None,
-            None => Some(self.lease),
-        }
-    }
-
-    // The lease with the cause, once its term has ended.
-    fn done(&self) -> Option<Done>
-        ensures { result ≡ done_from self.now.lease self.now.cause }
-    {
-        let cause = self.cause?;
-        Some(Done {
-            lease: self.lease,
-            cause,
-        })
     }
 }
 
@@ -191,6 +153,28 @@ impl Made {
     }
 }
 
+// A lease, once a step has ended its term by a cause, or has not.
+fn kept(lease: Option<Lease>, cause: Option<u8>) -> Option<Lease>
+    ensures { result ≡ kept_lease cause lease }
+{
+    match cause {
+        Some(_) => None,
+        None => lease,
+    }
+}
+
+impl Service {
+    // Whether data passes: of a session that discovery made, once LCP and IPCP are Opened.
+    fn passes(&self) -> bool
+        ensures { result ≡ passes_in self.now }
+    {
+        match self {
+            Service::Provisioned { .. } => true,
+            Service::Discovered(made) => made.link.passes(),
+        }
+    }
+}
+
 fn is_same(kept: &Option<ArrayVec<u8, 64>>, asked: Option<&[u8]>) -> bool
     ensures { result ≡ same_option (option_map (λ h. h.items) kept.now) (option_map (λ o. o.now) asked.entry) }
 {
@@ -226,7 +210,7 @@ impl Session {
     {
         self.is_on(port, mac)
             && match &self.service {
-                Service::Provisioned(_) => false,
+                Service::Provisioned { .. } => false,
                 Service::Discovered(made) => {
                     is_same(&made.host_uniq, asked) && !made.ended && !made.link.was_opened()
                 }
@@ -238,7 +222,7 @@ impl Session {
         ensures { result ≡ is_young self.now }
     {
         match &self.service {
-            Service::Provisioned(_) => false,
+            Service::Provisioned { .. } => false,
             Service::Discovered(made) => !made.ended && !made.link.was_opened(),
         }
     }
@@ -248,7 +232,7 @@ impl Session {
         ensures { result ≡ lives_in self.now.service }
     {
         match &self.service {
-            Service::Provisioned(_) => false,
+            Service::Provisioned { .. } => false,
             Service::Discovered(made) => !made.ended,
         }
     }
@@ -258,29 +242,20 @@ impl Session {
         ensures { result ≡ leaves self.now }
     {
         match &self.service {
-            Service::Provisioned(provision) => provision.cause.is_some(),
+            Service::Provisioned { ended } => *ended,
             Service::Discovered(made) => made.ended,
         }
     }
 
-    /// Ends it. The term of a provisioned circuit ends by the gateway's own stop.
+    /// Ends it, and no term of it is live any longer.
     pub(crate) fn end(&mut self)
         ensures { self.new ≡ ended self.old }
     {
         match &mut self.service {
-            Service::Provisioned(provision) => provision.cause = Some(NAS_REQUEST),
+            Service::Provisioned { ended } => *ended = true,
             Service::Discovered(made) => made.ended = true,
         }
-    }
-
-    /// Its term, where that has ended.
-    pub(crate) fn done(&self) -> Option<Done>
-        ensures { result ≡ done_of self.now }
-    {
-        match &self.service {
-            Service::Provisioned(provision) => provision.done(),
-            Service::Discovered(_) => None,
-        }
+        self.lease = None;
     }
 
     /// Its question whose verdict is not there yet. One that has ended has none.
@@ -288,13 +263,13 @@ impl Session {
         ensures { option_copied result ≡ open_of self.now }
     {
         match &self.service {
-            Service::Provisioned(_) => None,
+            Service::Provisioned { .. } => None,
             Service::Discovered(made) => made.open_question(),
         }
     }
 
     /// Tells its link an input, where discovery made it; so many questions had been asked in its shard. Where LCP finished it has
-    /// ended. Answers how many questions were asked then.
+    /// ended, and where the step ended its live term it has no lease any longer. Answers how many questions were asked then.
     pub(crate) fn step(
         &mut self,
         asked: u64,
@@ -307,15 +282,19 @@ impl Session {
         requires moment { now < 2 ^ 60 }
         requires auth { 0 < length rules.now.auth.items }
         requires made { made_one self.old.service ≡ 1 }
-        ensures { (made : DiscoveredMade) × (says : PppSaid) × (link : PppState) × (self.old.service ≡ Service.Discovered made)
+        requires leased { KeepsLease self.old.service self.old.lease }
+        requires lasts { LastsOver input.entry self.old.lease }
+        ensures leased { KeepsLease self.new.service self.new.lease }
+        ensures steps { (made : DiscoveredMade) × (says : PppSaid) × (link : PppState) × (self.old.service ≡ Service.Discovered made)
             × PppSteps rules.now input.entry now random.now made.link says link × (self.new ≡ with_link self.old made asked says link) × (result ≡ asked_after asked says.asked)
-            × (says.outs ≡ payloads steps.new.layer.outs.items) × (says.finished ≡ steps.new.finished) }
+            × (says.outs ≡ payloads steps.new.layer.outs.items) × (says.finished ≡ steps.new.finished) × (says.term_ended ≡ steps.new.term_ended) }
     {
         let Service::Discovered(made) = &mut self.service else {
             return asked;
         };
         made.link.step(rules, input, now, random, steps);
         made.ended = steps.finished;
+        self.lease = kept(self.lease, steps.term_ended);
         match mem::replace(&mut steps.asked, None) {
             Some(credentials) => {
                 let ask = asked.saturating_add(1);
@@ -329,37 +308,20 @@ impl Session {
         }
     }
 
-    /// The lease whose address it holds, whether its term has ended or not.
-    pub(crate) fn held(&self) -> Option<Lease>
-        ensures { result ≡ held_in self.now.service }
-    {
-        match &self.service {
-            Service::Provisioned(provision) => Some(provision.lease),
-            Service::Discovered(_) => None,
-        }
-    }
-
-    /// What its lease is, where its term is live.
+    /// What its lease is, where a term of it is live.
     pub(crate) fn lease(&self) -> Option<Lease>
-        ensures { result ≡ lease_of self.now }
+        ensures { result ≡ self.now.lease }
     {
-        match &self.service {
-            Service::Provisioned(provision) => provision.live_lease(),
-            Service::Discovered(_) => None,
-        }
+        self.lease
     }
 
-    /// What forwarding looks at of its term, until that has its Stop. A provisioned circuit has no LCP, and counts as Opened as long
-    /// as its term is live.
+    /// What forwarding looks at of its live term. A provisioned circuit has no LCP, and counts as Opened.
     pub(crate) fn view(&self) -> Option<TermView>
         ensures { result ≡ view_of self.now }
     {
-        match &self.service {
-            Service::Provisioned(provision) => Some(TermView {
-                lease: provision.lease.address,
-                opened: provision.cause.is_none(),
-            }),
-            Service::Discovered(_) => None,
-        }
+        Some(TermView {
+            lease: self.lease?.address,
+            opened: self.service.passes(),
+        })
     }
 }

@@ -1,32 +1,33 @@
 //! One shard.
-ghost use Rattle.std.specs.Prelude.{drop, slice_get, IfSome, IfNone, ◌≡◌, ◌≢◌, ◌≤◌, ◌<◌, ◌+◌, ◌*◌, ◌^◌, [], true, IfOk, OnOk, length, option_map, vec_capacity};
+ghost use Rattle.std.specs.Prelude.{ℕ, drop, slice_get, IfSome, IfNone, ◌≡◌, ◌≢◌, ◌≤◌, ◌<◌, ◌+◌, ◌*◌, ◌^◌, [], true, IfOk, OnOk, length, option_map, vec_capacity};
 ghost use Rattle.bng_engine.specs.Books.{book_at};
 ghost use Rattle.bng_engine.specs.Calls.{Kept, IsReady};
 ghost use Rattle.bng_engine.specs.Protocol.{IsOwned};
 ghost use Rattle.bng_engine.specs.Showing.{ChargesShown};
 ghost use Rattle.bng_engine.specs.Terms.{keys};
 ghost use Rattle.bng_engine.specs.Views.{row_keys};
-ghost use Rattle.bng_shard.specs.Protocol.{Handles, Leaves, deadline_of, ended_terms, entry_of, key_of, opened, pppoe, profiles_there, row_at, sessions_of, stop_of, terms_of};
+ghost use Rattle.bng_shard.specs.Protocol.{AreHeld, Handles, HasPools, Leaves, SaysOf, TellsNew, deadline_of, ended_terms, entry_of, key_of, opened, pppoe, profiles_there, row_at, sessions_of, stop_of, terms_of};
 ghost use Rattle.bng_shard.specs.Questions.{asking_from, handed_after, waiting};
 ghost use Rattle.bng_shard.specs.Room.{Admits};
 ghost use Rattle.bng_slots.specs.Sessions.{IsNumberOf};
 ghost use Rattle.std.specs.List.{All, AllPairs};
-ghost use Rattle.bng_shard.specs.State.{settled};
-ghost use Rattle.bng_shard.specs.Whose.{without_holder};
+ghost use Rattle.bng_engine.specs.Lists.{AnyOf};
+ghost use Rattle.bng_pool.specs.Tables.{TableFrees};
+ghost use Rattle.bng_shard.specs.State.{reaped};
+ghost use Rattle.bng_shard.specs.Tenures.{Tenure};
 ghost use Rattle.bng_shard.specs.Sums.{charged_as, traffic_in, AreCovered, AreLow, IsLow, RowsAreLow};
 
 use crate::hear::hear;
-use crate::pool::PlainPool;
 use crate::questions::Handed;
 use crate::rules::Rules;
-use crate::running::{
-    Running, book, carried_by, charged_as, leave, rows_of, settle, tally, term_at,
-};
 use crate::sending::At;
 use crate::served::Served;
 use crate::sums::{Charged, Traffic};
 use crate::term::{EndedTerm, LiveTerm};
-use bng_base::{Book, Claim, Entry, Fate, Item, LONGEST, OutRecord, SessionNo, Static, TermId};
+use crate::terms::{Running, Terms, book, charged_as, tally};
+use crate::wish::{Wish, wish_for};
+use bng_base::{Book, Claim, Entry, Fate, Item, LONGEST, OutRecord, SessionNo, Static};
+use bng_pool::PlainPool;
 use bng_verdict::AuthAsk;
 use std::alloc::{AllocError, Global};
 use std::marker::Model;
@@ -45,9 +46,11 @@ pub enum ShardError {
 pub struct Shard {
     rules: Rules,
     served: Served,
-    rows: Vec<Running>,
+    terms: Terms,
     passed: Book,
     allowance: u32,
+    // how many terms may still begin in the round
+    left: u32,
     journal: Vec<Entry>,
     outs: Vec<OutRecord>,
     room: usize,
@@ -65,10 +68,10 @@ impl Model for Shard {
 
     ghost coded = { Prim.hlevel (codes, state_code) };
 
-    ghost use Rattle.bng_shard.specs.Running.{rows_in};
+    ghost use Rattle.bng_shard.specs.Running.{rows_in, whole};
     ghost use Rattle.bng_shard.specs.Fits.{Fits};
 
-    ghost view = { λ a. record { number = a.served.sessions.shard; state = record { rules = a.rules; slots = a.served }; rows = rows_in a.rows.items; books = a.passed ∷ []; allowance = a.allowance; journal = a.journal.items; outs = a.outs.items; sends = []; stops = []; starts = []; room = a.room } };
+    ghost view = { λ a. record { number = a.served.sessions.shard; state = record { rules = a.rules; slots = whole a.served a.terms }; rows = rows_in a.terms.rows; books = a.passed ∷ []; allowance = a.allowance; journal = a.journal.items; outs = a.outs.items; sends = []; stops = []; starts = []; room = a.room } };
 
     ghost invariant = { Fits };
 }
@@ -110,16 +113,40 @@ fn reserve_amply(journal: &mut Vec<Entry>, outs: &mut Vec<OutRecord>, items: usi
     reserve(journal, outs, items)
 }
 
+// What the pool answers to a wish of the shard with this number.
+fn ask(pool: &mut PlainPool, shard: u16, wish: Wish) -> Claim {
+    match wish {
+        Wish::Nothing => Claim::NoClaim,
+        Wish::Address(address) => pool.claim(shard, address),
+        Wish::Pool(place) => pool.scan(shard, place),
+    }
+}
+
+// What is reported of a term that has ended.
+fn stop_from(row: Running) -> Option<EndedTerm> {
+    Some(EndedTerm {
+        term: row.term,
+        circuit: row.circuit,
+        address: row.lease,
+        user: row.user,
+        class: row.class,
+        began: row.began,
+        cause: row.cause?,
+        carried: row.carried,
+    })
+}
+
 impl Shard {
     /// A shard with this number, at most 63, that works by these rules, and these circuits. It has no other session. The rules name a
     /// way to authenticate, and what each access port offers. The circuits' session numbers are the shard's, no two have the same
-    /// number or the same address, and each is on an access port that is there and has the first profile. Their terms are numbered
-    /// from 1 on, by rising session number.
+    /// number or the same address, and each is on an access port that is there and has the first profile. Their terms begin at this
+    /// moment in milliseconds, and are numbered from 1 on, by rising session number.
     pub fn open(
         alloc: Global,
         number: u16,
         rules: Rules,
         circuits: &[Static],
+        now: u64,
     ) -> Result<Shard, ShardError>
         requires number { number < 64 }
         requires auth { 0 < length rules.link.auth.items }
@@ -129,33 +156,36 @@ impl Shard {
         requires addresses { AllPairs (λ a b. a.address ≢ b.address) circuits.now }
         requires ports { All (λ c. (1 ≤ c.port) × (c.port ≤ length rules.access)) circuits.now }
         requires profiles { All (λ c. c.profile < profiles_there) circuits.now }
-        ensures opened { IfOk result (λ s. s ≡ opened number rules circuits.now) }
+        requires few_pools { length rules.pools ≤ 16 }
+        ensures opened { IfOk result (λ s. s ≡ opened number rules circuits.now now) }
         ensures few { IfOk result (λ s. sessions_of s.state ≤ 1022) }
     {
         let Ok(served) = Served::open(alloc, number, circuits) else {
             return Err(ShardError::OutOfMemory);
         };
         prove!(served.count() <= 1022);
-        let Ok(rows) = rows_of(alloc, &served) else {
+        let Ok(terms) = Terms::open(alloc, number, circuits, now) else {
             return Err(ShardError::OutOfMemory);
         };
         Ok(Shard {
             rules,
             served,
-            rows,
+            terms,
             passed: Book::empty(),
             allowance: 0,
+            left: 0,
             journal: Vec::new(alloc),
             outs: Vec::new(alloc),
             room: 0,
         })
     }
 
-    /// Makes room for a round of so many items: for an entry and ten outs of each, and for the outs of a Tick and of an End. At most
-    /// `allowance` terms may begin in it. No round may be going on. After an error all is as before, room and allowance aside.
+    /// Makes room for a round of so many items: for an entry and ten outs of each, for a term that it begins, and for the outs of a Tick
+    /// and of an End. At most `allowance` terms may begin in it. No round may be going on. After an error all is as before, room and allowance aside.
     pub fn prepare(&mut self, _alloc: Global, items: u16, allowance: u32) -> Result<(), ShardError>
         requires journal { self.old.journal ≡ [] }
         requires outs { self.old.outs ≡ [] }
+        requires numbers { 0 < allowance → self.old.state.slots.begun + allowance < 2 ^ 48 }
         ensures kept { Kept self.old self.new }
         ensures ready { OnOk result (IsReady items allowance self.new) }
         ensures empty { (self.new.journal ≡ []) × (self.new.outs ≡ []) }
@@ -165,8 +195,12 @@ impl Shard {
         let items = usize::from(items);
         self.room = 0;
         self.allowance = allowance;
+        self.left = allowance;
         prove!(self.served.count() <= 1022);
         if !reserve_amply(&mut self.journal, &mut self.outs, items) {
+            return Err(ShardError::OutOfMemory);
+        }
+        if !self.terms.reserve(items) {
             return Err(ShardError::OutOfMemory);
         }
         self.room = items;
@@ -174,16 +208,28 @@ impl Shard {
     }
 
     /// Handles an item that stood at this place of this seat's list, at the round's moment in milliseconds, below 2^60, and answers
-    /// its fate before its sends. It appends one entry to the journal, and takes no memory. What passes is entered in the seat's tally,
+    /// its fate before its sends. It appends one entry to the journal, and takes no memory. Where a peer is accepted an address is
+    /// claimed of the pool, whose ranges are those of the rules' pools at the same places. What passes is entered in the seat's tally,
     /// `ledger`, and in the book of its term's profile. A round has at most one Tick and one End for a shard.
-    pub fn step(&mut self, seat: u16, place: u16, now: u64, item: Item, ledger: &mut Book) -> Fate
+    pub fn step(
+        &mut self,
+        pool: &mut PlainPool,
+        seat: u16,
+        place: u16,
+        now: u64,
+        item: Item,
+        ledger: &mut Book,
+    ) -> Fate
         requires room { 0 < self.old.room }
         requires once { Admits self.old item.kind }
         requires moment { now < 2 ^ 60 }
         requires whole { item.frame.headroom ≡ 64 }
         requires low_books { AreLow (2 ^ 63) self.old.books }
         requires low_ledger { IsLow (2 ^ 63) ledger.old }
-        ensures { Handles self.old self.new (entry_of seat place now item) result ledger.old ledger.new }
+        requires pools { HasPools self.old.state.rules.pools pool.old.ranges }
+        requires shards { self.old.number < pool.old.shards }
+        requires held { AreHeld self.old.number (terms_of self.old.state) pool.old.table }
+        ensures { Handles self.old self.new pool.old pool.new (entry_of seat place now item) result ledger.old ledger.new }
     {
         prove!(item.frame.payload().len() <= LONGEST);
         let at = At {
@@ -192,14 +238,23 @@ impl Shard {
             place,
         };
         let before = self.outs.as_slice().len();
+        let limited = self.left == 0;
+        let wish = wish_for(&self.served, &self.rules, &item, limited);
+        let claim = ask(pool, at.shard, wish);
         let fate = hear(
             &mut self.served,
+            &mut self.terms,
             &self.rules,
             at,
             now,
             &item,
+            claim,
+            limited,
             &mut self.outs,
         );
+        if let Claim::Claimed(_) = claim {
+            self.left -= 1;
+        }
         let sends = &self.outs.as_slice()[before..];
         book(&mut self.passed, sends);
         tally(ledger, sends);
@@ -208,7 +263,7 @@ impl Shard {
             place,
             moment: now,
             item,
-            claim: Claim::NoClaim,
+            claim,
         });
         self.room -= 1;
         fate
@@ -227,36 +282,38 @@ impl Shard {
         (journal, outs)
     }
 
-    /// Hands out the term that ended and has the lowest session number: its address is given back to the pool, and its session
-    /// leaves. None exactly where no ended term is left; then every session that ended has left. It is called once the outs of the
+    /// Hands out the first term in order that has ended, by its session number and then by its own: its address is given back to the
+    /// pool. None exactly where no ended term is left; then every session that ended has left. It is called once the outs of the
     /// round were sent and charged.
     pub fn reap(&mut self, pool: &mut PlainPool) -> Option<EndedTerm>
-        ensures one { IfSome result (λ e. Leaves self.old self.new (stop_of e) × (pool.new ≡ without_holder e.address pool.old)) }
+        requires held { AreHeld self.old.number (terms_of self.old.state) pool.old.table }
+        ensures one { IfSome result (λ e. Leaves self.old self.new (stop_of e) × ((k : ℕ) × TableFrees pool.old.table k e.address.0 pool.new.table)) }
+        ensures says { IfSome result (λ e. AnyOf (SaysOf e.user.items e.class.items e.began (stop_of e).key) self.old.state.slots.terms) }
         ensures none { IfNone result ((ended_terms self.old.state ≡ []) × (pool.new ≡ pool.old)
-            × (self.new ≡ record self.old { state = record self.old.state { slots = settled self.old.state.slots }; room = 0 })) }
+            × (self.new ≡ record self.old { state = record self.old.state { slots = reaped self.old.state.slots }; room = 0 })) }
+        ensures rest { (pool.new.ranges ≡ pool.old.ranges) × (pool.new.shards ≡ pool.old.shards) }
+        ensures held { AreHeld self.new.number (terms_of self.new.state) pool.new.table }
         ensures few { sessions_of self.new.state ≤ 1022 }
     {
         self.room = 0;
-        let Some((session, done)) = self.served.take_done() else {
+        let Some(row) = self.terms.take_first_over() else {
             self.served.settle();
             prove!(self.served.count() <= 1022);
             return None;
         };
         prove!(self.served.count() <= 1022);
-        let Some(carried) = leave(&mut self.rows, session.number) else {
-            unreachable!()
-        };
-        pool.give_back(done.lease.address);
-        Some(EndedTerm {
-            term: TermId {
-                session: session.number,
-                serial: done.lease.serial,
-            },
-            circuit: session.pppoe_circuit(),
-            address: done.lease.address,
-            cause: done.cause,
-            carried,
-        })
+        pool.give_back(row.lease);
+        stop_from(row)
+    }
+
+    /// Hands out the first term in order of those of whose beginning no Start was formed yet. None exactly where there is none.
+    pub fn fresh(&mut self) -> Option<LiveTerm>
+        ensures some { IfSome result (λ t. (tenure : Tenure) × SaysOf t.user.items t.class.items t.began (key_of t) tenure
+            × TellsNew self.old.state.slots self.new.state.slots tenure × (self.new ≡ record self.old { state = record self.old.state { slots = self.new.state.slots } })) }
+        ensures none { IfNone result ((self.old.state.slots.news ≡ []) × (self.new ≡ self.old)) }
+    {
+        let row = self.terms.take_first_new()?;
+        Some(row.shown())
     }
 
     /// Keeps an empty list for the journals of the rounds to come, as one that `drain` handed out: its room serves again. No round
@@ -289,7 +346,7 @@ impl Shard {
         ensures after { ChargesShown pppoe self.old out.now self.new }
         ensures answer { result ≡ charged_as out.now.charge }
     {
-        settle(&mut self.rows, &mut self.passed, out);
+        self.terms.settle(&mut self.passed, out);
         charged_as(out.charge)
     }
 
@@ -335,14 +392,15 @@ impl Shard {
     pub fn carried(&self, session: SessionNo) -> Option<Traffic>
         ensures { result ≡ option_map traffic_in (row_at self.now.rows session.0) }
     {
-        carried_by(&self.rows, session)
+        self.terms.carried_by(session)
     }
 
     /// The term at this place, from 0, of those that are there, by their numbers: which it is, its circuit and its address. One that
     /// has ended is there until it is handed out by `reap`. None exactly past the last.
     pub fn term(&self, place: usize) -> Option<LiveTerm>
-        ensures { option_map key_of result ≡ slice_get (row_keys self.now.rows) place }
+        ensures keys { option_map key_of result ≡ slice_get (row_keys self.now.rows) place }
+        ensures says { IfSome result (λ t. AnyOf (SaysOf t.user.items t.class.items t.began (key_of t)) self.now.state.slots.terms) }
     {
-        term_at(&self.rows, place)
+        self.terms.term_at(place)
     }
 }

@@ -1,5 +1,7 @@
-// The sums that a shard keeps for its terms.
-ghost use Rattle.std.specs.Prelude.{◌≡◌, ◌+◌, ◌==◌, ◌^◌, ◌<◌, ◌≤◌, ◌++◌, ◌∷◌, [], ℕ, Some, true, not, filter, find, length, slice_get, vec_capacity, map, option_map, IfOk, IfSome, IfNone};
+//! The terms of a shard, with the sums that it keeps for each.
+ghost use Rattle.std.specs.Prelude.{◌≡◌, ◌+◌, ◌^◌, ◌<◌, ◌≤◌, ◌++◌, ◌∷◌, [], true, length, list_any, slice_get, vec_capacity, map, option_map, IfOk, IfSome, IfNone};
+ghost use Rattle.std.specs.Prelude.{Some, None as Nothing, not};
+ghost use Rattle.std.specs.List.{All, AllPairs};
 ghost use Rattle.bng_base.specs.declared.item.OutRecord.{OutRecord as Out};
 ghost use Rattle.bng_engine.specs.Books.{BooksFall, BooksRise};
 ghost use Rattle.bng_engine.specs.Calls.{SayMore};
@@ -7,18 +9,24 @@ ghost use Rattle.bng_engine.specs.Lists.{AnyOf};
 ghost use Rattle.bng_engine.specs.Protocol.{HasKey, IsOwned};
 ghost use Rattle.bng_engine.specs.Terms.{keys};
 ghost use Rattle.bng_engine.specs.Views.{new_row, row_keys};
-ghost use Rattle.bng_shard.specs.Protocol.{key_of, row_at, terms_of};
-ghost use Rattle.bng_shard.specs.declared.rules.Rules.{Rules as Ways};
-ghost use Rattle.bng_shard.specs.Running.{begun, row_from, rows_at, rows_in, AreRising, HasSerial, IsPlaceOf};
-ghost use Rattle.std.specs.Option.{option_copied};
+ghost use Rattle.bng_slots.specs.Sessions.{IsNumberOf};
+ghost use Rattle.bng_shard.specs.Opening.{opened_slots};
+ghost use Rattle.bng_shard.specs.Protocol.{SaysOf, key_of, row_at, term_in};
+ghost use Rattle.bng_shard.specs.Running.{row_from, rows_in, tenure_in, tenures_in, has_ended, AreRising, HasSerial, IsPlaceOf, LeavesFirst, TellsFirst};
 ghost use Rattle.bng_shard.specs.Sums.{charged_as, traffic_in, AreCovered, Has, IsLow, IsMore, RowsAreLow, Rises};
+ghost use Rattle.bng_shard.specs.Tenures.{closed, has_kept};
 
-use crate::served::Served;
-use crate::session::{Lease, Session};
+use crate::served::circuit_with;
+use crate::session::Lease;
 use crate::sums::{Charged, Traffic};
 use crate::term::LiveTerm;
-use bng_base::{Book, Charge, Circuit, Ip4, OutRecord, SessionNo, TermId};
+use arrayvec::ArrayVec;
+use bng_base::{Book, Charge, Circuit, Ip4, OutRecord, SessionNo, Static, TermId};
 use std::alloc::{AllocError, Global};
+use std::marker::Model;
+
+/// How many session numbers a shard has.
+const NUMBERS: u16 = 1022;
 
 /// A term: its session and its number in its shard, its circuit, its address, the place of its profile, and what its packets from the
 /// subscriber and towards it carried. The User-Name and the Class attributes of its records, the moment at which it began, and the
@@ -40,10 +48,10 @@ pub struct Running {
 /// the first have ended; and for how many more there is room.
 #[derive(Drop)]
 pub struct Terms {
-    rows: Vec<Running>,
-    news: Vec<Running>,
-    over: usize,
-    room: usize,
+    pub(crate) rows: Vec<Running>,
+    pub(crate) news: Vec<Running>,
+    pub(crate) over: usize,
+    pub(crate) room: usize,
 }
 
 impl Model for Terms {
@@ -58,85 +66,257 @@ impl Model for Terms {
         × (length t.rows.items + t.room ≤ vec_capacity t.rows) × (length t.news.items + t.room ≤ vec_capacity t.news) };
 }
 
-// The row of the term of a session that begins.
-fn begun(session: &Session, lease: Lease) -> Running
-    ensures { result ≡ begun session.now lease }
-{
+// The row of the term of a circuit that begins, with this number, at this moment.
+fn running_from(circuit: &Static, serial: u64, now: u64) -> Running {
     Running {
         term: TermId {
-            session: session.number,
-            serial: lease.serial,
+            session: circuit.session,
+            serial,
         },
         circuit: Circuit::Pppoe {
-            port: session.port,
-            mac: session.mac,
-            session: session.number,
+            port: circuit.port,
+            mac: circuit.mac,
+            session: circuit.session,
         },
-        lease: lease.address,
+        lease: circuit.address,
+        profile: circuit.profile,
         carried: Book::empty(),
+        user: list_of(circuit.user.as_slice()),
+        class: ArrayVec::new(),
+        began: now,
+        cause: None,
     }
 }
 
-// Adds the row of the term of a session, if there is a session with a term.
-fn add_row(rows: &mut Vec<Running>, session: Option<&Session>)
-    requires room { length rows.old.items < vec_capacity rows.old }
-    ensures rows { rows_in rows.new.items ≡ rows_in rows.old.items ++ rows_at (option_copied session.entry) }
-    ensures few { length rows.new.items ≤ length rows.old.items + 1 }
-    ensures capacity { vec_capacity rows.new ≡ vec_capacity rows.old }
+// A list of these octets.
+fn list_of(octets: &[u8]) -> ArrayVec<u8, 128>
+    requires { length octets.now ≤ 128 }
+    ensures { result.items ≡ octets.now }
 {
-    let Some(session) = session else {
-        return;
+    let Ok(list) = ArrayVec::try_from(octets) else {
+        unreachable!();
     };
-    let Some(lease) = session.held() else {
-        return;
-    };
-    rows.push_reserved(begun(session, lease));
+    list
 }
 
-/// The rows of the terms of a shard that was opened, by rising session number.
-pub(crate) fn rows_of(alloc: Global, served: &Served) -> Result<Vec<Running>, AllocError>
-    ensures { (r : Ways) → IfOk result (λ rows. rows_in rows.items ≡ map new_row (keys (terms_of (record { rules = r; slots = served.now })))) }
+// A list of these octets.
+fn classes_of(octets: &[u8]) -> ArrayVec<u8, 512>
+    requires { length octets.now ≤ 512 }
+    ensures { result.items ≡ octets.now }
 {
-    let mut rows = Vec::with_capacity(alloc, NUMBERS)?;
-    let first = served.shard() * 1024 + 1;
-    for n in first..first + 1022 {
-        add_row(&mut rows, served.get(SessionNo(n)));
-    }
-    Ok(rows)
+    let Ok(list) = ArrayVec::try_from(octets) else {
+        unreachable!();
+    };
+    list
 }
 
-/// The most sessions of a shard.
-const NUMBERS: usize = 1022;
-
-/// The term whose row stands at this place, from 0; none exactly past the last.
-pub(crate) fn term_at(rows: &[Running], place: usize) -> Option<LiveTerm>
-    ensures { option_map key_of result ≡ slice_get (row_keys (rows_in rows.now)) place }
+// The same row, of which nothing was carried yet.
+fn copied(row: &Running) -> Running
+    ensures { tenure_in result ≡ tenure_in row.now }
 {
-    let row = rows.get(place)?;
-    Some(LiveTerm {
+    Running {
         term: row.term,
         circuit: row.circuit,
-        address: row.lease,
-    })
+        lease: row.lease,
+        profile: row.profile,
+        carried: Book::empty(),
+        user: list_of(row.user.as_slice()),
+        class: classes_of(row.class.as_slice()),
+        began: row.began,
+        cause: row.cause,
+    }
 }
 
-// The row with this session number.
-fn row_at(rows: &[Running], session: SessionNo) -> Option<Running>
-    ensures { result ≡ find (λ r. r.term.session.0 == session.0) rows.now }
-{
-    rows.iter().copied().find(|r| r.term.session.0 == session.0)
+// Whether the first of two rows comes before the other: by the session number, then by the term's own.
+fn comes_before(first: &Running, other: &Running) -> bool {
+    let (a, b) = (first.term, other.term);
+    a.session.0 < b.session.0 || (a.session.0 == b.session.0 && a.serial < b.serial)
 }
 
-/// What the term of this session carried.
-pub(crate) fn carried_by(rows: &[Running], session: SessionNo) -> Option<Traffic>
-    ensures { result ≡ option_map traffic_in (row_at (rows_in rows.now) session.0) }
-{
-    match row_at(rows, session) {
-        Some(row) => Some(Traffic {
+impl Running {
+    /// The term as it is shown as long as it is there.
+    pub(crate) fn shown(&self) -> LiveTerm
+        ensures key { key_of result ≡ (row_from self.now).key }
+        ensures says { SaysOf result.user.items result.class.items result.began (key_of result) (tenure_in self.now) }
+    {
+        LiveTerm {
+            term: self.term,
+            circuit: self.circuit,
+            address: self.lease,
+            user: list_of(self.user.as_slice()),
+            class: classes_of(self.class.as_slice()),
+            began: self.began,
+        }
+    }
+}
+
+impl Terms {
+    /// The terms of the circuits of a shard that is opened at this moment, by rising session number. For no more there is room.
+    pub(crate) fn open(
+        alloc: Global,
+        number: u16,
+        circuits: &[Static],
+        now: u64,
+    ) -> Result<Terms, AllocError>
+        requires number { number < 64 }
+        requires own { All (λ c. IsNumberOf number c.session.0) circuits.now }
+        requires sessions { AllPairs (λ a b. a.session ≢ b.session) circuits.now }
+        ensures terms { IfOk result (λ t. tenures_in t.rows ≡ (opened_slots number circuits.now now).terms) }
+        ensures rows { IfOk result (λ t. rows_in t.rows ≡ map new_row (keys (map term_in (opened_slots number circuits.now now).terms))) }
+        ensures none { IfOk result (λ t. (t.news ≡ []) × (t.room ≡ 0)) }
+    {
+        let mut rows = Vec::with_capacity(alloc, usize::from(NUMBERS))?;
+        let mut begun = 0;
+        let first = number * 1024 + 1;
+        for n in first..first + NUMBERS {
+            if let Some(circuit) = circuit_with(circuits, SessionNo(n)) {
+                begun += 1;
+                rows.push_reserved(running_from(circuit, begun, now));
+            }
+        }
+        Ok(Terms {
+            rows,
+            news: Vec::new(alloc),
+            over: 0,
+            room: 0,
+        })
+    }
+
+    /// Makes room for so many terms more, and says whether there is.
+    pub(crate) fn reserve(&mut self, items: usize) -> bool
+        requires few { items < 2 ^ 16 }
+        ensures kept { (self.new.rows ≡ self.old.rows) × (self.new.news ≡ self.old.news) }
+        ensures room { result ≡ true → items ≤ self.new.room }
+    {
+        self.room = 0;
+        if self.rows.reserve(items).is_err() || self.news.reserve(items).is_err() {
+            return false;
+        }
+        self.room = items;
+        true
+    }
+
+    /// A term begins, with a number above those of all others.
+    pub(crate) fn begin(&mut self, row: Running)
+        requires room { 0 < self.old.room }
+        requires above { All (λ (r : Running). r.term.serial < row.term.serial) self.old.rows }
+        requires live { row.cause ≡ Nothing }
+        ensures rows { self.new.rows ≡ self.old.rows ++ row ∷ [] }
+        ensures news { tenures_in self.new.news ≡ tenures_in self.old.news ++ tenure_in row ∷ [] }
+        ensures room { self.new.room + 1 ≡ self.old.room }
+    {
+        self.news.push_reserved(copied(&row));
+        self.rows.push_reserved(row);
+        self.room -= 1;
+    }
+
+    /// The term of this lease ends by this cause, where there is a lease and a cause.
+    pub(crate) fn close(&mut self, lease: Option<Lease>, cause: Option<u8>)
+        ensures terms { tenures_in self.new.rows ≡ closed lease cause (tenures_in self.old.rows) }
+        ensures sums { rows_in self.new.rows ≡ rows_in self.old.rows }
+        ensures rest { (self.new.news ≡ self.old.news) × (self.new.room ≡ self.old.room) }
+    {
+        let (Some(lease), Some(cause)) = (lease, cause) else {
+            return;
+        };
+        let Some(place) = place_of(self.rows.as_slice(), lease.serial) else {
+            return;
+        };
+        let row = &mut self.rows.as_mut_slice()[place];
+        if row.cause.is_none() {
+            self.over += 1;
+        }
+        row.cause = Some(cause);
+    }
+
+    /// Whether a term that has ended still has this address.
+    pub(crate) fn keeps(&self, address: Ip4) -> bool
+        ensures { result ≡ list_any (has_kept address) (tenures_in self.now.rows) }
+    {
+        self.over > 0
+            && self
+                .rows
+                .iter()
+                .any(|r| r.cause.is_some() && r.lease.0 == address.0)
+    }
+
+    /// The first in order of the terms that have ended leaves: by the session number, then by the term's own. None exactly where none
+    /// has ended.
+    pub(crate) fn take_first_over(&mut self) -> Option<Running>
+        ensures one { IfSome result (λ r. LeavesFirst self.old.rows r self.new.rows) }
+        ensures none { IfNone result ((list_any has_ended self.old.rows ≡ false) × (self.new.rows ≡ self.old.rows)) }
+        ensures rest { (self.new.news ≡ self.old.news) × (self.new.room ≡ self.old.room) }
+    {
+        if self.over == 0 {
+            return None;
+        }
+        let mut first: Option<usize> = None;
+        for (place, row) in self.rows.iter().enumerate() {
+            let is_first = match first {
+                None => true,
+                Some(other) => comes_before(row, &self.rows.as_slice()[other]),
+            };
+            if row.cause.is_some() && is_first {
+                first = Some(place);
+            }
+        }
+        let row = self.rows.remove(first?);
+        self.over -= 1;
+        Some(row)
+    }
+
+    /// The first in order of the terms of whose beginning no Start was formed yet is told, and is no longer one of them. None exactly
+    /// where there is none.
+    pub(crate) fn take_first_new(&mut self) -> Option<Running>
+        ensures one { IfSome result (λ r. TellsFirst self.old.news r self.new.news) }
+        ensures none { IfNone result ((self.old.news ≡ []) × (self.new.news ≡ [])) }
+        ensures rest { (self.new.rows ≡ self.old.rows) × (self.new.room ≡ self.old.room) }
+    {
+        let mut first: Option<usize> = None;
+        for (place, row) in self.news.iter().enumerate() {
+            let is_first = match first {
+                None => true,
+                Some(other) => comes_before(row, &self.news.as_slice()[other]),
+            };
+            if is_first {
+                first = Some(place);
+            }
+        }
+        Some(self.news.remove(first?))
+    }
+
+    /// The term at this place, from 0; none exactly past the last.
+    pub(crate) fn term_at(&self, place: usize) -> Option<LiveTerm>
+        ensures keys { option_map key_of result ≡ slice_get (row_keys (rows_in self.now.rows)) place }
+        ensures says { IfSome result (λ t. AnyOf (SaysOf t.user.items t.class.items t.began (key_of t)) (tenures_in self.now.rows)) }
+    {
+        let row = self.rows.as_slice().get(place)?;
+        Some(row.shown())
+    }
+
+    /// What the term of this session carried; of several the one that began first.
+    pub(crate) fn carried_by(&self, session: SessionNo) -> Option<Traffic>
+        ensures { result ≡ option_map traffic_in (row_at (rows_in self.now.rows) session.0) }
+    {
+        let row = self.rows.iter().find(|r| r.term.session.0 == session.0)?;
+        Some(Traffic {
             input: row.carried.input,
             output: row.carried.output,
-        }),
-        None => None,
+        })
+    }
+
+    /// Takes the answer to a send: a packet that was sent is added to the row of its term, and one that was not is taken off the book
+    /// of the first profile, if it has that.
+    pub(crate) fn settle(&mut self, book: &mut Book, out: &OutRecord)
+        requires low { RowsAreLow (2 ^ 63) (rows_in self.old.rows) }
+        requires own { IsOwned (row_keys (rows_in self.old.rows)) out.now }
+        requires covered { AreCovered (book.old ∷ []) out.now }
+        ensures rows { SayMore (rows_in self.old.rows) (out.now ∷ []) (rows_in self.new.rows) }
+        ensures terms { tenures_in self.new.rows ≡ tenures_in self.old.rows }
+        ensures rest { (self.new.news ≡ self.old.news) × (self.new.room ≡ self.old.room) }
+        ensures book { BooksFall (book.old ∷ []) (out.now ∷ []) (book.new ∷ []) }
+    {
+        settle_in(&mut self.rows, book, out);
     }
 }
 
@@ -255,9 +435,9 @@ fn carry(rows: &mut [Running], charge: Charge)
     carry_in(&mut rows[place], charge);
 }
 
-/// Takes the answer to a send: a packet that was sent is added to the row of its term, and one that was not is taken off the book of
-/// the first profile, if it has that.
-pub(crate) fn settle(rows: &mut Vec<Running>, book: &mut Book, out: &OutRecord)
+// Takes the answer to a send: a packet that was sent is added to the row of its term, and one that was not is taken off the book of
+// the first profile, if it has that.
+fn settle_in(rows: &mut Vec<Running>, book: &mut Book, out: &OutRecord)
     requires low { RowsAreLow (2 ^ 63) (rows_in rows.old.items) }
     requires rising { AreRising rows.old.items }
     requires own { IsOwned (row_keys (rows_in rows.old.items)) out.now }
@@ -274,14 +454,4 @@ pub(crate) fn settle(rows: &mut Vec<Running>, book: &mut Book, out: &OutRecord)
     } else if charge.profile == 0 {
         take_off(book, charge.input, charge.octets);
     }
-}
-
-/// Takes the row of this session's term off, and answers what the term carried; none exactly where no term has it.
-pub(crate) fn leave(rows: &mut Vec<Running>, session: SessionNo) -> Option<Book>
-    ensures carried { result ≡ option_map (λ r. r.carried) (find (λ r. r.term.session.0 == session.0) rows.old.items) }
-    ensures rows { rows.new.items ≡ filter (λ r. not (r.term.session.0 == session.0)) rows.old.items }
-{
-    let row = row_at(rows, session);
-    rows.retain(|r| r.term.session.0 != session.0);
-    Some(row?.carried)
 }

@@ -4,6 +4,7 @@ ghost use Rattle.bng_base.specs.declared.item.OutRecord.{OutRecord as Out};
 ghost use Rattle.bng_base.specs.declared.settings.AccessPort.{AccessPort as Port};
 ghost use Rattle.bng_shard.specs.Fits.{ArePlaced};
 ghost use Rattle.bng_shard.specs.Timed.{TickedOnce, EndedOnce, Ticked, Ended};
+ghost use Rattle.bng_shard.specs.Running.{whole};
 ghost use Rattle.bng_shard.specs.State.{port_at};
 ghost use Rattle.bng_shard.specs.Timers.{TellsEnd, at_once};
 
@@ -13,8 +14,12 @@ use crate::rules::Rules;
 use crate::sending::At;
 use crate::served::Served;
 use crate::session::{Service, Session};
+use crate::terms::Terms;
 use bng_base::OutRecord;
 use bng_ppp::WholeInput;
+
+/// The cause of an end by the gateway's own stop (RFC 2866 section 5.10, NAS Request).
+const NAS_REQUEST: u8 = 10;
 
 /// How many due deadlines a Tick handles, and how many sessions an End ends.
 const AT_ONCE: u8 = 64;
@@ -22,6 +27,7 @@ const AT_ONCE: u8 = 64;
 // Handles the due deadline that comes first, and says whether one is due.
 fn tick_once(
     served: &mut Served,
+    terms: &mut Terms,
     rules: &Rules,
     at: At,
     now: u64,
@@ -33,7 +39,7 @@ fn tick_once(
     requires offers { length rules.now.offers ≡ length rules.now.access }
     requires placed { ArePlaced rules.now served.old.sessions }
     requires room { length outs.old.items + 5 ≤ vec_capacity outs.old }
-    ensures ticked { TickedOnce result rules.now at now random.now served.old served.new outs.old.items outs.new.items }
+    ensures ticked { TickedOnce result rules.now at now random.now (whole served.old terms.old) (whole served.new terms.new) outs.old.items outs.new.items }
     ensures placed { ArePlaced rules.now served.new.sessions }
     ensures capacity { vec_capacity outs.new ≡ vec_capacity outs.old }
     ensures few { length outs.new.items ≤ length outs.old.items + 5 }
@@ -43,6 +49,7 @@ fn tick_once(
     };
     drive_at(
         served,
+        terms,
         session,
         rules,
         at,
@@ -64,17 +71,17 @@ fn tell_end(rules: &Rules, at: At, session: &Session, outs: &mut Vec<OutRecord>)
     ensures few { length outs.new.items ≤ length outs.old.items + 1 }
 {
     match &session.service {
-        Service::Provisioned(_) => {}
+        Service::Provisioned { .. } => {}
         Service::Discovered(_) => send_padt(rules, at, session, outs),
     }
 }
 
 // Ends the session with the lowest number, and says whether one has not ended.
-fn end_once(served: &mut Served, rules: &Rules, at: At, outs: &mut Vec<OutRecord>) -> bool
+fn end_once(served: &mut Served, terms: &mut Terms, rules: &Rules, at: At, outs: &mut Vec<OutRecord>) -> bool
     requires offers { length rules.now.offers ≡ length rules.now.access }
     requires placed { ArePlaced rules.now served.old.sessions }
     requires room { length outs.old.items < vec_capacity outs.old }
-    ensures ended { EndedOnce result rules.now at served.old served.new outs.old.items outs.new.items }
+    ensures ended { EndedOnce result rules.now at (whole served.old terms.old) (whole served.new terms.new) outs.old.items outs.new.items }
     ensures placed { ArePlaced rules.now served.new.sessions }
     ensures capacity { vec_capacity outs.new ≡ vec_capacity outs.old }
     ensures few { length outs.new.items ≤ length outs.old.items + 1 }
@@ -84,6 +91,7 @@ fn end_once(served: &mut Served, rules: &Rules, at: At, outs: &mut Vec<OutRecord
     };
     let mut session = served.take(number);
     tell_end(rules, at, &session, outs);
+    terms.close(session.lease(), Some(NAS_REQUEST));
     session.end();
     served.put(session);
     true
@@ -93,6 +101,7 @@ fn end_once(served: &mut Served, rules: &Rules, at: At, outs: &mut Vec<OutRecord
 /// session number first: at most 64. Each time the session's link takes Timer.
 pub(crate) fn tick(
     served: &mut Served,
+    terms: &mut Terms,
     rules: &Rules,
     at: At,
     now: u64,
@@ -104,26 +113,26 @@ pub(crate) fn tick(
     requires offers { length rules.now.offers ≡ length rules.now.access }
     requires placed { ArePlaced rules.now served.old.sessions }
     requires room { length outs.old.items + 320 ≤ vec_capacity outs.old }
-    ensures ticked { Ticked at_once rules.now at now random.now served.old served.new outs.old.items outs.new.items }
+    ensures ticked { Ticked at_once rules.now at now random.now (whole served.old terms.old) (whole served.new terms.new) outs.old.items outs.new.items }
     ensures capacity { vec_capacity outs.new ≡ vec_capacity outs.old }
 {
     for _ in 0..AT_ONCE {
-        if !tick_once(served, rules, at, now, random, outs) {
+        if !tick_once(served, terms, rules, at, now, random, outs) {
             return;
         }
     }
 }
 
 /// Ends the sessions with the lowest numbers, by rising number: at most 64. Those that discovery made are told so by a PADT.
-pub(crate) fn end(served: &mut Served, rules: &Rules, at: At, outs: &mut Vec<OutRecord>)
+pub(crate) fn end(served: &mut Served, terms: &mut Terms, rules: &Rules, at: At, outs: &mut Vec<OutRecord>)
     requires offers { length rules.now.offers ≡ length rules.now.access }
     requires placed { ArePlaced rules.now served.old.sessions }
     requires room { length outs.old.items + 320 ≤ vec_capacity outs.old }
-    ensures ended { Ended at_once rules.now at served.old served.new outs.old.items outs.new.items }
+    ensures ended { Ended at_once rules.now at (whole served.old terms.old) (whole served.new terms.new) outs.old.items outs.new.items }
     ensures capacity { vec_capacity outs.new ≡ vec_capacity outs.old }
 {
     for _ in 0..AT_ONCE {
-        if !end_once(served, rules, at, outs) {
+        if !end_once(served, terms, rules, at, outs) {
             return;
         }
     }

@@ -1,13 +1,12 @@
 //! Which shard an item is for.
 ghost use Rattle.std.specs.Prelude.{◌≡◌, ◌<◌, ◌≤◌, ◌+◌, ◌*◌, ℕ, [], length};
-ghost use Rattle.std.specs.List.{All};
 ghost use Rattle.bng_pppoe_wire.specs.View.{frame_of};
 ghost use Rattle.bng_shard.specs.Whose.{IsWhose, IsForKind, IsForSession, IsForTarget, IsForFrame, fold_of, NamesShard};
 
-use crate::pool::PlainPool;
 use crate::rules::Rules;
 use bng_base::{DropCause, Fate, Item, ItemKind, Mac};
 use bng_forward::{Arrived, frame_at, names_session, packet_from};
+use bng_pool::PlainPool;
 use bng_pppoe_wire::Pppoe;
 
 /// Where an item is handled.
@@ -24,8 +23,8 @@ pub enum Whose {
 /// What is outside its grammar or leads to no shard is loose.
 pub fn whose_is(rules: &Rules, pool: &PlainPool, item: &Item) -> Whose
     requires some { 1 ≤ rules.now.shards }
-    requires held { All (λ h. h.shard < rules.now.shards) pool.now }
-    ensures is { IsWhose rules.now pool.now item.now result }
+    requires shards { pool.now.shards ≤ rules.now.shards }
+    ensures is { IsWhose rules.now pool.now.table item.now result }
     ensures inside { (n : ℕ) → result ≡ Whose.Stands n → n < rules.now.shards }
 {
     match item.kind {
@@ -65,10 +64,11 @@ fn whose_target(rules: &Rules, target: u16) -> Whose
 
 // A datagram of the core.
 fn whose_packet(rules: &Rules, pool: &PlainPool, item: &Item) -> Whose
-    requires held { All (λ h. h.shard < rules.now.shards) pool.now }
-    ensures is { IsForKind ItemKind.Core rules.now pool.now item.now result }
+    requires shards { pool.now.shards ≤ rules.now.shards }
+    ensures is { IsForKind ItemKind.Core rules.now pool.now.table item.now result }
     ensures inside { (n : ℕ) → result ≡ Whose.Stands n → n < rules.now.shards }
 {
+    pool.lists_each_once();
     let arrived = Arrived {
         from: item.from,
         cut: item.cut,

@@ -10,7 +10,7 @@ use Rattle.bng_shard.proofs.OfSession.{is_of, option_carried}
 use Rattle.bng_shard.proofs.Reaping.{its_row, leaves_so, left_fit, left_placed, none_ended, none_settled}
 use Rattle.bng_shard.proofs.RowSums.{rising_kept}
 use Rattle.bng_shard.proofs.Stepping.{view}
-use Rattle.bng_shard.proofs.Terms.{terms_there}
+use Rattle.bng_shard.proofs.TermLaws.{terms_there}
 use Rattle.bng_shard.proofs.Values.{kept_from, none_some}
 use Rattle.bng_shard.proofs.shard.Shard.reap.Goals as goal
 

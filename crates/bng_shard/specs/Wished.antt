@@ -1,0 +1,38 @@
+-- What an item asks of the pools of addresses.
+use Rattle.std.specs.Prelude.{◌≡◌, ◌⊎◌, ℕ, Bool, Some}
+use Rattle.bng_base.specs.declared.item.Claim.{Claim}
+use Rattle.bng_base.specs.declared.item.Item.{Item}
+use Rattle.bng_base.specs.declared.item.ItemKind.{ItemKind}
+use Rattle.bng_base.specs.declared.item.ItemKind.TheVariants.{Access, Core, Tunnel, Verdict, Change, Tick, End}
+use Rattle.bng_shard.specs.declared.rules.Rules.{Rules}
+use Rattle.bng_shard.specs.declared.wish.Wish.{Wish}
+use Rattle.bng_shard.specs.declared.wish.Wish.TheVariants.{Nothing}
+use Rattle.bng_shard.specs.Questions.{open_ask_at}
+use Rattle.bng_shard.specs.State.{State}
+use Rattle.bng_shard.specs.Wishes.{IsAnswerTo, Wishes}
+
+-- a verdict asks as its octets say, where the question that it names is open, and else nothing
+abbrev pub WishesVerdict : Rules → State → Item → Bool → Wish → Type 0
+WishesVerdict r s item limited wish =
+    ((open_ask_at s item.target ≡ Some item.ask) × Wishes r.pools limited item.frame.payload wish)
+    ⊎ ((¬ (open_ask_at s item.target ≡ Some item.ask)) × (wish ≡ Nothing))
+
+-- no other item asks anything
+abbrev pub WishesFor : ItemKind → Rules → State → Item → Bool → Wish → Type 0
+WishesFor (Access number) r s item limited wish = wish ≡ Nothing
+WishesFor Core r s item limited wish = wish ≡ Nothing
+WishesFor Tunnel r s item limited wish = wish ≡ Nothing
+WishesFor Verdict r s item limited wish = WishesVerdict r s item limited wish
+WishesFor Change r s item limited wish = wish ≡ Nothing
+WishesFor Tick r s item limited wish = wish ≡ Nothing
+WishesFor End r s item limited wish = wish ≡ Nothing
+
+-- what the item asks, where the shard's allowance of new terms is used up or is not
+abbrev pub IsWished : Rules → State → Item → Bool → Wish → Type 0
+IsWished r s item limited wish = WishesFor item.kind r s item limited wish
+
+-- this was answered to what the item asks
+pub record IsAnswered (r : Rules) (s : State) (item : Item) (limited : Bool) (claim : Claim) : Type 0 where
+  pub wish : Wish
+  pub is_wished : IsWished r s item limited wish
+  pub answers : IsAnswerTo r.pools wish claim
