@@ -8,7 +8,7 @@ use Rattle.bng_engine.specs.Quantities.{Quantity, in_book}
 use Rattle.bng_engine.specs.Terms.{Key, Term, keys}
 use Rattle.bng_engine.specs.Views.{Row, row_keys, rows_where}
 use Rattle.bng_engine.proofs.Everywhere.{any_left, any_right}
-use Rattle.bng_shard.specs.declared.running.Running.{Running}
+use Rattle.bng_shard.specs.declared.terms.Running.{Running}
 use Rattle.bng_shard.specs.declared.session.Service.{Service}
 use Rattle.bng_shard.specs.declared.session.Service.TheVariants.{Provisioned, Discovered}
 use Rattle.bng_shard.specs.declared.session.Session.{Session}

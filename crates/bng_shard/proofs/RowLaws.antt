@@ -5,7 +5,7 @@ use Rattle.std.specs.Prelude.{find, option_map, slice_get}
 use Rattle.std.proofs.lemmas.Option.{slice_get-map}
 use Rattle.bng_engine.specs.Views.{Row, new_row, row_keys}
 use Rattle.bng_engine.specs.Terms.{Key, keys}
-use Rattle.bng_shard.specs.declared.running.Running.{Running}
+use Rattle.bng_shard.specs.declared.terms.Running.{Running}
 use Rattle.bng_shard.specs.declared.session.Lease.{Lease}
 use Rattle.bng_shard.specs.declared.session.Service.{Service}
 use Rattle.bng_shard.specs.declared.session.Service.TheVariants.{Provisioned, Discovered}

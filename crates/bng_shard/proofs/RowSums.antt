@@ -22,7 +22,7 @@ use Rattle.bng_engine.specs.Sums.{same, is_any}
 use Rattle.bng_engine.specs.Terms.{Key, keys, key_in}
 use Rattle.bng_engine.specs.Views.{Row, row_keys, rows_where}
 use Rattle.bng_engine.proofs.Charging.{charge_row}
-use Rattle.bng_shard.specs.declared.running.Running.{Running}
+use Rattle.bng_shard.specs.declared.terms.Running.{Running}
 use Rattle.bng_shard.specs.Protocol.{terms_after}
 use Rattle.bng_shard.specs.Running.{AreRising, HasSerial, IsPlaceOf, row_from, rows_in}
 use Rattle.bng_shard.specs.Sums.{IsMore, RowsAreLow}

@@ -1,6 +1,6 @@
 -- By what a proof tells two states of a shard apart.
 use Rattle.std.specs.Prelude.{ℕ, List, refl}
-use Rattle.std.specs.Coded.{Coded, code_by, coded×, coded_list, coded_ℕ}
+use Rattle.std.specs.Coded.{Coded, code_by, codes, coded×, coded_list, coded_ℕ}
 use Rattle.bng_slots.specs.Sessions.{Sessions, sessions_code}
 use Rattle.bng_shard.specs.contracts.session.Session.{the_row}
 use Rattle.bng_shard.specs.declared.session.Session.{Session}

@@ -20,6 +20,6 @@ abbrev pub LastsOver : WholeInput → Option Lease → Type 0
 LastsOver Start lease = Unit {0}
 LastsOver (Frame octets) lease = Unit {0}
 LastsOver Timer lease = Unit {0}
-LastsOver (Verdict yes address text) lease = lease ≡ None
+LastsOver (Verdict accepted address text) lease = lease ≡ None
 LastsOver Close lease = ⊥
 LastsOver Lost lease = ⊥

@@ -1,7 +1,7 @@
 -- What an Access-Accept asks of the pools of addresses, and what comes of the answer.
-use Rattle.std.specs.Prelude.{◌≡◌, ◌⊎◌, ℕ, Bool, true, false, ◌&&◌, List, [], Option, Some, None, nat_le, IsTrue, IsFalse, list_any, slice_get, if◌then◌else◌}
-use Rattle.std.specs.List.{position}
-use Rattle.std.specs.Str.{bytes_eq, codes}
+use Rattle.std.specs.Prelude.{◌≡◌, ◌⊎◌, ℕ, Bool, true, false, ◌&&◌, List, [], ◌∷◌, Option, Some, None, nat_le, IsTrue, IsFalse, codes, slice_get, if◌then◌else◌}
+use Rattle.std.specs.List.{list_any, position}
+use Rattle.std.specs.Str.{bytes_eq}
 use Rattle.bng_base.specs.declared.address.Ip4.{Ip4}
 use Rattle.bng_base.specs.declared.book.Range.{Range}
 use Rattle.bng_base.specs.declared.item.Claim.{Claim}

@@ -1,5 +1,6 @@
 //! Packets of the sessions' terms: from a circuit to the core, and from the core to a circuit.
-ghost use Rattle.std.specs.Prelude.{◌≡◌, ◌<◌, ℕ, List, None as Nothing, length, list_any, vec_capacity, option_map};
+ghost use Rattle.std.specs.Prelude.{◌≡◌, ◌<◌, ℕ, List, None as Nothing, length, vec_capacity, option_map};
+ghost use Rattle.std.specs.List.{list_any};
 ghost use Rattle.std.specs.Option.{option_copied};
 ghost use Rattle.bng_base.specs.FateOf.{arrival_of};
 ghost use Rattle.bng_pppoe_wire.specs.View.{frame_of};

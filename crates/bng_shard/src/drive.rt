@@ -178,7 +178,7 @@ pub(crate) fn drive(
     requires placed { (port : Port) × (port_at rules.now.access session.old.port ≡ Some port) }
     requires made { made_one session.old.service ≡ 1 }
     requires leased { KeepsLease session.old.service session.old.lease }
-    requires lasts { LastsOver input.entry session.old.lease }
+    requires lasts { LastsOver input session.old.lease }
     requires room { length outs.old.items + 5 ≤ vec_capacity outs.old }
     ensures driven { Driven rules.now at (PppSteps rules.now.link input.entry now random.now) asked session.old result.1 session.new result.0 outs.old.items outs.new.items }
     ensures leased { KeepsLease session.new.service session.new.lease }

@@ -55,7 +55,7 @@ pub(crate) fn drive_at(
     requires offers { length rules.now.offers ≡ length rules.now.access }
     requires placed { ArePlaced rules.now served.old.sessions }
     requires lives { lives_at served.old number.0 ≡ true }
-    requires lasts { (x : Seen) → value_at served.old.sessions number.0 ≡ Some x → LastsOver input.entry x.lease }
+    requires lasts { (x : Seen) → value_at served.old.sessions number.0 ≡ Some x → LastsOver input x.lease }
     requires room { length outs.old.items + 5 ≤ vec_capacity outs.old }
     ensures driven { (x : Seen) → value_at served.old.sessions number.0 ≡ Some x → (x' : Seen) × (cause : Maybe ℕ) × (asked : ℕ) × Driven rules.now at (PppSteps rules.now.link input.entry now random.now) served.old.asked x cause x' asked outs.old.items outs.new.items × (whole served.new terms.new ≡ with_driven (whole served.old terms.old) number.0 x.lease cause x' asked) }
     ensures capacity { vec_capacity outs.new ≡ vec_capacity outs.old }

@@ -283,7 +283,7 @@ impl Session {
         requires auth { 0 < length rules.now.auth.items }
         requires made { made_one self.old.service ≡ 1 }
         requires leased { KeepsLease self.old.service self.old.lease }
-        requires lasts { LastsOver input.entry self.old.lease }
+        requires lasts { LastsOver input self.old.lease }
         ensures leased { KeepsLease self.new.service self.new.lease }
         ensures steps { (made : DiscoveredMade) × (says : PppSaid) × (link : PppState) × (self.old.service ≡ Service.Discovered made)
             × PppSteps rules.now input.entry now random.now made.link says link × (self.new ≡ with_link self.old made asked says link) × (result ≡ asked_after asked says.asked)

@@ -1,7 +1,7 @@
 //! The terms of a shard, with the sums that it keeps for each.
-ghost use Rattle.std.specs.Prelude.{◌≡◌, ◌+◌, ◌^◌, ◌<◌, ◌≤◌, ◌++◌, ◌∷◌, [], true, length, list_any, slice_get, vec_capacity, map, option_map, IfOk, IfSome, IfNone};
+ghost use Rattle.std.specs.Prelude.{◌≡◌, ◌≢◌, ℕ, false, ◌+◌, ◌^◌, ◌<◌, ◌≤◌, ◌++◌, ◌∷◌, [], true, length, slice_get, vec_capacity, map, option_map, IfOk, IfSome, IfNone};
 ghost use Rattle.std.specs.Prelude.{Some, None as Nothing, not};
-ghost use Rattle.std.specs.List.{All, AllPairs};
+ghost use Rattle.std.specs.List.{All, AllPairs, list_any};
 ghost use Rattle.bng_base.specs.declared.item.OutRecord.{OutRecord as Out};
 ghost use Rattle.bng_engine.specs.Books.{BooksFall, BooksRise};
 ghost use Rattle.bng_engine.specs.Calls.{SayMore};

@@ -3,7 +3,7 @@ use Rattle.std.proofs.lemmas.List.{take_more, take_all}
 use Rattle.bng_base.specs.declared.item.OutRecord.{OutRecord}
 use Rattle.bng_engine.specs.Books.{BooksRise}
 use Rattle.bng_shard.proofs.Tallying.{booked_begin, booked_more}
-use Rattle.bng_shard.proofs.running.book.Goals as goal
+use Rattle.bng_shard.proofs.terms.book.Goals as goal
 
 pub loop-out-init : goal.loop-out-init
 loop-out-init c = record { so_far = booked_begin c.args.book.now; low = λ q input. omega (arith, c.requires.low q input) }

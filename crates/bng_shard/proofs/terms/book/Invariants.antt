@@ -1,7 +1,7 @@
 use Rattle.std.proofs.Common.{◌+◌, ◌*◌, ◌^◌, ◌∷◌, [], take}
 use Rattle.bng_engine.specs.Books.{BooksRise}
 use Rattle.bng_shard.specs.Sums.{IsLow}
-use Rattle.bng_shard.proofs.running.book.Given as goal
+use Rattle.bng_shard.proofs.terms.book.Given as goal
 
 abbrev pub invariant-loop-out : goal.invariant-loop-out
 invariant-loop-out l = record {

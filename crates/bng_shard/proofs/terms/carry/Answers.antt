@@ -2,10 +2,10 @@ use Rattle.std.proofs.Common.{◌^◌, sym, ap, subst, ◌∙◌, [], ◌∷◌}
 use Rattle.std.proofs.Math.ListN.{set}
 use Rattle.bng_engine.specs.Calls.{SayMore}
 use Rattle.bng_engine.specs.Views.{row_keys}
-use Rattle.bng_shard.specs.declared.running.Running.{Running}
+use Rattle.bng_shard.specs.declared.terms.Running.{Running}
 use Rattle.bng_shard.specs.Running.{rows_in}
 use Rattle.bng_shard.proofs.RowSums.{blank, key_at_place, keys_set, one_row, owned_serial, row_low, rows_get}
-use Rattle.bng_shard.proofs.running.carry.Goals as goal
+use Rattle.bng_shard.proofs.terms.carry.Goals as goal
 
 pub unreachable-requires : goal.unreachable-requires
 unreachable-requires c = c.in_default.ensures.none (owned_serial c.args.charge c.args.rows.now c.requires.own)

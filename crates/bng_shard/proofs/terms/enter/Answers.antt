@@ -1,6 +1,6 @@
 use Rattle.std.proofs.Common.{arith}
 use Rattle.bng_shard.proofs.BookLaws.{little_more, more_entered, room_for_octets, room_for_packet}
-use Rattle.bng_shard.proofs.running.enter.Goals as goal
+use Rattle.bng_shard.proofs.terms.enter.Goals as goal
 
 pub enter-requires-clause-octets : goal.enter-requires-clause-octets
 enter-requires-clause-octets c = room_for_octets c.args.book.now c.args.input c.args.octets c.requires.low (omega (arith, c.ranges.octets))

@@ -1,7 +1,7 @@
 use Rattle.std.proofs.Common.{rules, Ok, Err}
 use Rattle.std.proofs.lemmas.List.Sorted.{answers_always}
 use Rattle.bng_shard.proofs.RowSums.{searched}
-use Rattle.bng_shard.proofs.running.place_of.Goals as goal
+use Rattle.bng_shard.proofs.terms.place_of.Goals as goal
 
 pub returns-in-Ok-clause-there : goal.returns-in-Ok-clause-there
 returns-in-Ok-clause-there c =

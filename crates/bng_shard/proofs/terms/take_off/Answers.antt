@@ -1,5 +1,5 @@
 use Rattle.bng_shard.proofs.BookLaws.{has_octets, has_packet, less_off}
-use Rattle.bng_shard.proofs.running.take_off.Goals as goal
+use Rattle.bng_shard.proofs.terms.take_off.Goals as goal
 
 pub take_off-requires-clause-octets : goal.take_off-requires-clause-octets
 take_off-requires-clause-octets c = has_octets c.args.book.now c.args.input c.args.octets c.requires.there

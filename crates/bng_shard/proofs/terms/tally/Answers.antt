@@ -3,7 +3,7 @@ use Rattle.std.proofs.lemmas.List.{take_more, take_all}
 use Rattle.bng_base.specs.declared.item.OutRecord.{OutRecord}
 use Rattle.bng_shard.specs.Sums.{Rises}
 use Rattle.bng_shard.proofs.Tallying.{rises_begin, rises_more}
-use Rattle.bng_shard.proofs.running.tally.Goals as goal
+use Rattle.bng_shard.proofs.terms.tally.Goals as goal
 
 pub loop-out-init : goal.loop-out-init
 loop-out-init c = record { so_far = rises_begin c.args.tally.now; low = λ q input. omega (arith, c.requires.low q input) }

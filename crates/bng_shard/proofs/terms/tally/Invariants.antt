@@ -1,6 +1,6 @@
 use Rattle.std.proofs.Common.{◌+◌, ◌*◌, ◌^◌, take}
 use Rattle.bng_shard.specs.Sums.{IsLow, Rises}
-use Rattle.bng_shard.proofs.running.tally.Given as goal
+use Rattle.bng_shard.proofs.terms.tally.Given as goal
 
 abbrev pub invariant-loop-out : goal.invariant-loop-out
 invariant-loop-out l = record {

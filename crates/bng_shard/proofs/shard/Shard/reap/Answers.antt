@@ -1,7 +1,7 @@
 use Rattle.std.proofs.Common.{◌∙◌, not, ap, sym, subst, refl, arith, List}
 use Rattle.bng_engine.specs.Terms.{keys}
 use Rattle.bng_engine.specs.Views.{row_keys}
-use Rattle.bng_shard.specs.declared.running.Running.{Running}
+use Rattle.bng_shard.specs.declared.terms.Running.{Running}
 use Rattle.bng_shard.specs.declared.session.Session.{Session}
 use Rattle.bng_shard.specs.Fits.{ArePlaced}
 use Rattle.bng_shard.specs.Running.{AreRising, rows_in}

@@ -1,9 +1,9 @@
 use Rattle.std.proofs.Common.{length, option_map, refl, sym, ap, ◌∙◌}
 use Rattle.std.proofs.lemmas.Option.{slice_get_read}
-use Rattle.bng_shard.specs.declared.running.Running.{Running}
+use Rattle.bng_shard.specs.declared.terms.Running.{Running}
 use Rattle.bng_shard.specs.Running.{row_from}
 use Rattle.bng_shard.proofs.RowLaws.{key_at}
-use Rattle.bng_shard.proofs.running.term_at.Goals as goal
+use Rattle.bng_shard.proofs.terms.term_at.Goals as goal
 
 pub returns : goal.returns
 returns c =
