@@ -16,6 +16,7 @@ pub mod Fewer
 pub mod Stepping
 pub mod Carrying
 pub mod Driving
+pub mod Lasting
 pub mod Speaking
 pub mod Finding
 pub mod Rows

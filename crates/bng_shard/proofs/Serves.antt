@@ -8,12 +8,13 @@ use Rattle.bng_base.specs.declared.circuit.Circuit.TheVariants.{Pppoe, L2tp}
 use Rattle.bng_base.specs.declared.circuit.TermId.{TermId}
 use Rattle.bng_slots.specs.Sessions.{Sessions, IsNumberOf, NoneShares, read_at, value_at, with_value, without}
 use Rattle.bng_slots.proofs.SessionLaws.{value_at-with_value, value_at-with_other, value_at-without, value_at-without_other}
+use Rattle.bng_shard.specs.declared.session.Lease.{Lease}
 use Rattle.bng_shard.specs.declared.session.Service.{Service}
 use Rattle.bng_shard.specs.declared.session.Service.TheVariants.{Provisioned, Discovered}
 use Rattle.bng_shard.specs.declared.session.Session.{Session}
 use Rattle.bng_shard.specs.Indexed.{address_of, term_of}
 use Rattle.bng_shard.specs.Listing.{does_pass}
-use Rattle.bng_shard.specs.Serving.{AreApart, AreOwn, AreOfShard}
+use Rattle.bng_shard.specs.Serving.{AreApart, AreLeased, AreOwn, AreOfShard, KeepsLease}
 use Rattle.bng_shard.specs.State.{circuit_of, leaves, leaves_in}
 use Rattle.bng_shard.specs.Timers.{does_live, does_stay, lives_in}
 use Rattle.bng_shard.proofs.Earliest.{read_there}
@@ -52,9 +53,10 @@ abbrev session_of_term : Option TermId → ℕ
 session_of_term None = 0
 session_of_term (Some t) = t.session.0
 
-term_session : (v : Service) (x : Session) (t : TermId) → x.service ≡ v → term_of x ≡ Some t → t.session ≡ x.number
-term_session (Provisioned p) x t is e = sym (ap (λ (k : TermId). k.session) (same_some (record { session = x.number; serial = p.lease.serial }) t (sym (ap (λ (w : Service). term_of (record x { service = w })) is) ∙ e)))
-term_session (Discovered m) x t is e = absurd (none_some t (sym (ap (λ (w : Service). term_of (record x { service = w })) is) ∙ e))
+term_session : (o : Option Lease) (x : Session) (t : TermId) → x.lease ≡ o → term_of x ≡ Some t → t.session ≡ x.number
+term_session None x t is e = absurd (none_some t (sym (ap (λ (l : Option Lease). term_of (record x { lease = l })) is) ∙ e))
+term_session (Some lease) x t is e =
+    sym (ap (λ (k : TermId). k.session) (same_some (record { session = x.number; serial = lease.serial }) t (sym (ap (λ (l : Option Lease). term_of (record x { lease = l })) is) ∙ e)))
 
 -- What a session that comes has that none has, as each stands under its own number.
 module _ (s : Sessions Session) (x : Session) (own : AreOwn s) (vacant : value_at s x.number.0 ≡ None) where
@@ -70,7 +72,7 @@ module _ (s : Sessions Session) (x : Session) (own : AreOwn s) (vacant : value_a
   pub term_alone : NoneShares term_of s x
   term_alone n t mine has =
       let y = read_there term_of (value_at s n) t has in
-      other_there n y.0 y.1 (ap (λ (k : SessionNo). k.0) (sym (term_session y.0.service y.0 t refl y.2) ∙ term_session x.service x t refl mine))
+      other_there n y.0 y.1 (ap (λ (k : SessionNo). k.0) (sym (term_session y.0.lease y.0 t refl y.2) ∙ term_session x.lease x t refl mine))
 
 -- a session that has no address shares none
 pub nothing_shared : (s : Sessions Session) (x : Session) → address_of x ≡ None → NoneShares address_of s x
@@ -109,6 +111,19 @@ module _ (s : Sessions Session) (n : ℕ) where
   of_shard_take own m some = elim (cases_eq m n) [
     | inl same ↦ absurd (false≢true (sym (ap is_some (gone m same)) ∙ some))
     | inr differ ↦ own m (sym (ap is_some (value_at-without_other s n m differ)) ∙ some)
+  ]
+
+  -- Leases: each session has a link on which its term is live
+  pub leased_put : (x : Session) → AreLeased s → KeepsLease x.service x.lease → AreLeased (with_value s n x)
+  leased_put x leased keeps m y e = elim (cases_eq m n) [
+    | inl same ↦ subst (λ (z : Session). KeepsLease z.service z.lease) (same_some x y (sym (there x m same) ∙ e)) keeps
+    | inr differ ↦ leased m y (sym (value_at-with_other s n x m differ) ∙ e)
+  ]
+
+  pub leased_take : AreLeased s → AreLeased (without s n)
+  leased_take leased m y e = elim (cases_eq m n) [
+    | inl same ↦ absurd (none_some y (sym (gone m same) ∙ e))
+    | inr differ ↦ leased m y (sym (value_at-without_other s n m differ) ∙ e)
   ]
 
   -- Addresses ---------------------------------------------------------------------------------------------------------

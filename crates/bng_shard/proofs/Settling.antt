@@ -10,7 +10,7 @@ use Rattle.bng_slots.proofs.SessionLaws.{value_at-without, value_at-without_othe
 use Rattle.bng_shard.specs.declared.session.Session.{Session}
 use Rattle.bng_shard.specs.Indexed.{address_of}
 use Rattle.bng_shard.specs.Listing.{does_pass, passing_in}
-use Rattle.bng_shard.specs.Serving.{AreApart, AreOwn, AreOfShard, AreLeaving}
+use Rattle.bng_shard.specs.Serving.{AreApart, AreLeased, AreOwn, AreOfShard, AreLeaving}
 use Rattle.bng_shard.specs.State.{leaves}
 use Rattle.bng_shard.proofs.Earliest.{read_there}
 use Rattle.bng_shard.proofs.Listing.{listed_there}
@@ -131,6 +131,9 @@ module _ (s0 s : Sessions Session) (h : Settles s0 s []) where
       let is = own n (ap is_some (left_was n x.0 x.1)) in
       let shard = h.shard in
       (omega (arith, is.0, shard), omega (arith, is.1, shard))
+
+  pub leased_left : AreLeased s0 → AreLeased s
+  leased_left leased n x is = leased n x (left_was n x is)
 
   pub apart_left : AreApart s0 → AreApart s
   apart_left apart m n a em en = apart m n a (was m a em) (was n a en)

@@ -3,10 +3,10 @@ use Rattle.bng_base.specs.declared.address.SessionNo.{SessionNo}
 use Rattle.bng_slots.specs.Sessions.{Sessions, with_value}
 use Rattle.bng_shard.specs.declared.session.Session.{Session}
 use Rattle.bng_shard.specs.Listing.{passing_in, with_listed}
-use Rattle.bng_shard.specs.Serving.{AreApart, AreOwn, AreOfShard, AreLeaving, AreAsking, AreYoung, asks, is_young}
+use Rattle.bng_shard.specs.Serving.{AreApart, AreLeased, AreOwn, AreOfShard, AreLeaving, AreAsking, AreYoung, asks, is_young}
 use Rattle.bng_shard.specs.State.{leaves}
 use Rattle.bng_shard.proofs.Listing.{counted_put, listed_put, passing_most}
-use Rattle.bng_shard.proofs.Serves.{apart_put, circuit_alone, of_shard_put, own_put, term_alone}
+use Rattle.bng_shard.proofs.Serves.{apart_put, circuit_alone, leased_put, of_shard_put, own_put, term_alone}
 use Rattle.bng_shard.proofs.served.Served.put.Goals as goal
 
 pub list_leaving-requires : goal.list_leaving-requires
@@ -62,6 +62,7 @@ invariant_of-self c =
       own = subst AreOwn (sym put) (own_put s n x is.own refl);
       of_shard = subst AreOfShard (sym put) (of_shard_put s n x is.of_shard number);
       apart = subst AreApart (sym put) (apart_put s n x is.apart apart);
+      leased = subst AreLeased (sym put) (leased_put s n x is.leased c.requires.leased);
       leaving = subst (λ (ns : List SessionNo). AreLeaving c.put.new.self ns) (sym c.list_leaving.ensures.items)
           (subst (λ (t : Sessions Session). AreLeaving t (with_listed leaves x ended)) (sym put) (listed_put leaves s x ended is.leaving vacant));
       counted = ap (passing_in leaves) put ∙ counted_put leaves s x ended is.leaving vacant is.counted ∙ ap (λ (ns : List SessionNo). length ns) (sym c.list_leaving.ensures.items);

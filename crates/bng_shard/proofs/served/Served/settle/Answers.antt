@@ -4,9 +4,10 @@ use Rattle.bng_slots.specs.Sessions.{Sessions}
 use Rattle.bng_shard.specs.declared.session.Session.{Session}
 use Rattle.bng_shard.specs.Listing.{passing_in}
 use Rattle.bng_shard.specs.Serving.{AreLeaving, asks, is_young}
+use Rattle.bng_shard.specs.State.{State}
 use Rattle.bng_shard.proofs.Circuits.{no_length}
 use Rattle.bng_shard.proofs.Listing.{leaves_asks, leaves_young, listed_left, passing_settled}
-use Rattle.bng_shard.proofs.Settling.{Settles, apart_left, ended_none, leaving_none, of_shard_left, own_left, settles_all, settles_more, settles_none}
+use Rattle.bng_shard.proofs.Settling.{Settles, apart_left, leased_left, ended_none, leaving_none, of_shard_left, own_left, settles_all, settles_more, settles_none}
 use Rattle.bng_shard.proofs.served.Served.settle.Goals as goal
 
 pub loop-number-init : goal.loop-number-init
@@ -17,6 +18,7 @@ loop-number-init c =
       own = is.own;
       of_shard = is.of_shard;
       apart = is.apart;
+      leased = is.leased;
       begun = refl;
       asked = refl;
       room = is.room;
@@ -42,6 +44,7 @@ loop-number-preserved c =
       own = was.own;
       of_shard = was.of_shard;
       apart = was.apart;
+      leased = was.leased;
       begun = was.begun;
       asked = was.asked;
       room = omega (arith, room, same_room);
@@ -70,6 +73,7 @@ invariant_of-self c =
       own = own_left s0 s h was.own;
       of_shard = of_shard_left s0 s h was.of_shard;
       apart = apart_left s0 s h was.apart;
+      leased = leased_left s0 s h was.leased;
       leaving = subst (λ (ns : List SessionNo). AreLeaving s ns) (sym gone) (leaving_none s0 s h);
       counted = ended_none s0 s h ∙ sym after;
       room = omega (arith, room, same_room);
@@ -92,4 +96,6 @@ returns c =
     let all = settles_all s0 s h in
     let begun = was.begun in
     let asked = was.asked in
-    λ i. record { sessions = all i; begun = begun i; asked = asked i }
+    let terms = ap (λ (t : State). t.terms) c.self.view_is in
+    let news = ap (λ (t : State). t.news) c.self.view_is in
+    λ i. record { sessions = all i; begun = begun i; asked = asked i; terms = terms i; news = news i }

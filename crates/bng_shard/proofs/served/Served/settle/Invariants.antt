@@ -1,6 +1,6 @@
 use Rattle.std.proofs.Common.{◌≡◌, ◌<◌, length, vec_capacity}
 use Rattle.bng_shard.specs.Listing.{passing_in}
-use Rattle.bng_shard.specs.Serving.{AreApart, AreAsking, AreOfShard, AreOwn, AreYoung, asks, is_young}
+use Rattle.bng_shard.specs.Serving.{AreApart, AreLeased, AreAsking, AreOfShard, AreOwn, AreYoung, asks, is_young}
 use Rattle.bng_shard.proofs.Settling.{Settles}
 use Rattle.bng_shard.proofs.served.Served.settle.Given as goal
 
@@ -10,6 +10,7 @@ invariant-loop-number l = record {
   own : AreOwn l.fn.self.sessions;
   of_shard : AreOfShard l.fn.self.sessions;
   apart : AreApart l.fn.self.sessions;
+  leased : AreLeased l.fn.self.sessions;
   begun : l.self-inside.begun ≡ l.fn.self.begun;
   asked : l.self-inside.asked ≡ l.fn.self.asked;
   room : 1022 < vec_capacity l.self-inside.leaving;

@@ -4,10 +4,10 @@ use Rattle.bng_slots.specs.Sessions.{NoneShares, Sessions, value_at, without}
 use Rattle.bng_shard.specs.declared.session.Session.{Session}
 use Rattle.bng_shard.specs.Indexed.{address_of}
 use Rattle.bng_shard.specs.Listing.{passing_in, without_listed}
-use Rattle.bng_shard.specs.Serving.{AreApart, AreOwn, AreOfShard, AreLeaving, AreAsking, AreYoung, asks, is_young}
+use Rattle.bng_shard.specs.Serving.{AreApart, AreLeased, AreOwn, AreOfShard, AreLeaving, AreAsking, AreYoung, asks, is_young}
 use Rattle.bng_shard.specs.State.{leaves}
 use Rattle.bng_shard.proofs.Listing.{counted_take, listed_take, taken_none}
-use Rattle.bng_shard.proofs.Serves.{alone_take, apart_take, of_shard_take, own_take, stay_there}
+use Rattle.bng_shard.proofs.Serves.{leased_take, alone_take, apart_take, of_shard_take, own_take, stay_there}
 use Rattle.bng_shard.proofs.Values.{same_some}
 use Rattle.bng_shard.proofs.served.Served.take.Goals as goal
 
@@ -36,6 +36,7 @@ invariant_of-self c =
       own = subst AreOwn after (own_take s n is.own);
       of_shard = subst AreOfShard after (of_shard_take s n is.of_shard);
       apart = subst AreApart after (apart_take s n is.apart);
+      leased = subst AreLeased after (leased_take s n is.leased);
       leaving = subst (λ (ns : List SessionNo). AreLeaving c.remove.new.self ns) same
           (subst (λ (t : Sessions Session). AreLeaving t (without_listed leaves y ended)) (sym gone) (listed_take leaves s y ended is.leaving there));
       counted = ap (passing_in leaves) gone ∙ counted_take leaves s y ended is.leaving there is.counted ∙ ap (λ (ns : List SessionNo). length ns) same;
@@ -55,3 +56,6 @@ returns-clause-apart c =
     let s = c.self.inside.sessions in
     subst (λ (t : Sessions Session). NoneShares address_of t c.in-Some.session) (sym c.remove.ensures.after)
     (alone_take s c.args.number.0 c.in-Some.session c.self.invariant.apart (sym c.in-Some.ensures.value))
+
+pub returns-clause-leased : goal.returns-clause-leased
+returns-clause-leased c = c.self.invariant.leased c.args.number.0 c.in-Some.session (sym c.in-Some.ensures.value)

@@ -1,0 +1,26 @@
+-- A live term lasts over a step of its link until the link says its end.
+use Rattle.std.proofs.Common.{◌≡◌, ℕ, Bool, true, false, List, Option, Some, None, is_some, refl, sym, ap, ◌∙◌}
+use Rattle.std.specs.Prelude.{IsSome}
+use Rattle.std.proofs.lemmas.Bool.{false≢true}
+use Rattle.bng_ppp.proofs.WholePhases.{phases_kept}
+use Rattle.bng_ppp.specs.declared.rules.LinkRules.{LinkRules}
+use Rattle.bng_ppp.specs.declared.whole_input.WholeInput.{WholeInput}
+use Rattle.bng_ppp.specs.Phases.{KeepsPhases}
+use Rattle.bng_ppp.specs.PppRelation.{PppSaid, PppSteps}
+use Rattle.bng_ppp.specs.PppState.{PppState}
+use Rattle.bng_shard.specs.declared.session.Lease.{Lease}
+use Rattle.bng_shard.specs.Driven.{LastsOver}
+use Rattle.bng_shard.specs.Tenures.{kept_lease}
+
+module _ (r : LinkRules) (what : WholeInput) (now : ℕ) (random : List ℕ) (old : PppState) (says : PppSaid) (new : PppState) (steps : PppSteps r what now random old says new) where
+  term_stays : (l : Lease) → LastsOver what (Some l) → old.live ≡ true → says.term_ended ≡ None → new.live ≡ true
+  term_stays = ?
+
+  live_on : (cause : Option ℕ) (lease : Option Lease) → says.term_ended ≡ cause → LastsOver what lease → (IsSome lease → old.live ≡ true) → IsSome (kept_lease cause lease) → new.live ≡ true
+  live_on (Some cause) lease is lasts live some = absurd (false≢true some)
+  live_on None None is lasts live some = absurd (false≢true some)
+  live_on None (Some l) is lasts live some = term_stays l lasts (live some) is
+
+  -- the link keeps its phases, and a term is live on it as long as there is a lease
+  pub keeps_lease : (lease : Option Lease) → LastsOver what lease → KeepsPhases old × (IsSome lease → old.live ≡ true) → KeepsPhases new × (IsSome (kept_lease says.term_ended lease) → new.live ≡ true)
+  keeps_lease lease lasts keeps = (phases_kept r now random what old says new keeps.0 steps, live_on says.term_ended lease refl lasts keeps.1)
