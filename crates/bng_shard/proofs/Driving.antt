@@ -1,5 +1,5 @@
 -- What a session's link sends does not depend on the link, nor on whether the session has ended.
-use Rattle.std.proofs.Common.{◌≡◌, ◌⊎◌, ℕ, ◌-◌, ◌<◌, ◌≤◌, ◌==◌, Bool, true, false, Some, None, inl, inr, List, [], ◌++◌, length, ◌∙◌, refl, sym, ap, append_assoc, append-nil, arith}
+use Rattle.std.proofs.Common.{◌≡◌, ◌⊎◌, ℕ, ◌-◌, ◌<◌, ◌≤◌, ◌==◌, Bool, true, false, Option, Some, None, inl, inr, List, [], ◌++◌, length, ◌∙◌, refl, sym, ap, append_assoc, append-nil, arith}
 use Rattle.std.specs.Prelude.{if◌then◌else◌, slice_get, get_or}
 use Rattle.std.proofs.lemmas.Option.{slice_get_cases, slice_get_within}
 use Rattle.bng_base.specs.declared.address.SessionNo.{SessionNo}
@@ -44,7 +44,7 @@ open_still b outs frames padt sent e f = rw e (f ∙ ap (λ (more : List OutReco
 module _ (r : Rules) (a : At) (Steps : LinkStep) (asked : ℕ) (x : Session) (made : Made) (is_made : x.service ≡ Discovered made) (says : PppSaid) (l : PppState) (steps : Steps made.link says l) (outs sent : List OutRecord)
     (frames : (port : AccessPort) → port_at r.access x.port ≡ Some port → sent ≡ outs ++ ppp_outs a x port says.outs) where
   -- LCP finished, and the PADT stands last
-  pub driven_finished : (all padt : List OutRecord) → says.finished ≡ true → EndsWith r a (with_link x made asked says l) padt → all ≡ sent ++ padt → Driven r a Steps asked x (with_link x made asked says l) (asked_after asked says.asked) outs all
+  pub driven_finished : (all padt : List OutRecord) → says.finished ≡ true → EndsWith r a (with_link x made asked says l) padt → all ≡ sent ++ padt → Driven r a Steps asked x says.term_ended (with_link x made asked says l) (asked_after asked says.asked) outs all
   driven_finished all padt finished ends last =
       let last_is : all ≡ sent ++ padt_outs a x ends.port ends.offers = last ∙ ap (λ (o : List OutRecord). sent ++ o) ends.outs_are in
       record {
@@ -59,13 +59,14 @@ module _ (r : Rules) (a : At) (Steps : LinkStep) (asked : ℕ) (x : Session) (ma
           link = l;
           steps = steps;
           outs_are = refl;
+          closes = refl;
           session = refl;
           count = refl;
         };
         outs_are = closed says.finished outs (ppp_outs a x ends.port says.outs) (padt_outs a x ends.port ends.offers) sent all finished (frames ends.port ends.at.port_is) last_is;
       }
 
-  pub driven_on : (port : AccessPort) (offers : PortRules) → IsAt r x port offers → says.finished ≡ false → Driven r a Steps asked x (with_link x made asked says l) (asked_after asked says.asked) outs sent
+  pub driven_on : (port : AccessPort) (offers : PortRules) → IsAt r x port offers → says.finished ≡ false → Driven r a Steps asked x says.term_ended (with_link x made asked says l) (asked_after asked says.asked) outs sent
   driven_on port offers at going = record {
     more = ppp_outs a x port says.outs ++ (if says.finished then padt_outs a x port offers else []);
     drives = record {
@@ -78,6 +79,7 @@ module _ (r : Rules) (a : At) (Steps : LinkStep) (asked : ℕ) (x : Session) (ma
       link = l;
       steps = steps;
       outs_are = refl;
+      closes = refl;
       session = refl;
       count = refl;
     };
@@ -85,5 +87,5 @@ module _ (r : Rules) (a : At) (Steps : LinkStep) (asked : ℕ) (x : Session) (ma
   }
 
 -- a session keeps its number
-pub number_of : {r : Rules} {a : At} {Steps : LinkStep} {asked : ℕ} {x x' : Session} {asked' : ℕ} {outs outs' : List OutRecord} {n : SessionNo} → Driven r a Steps asked x x' asked' outs outs' → x.number ≡ n → x'.number.0 ≡ n.0
+pub number_of : {r : Rules} {a : At} {Steps : LinkStep} {asked : ℕ} {x x' : Session} {cause : Option ℕ} {asked' : ℕ} {outs outs' : List OutRecord} {n : SessionNo} → Driven r a Steps asked x cause x' asked' outs outs' → x.number ≡ n → x'.number.0 ≡ n.0
 number_of d is = ap (λ (y : Session). y.number.0) d.drives.session ∙ ap (λ (m : SessionNo). m.0) is

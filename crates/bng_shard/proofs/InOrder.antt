@@ -16,8 +16,8 @@ use Rattle.bng_engine.specs.Terms.{Term}
 use Rattle.bng_slots.specs.Sessions.{IsNumberOf}
 use Rattle.bng_shard.specs.declared.rules.Rules.{Rules}
 use Rattle.bng_shard.specs.declared.session.Session.{Session}
-use Rattle.bng_shard.specs.Opening.{circuit_at, in_order, lease_from, numbered_after, opened_slots, provisioned}
-use Rattle.bng_shard.specs.Protocol.{terms_after, terms_at, terms_of, terms_of_circuits, term_of}
+use Rattle.bng_shard.specs.Opening.{circuit_at, in_order, numbered_after, opened_slots, provisioned, tenure_from, tenures_after}
+use Rattle.bng_shard.specs.Protocol.{term_in, terms_of, terms_of_circuits}
 
 abbrev pub number : Static → ℕ
 number c = c.session.0
@@ -179,16 +179,14 @@ sorted a k (c ∷ cs) h = both _ _ (below (number c) (number c + 1) (k + 1) cs (
 
 -- Their terms ----------------------------------------------------------------------------------------------------------
 
-pub opened_entries : (shard : ℕ) (cs : List Static) → Apart cs → entries (opened_slots shard cs).sessions.by_number ≡ numbered_after 0 (in_order shard cs)
-opened_entries shard cs apart = entries-from_sorted nat_cmp (numbered_after 0 (in_order shard cs)) (sorted (shard * 1024 + 1) 0 (in_order shard cs) (rising_in_order shard cs apart))
+pub opened_entries : (shard : ℕ) (cs : List Static) (now : ℕ) → Apart cs → entries (opened_slots shard cs now).sessions.by_number ≡ numbered_after 0 (in_order shard cs)
+opened_entries shard cs now apart = entries-from_sorted nat_cmp (numbered_after 0 (in_order shard cs)) (sorted (shard * 1024 + 1) 0 (in_order shard cs) (rising_in_order shard cs apart))
 
-terms_numbered : (k : ℕ) (cs : List Static) → flat_map terms_at (map (λ e. e.1) (numbered_after k cs)) ≡ terms_after k cs
-terms_numbered k [] = refl
-terms_numbered k (c ∷ cs) =
-    flat_map-cons terms_at (provisioned c (k + 1)) (map (λ e. e.1) (numbered_after (k + 1) cs))
-    ∙ ap (λ (ts : List Term). term_of (provisioned c (k + 1)) (lease_from c (k + 1)) None ∷ ts) (terms_numbered (k + 1) cs)
+-- what the engine reads of a term does not tell when it began
+terms_numbered : (now : ℕ) (k : ℕ) (cs : List Static) → map term_in (tenures_after now k cs) ≡ map term_in (tenures_after 0 k cs)
+terms_numbered now k [] = refl
+terms_numbered now k (c ∷ cs) = ap (λ (ts : List Term). term_in (tenure_from now c (k + 1)) ∷ ts) (terms_numbered now (k + 1) cs)
 
 -- the terms of a shard at its opening are those of its circuits
-pub opened_terms : (r : Rules) (shard : ℕ) (cs : List Static) → Apart cs → terms_of (record { rules = r; slots = opened_slots shard cs }) ≡ terms_of_circuits shard cs
-opened_terms r shard cs apart =
-    ap (λ (es : List (ℕ × Session)). flat_map terms_at (map (λ e. e.1) es)) (opened_entries shard cs apart) ∙ terms_numbered 0 (in_order shard cs)
+pub opened_terms : (r : Rules) (shard : ℕ) (cs : List Static) (now : ℕ) → terms_of (record { rules = r; slots = opened_slots shard cs now }) ≡ terms_of_circuits shard cs
+opened_terms r shard cs now = terms_numbered now 0 (in_order shard cs)

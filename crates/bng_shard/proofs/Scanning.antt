@@ -1,5 +1,6 @@
 -- The session that was made for a request before, and the one that leases an address.
-use Rattle.std.proofs.Common.{◌≡◌, ◌≢◌, ◌↔◌, ℕ, ◌&&◌, Bool, true, false, not, List, Option, Some, None, find, option_map, option_and_then, refl, sym, ap, ◌∙◌}
+use Rattle.std.proofs.Common.{◌≡◌, ◌≢◌, ◌↔◌, ℕ, ◌==◌, ◌&&◌, Bool, true, false, not, List, Option, Some, None, find, option_map, option_and_then, refl, sym, ap, ◌∙◌}
+use Rattle.std.specs.Option.{option_map_or}
 use Rattle.std.proofs.lemmas.Bool.{eqb-true, eq-eqb, false≢true}
 use Rattle.bng_base.specs.declared.address.Ip4.{Ip4}
 use Rattle.bng_base.specs.declared.address.Mac.{Mac}
@@ -14,7 +15,7 @@ use Rattle.bng_shard.specs.Discovery.{is_repeated, is_repeated_in, same_option}
 use Rattle.bng_shard.specs.Indexed.{address_of}
 use Rattle.bng_shard.specs.Listing.{IsLowestPassing, does_pass}
 use Rattle.bng_shard.specs.Serving.{AreOwn, AreYoung, is_young, is_young_in}
-use Rattle.bng_shard.specs.State.{State, holder_of, is_on, leases, leases_in, held_in}
+use Rattle.bng_shard.specs.State.{State, holder_of, is_on, leases}
 use Rattle.bng_shard.proofs.Earliest.{read_there}
 use Rattle.bng_shard.proofs.Listing.{lowest_is, none_is}
 use Rattle.bng_shard.proofs.Values.{find_none, find_only, none_some, same_some}
@@ -50,20 +51,20 @@ repeated_number s young port mac host_uniq own listed lowest is =
 same_address : (a b : Ip4) → a.0 ≡ b.0 → a ≡ b
 same_address a b e = λ i. record { 0 = e i }
 
-leases_is : (v : Service) (a : Ip4) → leases_in v a ≡ true → option_map (λ (l : Lease). l.address) (held_in v) ≡ Some a
-leases_is (Provisioned p) a e = ap (λ (b : Ip4). Some b) (same_address p.lease.address a (eqb-true p.lease.address.0 a.0 e))
-leases_is (Discovered m) a e = absurd (false≢true e)
+leases_is : (o : Option Lease) (a : Ip4) → option_map_or (λ (l : Lease). l.address.0 == a.0) o false ≡ true → option_map (λ (l : Lease). l.address) o ≡ Some a
+leases_is None a e = absurd (false≢true e)
+leases_is (Some l) a e = ap (λ (b : Ip4). Some b) (same_address l.address a (eqb-true l.address.0 a.0 e))
 
-is_leased : (v : Service) (a : Ip4) → option_map (λ (l : Lease). l.address) (held_in v) ≡ Some a → leases_in v a ≡ true
-is_leased (Provisioned p) a e = eq-eqb p.lease.address.0 a.0 (ap (λ (b : Ip4). b.0) (same_some p.lease.address a e))
-is_leased (Discovered m) a e = absurd (none_some a e)
+is_leased : (o : Option Lease) (a : Ip4) → option_map (λ (l : Lease). l.address) o ≡ Some a → option_map_or (λ (l : Lease). l.address.0 == a.0) o false ≡ true
+is_leased None a e = absurd (none_some a e)
+is_leased (Some l) a e = eq-eqb l.address.0 a.0 (ap (λ (b : Ip4). b.0) (same_some l.address a e))
 
 module _ (s : State) (a : Ip4) where
   -- what does not lease the address fails
   fails : (x : Session) → (address_of x ≡ Some a → ⊥) → leases a x ≡ false
   fails x other =
       elim (leases a x) as (λ b. leases a x ≡ b → b ≡ false) [
-        | true ↦ λ e. absurd (other (leases_is x.service a e))
+        | true ↦ λ e. absurd (other (leases_is x.lease a e))
         | false ↦ λ e. refl
       ] refl
 
@@ -73,7 +74,7 @@ module _ (s : State) (a : Ip4) where
   pub holder_is : (n : SessionNo) → ((m : SessionNo) → ◌≡◌ {A = Option SessionNo} (Some n) (Some m) ↔ (read_at address_of s.sessions m.0 ≡ Some a)) → holder_of s a ≡ value_at s.sessions n.0
   holder_is n found =
       let x = read_there address_of (value_at s.sessions n.0) a ((found n).0 refl) in
-      find_only (leases a) s.sessions n.0 x.0 x.1 (is_leased x.0.service a x.2)
+      find_only (leases a) s.sessions n.0 x.0 x.1 (is_leased x.0.lease a x.2)
       (λ m y differ e. fails y (λ has.
       let same = same_some n (record { 0 = m }) ((found (record { 0 = m })).1 (ap (option_and_then address_of) e ∙ has)) in
       differ (sym (ap (λ (k : SessionNo). k.0) same))))

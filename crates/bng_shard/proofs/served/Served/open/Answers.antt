@@ -1,11 +1,11 @@
-use Rattle.std.proofs.Common.{rules, ◌≡◌, ◌∙◌, ℕ, ◌+◌, ◌-◌, ◌*◌, ◌≤◌, List, Some, sym, ap, subst, refl, arith, length}
+use Rattle.std.proofs.Common.{rules, ◌≡◌, ◌∙◌, ℕ, ◌+◌, ◌-◌, ◌*◌, ◌≤◌, List, [], Some, sym, ap, subst, refl, arith, length}
 use Rattle.bng_base.specs.declared.address.SessionNo.{SessionNo}
 use Rattle.bng_slots.specs.Sessions.{NoneShares, with_value}
 use Rattle.bng_shard.specs.declared.session.Session.{Session}
 use Rattle.bng_shard.specs.Indexed.{address_of, term_of}
 use Rattle.bng_shard.specs.Serving.{AreAsking, AreLeaving, AreYoung, asks, is_young}
-use Rattle.bng_shard.specs.State.{circuit_of, leaves}
-use Rattle.bng_shard.proofs.Circuits.{Opens, at, few_begun, opened_apart, opened_is, opened_listed, opened_none, opened_of_shard, opened_own, opens_none, opens_pass, opens_put, shares_address, shares_circuit, shares_term, vacant_there}
+use Rattle.bng_shard.specs.State.{State, circuit_of, leaves}
+use Rattle.bng_shard.proofs.Circuits.{Opens, at, few_begun, opened_apart, opened_is, opened_leased, opened_listed, opened_none, opened_of_shard, opened_own, opens_none, opens_pass, opens_put, shares_address, shares_circuit, shares_term, vacant_there}
 use Rattle.bng_shard.proofs.served.Served.open.Goals as goal
 use Rattle.bng_shard.proofs.served.Served.open.Goals.{in-Some, in_default-circuit_with}
 
@@ -76,6 +76,7 @@ invariant_of-result c =
       own = opened_own c.args.number c.args.circuits.now c.loop-n.sessions c.loop-n.begun opens;
       of_shard = opened_of_shard c.args.number c.args.circuits.now c.loop-n.sessions c.loop-n.begun opens;
       apart = opened_apart c.args.number c.args.circuits.now c.loop-n.sessions c.loop-n.begun opens c.requires.addresses;
+      leased = opened_leased c.args.number c.args.circuits.now c.loop-n.sessions c.loop-n.begun opens;
       leaving = subst (λ (ns : List SessionNo). AreLeaving c.loop-n.sessions ns) (sym none) (opened_listed c.args.number c.args.circuits.now c.loop-n.sessions c.loop-n.begun opens leaves (λ k serial. refl));
       counted = opened_none c.args.number c.args.circuits.now c.loop-n.sessions c.loop-n.begun opens leaves (λ k serial. refl) ∙ sym (ap (λ (ns : List SessionNo). length ns) none);
       room = omega (arith, room);
@@ -91,4 +92,4 @@ pub returns : goal.returns
 returns c =
     let all : c.loop-n.n - (c.args.number * 1024 + 1) ≡ 1022 = search rules in
     let opens = subst (λ (k : ℕ). Opens c.args.number c.args.circuits.now k c.loop-n.sessions c.loop-n.begun) all c.loop-n.invariant in
-    record { opened = opened_is c.args.number c.args.circuits.now c.loop-n.sessions c.loop-n.begun opens c.requires.own }
+    record { opened = ap (λ (s : State). let t : State = record s { terms = [] } in t) (opened_is c.args.number c.args.circuits.now c.loop-n.sessions c.loop-n.begun opens 0 c.requires.own) }
