@@ -2,6 +2,13 @@ pub mod RowSums
 pub mod Tallying
 pub mod Holding
 pub mod RowLaws
+pub mod RowOrder
+pub mod Closing
+pub mod SameKeys
+pub mod InCircuits
+pub mod ListParts
+pub mod LeavingFirst
+pub mod Beginning
 pub mod TermLaws
 pub mod Reading
 pub mod Spelling

@@ -1,42 +1,17 @@
 -- The rows that are kept for the terms of a shard, as a caller sees them.
-use Rattle.std.proofs.Common.{◌≡◌, ℕ, ◌==◌, Bool, true, false, cond, List, [], ◌∷◌, ◌++◌, map, Option, Some, None, refl, sym, ap, ◌∙◌, append-nil}
+use Rattle.std.proofs.Common.{◌≡◌, ℕ, zero, suc, ◌<◌, length, arith, inl, inr, ◌==◌, Bool, true, false, cond, List, [], ◌∷◌, ◌++◌, map, Option, Some, None, refl, sym, ap, ◌∙◌, append-nil}
 use Rattle.std.proofs.lemmas.List.{map-append}
 use Rattle.std.specs.Prelude.{find, option_map, slice_get}
 use Rattle.std.proofs.lemmas.Option.{slice_get-map}
+use Rattle.std.proofs.Math.ListN.{get_or}
+use Rattle.bng_engine.specs.Lists.{AnyOf}
 use Rattle.bng_engine.specs.Views.{Row, new_row, row_keys}
 use Rattle.bng_engine.specs.Terms.{Key, keys}
 use Rattle.bng_shard.specs.declared.terms.Running.{Running}
-use Rattle.bng_shard.specs.declared.session.Lease.{Lease}
-use Rattle.bng_shard.specs.declared.session.Service.{Service}
-use Rattle.bng_shard.specs.declared.session.Service.TheVariants.{Provisioned, Discovered}
-use Rattle.bng_shard.specs.declared.session.Session.{Session}
-use Rattle.bng_shard.specs.Protocol.{row_at, terms_in}
-use Rattle.bng_shard.specs.Running.{begun, row_from, rows_at, rows_in}
-use Rattle.bng_shard.specs.State.{held_in}
+use Rattle.bng_shard.specs.Protocol.{row_at, key_of}
+use Rattle.bng_shard.specs.Running.{row_from, rows_in, tenure_in, tenures_in}
+use Rattle.bng_shard.specs.Tenures.{Tenure}
 use Rattle.bng_shard.specs.Sums.{traffic_in}
-use Rattle.bng_shard.proofs.Values.{none_some, same_some}
-
-no_row_in : (x : Session) (v : Service) → held_in v ≡ None → map new_row (keys (terms_in x v)) ≡ []
-no_row_in x (Provisioned p) e = absurd (none_some p.lease (sym e))
-no_row_in x (Discovered m) e = refl
-
-one_row_in : (x : Session) (v : Service) (l : Lease) → held_in v ≡ Some l → map new_row (keys (terms_in x v)) ≡ row_from (begun x l) ∷ []
-one_row_in x (Provisioned p) l e = ap (λ (y : Lease). row_from (begun x y) ∷ []) (same_some p.lease l e)
-one_row_in x (Discovered m) l e = absurd (none_some l e)
-
--- no session has no row, and one without a lease neither
-pub no_row : (rs : List Running) (o : Option Session) → o ≡ None → rows_in rs ≡ rows_in rs ++ rows_at o
-no_row rs o e = sym (ap (λ (p : Option Session). rows_in rs ++ rows_at p) e ∙ append-nil (rows_in rs))
-
-pub no_lease : (rs : List Running) (o : Option Session) (x : Session) → o ≡ Some x → held_in x.service ≡ None → rows_in rs ≡ rows_in rs ++ rows_at o
-no_lease rs o x e none = sym (ap (λ (p : Option Session). rows_in rs ++ rows_at p) e ∙ ap (λ (rows : List Row). rows_in rs ++ rows) (no_row_in x x.service none) ∙ append-nil (rows_in rs))
-
--- the row of a term that begins
-pub one_row_more : (rs : List Running) (o : Option Session) (x : Session) (l : Lease) → o ≡ Some x → held_in x.service ≡ Some l → rows_in (rs ++ begun x l ∷ []) ≡ rows_in rs ++ rows_at o
-one_row_more rs o x l e leased =
-    map-append row_from rs (begun x l ∷ [])
-    ∙ ap (λ (rows : List Row). rows_in rs ++ rows) (sym (one_row_in x x.service l leased))
-    ∙ ap (λ (p : Option Session). rows_in rs ++ rows_at p) (sym e)
 
 -- the keys of new rows
 pub new_keys : (ks : List Key) → map (λ (r : Row). r.key) (map new_row ks) ≡ ks
@@ -68,3 +43,9 @@ key_at rs place =
     keys_in : (o : Option Running) → option_map (λ (r : Row). r.key) (option_map row_from o) ≡ option_map (λ (r : Running). (row_from r).key) o
     keys_in None = refl
     keys_in (Some r) = refl
+
+-- what holds of the term at a place holds of one of them
+pub any_at : (P : Tenure → Type 0) (rs : List Running) (place : ℕ) (d : Running) → place < length rs → P (tenure_in (get_or rs place d)) → AnyOf P (tenures_in rs)
+any_at P [] place d lt h = absurd (omega (arith, lt))
+any_at P (r ∷ rs) zero d lt h = inl h
+any_at P (r ∷ rs) (suc place) d lt h = inr (any_at P rs place d (omega (arith, lt)) h)

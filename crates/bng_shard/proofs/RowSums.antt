@@ -10,37 +10,27 @@ use Rattle.std.proofs.lemmas.Cmp.{ranked}
 use Rattle.std.proofs.lemmas.List.Sorted.{IsNonDecreasingBy-from_default}
 use Rattle.std.proofs.lemmas.List.Sums.{sum_by-cons}
 use Rattle.bng_base.specs.declared.book.Book.{Book}
-use Rattle.bng_base.specs.declared.circuit.Circuit.TheVariants.{Pppoe}
 use Rattle.bng_base.specs.declared.item.Charge.{Charge}
 use Rattle.bng_base.specs.declared.item.OutRecord.{OutRecord}
-use Rattle.bng_base.specs.declared.settings.Static.{Static}
 use Rattle.bng_engine.specs.Calls.{SayMore}
 use Rattle.bng_engine.specs.Lists.{AnyOf}
 use Rattle.bng_engine.specs.Protocol.{HasKey}
-use Rattle.bng_engine.specs.Quantities.{Quantity, amount, in_book, empty_book}
+use Rattle.bng_engine.specs.Quantities.{Quantity, amount, in_book}
 use Rattle.bng_engine.specs.Sums.{same, is_any}
-use Rattle.bng_engine.specs.Terms.{Key, keys, key_in}
+use Rattle.bng_engine.specs.Terms.{Key, key_in}
 use Rattle.bng_engine.specs.Views.{Row, row_keys, rows_where}
 use Rattle.bng_engine.proofs.Charging.{charge_row}
 use Rattle.bng_shard.specs.declared.terms.Running.{Running}
-use Rattle.bng_shard.specs.Protocol.{terms_after}
-use Rattle.bng_shard.specs.Running.{AreRising, HasSerial, IsPlaceOf, row_from, rows_in}
+use Rattle.bng_shard.specs.Running.{AreRising, HasSerial, IsPlaceOf, row_from, rows_in, tenure_in, tenures_in}
+use Rattle.bng_shard.specs.Tenures.{Tenure}
 use Rattle.bng_shard.specs.Sums.{IsMore, RowsAreLow}
 
 -- Rows by rising numbers ----------------------------------------------------------------------------------------------------
 
 -- each has a number above those before it
-abbrev KeysRise : List Key → Type 0
+abbrev pub KeysRise : List Key → Type 0
 KeysRise [] = Unit {0}
 KeysRise (k ∷ ks) = AllByRecursion (λ (j : Key). k.term.serial < j.term.serial) ks × KeysRise ks
-
-terms_above : (n m : ℕ) (cs : List Static) → n ≤ m → AllByRecursion (λ (k : Key). n < k.term.serial) (keys (terms_after m cs))
-terms_above n m [] le = tt
-terms_above n m (c ∷ cs) le = (omega (arith, le), terms_above n (m + 1) cs (omega (arith, le)))
-
-terms_rise : (n : ℕ) (cs : List Static) → KeysRise (keys (terms_after n cs))
-terms_rise n [] = tt
-terms_rise n (c ∷ cs) = (terms_above (n + 1) (n + 1) cs (omega arith), terms_rise (n + 1) cs)
 
 above_rows : (n : ℕ) (rs : List Running) → AllByRecursion (λ (k : Key). n < k.term.serial) (row_keys (rows_in rs)) → AllByRecursion (λ (p : Running). n < p.term.serial) rs
 above_rows n [] h = tt
@@ -50,17 +40,13 @@ above_keys : (n : ℕ) (rs : List Running) → AllByRecursion (λ (p : Running).
 above_keys n [] h = tt
 above_keys n (r ∷ rs) h = (h.0, above_keys n rs h.1)
 
-rows_rise : (rs : List Running) → KeysRise (row_keys (rows_in rs)) → AreRising rs
+pub rows_rise : (rs : List Running) → KeysRise (row_keys (rows_in rs)) → AreRising rs
 rows_rise [] h = tt
 rows_rise (r ∷ rs) h = (above_rows r.term.serial rs h.0, rows_rise rs h.1)
 
 keys_rise : (rs : List Running) → AreRising rs → KeysRise (row_keys (rows_in rs))
 keys_rise [] h = tt
 keys_rise (r ∷ rs) h = (above_keys r.term.serial rs h.0, keys_rise rs h.1)
-
--- so they do at the opening
-pub opened_rising : (cs : List Static) (rs : List Running) → row_keys (rows_in rs) ≡ keys (terms_after 0 cs) → AreRising rs
-opened_rising cs rs e = rows_rise rs (subst KeysRise (sym e) (terms_rise 0 cs))
 
 -- and as long as the keys stay
 pub same_rising : (rs rs' : List Running) → row_keys (rows_in rs') ≡ row_keys (rows_in rs) → AreRising rs → AreRising rs'
@@ -90,7 +76,7 @@ all_at n [] j d h within = absurd (omega (arith, within))
 all_at n (r ∷ rs) zero d h within = h.0
 all_at n (r ∷ rs) (suc j) d h within = all_at n rs j d h.1 (omega (arith, within))
 
-rises : (rs : List Running) (i j : ℕ) (d : Running) → AreRising rs → i < j → j < length rs → (get_or rs i d).term.serial < (get_or rs j d).term.serial
+pub rises : (rs : List Running) (i j : ℕ) (d : Running) → AreRising rs → i < j → j < length rs → (get_or rs i d).term.serial < (get_or rs j d).term.serial
 rises [] i j d h lt within = absurd (omega (arith, within))
 rises (r ∷ rs) i zero d h lt within = absurd (omega (arith, lt))
 rises (r ∷ rs) zero (suc j) d h lt within = all_at r.term.serial rs j d h.0 (omega (arith, within))
@@ -107,13 +93,9 @@ one_place rs i j d h within_i within_j same =
       ]
     ]
 
--- a row of nothing
-abbrev pub blank : Running
-blank = record { term = record { session = record { 0 = 0 }; serial = 0 }; circuit = Pppoe 0 (record { 0 = [] }) (record { 0 = 0 }); lease = record { 0 = 0 }; carried = empty_book }
-
 module _ (serial : ℕ) (rs : List Running) (rising : AreRising rs) where
-  comparisons_rise : IsNonDecreasingBy (λ (r : Running). ordering_index (nat_cmp r.term.serial serial)) rs
-  comparisons_rise = IsNonDecreasingBy-from_default (λ (r : Running). ordering_index (nat_cmp r.term.serial serial)) rs blank (λ i j le within.
+  comparisons_rise : (blank : Running) → IsNonDecreasingBy (λ (r : Running). ordering_index (nat_cmp r.term.serial serial)) rs
+  comparisons_rise blank = IsNonDecreasingBy-from_default (λ (r : Running). ordering_index (nat_cmp r.term.serial serial)) rs blank (λ i j le within.
       let up : (get_or rs i blank).term.serial ≤ (get_or rs j blank).term.serial = not_above i j le within in
       higher (get_or rs i blank).term.serial (get_or rs j blank).term.serial up)
     where
@@ -130,22 +112,23 @@ module _ (serial : ℕ) (rs : List Running) (rising : AreRising rs) where
       higher : (a b : ℕ) → a ≤ b → ordering_index (nat_cmp a serial) ≤ ordering_index (nat_cmp b serial)
       higher a b le = grind (arith, nat_tests)
 
-  stands_somewhere : (qs : List Running) → AnyOf (HasSerial serial) qs → (j : ℕ) × (j < length qs) × ((get_or qs j blank).term.serial ≡ serial)
+  stands_somewhere : (qs : List Running) → AnyOf (HasSerial serial) qs → Running × ((j : ℕ) × (j < length qs) × ((d : Running) → (get_or qs j d).term.serial ≡ serial))
   stands_somewhere [] any = absurd any
-  stands_somewhere (q ∷ qs) (inl is) = (0, omega arith, is)
-  stands_somewhere (q ∷ qs) (inr later) = let rest = stands_somewhere qs later in (suc rest.0, omega (arith, rest.1), rest.2)
+  stands_somewhere (q ∷ qs) (inl is) = (q, (0, omega arith, λ d. is))
+  stands_somewhere (q ∷ qs) (inr later) = let (r, rest) = stands_somewhere qs later in (r, (suc rest.0, omega (arith, rest.1), rest.2))
 
   -- a binary search by number ends at the row that has it, or none has it
   pub searched : (result : Result ℕ ℕ) → IsSearchInRange result (length rs) → IsBinarySearchResult (λ (r : Running). nat_cmp r.term.serial serial) rs result
       → MatchResult result (λ place. IsPlaceOf serial rs place) (λ place. AnyOf (HasSerial serial) rs → ⊥)
   searched (Ok place) within equal = (within, λ d. ranked (get_or rs place d).term.serial serial _ (sym (equal d)))
   searched (Err place) within parted = λ any.
-      let there = stands_somewhere rs any in
+      let (blank, there) = stands_somewhere rs any in
+      let same = there.2 blank in
       elim (cases_lt there.0 place) [
-        | inl lt ↦ let less : (get_or rs there.0 blank).term.serial < serial = ranked (get_or rs there.0 blank).term.serial serial _ (sym ((parted comparisons_rise).0 there.0 blank (omega arith) lt)) in
-            let same = there.2 in absurd (omega (arith, less, same))
-        | inr ge ↦ let more : serial < (get_or rs there.0 blank).term.serial = ranked (get_or rs there.0 blank).term.serial serial _ (sym ((parted comparisons_rise).1 there.0 blank ge there.1)) in
-            let same = there.2 in absurd (omega (arith, more, same))
+        | inl lt ↦ let less : (get_or rs there.0 blank).term.serial < serial = ranked (get_or rs there.0 blank).term.serial serial _ (sym ((parted (comparisons_rise blank)).0 there.0 blank (omega arith) lt)) in
+            absurd (omega (arith, less, same))
+        | inr ge ↦ let more : serial < (get_or rs there.0 blank).term.serial = ranked (get_or rs there.0 blank).term.serial serial _ (sym ((parted (comparisons_rise blank)).1 there.0 blank ge there.1)) in
+            absurd (omega (arith, more, same))
       ]
 
 -- the row of a term is among those that have its number
@@ -154,17 +137,17 @@ owned_serial c [] own = absurd own
 owned_serial c (r ∷ rs) (inl is) = inl (ap (λ (k : Key). k.term.serial) is)
 owned_serial c (r ∷ rs) (inr later) = inr (owned_serial c rs later)
 
-owned_there : (c : Charge) (rs : List Running) → AnyOf (HasKey c) (row_keys (rows_in rs)) → (j : ℕ) × (j < length rs) × ((row_from (get_or rs j blank)).key ≡ key_in c)
+owned_there : (c : Charge) (rs : List Running) → AnyOf (HasKey c) (row_keys (rows_in rs)) → (j : ℕ) × (j < length rs) × ((d : Running) → (row_from (get_or rs j d)).key ≡ key_in c)
 owned_there c [] own = absurd own
-owned_there c (r ∷ rs) (inl is) = (0, omega arith, is)
+owned_there c (r ∷ rs) (inl is) = (0, omega arith, λ d. is)
 owned_there c (r ∷ rs) (inr later) = let rest = owned_there c rs later in (suc rest.0, omega (arith, rest.1), rest.2)
 
 -- and is the one that stands at its place
-pub key_at_place : (c : Charge) (rs : List Running) (place : ℕ) → AreRising rs → AnyOf (HasKey c) (row_keys (rows_in rs)) → IsPlaceOf c.term.serial rs place → (row_from (get_or rs place blank)).key ≡ key_in c
-key_at_place c rs place rising own is =
+pub key_at_place : (c : Charge) (rs : List Running) (place : ℕ) (d : Running) → AreRising rs → AnyOf (HasKey c) (row_keys (rows_in rs)) → IsPlaceOf c.term.serial rs place → (row_from (get_or rs place d)).key ≡ key_in c
+key_at_place c rs place d rising own is =
     let there = owned_there c rs own in
-    let same : place ≡ there.0 = one_place rs place there.0 blank rising is.0 there.1 (is.1 blank ∙ sym (ap (λ (k : Key). k.term.serial) there.2)) in
-    ap (λ (i : ℕ). (row_from (get_or rs i blank)).key) same ∙ there.2
+    let same : place ≡ there.0 = one_place rs place there.0 d rising is.0 there.1 (is.1 d ∙ sym (ap (λ (k : Key). k.term.serial) (there.2 d))) in
+    ap (λ (i : ℕ). (row_from (get_or rs i d)).key) same ∙ there.2 d
 
 -- a row says no more than all together
 part_low : (q : Quantity) (input : Bool) (rs : List Running) (i : ℕ) (d : Running) → i < length rs → in_book q input (get_or rs i d).carried ≤ rows_where q is_any input (rows_in rs)
@@ -203,7 +186,7 @@ one_row rs i d b c o lt key charged sent more =
     (charge_row (rows_in rs) i (row_from d) row o c (omega (arith, lt, rows_count rs)) key (ap (λ (x : Row). x.key) (sym was) ∙ key) charged sent
     (λ q input. more q input ∙ ap (λ (x : Row). in_book q input x.carried + cond (same input c.input) (amount q c.octets) 0) (sym was)))
 
-pub keys_set : (rs : List Running) (i : ℕ) (d : Running) (b : Book) → row_keys (rows_in (set rs i (with_book (get_or rs i d) b))) ≡ row_keys (rows_in rs)
-keys_set [] i d b = refl
-keys_set (r ∷ rs) zero d b = refl
-keys_set (r ∷ rs) (suc i) d b = ap (λ (ks : List Key). (row_from r).key ∷ ks) (keys_set rs i d b)
+pub tenures_set : (rs : List Running) (i : ℕ) (d : Running) (b : Book) → tenures_in (set rs i (with_book (get_or rs i d) b)) ≡ tenures_in rs
+tenures_set [] i d b = refl
+tenures_set (r ∷ rs) zero d b = refl
+tenures_set (r ∷ rs) (suc i) d b = ap (λ (ts : List Tenure). tenure_in r ∷ ts) (tenures_set rs i d b)

@@ -30,6 +30,7 @@ begun_in journal = length (flat_map (λ (e : Entry). claimed_by e.claim) journal
 -- round has room for an entry, there is room for it, for its outs, and for a term that it begins.
 pub record Fits (a : Inside) : Type 0 where
   pub numbered : All (λ (r : Running). r.term.serial ≤ a.served.begun) a.terms.rows
+  pub numbered_news : All (λ (r : Running). r.term.serial ≤ a.served.begun) a.terms.news
   pub apart : AllPairs (λ (b c : Running). b.lease ≢ c.lease) a.terms.rows
   pub tied : AreTied a.served.sessions (tenures_in a.terms.rows)
   pub left : a.left + begun_in a.journal.items ≡ a.allowance

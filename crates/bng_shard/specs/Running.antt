@@ -1,9 +1,9 @@
 -- What a shard keeps of its terms, with the sums of each.
-use Rattle.std.specs.Prelude.{◌≡◌, ◌≢◌, ◌<◌, ◌≤◌, ◌+◌, ◌^◌, ℕ, Bool, true, List, [], ◌∷◌, ◌++◌, length, filter, get_or, is_some, map, Option, Some, None}
+use Rattle.std.specs.Prelude.{◌≡◌, ◌≢◌, ◌==◌, ◌<◌, ◌≤◌, ◌+◌, ◌^◌, ℕ, Bool, true, false, cond, List, [], ◌∷◌, ◌++◌, length, get_or, is_some, map, Option, Some, None}
 use Rattle.std.specs.List.{All, AllByRecursion}
 use Rattle.bng_base.specs.declared.address.Ip4.{Ip4}
 use Rattle.bng_engine.specs.Lists.{AnyOf}
-use Rattle.bng_engine.specs.Terms.{ComesBefore}
+use Rattle.bng_engine.specs.Terms.{Key, ComesBefore}
 use Rattle.bng_engine.specs.Views.{Row}
 use Rattle.bng_slots.specs.Sessions.{Sessions, value_at}
 use Rattle.bng_shard.specs.declared.terms.Running.{Running}
@@ -69,22 +69,45 @@ pub record MayBegin (a : Ip4) (s : State) (t : TermsView) : Type 0 where
   pub room : 0 < t.room
   pub few : s.begun + 1 < 2 ^ 48
   pub numbered : All (λ (r : Running). r.term.serial ≤ s.begun) t.rows
+  pub numbered_news : All (λ (r : Running). r.term.serial ≤ s.begun) t.news
   pub free : All (λ (r : Running). r.lease ≢ a) t.rows
   pub tied : AreTied s.sessions (tenures_in t.rows)
 
--- The first in order (by session number, then by the term's own) of the terms that have ended has left, and the others stand as they did.
-pub record LeavesFirst (rows : List Running) (r : Running) (rows' : List Running) : Type 0 where
+-- a row, once the term with this number has ended by this cause
+abbrev pub row_over_by : ℕ → ℕ → Running → Running
+row_over_by serial cause r = cond (r.term.serial == serial) (record r { cause = Some cause }) r
+
+-- the rows, once the term of a session's lease has ended by a cause, where there is a lease and a cause
+abbrev pub closed_rows : Option Lease → Option ℕ → List Running → List Running
+closed_rows None cause rows = rows
+closed_rows (Some lease) None rows = rows
+closed_rows (Some lease) (Some cause) rows = map (row_over_by lease.serial cause) rows
+
+-- of the rows those of ended terms alone are meant, or all
+abbrev pub is_meant : Bool → Running → Bool
+is_meant true r = has_ended r
+is_meant false r = true
+
+abbrev pub key_from : Running → Key
+key_from r = (row_from r).key
+
+-- Of the first so many rows none is meant; or the term of this row comes first in order of those that are: the session number is the
+-- lowest, and of those of one session the row stands first.
+abbrev pub IsFirstOf : Bool → List Running → ℕ → Option ℕ → Type 0
+IsFirstOf over rows n None = (j : ℕ) (d : Running) → j < n → is_meant over (get_or rows j d) ≡ false
+IsFirstOf over rows n (Some p) =
+    (p < n) × (((d : Running) → is_meant over (get_or rows p d) ≡ true)
+    × ((j : ℕ) (d : Running) → j < n → p ≢ j → is_meant over (get_or rows j d) ≡ true → ComesBefore (key_from (get_or rows p d)) (key_from (get_or rows j d))))
+
+-- The row of the first in order of the terms that are meant has left, and those before it and after it stand as they were.
+pub record TakesFirst (over : Bool) (rows : List Running) (r : Running) (rows' : List Running) : Type 0 where
   pub before : List Running
   pub after : List Running
   pub were : rows ≡ before ++ r ∷ after
   pub are : rows' ≡ before ++ after
-  pub over : has_ended r ≡ true
-  pub least : AllByRecursion (λ (p : Running). ComesBefore (row_from r).key (row_from p).key) (filter has_ended rows')
+  pub meant : is_meant over r ≡ true
+  pub least : AllByRecursion (λ (p : Running). is_meant over p ≡ true → ComesBefore (key_from r) (key_from p)) rows'
 
--- The first in order of these has left, likewise.
-pub record TellsFirst (news : List Running) (r : Running) (news' : List Running) : Type 0 where
-  pub before : List Running
-  pub after : List Running
-  pub were : news ≡ before ++ r ∷ after
-  pub are : news' ≡ before ++ after
-  pub least : AllByRecursion (λ (p : Running). ComesBefore (row_from r).key (row_from p).key) news'
+-- none of the rows is meant
+abbrev pub NoneIsMeant : Bool → List Running → Type 0
+NoneIsMeant over rows = AllByRecursion (λ (p : Running). is_meant over p ≡ false) rows

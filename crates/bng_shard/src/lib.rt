@@ -22,6 +22,7 @@ mod session;
 mod shard;
 mod sums;
 mod term;
+mod term_rows;
 mod terms;
 mod timers;
 mod verdicts;

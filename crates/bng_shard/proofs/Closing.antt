@@ -1,0 +1,72 @@
+-- A term ends: its row says so, and all else stands as before.
+use Rattle.std.proofs.Common.{◌≡◌, ℕ, zero, suc, ◌+◌, ◌<◌, Bool, true, false, cond, List, [], ◌∷◌, ◌++◌, length, map, None, Some, Option, inl, inr, refl, sym, ap, subst, ◌∙◌, arith, eqb, ◌==◌}
+use Rattle.std.specs.List.{All, AllByRecursion, AllPairs}
+use Rattle.std.proofs.Math.ListN.{get_or, set}
+use Rattle.std.proofs.lemmas.Bool.{eq-eqb, ne_eqb}
+use Rattle.bng_engine.specs.Lists.{AnyOf}
+use Rattle.bng_engine.specs.Views.{Row}
+use Rattle.bng_shard.specs.declared.session.Lease.{Lease}
+use Rattle.bng_shard.specs.declared.terms.Running.{Running}
+use Rattle.bng_shard.specs.Running.{AreRising, HasSerial, IsPlaceOf, closed_rows, row_from, row_over_by, rows_in, tenure_in, tenures_in}
+use Rattle.bng_shard.specs.Tenures.{Tenure, closed, over_by}
+
+-- the row of another number is as it was
+other_row : (serial cause : ℕ) (r : Running) → (r.term.serial ≡ serial → ⊥) → row_over_by serial cause r ≡ r
+other_row serial cause r other = ap (λ (b : Bool). cond b (record r { cause = Some cause }) r) (ne_eqb r.term.serial serial other)
+
+the_row : (serial cause : ℕ) (r : Running) → r.term.serial ≡ serial → row_over_by serial cause r ≡ record r { cause = Some cause }
+the_row serial cause r is = ap (λ (b : Bool). cond b (record r { cause = Some cause }) r) (eq-eqb r.term.serial serial is)
+
+above_stay : (serial cause : ℕ) (rs : List Running) → AllByRecursion (λ (r : Running). serial < r.term.serial) rs → map (row_over_by serial cause) rs ≡ rs
+above_stay serial cause [] h = refl
+above_stay serial cause (r ∷ rs) h =
+    ap (λ (x : Running). x ∷ map (row_over_by serial cause) rs) (other_row serial cause r (λ e. omega (arith, e, h.0))) ∙ ap (λ (xs : List Running). r ∷ xs) (above_stay serial cause rs h.1)
+
+pub none_closed : (serial cause : ℕ) (rs : List Running) → (AnyOf (HasSerial serial) rs → ⊥) → rs ≡ map (row_over_by serial cause) rs
+none_closed serial cause [] none = refl
+none_closed serial cause (r ∷ rs) none =
+    ap (λ (xs : List Running). r ∷ xs) (none_closed serial cause rs (λ any. none (inr any))) ∙ ap (λ (x : Running). x ∷ map (row_over_by serial cause) rs) (sym (other_row serial cause r (λ e. none (inl e))))
+
+all_get : (n : ℕ) (rs : List Running) (j : ℕ) (d : Running) → AllByRecursion (λ (r : Running). n < r.term.serial) rs → j < length rs → n < (get_or rs j d).term.serial
+all_get n [] j d h within = absurd (omega (arith, within))
+all_get n (r ∷ rs) zero d h within = h.0
+all_get n (r ∷ rs) (suc j) d h within = all_get n rs j d h.1 (omega (arith, within))
+
+pub one_closed : (serial cause : ℕ) (rs : List Running) (place : ℕ) (d : Running) → AreRising rs → IsPlaceOf serial rs place → set rs place (record (get_or rs place d) { cause = Some cause }) ≡ map (row_over_by serial cause) rs
+one_closed serial cause [] place d rising is = absurd (omega (arith, is.0))
+one_closed serial cause (r ∷ rs) zero d rising is =
+    let same : r.term.serial ≡ serial = is.1 d in
+    ap (λ (xs : List Running). record r { cause = Some cause } ∷ xs) (sym (above_stay serial cause rs (subst (λ (n : ℕ). AllByRecursion (λ (q : Running). n < q.term.serial) rs) same rising.0)))
+    ∙ ap (λ (x : Running). x ∷ map (row_over_by serial cause) rs) (sym (the_row serial cause r same))
+one_closed serial cause (r ∷ rs) (suc place) d rising is =
+    ap (λ (xs : List Running). r ∷ xs) (one_closed serial cause rs place d rising.1 (omega (arith, is.0), is.1))
+    ∙ ap (λ (x : Running). x ∷ map (row_over_by serial cause) rs) (sym (other_row serial cause r (λ e. omega (arith, e, is.1 d, all_get r.term.serial rs place d rising.0 (omega (arith, is.0))))))
+
+-- What is seen of the rows -------------------------------------------------------------------------------------------------
+
+one_tenure : (serial cause : ℕ) (r : Running) → tenure_in (row_over_by serial cause r) ≡ over_by serial cause (tenure_in r)
+one_tenure serial cause r = elim (r.term.serial == serial) as (λ b. tenure_in (cond b (record r { cause = Some cause }) r) ≡ cond b (record (tenure_in r) { cause = Some cause }) (tenure_in r)) [ true ↦ refl | false ↦ refl ]
+
+one_row : (serial cause : ℕ) (r : Running) → row_from (row_over_by serial cause r) ≡ row_from r
+one_row serial cause r = elim (r.term.serial == serial) as (λ b. row_from (cond b (record r { cause = Some cause }) r) ≡ row_from r) [ true ↦ refl | false ↦ refl ]
+
+over_tenures : (serial cause : ℕ) (rs : List Running) → tenures_in (map (row_over_by serial cause) rs) ≡ map (over_by serial cause) (tenures_in rs)
+over_tenures serial cause [] = refl
+over_tenures serial cause (r ∷ rs) =
+    ap (λ (t : Tenure). t ∷ tenures_in (map (row_over_by serial cause) rs)) (one_tenure serial cause r) ∙ ap (λ (ts : List Tenure). over_by serial cause (tenure_in r) ∷ ts) (over_tenures serial cause rs)
+
+pub over_rows : (serial cause : ℕ) (rs : List Running) → rows_in (map (row_over_by serial cause) rs) ≡ rows_in rs
+over_rows serial cause [] = refl
+over_rows serial cause (r ∷ rs) = ap (λ (x : Row). x ∷ rows_in (map (row_over_by serial cause) rs)) (one_row serial cause r) ∙ ap (λ (xs : List Row). row_from r ∷ xs) (over_rows serial cause rs)
+
+-- the terms are closed
+pub closed_tenures : (lease : Option Lease) (cause : Option ℕ) (rs : List Running) → tenures_in (closed_rows lease cause rs) ≡ closed lease cause (tenures_in rs)
+closed_tenures None cause rs = refl
+closed_tenures (Some l) None rs = refl
+closed_tenures (Some l) (Some cause) rs = over_tenures l.serial cause rs
+
+-- their keys and what they carried stay
+pub closed_sums : (lease : Option Lease) (cause : Option ℕ) (rs : List Running) → rows_in (closed_rows lease cause rs) ≡ rows_in rs
+closed_sums None cause rs = refl
+closed_sums (Some l) None rs = refl
+closed_sums (Some l) (Some cause) rs = over_rows l.serial cause rs
