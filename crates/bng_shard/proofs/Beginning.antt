@@ -1,6 +1,6 @@
 -- A term begins, and another ends.
 use Rattle.std.proofs.Common.{◌≡◌, ℕ, ◌+◌, ◌≤◌, Bool, true, false, cond, List, [], ◌∷◌, ◌++◌, length, map, Option, None, Some, inl, inr, refl, sym, ap, subst, ◌∙◌, arith, append-nil}
-use Rattle.std.specs.Prelude.{◌≢◌, ◌==◌, sum_by}
+use Rattle.std.specs.Prelude.{◌≢◌, ◌&&◌, not, sum_by}
 use Rattle.std.specs.List.{All, AllPairs}
 use Rattle.std.proofs.lemmas.Bool.{cases_eq, ne_eqb}
 use Rattle.std.proofs.lemmas.List.{map-append}
@@ -14,7 +14,7 @@ use Rattle.bng_engine.specs.Views.{Row, rows_where}
 use Rattle.bng_shard.specs.declared.session.Lease.{Lease}
 use Rattle.bng_shard.specs.declared.terms.Running.{Running}
 use Rattle.bng_shard.specs.Running.{closed_rows, key_from, row_from, rows_in, tenure_in, tenures_in}
-use Rattle.bng_shard.specs.Tenures.{Tenure, closed, over_by}
+use Rattle.bng_shard.specs.Tenures.{Tenure, closed, is_over, over_by}
 use Rattle.bng_shard.proofs.Closing.{closed_sums}
 use Rattle.bng_shard.proofs.ListParts.{all_more, pairs_more}
 use Rattle.bng_shard.proofs.SameKeys.{same_apart, same_numbered}
@@ -60,7 +60,7 @@ closed_same lease cause rows q pick input = ap (λ (rs : List Row). rows_where q
 
 -- what holds of a term with another number holds of it as it was
 one_over : (serial cause : ℕ) (t : Tenure) → (t.term.serial ≡ serial → ⊥) → over_by serial cause t ≡ t
-one_over serial cause t other = ap (λ (b : Bool). cond b (record t { cause = Some cause }) t) (ne_eqb t.term.serial serial other)
+one_over serial cause t other = ap (λ (b : Bool). cond (b && not (is_over t)) (record t { cause = Some cause }) t) (ne_eqb t.term.serial serial other)
 
 any_over : (P : Tenure → Type 0) (serial cause : ℕ) (ts : List Tenure) → ((t : Tenure) → P t → t.term.serial ≡ serial → ⊥) → AnyOf P ts → AnyOf P (map (over_by serial cause) ts)
 any_over P serial cause [] other any = absurd any

@@ -1,5 +1,6 @@
 -- A term ends: its row says so, and all else stands as before.
 use Rattle.std.proofs.Common.{◌≡◌, ℕ, zero, suc, ◌+◌, ◌<◌, Bool, true, false, cond, List, [], ◌∷◌, ◌++◌, length, map, None, Some, Option, inl, inr, refl, sym, ap, subst, ◌∙◌, arith, eqb, ◌==◌}
+use Rattle.std.specs.Prelude.{◌&&◌, not}
 use Rattle.std.specs.List.{All, AllByRecursion, AllPairs}
 use Rattle.std.proofs.Math.ListN.{get_or, set}
 use Rattle.std.proofs.lemmas.Bool.{eq-eqb, ne_eqb}
@@ -7,15 +8,15 @@ use Rattle.bng_engine.specs.Lists.{AnyOf}
 use Rattle.bng_engine.specs.Views.{Row}
 use Rattle.bng_shard.specs.declared.session.Lease.{Lease}
 use Rattle.bng_shard.specs.declared.terms.Running.{Running}
-use Rattle.bng_shard.specs.Running.{AreRising, HasSerial, IsPlaceOf, closed_rows, row_from, row_over_by, rows_in, tenure_in, tenures_in}
+use Rattle.bng_shard.specs.Running.{AreRising, HasSerial, IsPlaceOf, closed_rows, ended_by, has_ended, row_from, row_over_by, rows_in, tenure_in, tenures_in}
 use Rattle.bng_shard.specs.Tenures.{Tenure, closed, over_by}
 
 -- the row of another number is as it was
 other_row : (serial cause : ℕ) (r : Running) → (r.term.serial ≡ serial → ⊥) → row_over_by serial cause r ≡ r
-other_row serial cause r other = ap (λ (b : Bool). cond b (record r { cause = Some cause }) r) (ne_eqb r.term.serial serial other)
+other_row serial cause r other = ap (λ (b : Bool). cond b (ended_by cause r) r) (ne_eqb r.term.serial serial other)
 
-the_row : (serial cause : ℕ) (r : Running) → r.term.serial ≡ serial → row_over_by serial cause r ≡ record r { cause = Some cause }
-the_row serial cause r is = ap (λ (b : Bool). cond b (record r { cause = Some cause }) r) (eq-eqb r.term.serial serial is)
+the_row : (serial cause : ℕ) (r : Running) → r.term.serial ≡ serial → row_over_by serial cause r ≡ ended_by cause r
+the_row serial cause r is = ap (λ (b : Bool). cond b (ended_by cause r) r) (eq-eqb r.term.serial serial is)
 
 above_stay : (serial cause : ℕ) (rs : List Running) → AllByRecursion (λ (r : Running). serial < r.term.serial) rs → map (row_over_by serial cause) rs ≡ rs
 above_stay serial cause [] h = refl
@@ -32,11 +33,11 @@ all_get n [] j d h within = absurd (omega (arith, within))
 all_get n (r ∷ rs) zero d h within = h.0
 all_get n (r ∷ rs) (suc j) d h within = all_get n rs j d h.1 (omega (arith, within))
 
-pub one_closed : (serial cause : ℕ) (rs : List Running) (place : ℕ) (d : Running) → AreRising rs → IsPlaceOf serial rs place → set rs place (record (get_or rs place d) { cause = Some cause }) ≡ map (row_over_by serial cause) rs
+pub one_closed : (serial cause : ℕ) (rs : List Running) (place : ℕ) (d : Running) → AreRising rs → IsPlaceOf serial rs place → set rs place (ended_by cause (get_or rs place d)) ≡ map (row_over_by serial cause) rs
 one_closed serial cause [] place d rising is = absurd (omega (arith, is.0))
 one_closed serial cause (r ∷ rs) zero d rising is =
     let same : r.term.serial ≡ serial = is.1 d in
-    ap (λ (xs : List Running). record r { cause = Some cause } ∷ xs) (sym (above_stay serial cause rs (subst (λ (n : ℕ). AllByRecursion (λ (q : Running). n < q.term.serial) rs) same rising.0)))
+    ap (λ (xs : List Running). ended_by cause r ∷ xs) (sym (above_stay serial cause rs (subst (λ (n : ℕ). AllByRecursion (λ (q : Running). n < q.term.serial) rs) same rising.0)))
     ∙ ap (λ (x : Running). x ∷ map (row_over_by serial cause) rs) (sym (the_row serial cause r same))
 one_closed serial cause (r ∷ rs) (suc place) d rising is =
     ap (λ (xs : List Running). r ∷ xs) (one_closed serial cause rs place d rising.1 (omega (arith, is.0), is.1))
@@ -45,10 +46,26 @@ one_closed serial cause (r ∷ rs) (suc place) d rising is =
 -- What is seen of the rows -------------------------------------------------------------------------------------------------
 
 one_tenure : (serial cause : ℕ) (r : Running) → tenure_in (row_over_by serial cause r) ≡ over_by serial cause (tenure_in r)
-one_tenure serial cause r = elim (r.term.serial == serial) as (λ b. tenure_in (cond b (record r { cause = Some cause }) r) ≡ cond b (record (tenure_in r) { cause = Some cause }) (tenure_in r)) [ true ↦ refl | false ↦ refl ]
+one_tenure serial cause r =
+    elim (r.term.serial == serial) as (λ b. tenure_in (cond b (ended_by cause r) r) ≡ cond (b && not (has_ended r)) (record (tenure_in r) { cause = Some cause }) (tenure_in r)) [
+      | true ↦ ended (has_ended r)
+      | false ↦ refl
+    ]
+  where
+    ended : (over : Bool) → tenure_in (cond over r (record r { cause = Some cause })) ≡ cond (not over) (record (tenure_in r) { cause = Some cause }) (tenure_in r)
+    ended true = refl
+    ended false = refl
 
 one_row : (serial cause : ℕ) (r : Running) → row_from (row_over_by serial cause r) ≡ row_from r
-one_row serial cause r = elim (r.term.serial == serial) as (λ b. row_from (cond b (record r { cause = Some cause }) r) ≡ row_from r) [ true ↦ refl | false ↦ refl ]
+one_row serial cause r =
+    elim (r.term.serial == serial) as (λ b. row_from (cond b (ended_by cause r) r) ≡ row_from r) [
+      | true ↦ ended (has_ended r)
+      | false ↦ refl
+    ]
+  where
+    ended : (over : Bool) → row_from (cond over r (record r { cause = Some cause })) ≡ row_from r
+    ended true = refl
+    ended false = refl
 
 over_tenures : (serial cause : ℕ) (rs : List Running) → tenures_in (map (row_over_by serial cause) rs) ≡ map (over_by serial cause) (tenures_in rs)
 over_tenures serial cause [] = refl

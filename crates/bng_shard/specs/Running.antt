@@ -73,9 +73,12 @@ pub record MayBegin (a : Ip4) (s : State) (t : TermsView) : Type 0 where
   pub free : All (λ (r : Running). r.lease ≢ a) t.rows
   pub tied : AreTied s.sessions (tenures_in t.rows)
 
--- a row, once the term with this number has ended by this cause
+-- a row, once its term has ended by this cause, and once that with this number has; one that had ended has its cause
+abbrev pub ended_by : ℕ → Running → Running
+ended_by cause r = cond (has_ended r) r (record r { cause = Some cause })
+
 abbrev pub row_over_by : ℕ → ℕ → Running → Running
-row_over_by serial cause r = cond (r.term.serial == serial) (record r { cause = Some cause }) r
+row_over_by serial cause r = cond (r.term.serial == serial) (ended_by cause r) r
 
 -- the rows, once the term of a session's lease has ended by a cause, where there is a lease and a cause
 abbrev pub closed_rows : Option Lease → Option ℕ → List Running → List Running

@@ -1,5 +1,5 @@
 -- The terms of a shard, each from its lease to its Stop.
-use Rattle.std.specs.Prelude.{ℕ, ◌==◌, Bool, ◌&&◌, cond, List, Option, Some, None, is_some, map}
+use Rattle.std.specs.Prelude.{ℕ, ◌==◌, Bool, not, ◌&&◌, cond, List, Option, Some, None, is_some, map}
 use Rattle.bng_base.specs.declared.address.Ip4.{Ip4}
 use Rattle.bng_base.specs.declared.circuit.Circuit.{Circuit}
 use Rattle.bng_base.specs.declared.circuit.TermId.{TermId}
@@ -22,9 +22,9 @@ pub record Tenure : Type 0 where
 abbrev pub is_over : Tenure → Bool
 is_over t = is_some t.cause
 
--- a term, once the one with this number has ended by this cause
+-- a term, once the one with this number has ended by this cause; one that had ended has its cause
 abbrev pub over_by : ℕ → ℕ → Tenure → Tenure
-over_by serial cause t = cond (t.term.serial == serial) (record t { cause = Some cause }) t
+over_by serial cause t = cond ((t.term.serial == serial) && not (is_over t)) (record t { cause = Some cause }) t
 
 -- the terms, once that of a session's lease has ended by a cause, where there is a lease and a cause
 abbrev pub closed : Option Lease → Option ℕ → List Tenure → List Tenure

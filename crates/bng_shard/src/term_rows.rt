@@ -7,7 +7,7 @@ ghost use Rattle.bng_engine.specs.Lists.{AnyOf};
 ghost use Rattle.bng_engine.specs.Protocol.{HasKey};
 ghost use Rattle.bng_engine.specs.Views.{row_keys};
 ghost use Rattle.bng_shard.specs.Protocol.{key_of, row_at, SaysOf};
-ghost use Rattle.bng_shard.specs.Running.{has_ended, is_meant, key_from, row_over_by, rows_in, tenure_in, tenures_in, AreRising, HasSerial, IsFirstOf, IsPlaceOf, NoneIsMeant, TakesFirst};
+ghost use Rattle.bng_shard.specs.Running.{ended_by, has_ended, is_meant, key_from, row_over_by, rows_in, tenure_in, tenures_in, AreRising, HasSerial, IsFirstOf, IsPlaceOf, NoneIsMeant, TakesFirst};
 ghost use Rattle.bng_shard.specs.Sums.{traffic_in, IsLow, IsMore, RowsAreLow};
 ghost use Rattle.bng_shard.specs.Tenures.{has_kept};
 
@@ -129,17 +129,19 @@ pub(crate) fn carry(rows: &mut Vec<Running>, charge: Charge)
     carry_in(&mut rows[place], charge);
 }
 
-// A term ends by this cause; says whether it was live.
+// A term ends by this cause, if it is live; says whether it was.
 fn end(row: &mut Running, cause: u8) -> bool
-    ensures row { row.new ≡ record row.old { cause = Some cause } }
+    ensures row { row.new ≡ ended_by cause row.old }
     ensures live { result ≡ is_none row.old.cause }
 {
-    let live = row.cause.is_none();
+    if row.cause.is_some() {
+        return false;
+    }
     row.cause = Some(cause);
-    live
+    true
 }
 
-/// The term with this number ends by this cause, if it is there; says whether it was live.
+/// The term with this number ends by this cause, if it is there and live; says whether it was.
 pub(crate) fn close(rows: &mut Vec<Running>, serial: u64, cause: u8) -> bool
     requires rising { AreRising rows.old.items }
     ensures rows { rows.new.items ≡ map (row_over_by serial cause) rows.old.items }
