@@ -19,17 +19,16 @@ use Rattle.bng_shard.specs.declared.sending.At.{At}
 use Rattle.bng_shard.specs.declared.session.Service.{Service}
 use Rattle.bng_shard.specs.declared.session.Service.TheVariants.{Provisioned, Discovered}
 use Rattle.bng_shard.specs.declared.session.Session.{Session}
-use Rattle.bng_shard.specs.State.{State, is_on, session_of, where_on, with_driven, with_session}
+use Rattle.bng_shard.specs.State.{State, is_on, session_of, where_on, with_driven, with_ended}
 use Rattle.bng_shard.specs.Controlling.{IsControl}
 use Rattle.bng_shard.specs.Deed.{at_of, dropped, handled, ignored}
 use Rattle.bng_shard.specs.Doing.{DoesWith}
 use Rattle.bng_shard.specs.Driven.{Driven}
 use Rattle.bng_shard.specs.Frames.{HearsControl, HearsIn}
-use Rattle.bng_shard.specs.Link.{Drives, HearsPppFrame, LinkStep, ended, ended_service, hears}
+use Rattle.bng_shard.specs.Link.{Drives, HearsPppFrame, LinkStep, ended, hears, user_request}
 use Rattle.bng_shard.specs.Protocol.{entry_of}
 use Rattle.bng_shard.specs.Timers.{does_live, lives_at, lives_in}
 use Rattle.bng_shard.proofs.Carrying.{nothing_done}
-use Rattle.bng_shard.proofs.Replacing.{with_same}
 use Rattle.bng_shard.proofs.Speaking.{drives, drives_so, driven_few}
 
 where_some : (port : ℕ) (mac : Mac) (o : Option Session) (x : Session) → where_on port mac o ≡ Some x → o ≡ Some x
@@ -67,13 +66,6 @@ lives_there s port mac n h =
     let is = heard_is (session_of s port mac n) h in
     ap does_live (stands_at s port mac n is.0 is.1) ∙ is.2
 
--- one that has ended stays as it is where it ends
-same_ended : (x : Session) (m : Made) → x.service ≡ Discovered m → m.ended ≡ true → ended x ≡ x
-same_ended x m is done =
-    let make : Service → Session = λ v. record x { service = v } in
-    let again : Bool → Service = λ b. Discovered (record m { ended = b }) in
-    ap make (ap ended_service is ∙ ap again (sym done) ∙ sym is)
-
 module _ (r : Rules) (s : State) (a : At) (item : Item) (outs : List OutRecord) (here : a.shard ≡ s.sessions.shard) (number : ℕ) (p : PppoeFrame) where
   abbrev its : Option Session
   its = session_of s number p.src p.session
@@ -84,14 +76,12 @@ module _ (r : Rules) (s : State) (a : At) (item : Item) (outs : List OutRecord) 
       (λ moment. let e = entry_of a.seat a.place moment item in subst (λ (o : Option Session). HearsIn o r s e p (dropped s e NoSession)) (sym (unknown_is its h)) refl)
 
   -- a session that has ended does nothing
-  idle : (e : Entry) (x : Session) (v : Service) → x.service ≡ v → value_at s.sessions p.session ≡ Some x → lives_in v ≡ false → HearsControl v r s e x p (ignored s e)
-  idle e x (Provisioned l) is at h = refl
-  idle e x (Discovered m) is at h =
+  idle : (e : Entry) (x : Session) (v : Service) → lives_in v ≡ false → HearsControl v r s e x p (ignored s e)
+  idle e x (Provisioned l) h = refl
+  idle e x (Discovered m) h =
       let done : m.ended ≡ true = over m.ended h in
-      let still : with_session s p.session (ended x) ≡ s =
-      ap (λ (y : Session). with_session s p.session y) (same_ended x m is done) ∙ ap (λ ss. let t : State = record s { sessions = ss } in t) (with_same s.sessions p.session x at) in
       (elim (p.discovery) as (λ b. p.discovery ≡ b → HearsControl (Discovered m) r s e x p (ignored s e)) [
-        | true ↦ (λ d. inl (d, ap (λ (t : State). handled s e [] t) (sym still)))
+        | true ↦ (λ d. inl (d, inl (done, refl)))
         | false ↦ (λ d. inr (d, inl (done, refl)))
       ]) refl
 
@@ -100,50 +90,50 @@ module _ (r : Rules) (s : State) (a : At) (item : Item) (outs : List OutRecord) 
       let is = ignored_is its h in
       nothing_done r s a item outs here (λ e d. HearsIn its r s e p d) 5 Consumed
       (λ moment. let e = entry_of a.seat a.place moment item in
-      subst (λ (o : Option Session). HearsIn o r s e p (ignored s e)) (sym is.1) (idle e is.0 is.0.service refl (stands_at s number p.src p.session is.0 is.1) is.2))
+      subst (λ (o : Option Session). HearsIn o r s e p (ignored s e)) (sym is.1) (idle e is.0 is.0.service is.2))
 
-  ends_so : (e : Entry) (x : Session) (v : Service) → lives_in v ≡ true → p.discovery ≡ true → HearsControl v r s e x p (handled s e [] (with_session s p.session (ended x)))
+  ends_so : (e : Entry) (x : Session) (v : Service) → lives_in v ≡ true → p.discovery ≡ true → HearsControl v r s e x p (handled s e [] (with_ended s p.session x.lease user_request (ended x)))
   ends_so e x (Provisioned l) h d = absurd (let never : ⊥ = cc in never)
-  ends_so e x (Discovered m) h d = inl (d, refl)
+  ends_so e x (Discovered m) h d = inl (d, inr (going m.ended h, refl))
 
   -- a PADT ends one that lives
-  pub ends_it : IsControl its Heard → p.discovery ≡ true → (s' : State) → ((x : Session) → value_at s.sessions p.session ≡ Some x → s' ≡ with_session s p.session (ended x))
+  pub ends_it : IsControl its Heard → p.discovery ≡ true → (s' : State) → ((x : Session) → value_at s.sessions p.session ≡ Some x → s' ≡ with_ended s p.session x.lease user_request (ended x))
       → (now : ℕ) → DoesWith (λ e d. HearsIn its r s e p d) 5 s s' outs outs a now item Consumed
   ends_it h d s' next now =
       let is = heard_is its h in
       let e = entry_of a.seat a.place now item in
       record {
-        deed = handled s e [] (with_session s p.session (ended is.0));
+        deed = handled s e [] (with_ended s p.session is.0.lease user_request (ended is.0));
         entry = refl;
         fate_is = refl;
         next = sym (next is.0 (stands_at s number p.src p.session is.0 is.1));
-        says = subst (λ (o : Option Session). HearsIn o r s e p (handled s e [] (with_session s p.session (ended is.0)))) (sym is.1) (ends_so e is.0 is.0.service is.2 d);
+        says = subst (λ (o : Option Session). HearsIn o r s e p (handled s e [] (with_ended s p.session is.0.lease user_request (ended is.0)))) (sym is.1) (ends_so e is.0 is.0.service is.2 d);
         outs_are = sym (append-nil outs);
         few = omega arith;
       }
 
-  hears_so : (e : Entry) (x x' : Session) (asked' : ℕ) (v : Service) (sent : List OutRecord) → x.service ≡ v → lives_in v ≡ true → p.discovery ≡ false → Drives r (at_of s e) s.asked x (hears r e p.payload) sent x' asked'
-      → HearsControl v r s e x p (handled s e sent (with_driven s p.session x' asked'))
-  hears_so e x x' asked' (Provisioned l) sent is h d step = absurd (let never : ⊥ = cc in never)
-  hears_so e x x' asked' (Discovered m) sent is h d step = inr (d, inr (going m.ended h, sent, x', asked', step, refl))
+  hears_so : (e : Entry) (x x' : Session) (cause : Option ℕ) (asked' : ℕ) (v : Service) (sent : List OutRecord) → x.service ≡ v → lives_in v ≡ true → p.discovery ≡ false → Drives r (at_of s e) s.asked x (hears r e p.payload) sent cause x' asked'
+      → HearsControl v r s e x p (handled s e sent (with_driven s p.session x.lease cause x' asked'))
+  hears_so e x x' cause asked' (Provisioned l) sent is h d step = absurd (let never : ⊥ = cc in never)
+  hears_so e x x' cause asked' (Discovered m) sent is h d step = inr (d, inr (going m.ended h, sent, cause, x', asked', step, refl))
 
   -- the link of one that lives hears another frame
   pub hears_it : (Steps : LinkStep) (now : ℕ) → ((old : PppState) (says : PppSaid) (new : PppState) → Steps old says new → HearsPppFrame r.link p.payload now item.random old says new)
       → IsControl its Heard → p.discovery ≡ false → (s' : State) (outs' : List OutRecord)
-      → ((x : Session) → value_at s.sessions p.session ≡ Some x → (x' : Session) × (asked' : ℕ) × Driven r a Steps s.asked x x' asked' outs outs' × (s' ≡ with_driven s p.session x' asked'))
+      → ((x : Session) → value_at s.sessions p.session ≡ Some x → (x' : Session) × (cause : Option ℕ) × (asked' : ℕ) × Driven r a Steps s.asked x cause x' asked' outs outs' × (s' ≡ with_driven s p.session x.lease cause x' asked'))
       → length outs' ≤ length outs + 5 → DoesWith (λ e d. HearsIn its r s e p d) 5 s s' outs outs' a now item Consumed
   hears_it Steps now turn h d s' outs' driven few =
       let is = heard_is its h in
       let e = entry_of a.seat a.place now item in
-      let (x', asked', step, next) = driven is.0 (stands_at s number p.src p.session is.0 is.1) in
+      let (x', cause, asked', step, next) = driven is.0 (stands_at s number p.src p.session is.0 is.1) in
       record {
-        deed = handled s e step.more (with_driven s p.session x' asked');
+        deed = handled s e step.more (with_driven s p.session is.0.lease cause x' asked');
         entry = refl;
         fate_is = refl;
         next = sym next;
-        says = subst (λ (o : Option Session). HearsIn o r s e p (handled s e step.more (with_driven s p.session x' asked'))) (sym is.1)
-            (hears_so e is.0 x' asked' is.0.service step.more refl is.2 d
-            (drives_so r (at_of s e) s.asked is.0 x' Steps (hears r e p.payload) step.more asked' turn (drives r s a now item outs outs' is.0 x' Steps s.asked asked' here step)));
+        says = subst (λ (o : Option Session). HearsIn o r s e p (handled s e step.more (with_driven s p.session is.0.lease cause x' asked'))) (sym is.1)
+            (hears_so e is.0 x' cause asked' is.0.service step.more refl is.2 d
+            (drives_so r (at_of s e) s.asked is.0 x' Steps (hears r e p.payload) step.more cause asked' turn (drives r s a now item outs outs' is.0 x' Steps s.asked cause asked' here step)));
         outs_are = step.outs_are;
-        few = driven_few r s a now item outs outs' is.0 x' Steps s.asked asked' here step 5 few;
+        few = driven_few r s a now item outs outs' is.0 x' Steps s.asked cause asked' here step 5 few;
       }

@@ -1,23 +1,27 @@
 -- A session that is taken out and put back under its number.
-use Rattle.std.proofs.Common.{◌≡◌, ℕ, true, Option, Some, None, option_map, inl, inr, refl, sym, ap, subst, ◌∙◌}
+use Rattle.std.proofs.Common.{◌≡◌, ℕ, true, List, Option, Some, None, option_map, inl, inr, refl, sym, ap, subst, ◌∙◌}
 use Rattle.std.specs.Cmp.{nat_cmp_total}
 use Rattle.std.specs.FinMap.{get, same_map, nat_cmp-IsAntisymmetric}
-use Rattle.std.proofs.lemmas.Bool.{cases_eq}
+use Rattle.std.proofs.lemmas.Bool.{cases_eq, false≢true}
 use Rattle.bng_base.specs.declared.address.Ip4.{Ip4}
 use Rattle.bng_base.specs.declared.settings.AccessPort.{AccessPort}
-use Rattle.bng_slots.specs.Sessions.{Sessions, IsNumberOf, value_at, with_value, without}
+use Rattle.bng_slots.specs.Sessions.{Sessions, IsNumberOf, NoneShares, value_at, with_value, without}
 use Rattle.bng_slots.proofs.SessionLaws.{value_at-with_value, value_at-with_other, value_at-without, with_value-without}
 use Rattle.bng_shard.specs.declared.rules.Rules.{Rules}
 use Rattle.bng_shard.specs.declared.session.Lease.{Lease}
 use Rattle.bng_shard.specs.declared.session.Service.{Service}
 use Rattle.bng_shard.specs.declared.session.Service.TheVariants.{Provisioned, Discovered}
 use Rattle.bng_shard.specs.declared.session.Session.{Session}
-use Rattle.bng_shard.specs.State.{State, held_in, made_one, port_at, with_session}
+use Rattle.bng_shard.specs.State.{State, made_one, port_at, with_driven, with_ended, with_session}
 use Rattle.bng_shard.specs.Fits.{ArePlaced}
 use Rattle.bng_shard.specs.Indexed.{address_of}
-use Rattle.bng_shard.specs.Link.{ended, ended_service}
+use Rattle.bng_shard.specs.Link.{ended_service}
+use Rattle.bng_shard.specs.Serving.{KeepsLease}
+use Rattle.bng_shard.specs.Running.{TermsView, tenures_in, whole}
+use Rattle.bng_shard.specs.Tenures.{Tenure, closed, kept_lease}
+use Rattle.bng_shard.specs.declared.terms.Running.{Running}
 use Rattle.bng_shard.specs.Timers.{lives_at, lives_in, does_live}
-use Rattle.bng_shard.proofs.Values.{same_some}
+use Rattle.bng_shard.proofs.Values.{none_some, same_some}
 
 -- a session is put where it stands
 pub with_same : (ss : Sessions Session) (n : ℕ) (x : Session) → value_at ss n ≡ Some x → with_value ss n x ≡ ss
@@ -45,20 +49,34 @@ module _ (s s₁ : State) (n m : ℕ) (taken : s₁ ≡ record s { sessions = wi
       ∙ ap (λ (k : ℕ). with_session (record s { sessions = without s.sessions n }) k x) same
       ∙ ap (λ (ss : Sessions Session). let t : State = record s { sessions = ss } in t) (with_value-without s.sessions n x)
 
-abbrev address_by : Service → Option Ip4
-address_by v = option_map (λ (l : Lease). l.address) (held_in v)
-
 pub made_of_live : (v : Service) → lives_in v ≡ true → made_one v ≡ 1
 made_of_live (Provisioned l) e = absurd (let never : ⊥ = cc in never)
 made_of_live (Discovered m) e = refl
 
--- a session that ends keeps its address
-address_in : (v : Service) (x y : Session) → x.service ≡ v → y.service ≡ ended_service v → address_of y ≡ address_of x
-address_in (Provisioned p) x y is after = ap address_by after ∙ sym (ap address_by is)
-address_in (Discovered m) x y is after = ap address_by after ∙ sym (ap address_by is)
+-- a session shares no address where it had its lease before, and has it still or has none
+pub shares_kept : (ss : Sessions Session) (x y : Session) (cause : Option ℕ) → y.lease ≡ kept_lease cause x.lease → NoneShares address_of ss x → NoneShares address_of ss y
+shares_kept ss x y None same alone n a mine = alone n a (sym (ap (option_map (λ (l : Lease). l.address)) same) ∙ mine)
+shares_kept ss x y (Some cause) same alone n a mine = absurd (none_some a (sym (ap (option_map (λ (l : Lease). l.address)) same) ∙ mine))
 
-pub ended_address : (x : Session) → address_of (ended x) ≡ address_of x
-ended_address x = address_in x.service x (ended x) refl refl
+-- a session that has ended has a link as before, and no lease
+pub ended_keeps : (v : Service) (lease : Option Lease) → KeepsLease v lease → KeepsLease (ended_service v) None
+ended_keeps (Provisioned over) lease keeps = tt
+ended_keeps (Discovered m) lease keeps = (keeps.0, λ some. absurd (false≢true some))
+
+-- with the terms, once a step of a session's link was made, or it ended
+module _ (s s' : State) (n : ℕ) (x x' : Session) (lease : Option Lease) (t t' : TermsView) (its : lease ≡ x.lease) (news : t'.news ≡ t.news) where
+  pub whole_driven : (cause : Option ℕ) (asked : ℕ) → s' ≡ record (with_session s n x') { asked = asked } → tenures_in t'.rows ≡ closed lease cause (tenures_in t.rows)
+      → whole s' t' ≡ with_driven (whole s t) n x.lease cause x' asked
+  whole_driven cause asked next rows =
+      ap (λ (q : State). whole q t') next
+      ∙ ap (λ (ts : List Tenure). let q : State = record (with_session s n x') { asked = asked; terms = ts; news = tenures_in t'.news } in q) (rows ∙ ap (λ (l : Option Lease). closed l cause (tenures_in t.rows)) its)
+      ∙ ap (λ (rs : List Running). let q : State = record (with_session s n x') { asked = asked; terms = closed x.lease cause (tenures_in t.rows); news = tenures_in rs } in q) news
+
+  pub whole_ended : (cause : ℕ) → s' ≡ with_session s n x' → tenures_in t'.rows ≡ closed lease (Some cause) (tenures_in t.rows) → whole s' t' ≡ with_ended (whole s t) n x.lease cause x'
+  whole_ended cause next rows =
+      ap (λ (q : State). whole q t') next
+      ∙ ap (λ (ts : List Tenure). let q : State = record (with_session s n x') { terms = ts; news = tenures_in t'.news } in q) (rows ∙ ap (λ (l : Option Lease). closed l (Some cause) (tenures_in t.rows)) its)
+      ∙ ap (λ (rs : List Running). let q : State = record (with_session s n x') { terms = closed x.lease (Some cause) (tenures_in t.rows); news = tenures_in rs } in q) news
 
 -- the session that lives at a number
 pub live_there : (s : State) (n : ℕ) (x : Session) → lives_at s n ≡ true → Some x ≡ value_at s.sessions n → lives_in x.service ≡ true

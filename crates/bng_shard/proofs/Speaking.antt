@@ -9,14 +9,13 @@ use Rattle.bng_ppp.specs.PppRelation.{PppSaid, after_turn, ended_by, said_of}
 use Rattle.bng_ppp.specs.PppState.{PppState, is_open}
 use Rattle.bng_ppp.specs.Verdict.{Settles}
 use Rattle.bng_ppp.specs.WholeFrame.{HearsOctets}
-use Rattle.bng_verdict.specs.Verdicts.{Saying}
 use Rattle.bng_shard.specs.declared.rules.Rules.{Rules}
 use Rattle.bng_shard.specs.declared.sending.At.{At}
 use Rattle.bng_shard.specs.declared.session.Session.{Session}
 use Rattle.bng_shard.specs.State.{State}
 use Rattle.bng_shard.specs.Deed.{at_of}
 use Rattle.bng_shard.specs.Driven.{Driven}
-use Rattle.bng_shard.specs.Link.{Drives, LinkStep, HearsPppFrame, IsToldVerdict}
+use Rattle.bng_shard.specs.Link.{Drives, LinkStep, HearsPppFrame, IsToldVerdict, Told}
 use Rattle.bng_shard.specs.Protocol.{entry_of}
 use Rattle.bng_shard.proofs.Carrying.{its_place}
 
@@ -30,9 +29,9 @@ heard r octets now random old says new t cause (hears, is) said state = record {
   state = state;
 }
 
--- a link that is told a verdict without an address
-pub judged : (r : LinkRules) (v : Saying) (now : ℕ) (random : List ℕ) (old : PppState) (says : PppSaid) (new : PppState) (t : Turn) (cause : Option ℕ)
-    → Settles (is_open old.auth) v.yes r None v.text now random old t × (cause ≡ None) → says ≡ said_of t cause → new ≡ after_turn t → IsToldVerdict r v now random old says new
+-- a link that is told a verdict
+pub judged : (r : LinkRules) (v : Told) (now : ℕ) (random : List ℕ) (old : PppState) (says : PppSaid) (new : PppState) (t : Turn) (cause : Option ℕ)
+    → Settles (is_open old.auth) v.yes r v.lease v.text now random old t × (cause ≡ None) → says ≡ said_of t cause → new ≡ after_turn t → IsToldVerdict r v now random old says new
 judged r v now random old says new t cause (settles, is) said state = record {
   turn = t;
   settles = settles;
@@ -41,9 +40,9 @@ judged r v now random old says new t cause (settles, is) said state = record {
 }
 
 -- a step of the link that follows from another one
-pub drives_so : (r : Rules) (a : At) (asked : ℕ) (x x' : Session) (Steps Wanted : LinkStep) (outs : List OutRecord) (asked' : ℕ) → ((old : PppState) (says : PppSaid) (new : PppState) → Steps old says new → Wanted old says new)
-    → Drives r a asked x Steps outs x' asked' → Drives r a asked x Wanted outs x' asked'
-drives_so r a asked x x' Steps Wanted outs asked' follows d = record {
+pub drives_so : (r : Rules) (a : At) (asked : ℕ) (x x' : Session) (Steps Wanted : LinkStep) (outs : List OutRecord) (cause : Option ℕ) (asked' : ℕ) → ((old : PppState) (says : PppSaid) (new : PppState) → Steps old says new → Wanted old says new)
+    → Drives r a asked x Steps outs cause x' asked' → Drives r a asked x Wanted outs cause x' asked'
+drives_so r a asked x x' Steps Wanted outs cause asked' follows d = record {
   made = d.made;
   is_made = d.is_made;
   port = d.port;
@@ -53,16 +52,17 @@ drives_so r a asked x x' Steps Wanted outs asked' follows d = record {
   link = d.link;
   steps = follows d.made.link d.says d.link d.steps;
   outs_are = d.outs_are;
+  closes = d.closes;
   session = d.session;
   count = d.count;
 }
 
-module _ (r : Rules) (s : State) (a : At) (now : ℕ) (item : Item) (outs outs' : List OutRecord) (x x' : Session) (Steps : LinkStep) (asked asked' : ℕ) (here : a.shard ≡ s.sessions.shard) where
+module _ (r : Rules) (s : State) (a : At) (now : ℕ) (item : Item) (outs outs' : List OutRecord) (x x' : Session) (Steps : LinkStep) (asked : ℕ) (cause : Option ℕ) (asked' : ℕ) (here : a.shard ≡ s.sessions.shard) where
   abbrev entry : Entry
   entry = entry_of a.seat a.place now item
 
-  pub drives : (d : Driven r a Steps asked x x' asked' outs outs') → Drives r (at_of s entry) asked x Steps d.more x' asked'
-  drives d = subst (λ (b : At). Drives r b asked x Steps d.more x' asked') (its_place s a now item here) d.drives
+  pub drives : (d : Driven r a Steps asked x cause x' asked' outs outs') → Drives r (at_of s entry) asked x Steps d.more cause x' asked'
+  drives d = subst (λ (b : At). Drives r b asked x Steps d.more cause x' asked') (its_place s a now item here) d.drives
 
-  pub driven_few : (d : Driven r a Steps asked x x' asked' outs outs') (n : ℕ) → length outs' ≤ length outs + n → length d.more ≤ n
+  pub driven_few : (d : Driven r a Steps asked x cause x' asked' outs outs') (n : ℕ) → length outs' ≤ length outs + n → length d.more ≤ n
   driven_few d n few = omega (arith, ap length d.outs_are, length-append outs d.more, few)

@@ -81,12 +81,18 @@ HearsPpp r s e x made p d =
     × Drives r (at_of s e) s.asked x (hears r e p.payload) outs cause x' asked'
     × (d ≡ handled s e outs (with_driven s p.session x.lease cause x' asked')))
 
--- A PADT ends a session that discovery made, which gets none back, and its live term by User Request (RFC 2866 section 5.10). A
--- provisioned circuit ignores all but data.
+-- A PADT ends a session that discovery made, which gets none back, and its live term by User Request (RFC 2866 section 5.10). One that
+-- has ended does nothing.
+abbrev pub HearsPadt : State → Entry → Session → Made → PppoeFrame → Deed → Type 0
+HearsPadt s e x made p d =
+    (IsTrue made.ended × (d ≡ ignored s e))
+    ⊎ (IsFalse made.ended × (d ≡ handled s e [] (with_ended s p.session x.lease user_request (ended x))))
+
+-- a provisioned circuit ignores all but data
 abbrev pub HearsControl : Service → Rules → State → Entry → Session → PppoeFrame → Deed → Type 0
 HearsControl (Provisioned v) r s e x p d = d ≡ ignored s e
 HearsControl (Discovered made) r s e x p d =
-    ((p.discovery ≡ true) × (d ≡ handled s e [] (with_ended s p.session x.lease user_request (ended x))))
+    ((p.discovery ≡ true) × HearsPadt s e x made p d)
     ⊎ ((p.discovery ≡ false) × HearsPpp r s e x made p d)
 
 abbrev pub HearsIn : Option Session → Rules → State → Entry → PppoeFrame → Deed → Type 0

@@ -1,13 +1,12 @@
-use Rattle.std.proofs.Common.{◌∙◌, ℕ, ap, subst, sym}
+use Rattle.std.proofs.Common.{◌≡◌, ◌∙◌, ℕ, ap, subst, sym}
 use Rattle.bng_shard.specs.declared.session.Session.{Session}
 use Rattle.bng_ppp.specs.PppRelation.{PppSteps}
 use Rattle.bng_shard.specs.Driven.{Driven}
 use Rattle.bng_slots.specs.Sessions.{value_at}
-use Rattle.bng_shard.specs.Indexed.{address_of}
 use Rattle.bng_shard.specs.State.{State}
-use Rattle.bng_shard.proofs.Serves.{live_stays, nothing_shared}
+use Rattle.bng_shard.proofs.Serves.{live_stays}
 use Rattle.bng_shard.proofs.Driving.{number_of}
-use Rattle.bng_shard.proofs.Replacing.{live_there, made_of_live, number_back, put_back, vacant_back}
+use Rattle.bng_shard.proofs.Replacing.{live_there, made_of_live, number_back, put_back, shares_kept, vacant_back, whole_driven}
 use Rattle.bng_shard.proofs.Values.{same_some}
 use Rattle.bng_shard.proofs.frames.drive_at.Goals as goal
 
@@ -32,21 +31,30 @@ put-requires-clause-vacant c =
     vacant_back c.args.served.now c.take-session.new.self c.args.number.0 c.drive-asked.new.session.number.0 c.take-session.ensures.after same
 
 pub put-requires-clause-apart : goal.put-requires-clause-apart
-put-requires-clause-apart c = nothing_shared c.take-session.new.self.sessions c.drive-asked.new.session (ap address_of c.drive-asked.ensures.driven.drives.session)
+put-requires-clause-apart c =
+    let d = c.drive-asked.ensures.driven.drives in
+    shares_kept c.take-session.new.self.sessions c.take-session.result c.drive-asked.new.session d.says.term_ended (ap (λ (y : Session). y.lease) d.session) c.take-session.ensures.apart
+
+pub drive-asked-requires-clause-lasts : goal.drive-asked-requires-clause-lasts
+drive-asked-requires-clause-lasts c = c.requires.lasts c.take-session.result (sym c.take-session.ensures.value)
 
 pub returns-clause-driven : goal.returns-clause-driven
 returns-clause-driven c x is =
     let r = c.args.rules.now in
     let x' = c.drive-asked.new.session in
-    let count = c.drive-asked.result in
+    let count = c.drive-asked.result.0 in
+    let cause = c.drive-asked.result.1 in
     let same = number_of c.drive-asked.ensures.driven c.take-session.ensures.number in
     let before = c.asked.ensures ∙ ap (λ (t : State). t.asked) c.take-session.ensures.after in
-    let counted : ℕ → State → State = λ n t. record t { asked = n } in (
+    let counted : ℕ → State → State = λ n t. record t { asked = n } in
+    let it : c.take-session.result ≡ x = same_some c.take-session.result x (c.take-session.ensures.value ∙ is) in
+    let next = c.count_asked.ensures
+        ∙ ap (counted count) (put_back c.args.served.now c.take-session.new.self c.args.number.0 x'.number.0 c.take-session.ensures.after same c.put.new.self x' c.put.ensures) in (
       x',
+      cause,
       count,
-      subst (λ (n : ℕ). Driven r c.args.at (PppSteps r.link c.args.input c.args.now c.args.random.now) n x x' count c.args.outs.now.items c.drive-asked.new.outs.items) before
-          (subst (λ (y : Session). Driven r c.args.at (PppSteps r.link c.args.input c.args.now c.args.random.now) c.asked.result y x' count c.args.outs.now.items c.drive-asked.new.outs.items) (same_some c.take-session.result x (c.take-session.ensures.value ∙ is))
+      subst (λ (n : ℕ). Driven r c.args.at (PppSteps r.link c.args.input c.args.now c.args.random.now) n x cause x' count c.args.outs.now.items c.drive-asked.new.outs.items) before
+          (subst (λ (y : Session). Driven r c.args.at (PppSteps r.link c.args.input c.args.now c.args.random.now) c.asked.result y cause x' count c.args.outs.now.items c.drive-asked.new.outs.items) it
           c.drive-asked.ensures.driven),
-      c.count_asked.ensures
-          ∙ ap (counted count) (put_back c.args.served.now c.take-session.new.self c.args.number.0 x'.number.0 c.take-session.ensures.after same c.put.new.self x' c.put.ensures),
+      whole_driven c.args.served.now c.count_asked.new.self c.args.number.0 x x' c.lease-lease.result c.args.terms.now c.close.new.self (c.lease-lease.ensures ∙ ap (λ (y : Session). y.lease) it) c.close.ensures.rest.0 cause count next c.close.ensures.terms,
     )

@@ -1,12 +1,13 @@
-use Rattle.std.proofs.Common.{◌≡◌, ◌∙◌, ap}
+use Rattle.std.proofs.Common.{◌≡◌, ◌∙◌, ap, subst, sym}
 use Rattle.bng_base.specs.declared.address.SessionNo.{SessionNo}
 use Rattle.bng_shard.specs.declared.session.Session.{Session}
 use Rattle.bng_shard.specs.Link.{ended}
 use Rattle.bng_slots.specs.Sessions.{value_at}
+use Rattle.bng_shard.specs.Serving.{KeepsLease}
 use Rattle.bng_shard.specs.Indexed.{address_of}
 use Rattle.bng_shard.specs.State.{with_session}
-use Rattle.bng_shard.proofs.Replacing.{ended_address, number_back, put_back, vacant_back}
-use Rattle.bng_shard.proofs.Serves.{live_stays, shares_as}
+use Rattle.bng_shard.proofs.Replacing.{ended_keeps, number_back, put_back, vacant_back, whole_ended}
+use Rattle.bng_shard.proofs.Serves.{live_stays, nothing_shared}
 use Rattle.bng_shard.proofs.Values.{same_some}
 use Rattle.bng_shard.proofs.frames.end_session.Goals as goal
 use Rattle.bng_shard.proofs.frames.end_session.Goals.{After-end}
@@ -29,12 +30,16 @@ put-requires-clause-vacant c =
     vacant_back c.args.served.now c.take-session.new.self c.args.number.0 c.end.new.self.number.0 c.take-session.ensures.after (same_number d)
 
 pub put-requires-clause-apart : goal.put-requires-clause-apart
-put-requires-clause-apart c =
-    shares_as c.take-session.new.self.sessions c.take-session.result c.end.new.self (ap address_of c.end.ensures ∙ ended_address c.take-session.result) c.take-session.ensures.apart
+put-requires-clause-apart c = nothing_shared c.take-session.new.self.sessions c.end.new.self (ap address_of c.end.ensures)
+
+pub put-requires-clause-leased : goal.put-requires-clause-leased
+put-requires-clause-leased c = subst (λ (y : Session). KeepsLease y.service y.lease) (sym c.end.ensures) (ended_keeps c.take-session.result.service c.take-session.result.lease c.take-session.ensures.leased)
 
 pub returns : goal.returns
 returns c x is =
     let d = (goal.at.returns c).After-end in
-    put_back c.args.served.now c.take-session.new.self c.args.number.0 c.end.new.self.number.0 c.take-session.ensures.after (same_number d) c.put.new.self c.end.new.self c.put.ensures
+    let it : c.take-session.result ≡ x = same_some c.take-session.result x (c.take-session.ensures.value ∙ is) in
+    let next = put_back c.args.served.now c.take-session.new.self c.args.number.0 c.end.new.self.number.0 c.take-session.ensures.after (same_number d) c.put.new.self c.end.new.self c.put.ensures
     ∙ ap (λ (y : Session). with_session c.args.served.now c.args.number.0 y) c.end.ensures
-    ∙ ap (λ (y : Session). with_session c.args.served.now c.args.number.0 (ended y)) (same_some c.take-session.result x (c.take-session.ensures.value ∙ is))
+    ∙ ap (λ (y : Session). with_session c.args.served.now c.args.number.0 (ended y)) it in
+    whole_ended c.args.served.now c.put.new.self c.args.number.0 x (ended x) c.lease.result c.args.terms.now c.close.new.self (c.lease.ensures ∙ ap (λ (y : Session). y.lease) it) c.close.ensures.rest.0 1 next c.close.ensures.terms
