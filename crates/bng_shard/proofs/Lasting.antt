@@ -2,19 +2,32 @@
 use Rattle.std.proofs.Common.{◌≡◌, ℕ, Bool, true, false, List, Option, Some, None, is_some, refl, sym, ap, ◌∙◌}
 use Rattle.std.specs.Prelude.{IsSome}
 use Rattle.std.proofs.lemmas.Bool.{false≢true}
+use Rattle.bng_ppp.proofs.TermLaws.{lasts}
 use Rattle.bng_ppp.proofs.WholePhases.{phases_kept}
 use Rattle.bng_ppp.specs.declared.rules.LinkRules.{LinkRules}
 use Rattle.bng_ppp.specs.declared.whole_input.WholeInput.{WholeInput}
+use Rattle.bng_ppp.specs.declared.whole_input.WholeInput.TheVariants.{Start, Frame, Timer, Verdict, Close, Lost}
+use Rattle.bng_ppp.specs.Granting.{goes_by_itself}
 use Rattle.bng_ppp.specs.Phases.{KeepsPhases}
 use Rattle.bng_ppp.specs.PppRelation.{PppSaid, PppSteps}
 use Rattle.bng_ppp.specs.PppState.{PppState}
 use Rattle.bng_shard.specs.declared.session.Lease.{Lease}
 use Rattle.bng_shard.specs.Driven.{LastsOver}
 use Rattle.bng_shard.specs.Tenures.{kept_lease}
+use Rattle.bng_shard.proofs.Values.{none_some}
+
+-- there is a term, so no verdict is told
+by_itself : (what : WholeInput) (l : Lease) → LastsOver what (Some l) → goes_by_itself what ≡ true
+by_itself Start l over = refl
+by_itself (Frame octets) l over = refl
+by_itself Timer l over = refl
+by_itself (Verdict accepted address text) l over = absurd (none_some l (sym over))
+by_itself Close l over = absurd over
+by_itself Lost l over = absurd over
 
 module _ (r : LinkRules) (what : WholeInput) (now : ℕ) (random : List ℕ) (old : PppState) (says : PppSaid) (new : PppState) (steps : PppSteps r what now random old says new) where
   term_stays : (l : Lease) → LastsOver what (Some l) → old.live ≡ true → says.term_ended ≡ None → new.live ≡ true
-  term_stays = ?
+  term_stays l over live none = lasts r now random what old says new steps (by_itself what l over) live none
 
   live_on : (cause : Option ℕ) (lease : Option Lease) → says.term_ended ≡ cause → LastsOver what lease → (IsSome lease → old.live ≡ true) → IsSome (kept_lease cause lease) → new.live ≡ true
   live_on (Some cause) lease is lasts live some = absurd (false≢true some)

@@ -17,10 +17,10 @@ use Rattle.bng_shard.specs.Fits.{ArePlaced}
 use Rattle.bng_shard.specs.Indexed.{address_of}
 use Rattle.bng_shard.specs.Link.{ended_service}
 use Rattle.bng_shard.specs.Serving.{KeepsLease}
-use Rattle.bng_shard.specs.Running.{TermsView, tenures_in, whole}
+use Rattle.bng_shard.specs.Running.{TermsView, closed_rows, tenures_in, whole}
 use Rattle.bng_shard.specs.Tenures.{Tenure, closed, kept_lease}
-use Rattle.bng_shard.specs.declared.terms.Running.{Running}
 use Rattle.bng_shard.specs.Timers.{lives_at, lives_in, does_live}
+use Rattle.bng_shard.proofs.Closing.{closed_tenures}
 use Rattle.bng_shard.proofs.Values.{none_some, same_some}
 
 -- a session is put where it stands
@@ -64,19 +64,19 @@ ended_keeps (Provisioned over) lease keeps = tt
 ended_keeps (Discovered m) lease keeps = (keeps.0, λ some. absurd (false≢true some))
 
 -- with the terms, once a step of a session's link was made, or it ended
-module _ (s s' : State) (n : ℕ) (x x' : Session) (lease : Option Lease) (t t' : TermsView) (its : lease ≡ x.lease) (news : t'.news ≡ t.news) where
-  pub whole_driven : (cause : Option ℕ) (asked : ℕ) → s' ≡ record (with_session s n x') { asked = asked } → tenures_in t'.rows ≡ closed lease cause (tenures_in t.rows)
+module _ (s s' : State) (n : ℕ) (x x' : Session) (lease : Option Lease) (t t' : TermsView) (its : lease ≡ x.lease) where
+  pub whole_driven : (cause : Option ℕ) (asked : ℕ) → s' ≡ record (with_session s n x') { asked = asked } → t' ≡ record t { rows = closed_rows lease cause t.rows }
       → whole s' t' ≡ with_driven (whole s t) n x.lease cause x' asked
   whole_driven cause asked next rows =
       ap (λ (q : State). whole q t') next
-      ∙ ap (λ (ts : List Tenure). let q : State = record (with_session s n x') { asked = asked; terms = ts; news = tenures_in t'.news } in q) (rows ∙ ap (λ (l : Option Lease). closed l cause (tenures_in t.rows)) its)
-      ∙ ap (λ (rs : List Running). let q : State = record (with_session s n x') { asked = asked; terms = closed x.lease cause (tenures_in t.rows); news = tenures_in rs } in q) news
+      ∙ ap (λ (u : TermsView). whole (record (with_session s n x') { asked = asked }) u) rows
+      ∙ ap (λ (ts : List Tenure). let q : State = record (with_session (whole s t) n x') { asked = asked; terms = ts } in q) (closed_tenures lease cause t.rows ∙ ap (λ (l : Option Lease). closed l cause (tenures_in t.rows)) its)
 
-  pub whole_ended : (cause : ℕ) → s' ≡ with_session s n x' → tenures_in t'.rows ≡ closed lease (Some cause) (tenures_in t.rows) → whole s' t' ≡ with_ended (whole s t) n x.lease cause x'
+  pub whole_ended : (cause : ℕ) → s' ≡ with_session s n x' → t' ≡ record t { rows = closed_rows lease (Some cause) t.rows } → whole s' t' ≡ with_ended (whole s t) n x.lease cause x'
   whole_ended cause next rows =
       ap (λ (q : State). whole q t') next
-      ∙ ap (λ (ts : List Tenure). let q : State = record (with_session s n x') { terms = ts; news = tenures_in t'.news } in q) (rows ∙ ap (λ (l : Option Lease). closed l (Some cause) (tenures_in t.rows)) its)
-      ∙ ap (λ (rs : List Running). let q : State = record (with_session s n x') { terms = closed x.lease (Some cause) (tenures_in t.rows); news = tenures_in rs } in q) news
+      ∙ ap (λ (u : TermsView). whole (with_session s n x') u) rows
+      ∙ ap (λ (ts : List Tenure). let q : State = record (with_session (whole s t) n x') { terms = ts } in q) (closed_tenures lease (Some cause) t.rows ∙ ap (λ (l : Option Lease). closed l (Some cause) (tenures_in t.rows)) its)
 
 -- the session that lives at a number
 pub live_there : (s : State) (n : ℕ) (x : Session) → lives_at s n ≡ true → Some x ≡ value_at s.sessions n → lives_in x.service ≡ true

@@ -56,5 +56,5 @@ returns-clause-driven c x is =
       subst (λ (n : ℕ). Driven r c.args.at (PppSteps r.link c.args.input c.args.now c.args.random.now) n x cause x' count c.args.outs.now.items c.drive-asked.new.outs.items) before
           (subst (λ (y : Session). Driven r c.args.at (PppSteps r.link c.args.input c.args.now c.args.random.now) c.asked.result y cause x' count c.args.outs.now.items c.drive-asked.new.outs.items) it
           c.drive-asked.ensures.driven),
-      whole_driven c.args.served.now c.count_asked.new.self c.args.number.0 x x' c.lease-lease.result c.args.terms.now c.close.new.self (c.lease-lease.ensures ∙ ap (λ (y : Session). y.lease) it) c.close.ensures.rest.0 cause count next c.close.ensures.terms,
+      whole_driven c.args.served.now c.count_asked.new.self c.args.number.0 x x' c.lease-lease.result c.args.terms.now c.close.new.self (c.lease-lease.ensures ∙ ap (λ (y : Session). y.lease) it) cause count next c.close.ensures,
     )

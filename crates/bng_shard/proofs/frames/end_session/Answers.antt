@@ -42,4 +42,4 @@ returns c x is =
     let next = put_back c.args.served.now c.take-session.new.self c.args.number.0 c.end.new.self.number.0 c.take-session.ensures.after (same_number d) c.put.new.self c.end.new.self c.put.ensures
     ∙ ap (λ (y : Session). with_session c.args.served.now c.args.number.0 y) c.end.ensures
     ∙ ap (λ (y : Session). with_session c.args.served.now c.args.number.0 (ended y)) it in
-    whole_ended c.args.served.now c.put.new.self c.args.number.0 x (ended x) c.lease.result c.args.terms.now c.close.new.self (c.lease.ensures ∙ ap (λ (y : Session). y.lease) it) c.close.ensures.rest.0 1 next c.close.ensures.terms
+    whole_ended c.args.served.now c.put.new.self c.args.number.0 x (ended x) c.lease.result c.args.terms.now c.close.new.self (c.lease.ensures ∙ ap (λ (y : Session). y.lease) it) 1 next c.close.ensures
