@@ -1,6 +1,7 @@
 -- What was done with a packet of a term, of what is known of its parts.
-use Rattle.std.proofs.Common.{◌≡◌, ℕ, Bool, true, false, not, is_some, List, [], ◌∷◌, ◌++◌, Option, Some, None, length, inl, inr, refl, sym, ap, subst, ◌∙◌, arith}
+use Rattle.std.proofs.Common.{◌≡◌, ℕ, Bool, true, false, List, [], ◌∷◌, ◌++◌, Option, Some, None, length, inl, inr, refl, sym, ap, subst, ◌∙◌, arith}
 use Rattle.std.specs.Prelude.{◌≢◌, ◌==◌, option_map}
+use Rattle.std.specs.Option.{option_map_or}
 use Rattle.std.proofs.lemmas.Bool.Decides.{nat_tests}
 use Rattle.std.proofs.lemmas.List.{append-nil}
 use Rattle.bng_base.specs.declared.address.Ip4.{Ip4}
@@ -13,6 +14,7 @@ use Rattle.bng_base.specs.declared.item.OutRecord.{OutRecord}
 use Rattle.bng_base.specs.declared.outside.Role.TheVariants.{Access, Core}
 use Rattle.bng_base.specs.declared.settings.AccessPort.{AccessPort}
 use Rattle.bng_base.specs.PppoeGrammar.{PppoeFrame}
+use Rattle.bng_engine.specs.Lists.{AnyOf}
 use Rattle.bng_forward.specs.declared.view.TermView.{TermView}
 use Rattle.bng_forward.specs.Fates.{UpFate, DownFate}
 use Rattle.bng_forward.specs.Framed.{circuit_frame, IsFrameTo}
@@ -21,10 +23,8 @@ use Rattle.bng_slots.specs.Listed.{values}
 use Rattle.bng_shard.specs.declared.rules.Rules.{Rules}
 use Rattle.bng_shard.specs.declared.sending.At.{At}
 use Rattle.bng_shard.specs.declared.session.Lease.{Lease}
-use Rattle.bng_shard.specs.declared.session.Service.{Service}
-use Rattle.bng_shard.specs.declared.session.Service.TheVariants.{Provisioned, Discovered}
 use Rattle.bng_shard.specs.declared.session.Session.{Session}
-use Rattle.bng_shard.specs.State.{State, port_at, session_of, holder_of, lease_in, lease_of, live_lease, view_in, view_of, leases, leases_in}
+use Rattle.bng_shard.specs.State.{State, IsTermOf, port_at, session_of, holder_of, passes_in, view_of, leases}
 use Rattle.bng_shard.specs.Deed.{Deed, at_of, out, only}
 use Rattle.bng_shard.specs.Doing.{DoesWith}
 use Rattle.bng_shard.specs.Frames.{HearsData, HearsPacket, charge_of, forwarded, found_up, found_down}
@@ -41,27 +41,13 @@ same_address a b e = let make : ℕ → Ip4 = λ n. record { 0 = n } in ap make 
 equal_numbers : (a b : ℕ) → (a == b) ≡ true → a ≡ b
 equal_numbers a b e = grind (arith, nat_tests)
 
-leased_address : (v : Service) (a : Ip4) (l : Lease) → leases_in v a ≡ true → lease_in v ≡ Some l → a ≡ l.address
-leased_address (Provisioned p) a l passes is =
-    elim p.cause as (λ o. live_lease o p.lease ≡ Some l → a ≡ l.address) [
-      | None ↦ λ e. sym (same_address p.lease.address a (equal_numbers p.lease.address.0 a.0 passes)) ∙ ap (λ (k : Lease). k.address) (same_some p.lease l e)
-      | Some c ↦ λ e. absurd (none_some l e)
-    ] is
-leased_address (Discovered m) a l passes is = absurd (none_some l is)
-
--- a live term is open
-live_view : (v : Service) (l : Lease) → lease_in v ≡ Some l → view_in v ≡ Some (record { lease = l.address; opened = true })
-live_view (Provisioned p) l is =
-    let seen : Lease → Bool → Option TermView = λ k opened. Some (record { lease = k.address; opened = opened }) in
-    elim p.cause as (λ o. live_lease o p.lease ≡ Some l → seen p.lease (not (is_some o)) ≡ seen l true) [
-      | None ↦ λ e. ap (λ (k : Lease). seen k true) (same_some p.lease l e)
-      | Some c ↦ λ e. absurd (none_some l e)
-    ] is
-live_view (Discovered m) l is = absurd (none_some l is)
+leased_address : (o : Option Lease) (a : Ip4) (l : Lease) → option_map_or (λ (k : Lease). k.address.0 == a.0) o false ≡ true → o ≡ Some l → a ≡ l.address
+leased_address None a l passes is = absurd (none_some l is)
+leased_address (Some k) a l passes is = sym (same_address k.address a (equal_numbers k.address.0 a.0 passes)) ∙ ap (λ (m : Lease). m.address) (same_some k l is)
 
 -- the holder of an address leases it
-held_address : (s : State) (a : Ip4) (x : Session) (l : Lease) → holder_of s a ≡ Some x → lease_of x ≡ Some l → a ≡ l.address
-held_address s a x l at leased = leased_address x.service a l (found_is (leases a) (values s.sessions) x at).1 leased
+held_address : (s : State) (a : Ip4) (x : Session) (l : Lease) → holder_of s a ≡ Some x → x.lease ≡ Some l → a ≡ l.address
+held_address s a x l at leased = leased_address x.lease a l (found_is (leases a) (values s.sessions) x at).1 leased
 
 module _ (r : Rules) (s : State) (a : At) (item : Item) (outs : List OutRecord) (here : a.shard ≡ s.sessions.shard) where
   -- nothing was sent, and the state is as before
@@ -87,17 +73,17 @@ module _ (r : Rules) (s : State) (a : At) (item : Item) (outs : List OutRecord) 
 
   -- one that goes to the core
   pub goes_up : (number : ℕ) (p : PppoeFrame) (info packet : List ℕ) (found : Option (Option TermView)) (x : Session) (l : Lease) (octets : ℕ) (outs' : List OutRecord)
-      → found ≡ found_up s number p → session_of s number p.src p.session ≡ Some x → lease_of x ≡ Some l
+      → found ≡ found_up s number p → session_of s number p.src p.session ≡ Some x → x.lease ≡ Some l → AnyOf (IsTermOf x l) s.terms
       → UpFate found info Forwarded → (v : Ipv4) × MayPassUp found v × IsPassedOn v info packet → length packet ≡ octets
       → outs' ≡ outs ++ out a Core r.core_peer packet (Some (charge_of x l true octets)) ∷ []
       → (moment : ℕ) → DoesWith (λ e d. HearsData r s e number p info d) 1 s s outs outs' a moment item Forwarded
-  goes_up number p info packet found x l octets outs' is at leased up (v, may, passed) count pushed moment =
+  goes_up number p info packet found x l octets outs' is at leased term up (v, may, passed) count pushed moment =
       let e : Entry = entry_of a.seat a.place moment item in
       let sent : At → ℕ → OutRecord = λ b n. out b Core r.core_peer packet (Some (charge_of x l true n)) in
       let total : octets ≡ v.total = sym count ∙ passed.whole in
-      let its_view : TermView = record { lease = l.address; opened = true } in
+      let its_view : TermView = record { lease = l.address; opened = passes_in x.service } in
       let view : Some (Some may.view) ≡ Some (Some its_view) =
-      sym may.term ∙ is ∙ ap (λ (o : Option Session). option_map view_of o) at ∙ ap (λ (o : Option TermView). Some o) (live_view x.service l leased) in
+      sym may.term ∙ is ∙ ap (λ (o : Option Session). option_map view_of o) at ∙ ap (λ (o : Option TermView). Some o) (ap (option_map (λ (k : Lease). let t : TermView = record { lease = k.address; opened = passes_in x.service } in t)) leased) in
       let same : may.view ≡ its_view = same_some may.view its_view (same_some (Some may.view) (Some its_view) view) in
       record {
         deed = forwarded s e (sent (at_of s e) v.total);
@@ -107,7 +93,7 @@ module _ (r : Rules) (s : State) (a : At) (item : Item) (outs : List OutRecord) 
         says = (
           Forwarded,
           subst (λ (f : Option (Option TermView)). UpFate f info Forwarded) is up,
-          inl (refl, record { x = x; found = at; lease = l; live = leased; header = v; packet = packet; source = may.source ∙ ap (λ (t : TermView). t.lease) same; passed = passed; done = refl }),
+          inl (refl, record { x = x; found = at; lease = l; live = leased; term = term; header = v; packet = packet; source = may.source ∙ ap (λ (t : TermView). t.lease) same; passed = passed; done = refl }),
         );
         outs_are = pushed ∙ ap (λ (n : ℕ). outs ++ sent a n ∷ []) total ∙ ap (λ (b : At). outs ++ sent b v.total ∷ []) (its_place s a moment item here);
         few = omega arith;
@@ -120,12 +106,12 @@ module _ (r : Rules) (s : State) (a : At) (item : Item) (outs : List OutRecord) 
 
   -- one that goes to a subscriber
   pub goes_down : (v : Ipv4) (packet octets : List ℕ) (x : Session) (l : Lease) (port : AccessPort) (outs' : List OutRecord)
-      → holder_of s v.dst ≡ Some x → lease_of x ≡ Some l → port_at r.access x.port ≡ Some port
+      → holder_of s v.dst ≡ Some x → x.lease ≡ Some l → AnyOf (IsTermOf x l) s.terms → port_at r.access x.port ≡ Some port
       → DownFate (found_down s) item.frame.payload Forwarded → IsPassedOn v item.frame.payload packet
       → octets ≡ circuit_frame port x.mac x.number.0 packet → IsFrameTo port x.mac x.number.0 packet octets
       → outs' ≡ outs ++ out a (Access x.port) port.peer octets (Some (charge_of x l false v.total)) ∷ []
       → (moment : ℕ) → DoesWith (λ e d. HearsPacket r s e v d) 1 s s outs outs' a moment item Forwarded
-  goes_down v packet octets x l port outs' at leased its_port down passed framed again pushed moment =
+  goes_down v packet octets x l port outs' at leased term its_port down passed framed again pushed moment =
       let e : Entry = entry_of a.seat a.place moment item in
       let sent : At → List ℕ → OutRecord = λ b f. out b (Access x.port) port.peer f (Some (charge_of x l false v.total)) in
       record {
@@ -143,6 +129,7 @@ module _ (r : Rules) (s : State) (a : At) (item : Item) (outs : List OutRecord) 
               found = at;
               lease = l;
               live = leased;
+              term = term;
               address = held_address s v.dst x l at leased;
               port = port;
               its_port = its_port;

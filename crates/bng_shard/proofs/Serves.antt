@@ -16,6 +16,7 @@ use Rattle.bng_shard.specs.Indexed.{address_of, term_of}
 use Rattle.bng_shard.specs.Listing.{does_pass}
 use Rattle.bng_shard.specs.Serving.{AreApart, AreLeased, AreOwn, AreOfShard, KeepsLease}
 use Rattle.bng_shard.specs.State.{circuit_of, leaves, leaves_in}
+use Rattle.bng_shard.specs.Tenures.{kept_lease}
 use Rattle.bng_shard.specs.Timers.{does_live, does_stay, lives_in}
 use Rattle.bng_shard.proofs.Earliest.{read_there}
 use Rattle.bng_shard.proofs.Values.{same_some, none_some}
@@ -73,6 +74,11 @@ module _ (s : Sessions Session) (x : Session) (own : AreOwn s) (vacant : value_a
   term_alone n t mine has =
       let y = read_there term_of (value_at s n) t has in
       other_there n y.0 y.1 (ap (λ (k : SessionNo). k.0) (sym (term_session y.0.lease y.0 t refl y.2) ∙ term_session x.lease x t refl mine))
+
+-- without a lease there is none over a step
+pub none_kept : (cause : Option ℕ) → kept_lease cause None ≡ None
+none_kept None = refl
+none_kept (Some cause) = refl
 
 -- a session that has no address shares none
 pub nothing_shared : (s : Sessions Session) (x : Session) → address_of x ≡ None → NoneShares address_of s x

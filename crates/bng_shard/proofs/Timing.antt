@@ -1,5 +1,5 @@
 -- What a Tick and an End did so far, and what follows on it.
-use Rattle.std.proofs.Common.{◌≡◌, ◌<◌, ◌≤◌, ◌+◌, ◌-◌, ℕ, suc, true, false, List, [], ◌++◌, length, refl, inl, inr, sym, ap, subst, ◌∙◌, arith, append_assoc, append-nil, length-append, add-zero, zero-add}
+use Rattle.std.proofs.Common.{◌≡◌, ◌<◌, ◌≤◌, ◌+◌, ◌-◌, ℕ, suc, true, false, List, [], ◌++◌, length, Option, refl, inl, inr, sym, ap, subst, ◌∙◌, arith, append_assoc, append-nil, length-append, add-zero, zero-add}
 use Rattle.bng_base.specs.declared.item.Entry.{Entry}
 use Rattle.bng_base.specs.declared.item.OutRecord.{OutRecord}
 use Rattle.bng_ppp.specs.declared.whole_input.WholeInput.TheVariants.{Timer}
@@ -25,12 +25,12 @@ few_more outs₀ sent outs most e few = omega (arith, length-append outs₀ sent
 more_sent : (outs₀ sent outs first outs₁ : List OutRecord) → outs ≡ outs₀ ++ sent → outs₁ ≡ outs ++ first → outs₁ ≡ outs₀ ++ (sent ++ first)
 more_sent outs₀ sent outs first outs₁ e f = f ∙ ap (λ (front : List OutRecord). front ++ first) e ∙ append_assoc outs₀ sent first
 
-drives_from : (r : Rules) (e : Entry) (a b : At) (now : ℕ) (random : List ℕ) (asked : ℕ) (x x' : Session) (asked' : ℕ) (outs outs' : List OutRecord) (d : Driven r a (PppSteps r.link Timer now random) asked x x' asked' outs outs')
-    → e.moment ≡ now → e.item.random ≡ random → b ≡ a → Drives r b asked x (told r e Timer) d.more x' asked'
-drives_from r e a b now random asked x x' asked' outs outs' d moment octets at =
-    subst (λ (c : At). Drives r c asked x (told r e Timer) d.more x' asked') (sym at)
-    (subst (λ (t : ℕ). Drives r a asked x (PppSteps r.link Timer t e.item.random) d.more x' asked') (sym moment)
-    (subst (λ (o : List ℕ). Drives r a asked x (PppSteps r.link Timer now o) d.more x' asked') (sym octets) d.drives))
+drives_from : (r : Rules) (e : Entry) (a b : At) (now : ℕ) (random : List ℕ) (asked : ℕ) (x x' : Session) (cause : Option ℕ) (asked' : ℕ) (outs outs' : List OutRecord) (d : Driven r a (PppSteps r.link Timer now random) asked x cause x' asked' outs outs')
+    → e.moment ≡ now → e.item.random ≡ random → b ≡ a → Drives r b asked x (told r e Timer) d.more cause x' asked'
+drives_from r e a b now random asked x x' cause asked' outs outs' d moment octets at =
+    subst (λ (c : At). Drives r c asked x (told r e Timer) d.more cause x' asked') (sym at)
+    (subst (λ (t : ℕ). Drives r a asked x (PppSteps r.link Timer t e.item.random) d.more cause x' asked') (sym moment)
+    (subst (λ (o : List ℕ). Drives r a asked x (PppSteps r.link Timer now o) d.more cause x' asked') (sym octets) d.drives))
 
 -- After n deadlines this is the state and this is what was sent: whatever Ticks go on from there are so many more from the first
 -- state on.
@@ -50,16 +50,16 @@ ticks_begin r a now random s outs = record {
 
 module _ (r : Rules) (a : At) (now : ℕ) (random : List ℕ) (s₀ s : State) (outs₀ outs : List OutRecord) where
   pub ticks_more : (n : ℕ) (s₁ : State) (outs₁ : List OutRecord) → TicksOn n r a now random s₀ s outs₀ outs → TickedOnce true r a now random s s₁ outs outs₁ → TicksOn (n + 1) r a now random s₀ s₁ outs₀ outs₁
-  ticks_more n s₁ outs₁ on (m₀, first, x, x', at_n, asked', driven, next) =
+  ticks_more n s₁ outs₁ on (m₀, first, x, x', at_n, cause, asked', driven, next) =
       let said = driven.more in
       record {
         sent = on.sent ++ said;
         outs_are = more_sent outs₀ on.sent outs said outs₁ on.outs_are driven.outs_are;
         number = ap (λ (t : State). t.sessions.shard) next ∙ on.number;
         go_on = λ e moment octets at m more s' h.
-            let drives = drives_from r e a (at_of s e) now random s.asked x x' asked' outs outs₁ driven moment octets (same_at s s₀ e on.number ∙ at) in
+            let drives = drives_from r e a (at_of s e) now random s.asked x x' cause asked' outs outs₁ driven moment octets (same_at s s₀ e on.number ∙ at) in
             let due = subst (λ (t : ℕ). IsFirstDue s t m₀) (sym moment) first in
-            let once : Ticks (suc m) r e s (said ++ more) s' = inr (m₀, due, x, x', at_n, said, asked', drives, more, subst (λ (t : State). Ticks m r e t more s') next h, refl) in
+            let once : Ticks (suc m) r e s (said ++ more) s' = inr (m₀, due, x, x', at_n, said, cause, asked', drives, more, subst (λ (t : State). Ticks m r e t more s') next h, refl) in
             let all = on.go_on e moment octets at (suc m) (said ++ more) s' once in
             let count : n + suc m ≡ n + 1 + m = omega arith in
             subst (λ (outs' : List OutRecord). Ticks (n + 1 + m) r e s₀ outs' s') (sym (append_assoc on.sent said more)) (subst (λ (k : ℕ). Ticks k r e s₀ (on.sent ++ (said ++ more)) s') count all);

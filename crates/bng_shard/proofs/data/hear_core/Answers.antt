@@ -4,6 +4,7 @@ use Rattle.bng_base.specs.declared.fate.DropCause.TheVariants.{Malformed}
 use Rattle.bng_base.specs.declared.ipv4.Ipv4.{Ipv4}
 use Rattle.bng_forward.specs.Fates.{IsCorePacket}
 use Rattle.bng_shard.specs.Frames.{HearsCore, HearsPacket}
+use Rattle.bng_shard.specs.Running.{whole}
 use Rattle.bng_shard.proofs.Arriving.{does_more}
 use Rattle.bng_shard.proofs.Carrying.{nothing_done}
 use Rattle.bng_shard.proofs.data.hear_core.Goals as goal
@@ -11,7 +12,7 @@ use Rattle.bng_shard.proofs.data.hear_core.Goals as goal
 pub returns-in-Some-clause-does : goal.returns-in-Some-clause-does
 returns-in-Some-clause-does c moment =
     let r = c.args.rules.now in
-    let s = c.args.served.now in
+    let s = (whole c.args.served.now c.args.terms.now) in
     let item = c.args.item.now in
     let header = c.in-Some.header in
     let came = subst (λ (octets : List ℕ). IsCorePacket r.core_peer (record { from = item.from; cut = item.cut; octets = octets }) header) c.payload.ensures.octets c.in-Some.ensures.found in
@@ -21,7 +22,7 @@ returns-in-Some-clause-does c moment =
 pub returns-in-None-clause-does : goal.returns-in-None-clause-does
 returns-in-None-clause-does c =
     let r = c.args.rules.now in
-    let s = c.args.served.now in
+    let s = (whole c.args.served.now c.args.terms.now) in
     let item = c.args.item.now in
     let none = subst (λ (octets : List ℕ). (v : Ipv4) → ¬ (IsCorePacket r.core_peer (record { from = item.from; cut = item.cut; octets = octets }) v)) c.payload.ensures.octets c.in-None.ensures.none in
     nothing_done r s c.args.at item c.args.outs.now.items c.requires.here (λ e d. HearsCore r s e d) 1 (Dropped Malformed) (λ moment. inl (none, refl))

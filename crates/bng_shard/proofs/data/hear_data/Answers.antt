@@ -9,14 +9,16 @@ use Rattle.bng_pppoe_wire.specs.View.{frame_of}
 use Rattle.bng_shard.specs.declared.session.Session.{Session}
 use Rattle.bng_shard.specs.Deed.{out}
 use Rattle.bng_shard.specs.Frames.{found_up}
+use Rattle.bng_shard.specs.Running.{whole}
 use Rattle.bng_shard.specs.State.{view_of}
 use Rattle.bng_shard.proofs.Arriving.{frame_with}
 use Rattle.bng_shard.proofs.Carrying.{drops_up, goes_up}
+use Rattle.bng_shard.proofs.Controls.{stands_at}
 use Rattle.bng_shard.proofs.data.hear_data.Goals as goal
 use Rattle.bng_shard.proofs.data.hear_data.Goals.{After-up-fate}
 
 -- what was found for the frame
-found : (c : After-up-fate) → c.view_of.result ≡ found_up c.args.served.now c.args.number (frame_of c.args.frame.now)
+found : (c : After-up-fate) → c.view_of.result ≡ found_up (whole c.args.served.now c.args.terms.now) c.args.number (frame_of c.args.frame.now)
 found c = c.view_of.ensures ∙ ap (λ (o : Option Session). option_map view_of o) c.session_of-session.ensures
 
 -- the packet is what the frame carries
@@ -28,7 +30,7 @@ carried c info carries =
 pub returns-in_default-clause-does : goal.returns-in_default-clause-does
 returns-in_default-clause-does c moment info carries =
     let d = (goal.at.returns-in_default-clause-does c).After-up-fate in
-    drops_up c.args.rules.now c.args.served.now c.args.at c.args.item.now c.args.outs.now.items c.requires.here c.args.number (frame_of c.args.frame.now) info c.view_of.result c.up-fate.result (found d)
+    drops_up c.args.rules.now (whole c.args.served.now c.args.terms.now) c.args.at c.args.item.now c.args.outs.now.items c.requires.here c.args.number (frame_of c.args.frame.now) info c.view_of.result c.up-fate.result (found d)
     (subst (λ (octets : List ℕ). UpFate c.view_of.result octets c.up-fate.result) (carried d info carries) c.up-fate.ensures.fate) c.in_default.not-Forwarded moment
 
 pub returns-clause-does : goal.returns-clause-does
@@ -37,7 +39,8 @@ returns-clause-does c moment info carries =
     let on : c.up-fate.result ≡ Forwarded = c.in-Forwarded.is in
     let (v, may, passed) = c.up-fate.ensures.forwarded on in
     let up = subst (λ (octets : List ℕ). UpFate c.view_of.result octets Forwarded) (carried d info carries) (subst (λ f. UpFate c.view_of.result c.take_from_frame.new.frame.payload f) on c.up-fate.ensures.fate) in
-    goes_up c.args.rules.now c.args.served.now c.args.at c.args.item.now c.args.outs.now.items c.requires.here c.args.number (frame_of c.args.frame.now) info c.up-fate.new.packet.payload c.view_of.result c.in-Some.session.now c.in-Some-lease.lease
-    (length c.payload.result.now) c.push_out.new.outs.items (found d) (sym c.in-Some.ensures) (sym c.in-Some-lease.ensures) up
+    goes_up c.args.rules.now (whole c.args.served.now c.args.terms.now) c.args.at c.args.item.now c.args.outs.now.items c.requires.here c.args.number (frame_of c.args.frame.now) info c.up-fate.new.packet.payload c.view_of.result c.in-Some.session.now c.in-Some-lease.lease
+    (length c.payload.result.now) c.push_out.new.outs.items (found d) (sym c.in-Some.ensures) (sym c.in-Some-lease.ensures)
+    (c.requires.tied c.args.frame.now.session c.in-Some.session.now c.in-Some-lease.lease (stands_at c.args.served.now c.args.number c.args.frame.now.src c.args.frame.now.session c.in-Some.session.now (sym c.in-Some.ensures)) (sym c.in-Some-lease.ensures)) up
     (v, may, subst (λ (octets : List ℕ). IsPassedOn v octets c.up-fate.new.packet.payload) (carried d info carries) passed) (ap length (sym c.payload.ensures.octets))
     (c.push_out.ensures.items ∙ ap (λ (x : Charge). c.args.outs.now.items ++ out c.args.at Core c.args.rules.now.core_peer c.up-fate.new.packet.payload (Some x) ∷ []) c.charge_of-charge.ensures) moment

@@ -1,5 +1,5 @@
-use Rattle.std.proofs.Common.{◌≡◌, ℕ, List, [], ◌∷◌, ◌++◌, Some, ap, subst, sym, ◌∙◌}
-use Rattle.std.specs.Option.{option_and_then}
+use Rattle.std.proofs.Common.{◌≡◌, ℕ, List, [], ◌∷◌, ◌++◌, Option, Some, ap, subst, sym, ◌∙◌}
+use Rattle.std.specs.List.{list_any}
 use Rattle.bng_base.specs.declared.fate.Fate.{Fate}
 use Rattle.bng_base.specs.declared.fate.Fate.TheVariants.{Forwarded}
 use Rattle.bng_base.specs.declared.item.Charge.{Charge}
@@ -7,30 +7,33 @@ use Rattle.bng_base.specs.declared.outside.Role.TheVariants.{Access}
 use Rattle.bng_forward.specs.Fates.{DownFate}
 use Rattle.bng_forward.specs.Packets.{IsPassedOn}
 use Rattle.bng_shard.specs.Deed.{out}
-use Rattle.bng_shard.specs.Frames.{found_down}
-use Rattle.bng_shard.specs.State.{leases, view_of}
+use Rattle.bng_shard.specs.Frames.{found_among, found_down}
+use Rattle.bng_shard.specs.Running.{tenures_in, whole}
+use Rattle.bng_shard.specs.State.{leases}
+use Rattle.bng_shard.specs.Tenures.{has_kept}
+use Rattle.bng_shard.specs.declared.session.Session.{Session}
 use Rattle.bng_shard.proofs.Carrying.{drops_down, goes_down}
 use Rattle.bng_shard.proofs.Values.{found_at, none_some}
 use Rattle.bng_shard.proofs.data.hear_packet.Goals as goal
 use Rattle.bng_shard.proofs.data.hear_packet.Goals.{After-down-fate}
 
 -- the view of the holder
-found : (c : After-down-fate) → c.holder_view.result ≡ found_down c.args.served.now c.args.header.dst
-found c = c.holder_view.ensures ∙ ap (option_and_then view_of) c.holder_of-holder.ensures
+found : (c : After-down-fate) → c.holder_view.result ≡ found_down (whole c.args.served.now c.args.terms.now) c.args.header.dst
+found c = c.holder_view.ensures ∙ ap (λ (o : Option Session). found_among o (list_any (has_kept c.args.header.dst) (tenures_in c.args.terms.now.rows)) c.args.header.dst) c.holder_of-holder.ensures
 
-fated : (c : After-down-fate) → DownFate (found_down c.args.served.now) c.args.item.now.frame.payload c.down-fate.result
+fated : (c : After-down-fate) → DownFate (found_down (whole c.args.served.now c.args.terms.now)) c.args.item.now.frame.payload c.down-fate.result
 fated c =
-    subst (λ (octets : List ℕ). DownFate (found_down c.args.served.now) octets c.down-fate.result) c.copied-packet.ensures.payload (c.down-fate.ensures.fate (found_down c.args.served.now) (sym (found c)))
+    subst (λ (octets : List ℕ). DownFate (found_down (whole c.args.served.now c.args.terms.now)) octets c.down-fate.result) c.copied-packet.ensures.payload (c.down-fate.ensures.fate (found_down (whole c.args.served.now c.args.terms.now)) (sym (found c)))
 
 pub unreachable-requires-in_default-port_of : goal.unreachable-requires-in_default-port_of
 unreachable-requires-in_default-port_of c =
-    let (n, at, passes) = found_at (leases c.args.header.dst) c.args.served.now.sessions c.in-Some.session.now (sym c.in-Some.ensures) in
+    let (n, at, passes) = found_at (leases c.args.header.dst) (whole c.args.served.now c.args.terms.now).sessions c.in-Some.session.now (sym c.in-Some.ensures) in
     let (port, is) = c.requires.placed n c.in-Some.session.now at in
     none_some port (sym c.in_default-port_of.is ∙ c.port_of.ensures ∙ is)
 
 pub returns-in_default-clause-does : goal.returns-in_default-clause-does
 returns-in_default-clause-does c moment =
-    drops_down c.args.rules.now c.args.served.now c.args.at c.args.item.now c.args.outs.now.items c.requires.here c.args.header c.down-fate.result (fated (goal.at.returns-in_default-clause-does c).After-down-fate) c.in_default.not-Forwarded moment
+    drops_down c.args.rules.now (whole c.args.served.now c.args.terms.now) c.args.at c.args.item.now c.args.outs.now.items c.requires.here c.args.header c.down-fate.result (fated (goal.at.returns-in_default-clause-does c).After-down-fate) c.in_default.not-Forwarded moment
 
 pub returns-clause-does : goal.returns-clause-does
 returns-clause-does c moment =
@@ -39,10 +42,11 @@ returns-clause-does c moment =
     let x = c.in-Some.session.now in
     let port = c.in-Some-port_of.port in
     let l = c.in-Some-lease.lease in
+    let (n, at, passes) = found_at (leases c.args.header.dst) c.args.served.now.sessions x (sym c.in-Some.ensures) in
     let (may, passed) = c.down-fate.ensures.forwarded on in
-    goes_down c.args.rules.now c.args.served.now c.args.at c.args.item.now c.args.outs.now.items c.requires.here c.args.header c.down-fate.new.packet.payload c.put_in_frame.new.frame.payload x l port c.push_out.new.outs.items
-    (sym c.in-Some.ensures) (sym c.in-Some-lease.ensures) (sym c.in-Some-port_of.ensures)
-    (subst (λ (f : Fate). DownFate (found_down c.args.served.now) c.args.item.now.frame.payload f) on (fated d))
+    goes_down c.args.rules.now (whole c.args.served.now c.args.terms.now) c.args.at c.args.item.now c.args.outs.now.items c.requires.here c.args.header c.down-fate.new.packet.payload c.put_in_frame.new.frame.payload x l port c.push_out.new.outs.items
+    (sym c.in-Some.ensures) (sym c.in-Some-lease.ensures) (c.requires.tied n x l at (sym c.in-Some-lease.ensures)) (sym c.in-Some-port_of.ensures)
+    (subst (λ (f : Fate). DownFate (found_down (whole c.args.served.now c.args.terms.now)) c.args.item.now.frame.payload f) on (fated d))
     (subst (λ (octets : List ℕ). IsPassedOn c.args.header octets c.down-fate.new.packet.payload) c.copied-packet.ensures.payload passed)
     c.put_in_frame.ensures.framed c.put_in_frame.ensures.again
     (c.push_out.ensures.items ∙ ap (λ (y : Charge). c.args.outs.now.items ++ out c.args.at (Access x.port) port.peer c.put_in_frame.new.frame.payload (Some y) ∷ []) c.charge_of-charge.ensures) moment

@@ -1,12 +1,13 @@
 use Rattle.std.proofs.Common.{◌≡◌, ◌+◌, ◌≤◌, ℕ, length, subst, arith, rules}
 use Rattle.bng_shard.specs.Timed.{Ended}
+use Rattle.bng_shard.specs.Running.{whole}
 use Rattle.bng_shard.specs.Timers.{at_once}
 use Rattle.bng_shard.proofs.Timing.{ends_begin, ends_more, ends_done, ends_stop}
 use Rattle.bng_shard.proofs.timers.end.Goals as goal
 
 pub loop-init : goal.loop-init
 loop-init c = record {
-  on = ends_begin c.args.rules.now c.args.at c.args.served.now c.args.outs.now.items;
+  on = ends_begin c.args.rules.now c.args.at (whole c.args.served.now c.args.terms.now) c.args.outs.now.items;
   placed = c.requires.placed;
   capacity = search rules;
   few = omega arith;
@@ -14,7 +15,7 @@ loop-init c = record {
 
 pub loop-preserved : goal.loop-preserved
 loop-preserved c = record {
-  on = ends_more c.args.rules.now c.args.at c.args.served.now c.loop.served c.args.outs.now.items c.loop.outs.items c.loop.counter c.end_once.new.served c.end_once.new.outs.items c.loop.invariant.on c.if-not-end_once.ensures.ended;
+  on = ends_more c.args.rules.now c.args.at (whole c.args.served.now c.args.terms.now) (whole c.loop.served c.loop.terms) c.args.outs.now.items c.loop.outs.items c.loop.counter (whole c.end_once.new.served c.end_once.new.terms) c.end_once.new.outs.items c.loop.invariant.on c.if-not-end_once.ensures.ended;
   placed = c.if-not-end_once.ensures.placed;
   capacity = search rules;
   few = omega arith;
@@ -23,10 +24,10 @@ loop-preserved c = record {
 pub returns-then-not-end_once-clause-ended : goal.returns-then-not-end_once-clause-ended
 returns-then-not-end_once-clause-ended c =
     let few : length c.end_once.new.outs.items ≤ length c.args.outs.now.items + 320 = omega arith in
-    ends_stop c.args.rules.now c.args.at c.args.served.now c.loop.served c.args.outs.now.items c.loop.outs.items c.loop.counter at_once c.end_once.new.served c.end_once.new.outs.items c.loop-test.true c.loop.invariant.on c.if-not-end_once.ensures.ended few
+    ends_stop c.args.rules.now c.args.at (whole c.args.served.now c.args.terms.now) (whole c.loop.served c.loop.terms) c.args.outs.now.items c.loop.outs.items c.loop.counter at_once (whole c.end_once.new.served c.end_once.new.terms) c.end_once.new.outs.items c.loop-test.true c.loop.invariant.on c.if-not-end_once.ensures.ended few
 
 pub returns-clause-ended : goal.returns-clause-ended
 returns-clause-ended c =
     let all : c.loop.counter ≡ 64 = omega arith in
     let few : length c.loop.outs.items ≤ length c.args.outs.now.items + 320 = omega arith in
-    subst (λ (n : ℕ). Ended n c.args.rules.now c.args.at c.args.served.now c.loop.served c.args.outs.now.items c.loop.outs.items) all (ends_done c.args.rules.now c.args.at c.args.served.now c.loop.served c.args.outs.now.items c.loop.outs.items c.loop.counter c.loop.invariant.on few)
+    subst (λ (n : ℕ). Ended n c.args.rules.now c.args.at (whole c.args.served.now c.args.terms.now) (whole c.loop.served c.loop.terms) c.args.outs.now.items c.loop.outs.items) all (ends_done c.args.rules.now c.args.at (whole c.args.served.now c.args.terms.now) (whole c.loop.served c.loop.terms) c.args.outs.now.items c.loop.outs.items c.loop.counter c.loop.invariant.on few)

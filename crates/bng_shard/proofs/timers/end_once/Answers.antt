@@ -2,10 +2,12 @@ use Rattle.std.proofs.Common.{◌≡◌, ◌∙◌, ap, subst, sym}
 use Rattle.bng_base.specs.declared.address.SessionNo.{SessionNo}
 use Rattle.bng_shard.specs.declared.session.Session.{Session}
 use Rattle.bng_shard.specs.Fits.{ArePlaced}
+use Rattle.bng_shard.specs.Link.{ended}
+use Rattle.bng_shard.specs.Serving.{KeepsLease}
 use Rattle.bng_shard.specs.Indexed.{address_of}
 use Rattle.bng_shard.specs.State.{State, with_session}
-use Rattle.bng_shard.proofs.Replacing.{ended_address, number_back, placed_with, put_back, vacant_back}
-use Rattle.bng_shard.proofs.Serves.{shares_as}
+use Rattle.bng_shard.proofs.Replacing.{ended_keeps, number_back, placed_with, put_back, vacant_back, whole_ended}
+use Rattle.bng_shard.proofs.Serves.{nothing_shared}
 use Rattle.bng_shard.proofs.timers.end_once.Goals as goal
 use Rattle.bng_shard.proofs.timers.end_once.Goals.{After-end}
 
@@ -27,21 +29,25 @@ put-requires-clause-vacant c =
     vacant_back c.args.served.now c.take-session.new.self c.in-Some.number.0 c.end.new.self.number.0 c.take-session.ensures.after (same_number d)
 
 pub put-requires-clause-apart : goal.put-requires-clause-apart
-put-requires-clause-apart c =
-    shares_as c.take-session.new.self.sessions c.take-session.result c.end.new.self (ap address_of c.end.ensures ∙ ended_address c.take-session.result) c.take-session.ensures.apart
+put-requires-clause-apart c = nothing_shared c.take-session.new.self.sessions c.end.new.self (ap address_of c.end.ensures)
+
+pub put-requires-clause-leased : goal.put-requires-clause-leased
+put-requires-clause-leased c = subst (λ (y : Session). KeepsLease y.service y.lease) (sym c.end.ensures) (ended_keeps c.take-session.result.service c.take-session.result.lease c.take-session.ensures.leased)
 
 pub returns-clause-ended : goal.returns-clause-ended
 returns-clause-ended c =
     let d = (goal.at.returns-clause-ended c).After-end in
+    let x = c.take-session.result in
     let (padt, ends, sent) = c.tell_end.ensures.told in
-    let next = put_back c.args.served.now c.take-session.new.self c.in-Some.number.0 c.end.new.self.number.0 c.take-session.ensures.after (same_number d) c.put.new.self c.end.new.self c.put.ensures in (
+    let next = put_back c.args.served.now c.take-session.new.self c.in-Some.number.0 c.end.new.self.number.0 c.take-session.ensures.after (same_number d) c.put.new.self c.end.new.self c.put.ensures
+    ∙ ap (λ (y : Session). with_session c.args.served.now c.in-Some.number.0 y) c.end.ensures in (
       c.in-Some.number.0,
       c.in-Some.ensures.found,
-      c.take-session.result,
+      x,
       sym c.take-session.ensures.value,
       padt,
       ends,
-      next ∙ ap (λ (y : Session). with_session c.args.served.now c.in-Some.number.0 y) c.end.ensures,
+      whole_ended c.args.served.now c.put.new.self c.in-Some.number.0 x (ended x) c.lease.result c.args.terms.now c.close.new.self c.lease.ensures 10 next c.close.ensures,
       sent,
     )
 

@@ -15,13 +15,16 @@ pub returns-clause-ticked : goal.returns-clause-ticked
 returns-clause-ticked c =
     let first = c.in-Some.ensures.found in
     let (x, at, live) = has_deadline c.args.served.now c.in-Some.session.0 first.deadline first.is in
-    let (x', asked, driven, next) = c.drive_at.ensures.driven x at in
-    (c.in-Some.session.0, first, x, x', at, asked, driven, next)
+    let (x', cause, asked, driven, next) = c.drive_at.ensures.driven x at in
+    (c.in-Some.session.0, first, x, x', at, cause, asked, driven, next)
 
 pub returns-clause-placed : goal.returns-clause-placed
 returns-clause-placed c =
     let first = c.in-Some.ensures.found in
     let (x, at, live) = has_deadline c.args.served.now c.in-Some.session.0 first.deadline first.is in
-    let (x', asked, driven, next) = c.drive_at.ensures.driven x at in
-    subst (λ (t : State). ArePlaced c.args.rules.now t.sessions) (sym next)
+    let (x', cause, asked, driven, next) = c.drive_at.ensures.driven x at in
+    subst (λ (q : State). ArePlaced c.args.rules.now q.sessions) (sym next)
     (placed_with c.args.rules.now c.args.served.now c.in-Some.session.0 x x' at (ap (λ (y : Session). y.port) driven.drives.session) c.requires.placed)
+
+pub drive_at-requires-clause-lasts : goal.drive_at-requires-clause-lasts
+drive_at-requires-clause-lasts c x is = tt
