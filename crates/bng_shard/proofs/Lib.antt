@@ -12,10 +12,12 @@ pub mod Beginning
 pub mod TermLaws
 pub mod Reading
 pub mod Spelling
+pub mod Naming
 pub mod LinkSteps
 pub mod QuestionLaws
 pub mod Granted
 pub mod GrantLaws
+pub mod SoundOpening
 pub mod Packets
 pub mod Sends
 pub mod StepLaws
