@@ -9,6 +9,7 @@ pub mod InCircuits
 pub mod ListParts
 pub mod LeavingFirst
 pub mod Beginning
+pub mod Walking
 pub mod TermLaws
 pub mod Reading
 pub mod Spelling
