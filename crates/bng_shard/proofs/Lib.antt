@@ -11,6 +11,7 @@ pub mod LeavingFirst
 pub mod Beginning
 pub mod Walking
 pub mod TermLaws
+pub mod Poolless
 pub mod Reading
 pub mod Spelling
 pub mod Naming
