@@ -5,6 +5,7 @@ use Rattle.std.specs.Option.{option_map, option_and_then}
 use Rattle.std.specs.Str.{bytes_eq}
 use Rattle.std.proofs.lemmas.Bool.{and_parts, eqb-true}
 use Rattle.std.proofs.lemmas.Slice.Eq.{bytes_eq-Decides}
+use Rattle.bng_base.specs.declared.address.Ip4.{Ip4}
 use Rattle.bng_base.specs.declared.address.Mac.{Mac}
 use Rattle.bng_base.specs.declared.circuit.Circuit.TheVariants.{Pppoe}
 use Rattle.bng_base.specs.declared.item.Entry.{Entry}
@@ -31,20 +32,19 @@ use Rattle.bng_shard.specs.declared.sending.At.{At}
 use Rattle.bng_shard.specs.declared.session.Service.{Service}
 use Rattle.bng_shard.specs.declared.session.Service.TheVariants.{Provisioned, Discovered}
 use Rattle.bng_shard.specs.declared.session.Session.{Session}
-use Rattle.bng_shard.specs.State.{State, is_on, session_of, where_on, with_session, with_driven}
+use Rattle.bng_shard.specs.State.{State, is_on, session_of, where_on, with_session, with_driven, with_ended}
 use Rattle.bng_shard.specs.Deed.{Deed, arrival_in, at_of}
-use Rattle.bng_shard.specs.Discovery.{Answers, Makes}
+use Rattle.bng_shard.specs.Discovery.{Answers, Makes, host_uniq_of, new_session}
 use Rattle.bng_shard.specs.Frames.{HearsData, HearsPpp, HearsControl, HearsIn, HearsFrame, HearsAccess, HearsCore}
 use Rattle.bng_shard.specs.Granting.{IsSound}
-use Rattle.bng_shard.specs.Link.{LinkStep, Drives, asked_after, ended, ended_service, hears, next_ask, question_after, settles, told}
+use Rattle.bng_shard.specs.Link.{LinkStep, Drives, Told, asked_after, ended, ended_service, hears, nas_request, next_ask, question_after, settles, told}
 use Rattle.bng_shard.specs.Questions.{Asking, asking_of, last_asking, last_asking_at, last_in}
 use Rattle.bng_shard.specs.Step.{Hears, Step}
 use Rattle.bng_shard.specs.Timers.{Ticks, Ends, at_once}
-use Rattle.bng_shard.specs.Verdicts.{HearsVerdict}
+use Rattle.bng_shard.specs.Verdicts.{HearsVerdict, Judges, next_lease, settled_by}
 use Rattle.bng_shard.proofs.GrantLaws.{if_some, last_there, last_with, step_last}
 use Rattle.bng_shard.proofs.LinkSteps.{verdict_of, verdict_steps}
-use Rattle.bng_shard.proofs.OneEffect.{same_made}
-use Rattle.bng_shard.proofs.TermLaws.{at_number}
+use Rattle.bng_shard.proofs.Naming.{at_number, same_made}
 use Rattle.bng_shard.proofs.Values.{none_some, same_some}
 
 -- Sessions ----------------------------------------------------------------------------------------------------------------
@@ -70,7 +70,8 @@ asks_or_keeps n (Some c) begun last q e = inl (c, refl, sym (same_some _ q e))
 asks_or_keeps n None true last q e = inr e
 asks_or_keeps n None false last q e = absurd (none_some q e)
 
-module _ (r : Rules) (a : At) (asked : ℕ) (x : Session) (Steps : LinkStep) (outs : List OutRecord) (x' : Session) (asked' : ℕ) (h : Drives r a asked x Steps outs x' asked') where
+module _ (r : Rules) (a : At) (asked : ℕ) (x : Session) (Steps : LinkStep) (outs : List OutRecord) (cause : Option ℕ) (x' : Session) (asked' : ℕ)
+    (h : Drives r a asked x Steps outs cause x' asked') where
   drives_last : (q : Question) → last_in x'.service ≡ Some q
       → ((c : Claim) × (h.says.asked ≡ Some c) × (q ≡ record { ask = next_ask asked; claim = c })) ⊎ (h.made.question ≡ Some q)
   drives_last q is = asks_or_keeps asked h.says.asked (is_begun h.link.auth) h.made.question q (ap (λ (y : Session). last_in y.service) (sym h.session) ∙ is)
@@ -108,31 +109,32 @@ over_keeps s n x at = with_keeps s n (ended x) (λ q is. ap (option_and_then las
     same_last (Discovered m) = refl
 
 -- and so does one whose link asks nothing
-driven_keeps : (r : Rules) (s : State) (n : ℕ) (a : At) (x : Session) (Steps : LinkStep) (outs : List OutRecord) (x' : Session) (asked' : ℕ) → value_at s.sessions n ≡ Some x
-    → (h : Drives r a s.asked x Steps outs x' asked') → h.says.asked ≡ None → Keeps s (with_driven s n x' asked')
-driven_keeps r s n a x Steps outs x' asked' at h silent =
-    with_keeps s n x' (λ q is.
-    last_there s n x at h.made h.is_made q (silent_last r a s.asked x Steps outs x' asked' h silent q is)
-    ∙ ap (λ (b : Asking). Some b) (sym (same_asking r a s.asked x Steps outs x' asked' h q)))
+silent_keeps : (r : Rules) (s : State) (n : ℕ) (a : At) (x : Session) (Steps : LinkStep) (outs : List OutRecord) (cause : Option ℕ) (x' : Session) (asked' : ℕ) → value_at s.sessions n ≡ Some x
+    → (h : Drives r a s.asked x Steps outs cause x' asked') → h.says.asked ≡ None → (q : Question) → last_in x'.service ≡ Some q → last_asking_at s n ≡ Some (asking_of x' q)
+silent_keeps r s n a x Steps outs cause x' asked' at h silent q is =
+    last_there s n x at h.made h.is_made q (silent_last r a s.asked x Steps outs cause x' asked' h silent q is)
+    ∙ ap (λ (b : Asking). Some b) (sym (same_asking r a s.asked x Steps outs cause x' asked' h q))
 
 module _ (r : Rules) (e : Entry) where
   ticks_keep : (k : ℕ) (s : State) (outs : List OutRecord) (s' : State) → Ticks k r e s outs s' → Keeps s s'
   ticks_keep zero s outs s' h = same_keeps s s' h.1
   ticks_keep (suc k) s outs s' (inl h) = same_keeps s s' h.2
-  ticks_keep (suc k) s outs s' (inr (n, due, x, x', at, first, asked', drives, rest, more, are)) =
-      chain_keeps s (with_driven s n x' asked') s'
-      (driven_keeps r s n (at_of s e) x (told r e Timer) first x' asked' at drives (only_frames_ask r.link e.moment e.item.random Timer drives.made.link drives.says drives.link drives.steps refl))
-      (ticks_keep k (with_driven s n x' asked') rest s' more)
+  ticks_keep (suc k) s outs s' (inr (n, due, x, x', at, first, cause, asked', drives, rest, more, are)) =
+      let next = with_driven s n x.lease cause x' asked' in
+      chain_keeps s next s'
+      (with_keeps s n x' (silent_keeps r s n (at_of s e) x (told r e Timer) first cause x' asked' at drives (only_frames_ask r.link e.moment e.item.random Timer drives.made.link drives.says drives.link drives.steps refl)))
+      (ticks_keep k next rest s' more)
 
   ends_keep : (k : ℕ) (s : State) (outs : List OutRecord) (s' : State) → Ends k r e s outs s' → Keeps s s'
   ends_keep zero s outs s' h = same_keeps s s' h.1
   ends_keep (suc k) s outs s' (inl h) = same_keeps s s' h.2
   ends_keep (suc k) s outs s' (inr (n, lowest, x, at, padt, rest, with_padt, more, are)) =
-      chain_keeps s (with_session s n (ended x)) s' (over_keeps s n x at) (ends_keep k (with_session s n (ended x)) rest s' more)
+      let next = with_ended s n x.lease nas_request (ended x) in
+      chain_keeps s next s' (over_keeps s n x at) (ends_keep k next rest s' more)
 
 -- Entries -----------------------------------------------------------------------------------------------------------------
 
-module _ (r : Rules) (s : State) (d : Deed) where
+module _ (r : Rules) (s : State) (limited : Bool) (d : Deed) where
   abbrev Heard : Type 0
   Heard = (n : ℕ) (a : Asking) → last_asking_at d.next n ≡ Some a → (last_asking_at s n ≡ Some a) ⊎ IsAskedBy r s d n a
 
@@ -149,7 +151,7 @@ module _ (r : Rules) (s : State) (d : Deed) where
   makes number port offers p tags h =
       keeping _ h.done (with_keeps s h.session h.x (λ q is.
       absurd (none_some q (ap question_in h.starts.is_made
-      ∙ silent_last r (at_of s d.entry) s.asked _ (told r d.entry Start) h.outs h.x h.asked h.starts
+      ∙ silent_last r (at_of s d.entry) s.asked (new_session h.session number p.src (host_uniq_of tags) h.link) (told r d.entry Start) h.outs h.cause h.x h.asked h.starts
       (only_frames_ask r.link d.entry.moment d.entry.item.random Start h.starts.made.link h.starts.says h.starts.link h.starts.steps refl) q is))))
     where
       question_in : Service → Option Question
@@ -174,26 +176,35 @@ module _ (r : Rules) (s : State) (d : Deed) where
   core (inr (v, is, (fate, decides, inl (forwards, down)))) = still _ down.done refl
   core (inr (v, is, (fate, decides, inr (stays, h)))) = still _ h refl
 
-  judged : HearsVerdict r s d.entry d → Heard
-  judged (inl (asks, v, is, h)) =
-      keeping _ h.done (driven_keeps r s d.entry.item.target (at_of s d.entry) h.x (settles r d.entry v) h.outs h.after h.asked h.found h.drives
-      (only_frames_ask r.link d.entry.moment d.entry.item.random (verdict_of v) h.drives.made.link h.drives.says h.drives.link
-      (verdict_steps r.link d.entry.moment d.entry.item.random h.drives.made.link h.drives.says h.drives.link v h.drives.steps) refl))
-  judged (inr (inl (asks, is, h))) = still _ h refl
-  judged (inr (inr (other, h))) = still _ h refl
+  -- a verdict asks nothing, whether a term begins or not
+  module _ (t : Told) (h : Judges r s d.entry t d) where
+    verdict_keeps : (q : Question) → last_in h.after.service ≡ Some q → last_asking_at s d.entry.item.target ≡ Some (asking_of h.after q)
+    verdict_keeps =
+        silent_keeps r s d.entry.item.target (at_of s d.entry) h.x (settles r d.entry t) h.outs h.cause h.after h.asked h.found h.drives
+        (only_frames_ask r.link d.entry.moment d.entry.item.random (verdict_of t) h.drives.made.link h.drives.says h.drives.link
+        (verdict_steps r.link d.entry.moment d.entry.item.random h.drives.made.link h.drives.says h.drives.link t h.drives.steps) refl)
+
+    settled_keeps : (lease : Option Ip4) → Keeps s (settled_by s d.entry.item.target h.x h.question t d.entry.moment h.after h.asked lease)
+    settled_keeps None = with_keeps s d.entry.item.target h.after verdict_keeps
+    settled_keeps (Some a) = with_keeps s d.entry.item.target (record h.after { lease = Some (next_lease s a) }) verdict_keeps
+
+  judged : HearsVerdict r s d.entry limited d → Heard
+  judged (inl (asks, t, decides, h)) = keeping _ h.done (settled_keeps t h t.lease)
+  judged (inr (inl (asks, decides, h))) = still _ h refl
+  judged (inr (inr (other, none, h))) = still _ h refl
 
   -- the frame of a session, which its link hears
   module _ (sound : IsSound s) (number : ℕ) (kind : d.entry.item.kind ≡ Access number) (p : PppoeFrame) (came : IsFrame r.access number (arrival_in d.entry) p) where
-    asked_by : (data_frame : p.discovery ≡ false) (x : Session) → session_of s number p.src p.session ≡ Some x → (outs : List OutRecord) (x' : Session) (asked' : ℕ)
-        → (h : Drives r (at_of s d.entry) s.asked x (hears r d.entry p.payload) outs x' asked') → h.made.ended ≡ false → d.next.asked ≡ asked'
+    asked_by : (data_frame : p.discovery ≡ false) (x : Session) → session_of s number p.src p.session ≡ Some x → (outs : List OutRecord) (cause : Option ℕ) (x' : Session) (asked' : ℕ)
+        → (h : Drives r (at_of s d.entry) s.asked x (hears r d.entry p.payload) outs cause x' asked') → h.made.ended ≡ false → d.next.asked ≡ asked'
         → (q : Question) (c : Claim) → h.says.asked ≡ Some c → q ≡ record { ask = next_ask s.asked; claim = c } → (n : ℕ) (a : Asking) → n ≡ p.session → asking_of x' q ≡ a
         → IsAskedBy r s d n a
-    asked_by data_frame x at outs x' asked' h live count q c asks is n a same here =
+    asked_by data_frame x at outs cause x' asked' h live count q c asks is n a same here =
         let on = on_circuit number p.src (value_at s.sessions p.session) x at in
         let found : value_at s.sessions n ≡ Some x = ap (λ (i : ℕ). value_at s.sessions i) same ∙ at_number number p.src (value_at s.sessions p.session) x at in
         let own : x.number.0 ≡ n = sound.own n x found in
         let asking : a ≡ asking_of x (record { ask = next_ask s.asked; claim = c }) =
-        sym here ∙ same_asking r (at_of s d.entry) s.asked x (hears r d.entry p.payload) outs x' asked' h q ∙ ap (asking_of x) is in
+        sym here ∙ same_asking r (at_of s d.entry) s.asked x (hears r d.entry p.payload) outs cause x' asked' h q ∙ ap (asking_of x) is in
         let asked : h.steps.turn.asked ≡ Some c = sym (ap (λ (w : PppSaid). w.asked) h.steps.said) ∙ asks in
         record {
           x = x;
@@ -217,23 +228,24 @@ module _ (r : Rules) (s : State) (d : Deed) where
 
     ppp : p.discovery ≡ false → (x : Session) (made : Made) → session_of s number p.src p.session ≡ Some x → x.service ≡ Discovered made → HearsPpp r s d.entry x made p d → Heard
     ppp data_frame x made at is_made (inl (gone, h)) n a e = still _ h refl n a e
-    ppp data_frame x made at is_made (inr (live, outs, x', asked', drives, h)) n a e =
+    ppp data_frame x made at is_made (inr (live, outs, cause, x', asked', drives, h)) n a e =
         let stands = at_number number p.src (value_at s.sessions p.session) x at in
         elim (last_with s p.session x' n a (after _ h n a e)) [
-          | inl here ↦ elim (drives_last r (at_of s d.entry) s.asked x (hears r d.entry p.payload) outs x' asked' drives here.1 here.2) [
+          | inl here ↦ elim (drives_last r (at_of s d.entry) s.asked x (hears r d.entry p.payload) outs cause x' asked' drives here.1 here.2) [
             | inl new ↦
                 let lives : drives.made.ended ≡ false = ap (λ (m : Made). m.ended) (same_made x.service drives.made made drives.is_made is_made) ∙ live in
-                inr (asked_by data_frame x at outs x' asked' drives lives (ap (λ (g : Deed). g.next.asked) h) here.1 new.0 new.1 new.2 n a here.0 here.3)
+                inr (asked_by data_frame x at outs cause x' asked' drives lives (ap (λ (g : Deed). g.next.asked) h) here.1 new.0 new.1 new.2 n a here.0 here.3)
             | inr before ↦
                 inl (ap (λ (i : ℕ). last_asking_at s i) here.0 ∙ last_there s p.session x stands drives.made drives.is_made here.1 before
-                ∙ ap (λ (b : Asking). Some b) (sym (same_asking r (at_of s d.entry) s.asked x (hears r d.entry p.payload) outs x' asked' drives here.1) ∙ here.3))
+                ∙ ap (λ (b : Asking). Some b) (sym (same_asking r (at_of s d.entry) s.asked x (hears r d.entry p.payload) outs cause x' asked' drives here.1) ∙ here.3))
           ]
           | inr before ↦ inl before
         ]
 
     control : (v : Service) (x : Session) → session_of s number p.src p.session ≡ Some x → x.service ≡ v → HearsControl v r s d.entry x p d → Heard
     control (Provisioned l) x at is h = still _ h refl
-    control (Discovered made) x at is (inl (padt, h)) = keeping _ h (over_keeps s p.session x (at_number number p.src (value_at s.sessions p.session) x at))
+    control (Discovered made) x at is (inl (padt, inl (gone, h))) = still _ h refl
+    control (Discovered made) x at is (inl (padt, inr (live, h))) = keeping _ h (over_keeps s p.session x (at_number number p.src (value_at s.sessions p.session) x at))
     control (Discovered made) x at is (inr (data_frame, h)) = ppp data_frame x made at is h
 
     named : (found : Option Session) → session_of s number p.src p.session ≡ found → HearsIn found r s d.entry p d → Heard
@@ -249,7 +261,7 @@ module _ (r : Rules) (s : State) (d : Deed) where
   access sound number kind (inl (none, h)) = still _ h refl
   access sound number kind (inr (p, is, h)) = frame sound number kind p is h
 
-  hears_heard : IsSound s → (kind : ItemKind) → d.entry.item.kind ≡ kind → Hears kind r s d.entry d → Heard
+  hears_heard : IsSound s → (kind : ItemKind) → d.entry.item.kind ≡ kind → Hears kind r s limited d.entry d → Heard
   hears_heard sound (Access number) is h = access sound number is h
   hears_heard sound Core is h = core h
   hears_heard sound Tunnel is h = still _ h refl
@@ -259,13 +271,13 @@ module _ (r : Rules) (s : State) (d : Deed) where
   hears_heard sound End is (outs, s', all, h) = keeping _ h (ends_keep r d.entry at_once s outs s' all)
 
   -- the question that a link asked last was so before, or its claim stands in the frame that the entry is
-  pub step_heard : IsSound s → Step r s d → Heard
+  pub step_heard : IsSound s → Step r s limited d → Heard
   step_heard sound h = hears_heard sound d.entry.item.kind refl h.hears
 
   -- a question of the same number is the same one
-  pub step_same : Step r s d → d.next.asked < 2 ^ 64 - 1 → (n : ℕ) (a b : Asking) → last_asking_at s n ≡ Some a → a.number.ask ≤ s.asked → last_asking_at d.next n ≡ Some b → b.number ≡ a.number → b ≡ a
+  pub step_same : Step r s limited d → d.next.asked < 2 ^ 64 - 1 → (n : ℕ) (a b : Asking) → last_asking_at s n ≡ Some a → a.number.ask ≤ s.asked → last_asking_at d.next n ≡ Some b → b.number ≡ a.number → b ≡ a
   step_same h low n a b was old is same =
-      elim (step_last r s d h low n b is) [
+      elim (step_last r s limited d h low n b is) [
         | inl before ↦ same_some b a (sym before ∙ was)
         | inr new ↦ let ask = ap (λ q. q.ask) same in absurd (omega (arith, new.0, ask, old))
       ]

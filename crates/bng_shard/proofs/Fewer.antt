@@ -12,9 +12,9 @@ use Rattle.bng_shard.specs.declared.rules.Rules.{Rules}
 use Rattle.bng_shard.specs.declared.session.Service.{Service}
 use Rattle.bng_shard.specs.declared.session.Service.TheVariants.{Provisioned, Discovered}
 use Rattle.bng_shard.specs.declared.session.Session.{Session}
-use Rattle.bng_shard.specs.State.{State, count_in, with_session, leaves, leaves_in, settled}
+use Rattle.bng_shard.specs.State.{State, count_in, with_ended, leaves, leaves_in, settled}
 use Rattle.bng_shard.specs.Deed.{Deed}
-use Rattle.bng_shard.specs.Link.{ended, ended_service}
+use Rattle.bng_shard.specs.Link.{ended, ended_service, nas_request}
 use Rattle.bng_shard.specs.Protocol.{ShardState, Handled, pppoe, sessions_of}
 use Rattle.bng_shard.specs.Step.{Hears}
 use Rattle.bng_shard.specs.Timers.{Ends, HearsEnd, NoneStays, at_once, does_stay}
@@ -46,8 +46,8 @@ ends_fewer (suc n) r e s outs s' (inr (k, lowest, x, at, padt, rest, with_padt, 
     let after : one_if (stays (ended x)) ≡ 0 = ap (λ (b : Bool). one_if (not b)) (over x.service) in
     ⊎_elim
     (λ (none : staying_in s' ≡ 0). inl none)
-    (λ (fewer : staying_in s' + n ≡ staying_in (with_session s k (ended x))). inr (omega (arith, fewer, gone, before, after)))
-    (ends_fewer n r e (with_session s k (ended x)) rest s' more)
+    (λ (fewer : staying_in s' + n ≡ staying_in (with_ended s k x.lease nas_request (ended x))). inr (omega (arith, fewer, gone, before, after)))
+    (ends_fewer n r e (with_ended s k x.lease nas_request (ended x)) rest s' more)
 
 -- those that ended leave when the round is settled
 pub settled_count : (s : State) → count_in (settled s) ≡ staying_in s
@@ -59,7 +59,7 @@ pub end_leaves_fewer : (s : ShardState) (h : Handled) → pppoe.is_step s h → 
 end_leaves_fewer s h is kind =
     let r = s.rules in
     let d = h.deed in
-    let hears : HearsEnd r s.slots d.entry d = subst (λ (k : ItemKind). Hears k r s.slots d.entry d) kind is.hears in
+    let hears : HearsEnd r s.slots d.entry d = subst (λ (k : ItemKind). Hears k r s.slots h.limited d.entry d) kind is.step.hears in
     let next : d.next ≡ hears.1 = ap (λ (x : Deed). x.next) hears.3 in
     let left : sessions_of (pppoe.settled (pppoe.next s h)) ≡ staying_in hears.1 = settled_count d.next ∙ ap staying_in next in
     let few = count_by-le-length stays (values s.slots.sessions) in

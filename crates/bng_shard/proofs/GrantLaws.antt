@@ -1,19 +1,20 @@
 -- A step tells a peer yes only where that was granted.
-use Rattle.std.proofs.Common.{◌≡◌, ◌≢◌, ◌⊎◌, inl, inr, ℕ, zero, suc, ◌+◌, ◌-◌, ◌*◌, ◌^◌, ◌<◌, ◌≤◌, Bool, true, false, not, ◌&&◌, List, [], ◌++◌, Option, Some, None, is_some, if◌then◌else◌, Contains, All, AllPairs, find, refl, sym, ap, subst, ◌∙◌, arith}
+use Rattle.std.proofs.Common.{◌≡◌, ◌≢◌, ◌⊎◌, inl, inr, ℕ, zero, suc, ◌+◌, ◌-◌, ◌*◌, ◌^◌, ◌<◌, ◌≤◌, Bool, true, false, not, ◌&&◌, List, [], ◌∷◌, ◌++◌, Option, Some, None, is_some, if◌then◌else◌, Contains, refl, sym, ap, subst, ◌∙◌, arith}
 use Rattle.std.specs.Prelude.{IsSome, ◌==◌}
 use Rattle.std.specs.Option.{option_map, option_and_then}
-use Rattle.std.specs.FinMap.{empty}
 use Rattle.std.proofs.lemmas.Bool.{cases_eq, false≢true}
 use Rattle.std.proofs.lemmas.List.Elements.{All-contains, Contains-append_cases}
+use Rattle.bng_base.specs.declared.address.Ip4.{Ip4}
 use Rattle.bng_base.specs.declared.address.Mac.{Mac}
 use Rattle.bng_base.specs.declared.address.SessionNo.{SessionNo}
 use Rattle.bng_base.specs.declared.circuit.Circuit.TheVariants.{Pppoe}
+use Rattle.bng_base.specs.declared.item.Claim.{Claim as AddressClaim}
 use Rattle.bng_base.specs.declared.item.Entry.{Entry}
 use Rattle.bng_base.specs.declared.item.ItemKind.{ItemKind}
 use Rattle.bng_base.specs.declared.item.ItemKind.TheVariants.{Access, Core, Tunnel, Verdict, Change, Tick, End}
 use Rattle.bng_base.specs.declared.item.OutRecord.{OutRecord}
 use Rattle.bng_base.specs.declared.settings.AccessPort.{AccessPort}
-use Rattle.bng_base.specs.declared.settings.Static.{Static}
+use Rattle.bng_base.specs.declared.settings.NamedRange.{NamedRange}
 use Rattle.bng_base.specs.PppoeGrammar.{PppoeFrame, PppoeTag}
 use Rattle.bng_discovery.specs.declared.answers.Answer.{Answer}
 use Rattle.bng_discovery.specs.declared.answers.Answer.TheVariants.{Offer, Make, Again, Refuse, Ended, NoSession, Ignore}
@@ -31,31 +32,32 @@ use Rattle.bng_ppp.specs.PppState.{PppState, is_accepted, is_open}
 use Rattle.bng_ppp.proofs.WholeOuts.{ppp_steps_grant}
 use Rattle.bng_ppp.proofs.WholePhases.{accepted_begun, open_unsettled}
 use Rattle.bng_ppp.proofs.WholeQuestions.{accepted_by_verdict, asked_is_open, only_frames_ask, open_was_asked}
-use Rattle.bng_slots.specs.Sessions.{Sessions, IsNumberOf, value_at, with_value}
+use Rattle.bng_slots.specs.Sessions.{IsNumberOf, value_at, with_value}
 use Rattle.bng_slots.proofs.SessionLaws.{value_at-with_value, value_at-with_other}
-use Rattle.bng_verdict.specs.Verdicts.{Saying}
+use Rattle.bng_verdict.specs.Verdicts.{Saying, IsVerdict}
 use Rattle.bng_shard.specs.Made.{Made, Question}
 use Rattle.bng_shard.specs.declared.rules.Rules.{Rules}
 use Rattle.bng_shard.specs.declared.sending.At.{At}
+use Rattle.bng_shard.specs.declared.session.Lease.{Lease}
 use Rattle.bng_shard.specs.declared.session.Service.{Service}
 use Rattle.bng_shard.specs.declared.session.Service.TheVariants.{Provisioned, Discovered}
 use Rattle.bng_shard.specs.declared.session.Session.{Session}
-use Rattle.bng_shard.specs.State.{State, circuit_of, leaves, session_of, settled, with_session, with_driven}
+use Rattle.bng_shard.specs.State.{State, circuit_of, leaves, session_of, settled, with_session, with_driven, with_ended}
 use Rattle.bng_shard.specs.Deed.{Deed, at_of, frame_outs}
 use Rattle.bng_shard.specs.Discovery.{Answers, Makes, host_uniq_of, new_session}
 use Rattle.bng_shard.specs.Frames.{HearsData, HearsPpp, HearsControl, HearsIn, HearsFrame, HearsAccess, HearsCore}
 use Rattle.bng_shard.specs.Granting.{HasQuestion, IsGranted, IsGrantedOn, IsSound, IsYesOn, accepted_ask_at, accepted_in}
-use Rattle.bng_shard.specs.Link.{LinkStep, Drives, EndsWith, asked_after, ended, ended_service, hears, next_ask, question_after, settles, told}
-use Rattle.bng_shard.specs.Opening.{opened_slots, provisioned}
-use Rattle.bng_shard.specs.Questions.{Asking, asking_of, last_asking, last_asking_at, last_in, open_in, open_of}
+use Rattle.bng_shard.specs.Link.{LinkStep, Drives, EndsWith, Told, asked_after, ended, ended_service, hears, nas_request, next_ask, question_after, settles, told, user_request}
+use Rattle.bng_shard.specs.Questions.{Asking, asking_of, last_asking, last_asking_at, last_in, open_ask_at, open_in, open_of}
 use Rattle.bng_shard.specs.Step.{Hears, Step}
+use Rattle.bng_shard.specs.Tenures.{Tenure, closed}
 use Rattle.bng_shard.specs.Timers.{Ticks, Ends, HearsTick, HearsEnd, at_once, TellsEnd}
-use Rattle.bng_shard.specs.Verdicts.{HearsVerdict}
-use Rattle.bng_shard.proofs.Circuits.{Opens, circuit_found, circuit_none, opened_is, opened_of_shard, opened_own, opens_more, opens_none, opens_other, stands_for}
+use Rattle.bng_shard.specs.Verdicts.{HearsVerdict, Judges, next_lease, next_term, settled_by}
+use Rattle.bng_shard.specs.Wishes.{Decides, refused_with}
 use Rattle.bng_shard.proofs.Granted.{NoYes, both_no_yes, core_no_yes, discovery_no_yes, none_yes, packet_no_yes, padt_no_yes, said_yes}
 use Rattle.bng_shard.proofs.LinkSteps.{frame_of, verdict_of, frame_steps, verdict_steps}
-use Rattle.bng_shard.proofs.QuestionLaws.{asked_is_next, new_number}
-use Rattle.bng_shard.proofs.TermLaws.{at_number}
+use Rattle.bng_shard.proofs.Naming.{at_number}
+use Rattle.bng_shard.proofs.QuestionLaws.{asked_is_next, new_number, state_with}
 use Rattle.bng_shard.proofs.Values.{kept_from, none_some, same_some}
 
 -- Options -----------------------------------------------------------------------------------------------------------------
@@ -151,6 +153,13 @@ by_test : (b : Bool) → (b ≡ false → ⊥) → b ≡ true
 by_test true h = refl
 by_test false h = absurd (h refl)
 
+-- a peer is told that it is accepted only where the octets say so
+decided_yes : (pools : List NamedRange) (limited : Bool) (octets : List ℕ) (claim : AddressClaim) (t : Told) → Decides pools limited octets claim (Some t) → t.yes ≡ true
+    → (v : Saying) × IsVerdict octets (Some v) × (v.yes ≡ true)
+decided_yes pools limited octets claim t (inl (silent, none, is)) accepts = absurd (none_some t (sym is))
+decided_yes pools limited octets claim t (inr (inl (v, says, denies, none, is))) accepts = absurd (false≢true (sym (ap (λ (u : Told). u.yes) (same_some t (refused_with v.text) is)) ∙ accepts))
+decided_yes pools limited octets claim t (inr (inr (v, says, allows, g, grant, answers, is))) accepts = (v, says, allows)
+
 -- A link that was told this ------------------------------------------------------------------------------------------------
 
 -- what a step of a session's link does to its question, and what it sends
@@ -168,7 +177,7 @@ record Drove (what : WholeInput) (asked : ℕ) (x : Session) (outs : List OutRec
       → (port ≡ x.port) × (mac ≡ x.mac) × (n ≡ x.number.0) × MayAccept what made.link.auth
 
 module _ (r : Rules) (e : Entry) (a : At) (Steps : LinkStep) (what : WholeInput) (to : (old : PppState) (says : PppSaid) (new : PppState) → Steps old says new → PppSteps r.link what e.moment e.item.random old says new)
-    (asked : ℕ) (x : Session) (outs : List OutRecord) (x' : Session) (asked' : ℕ) (h : Drives r a asked x Steps outs x' asked') where
+    (asked : ℕ) (x : Session) (outs : List OutRecord) (cause : Option ℕ) (x' : Session) (asked' : ℕ) (h : Drives r a asked x Steps outs cause x' asked') where
   steps : PppSteps r.link what e.moment e.item.random h.made.link h.says h.link
   steps = to h.made.link h.says h.link h.steps
 
@@ -226,6 +235,21 @@ module _ (r : Rules) (e : Entry) (a : At) (Steps : LinkStep) (what : WholeInput)
         (says.port_is, says.mac_is, says.session_is, grants says.yes);
   }
 
+-- whatever the session leases after the step
+abbrev leased : (what : WholeInput) (asked : ℕ) (x : Session) (outs : List OutRecord) (x' : Session) (asked' : ℕ) (lease : Option Lease) → Drove what asked x outs x' asked' → Drove what asked x outs (record x' { lease = lease }) asked'
+leased what asked x outs x' asked' lease d = record {
+  made = d.made;
+  is_made = d.is_made;
+  number = d.number;
+  asking = d.asking;
+  accepted = d.accepted;
+  last = d.last;
+  few = d.few;
+  still = d.still;
+  has = d.has;
+  yes = d.yes;
+}
+
 -- Sound states ------------------------------------------------------------------------------------------------------------
 
 number_small : (shard n : ℕ) → shard < 64 → IsNumberOf shard n → n < 65536
@@ -255,8 +279,8 @@ sound_with s n y h own of_shard has =
     there : (m : ℕ) → m ≡ n → value_at (with_value s.sessions n y) m ≡ Some y
     there m e = ap (λ (i : ℕ). value_at (with_value s.sessions n y) i) e ∙ value_at-with_value s.sessions n y
 
-sound_driven : (s : State) (n : ℕ) (y : Session) (asked : ℕ) → IsSound (with_session s n y) → IsSound (with_driven s n y asked)
-sound_driven s n y asked h = record { shard = h.shard; own = h.own; of_shard = h.of_shard; questions = h.questions }
+sound_driven : (s : State) (n : ℕ) (y : Session) (asked begun : ℕ) (terms news : List Tenure) → IsSound (with_session s n y) → IsSound (state_with s n y asked begun terms news)
+sound_driven s n y asked begun terms news h = record { shard = h.shard; own = h.own; of_shard = h.of_shard; questions = h.questions }
 
 -- What was granted --------------------------------------------------------------------------------------------------------
 
@@ -322,9 +346,9 @@ chain_still s s' s'' outs rest g h = record {
 }
 
 -- a session that ends keeps its question
-over_still : (s : State) (n : ℕ) (x : Session) (outs : List OutRecord) → value_at s.sessions n ≡ Some x → NoYes outs → Still s outs (with_session s n (ended x))
-over_still s n x outs at none = record {
-  sound = λ h. sound_with s n (ended x) h (h.own n x at) (h.of_shard n (ap is_some at)) (has_ended x.service (h.questions n x at));
+over_still : (s : State) (n : ℕ) (x : Session) (outs : List OutRecord) (terms : List Tenure) → value_at s.sessions n ≡ Some x → NoYes outs → Still s outs (state_with s n (ended x) s.asked s.begun terms s.news)
+over_still s n x outs terms at none = record {
+  sound = λ h. sound_driven s n (ended x) s.asked s.begun terms s.news (sound_with s n (ended x) h (h.own n x at) (h.of_shard n (ap is_some at)) (has_ended x.service (h.questions n x at)));
   yes = λ sound port mac m o c tells. absurd (none port mac m o c tells);
   accepted = λ m ask is. elim (accepted_with s n (ended x) m ask is) [
     | inl here ↦
@@ -353,10 +377,11 @@ over_still s n x outs at none = record {
     same_last (Provisioned l) = refl
     same_last (Discovered m) = refl
 
-module _ (s : State) (n : ℕ) (x : Session) (outs : List OutRecord) (x' : Session) (asked' : ℕ) (what : WholeInput) (at : value_at s.sessions n ≡ Some x) (d : Drove what s.asked x outs x' asked') where
-  drove_sound : IsSound s → IsSound (with_driven s n x' asked')
+module _ (s : State) (n : ℕ) (x : Session) (outs : List OutRecord) (x' : Session) (asked' : ℕ) (what : WholeInput) (at : value_at s.sessions n ≡ Some x) (d : Drove what s.asked x outs x' asked')
+    (begun : ℕ) (terms news : List Tenure) where
+  drove_sound : IsSound s → IsSound (state_with s n x' asked' begun terms news)
   drove_sound h =
-      sound_driven s n x' asked' (sound_with s n x' h (ap (λ (i : SessionNo). i.0) d.number ∙ h.own n x at) (h.of_shard n (ap is_some at)) (d.has (h.questions n x at)))
+      sound_driven s n x' asked' begun terms news (sound_with s n x' h (ap (λ (i : SessionNo). i.0) d.number ∙ h.own n x at) (h.of_shard n (ap is_some at)) (d.has (h.questions n x at)))
 
   circuit_same : (port : ℕ) (mac : Mac) (m : ℕ) → port ≡ x.port → mac ≡ x.mac → m ≡ x.number.0 → circuit_of x ≡ Pppoe port mac (record { 0 = m })
   circuit_same port mac m p q t = λ i. Pppoe (sym p i) (sym q i) (record { 0 = sym t i })
@@ -380,7 +405,7 @@ module _ (s : State) (n : ℕ) (x : Session) (outs : List OutRecord) (x' : Sessi
       }
 
   drove_accepts : (Is : ℕ → ℕ → Type 0) → ((q : Question) → d.made.question ≡ Some q → MayAccept what d.made.link.auth → Is n q.ask) → ((m ask : ℕ) → accepted_ask_at s m ≡ Some ask → Is m ask)
-      → (m ask : ℕ) → accepted_ask_at (with_driven s n x' asked') m ≡ Some ask → Is m ask
+      → (m ask : ℕ) → accepted_ask_at (state_with s n x' asked' begun terms news) m ≡ Some ask → Is m ask
   drove_accepts Is grant was m ask is =
       elim (accepted_with s n x' m ask is) [
         | inl here ↦
@@ -390,7 +415,7 @@ module _ (s : State) (n : ℕ) (x : Session) (outs : List OutRecord) (x' : Sessi
       ]
 
   drove_grants : (Is : ℕ → ℕ → Type 0) → ((q : Question) → d.made.question ≡ Some q → MayAccept what d.made.link.auth → Is n q.ask) → ((m ask : ℕ) → accepted_ask_at s m ≡ Some ask → Is m ask)
-      → Grants s Is outs (with_driven s n x' asked')
+      → Grants s Is outs (state_with s n x' asked' begun terms news)
   drove_grants Is grant was = record {
     sound = drove_sound;
     yes = drove_yes Is grant;
@@ -406,7 +431,7 @@ module _ (s : State) (n : ℕ) (x : Session) (outs : List OutRecord) (x' : Sessi
   }
 
   -- neither a frame nor a verdict
-  drove_still : is_frame what ≡ false → is_yes_verdict what ≡ false → Still s outs (with_driven s n x' asked')
+  drove_still : is_frame what ≡ false → is_yes_verdict what ≡ false → Still s outs (state_with s n x' asked' begun terms news)
   drove_still no_frame no_verdict = record {
     sound = drove_sound;
     yes = drove_yes (Was s) only_was;
@@ -434,8 +459,8 @@ module _ (r : Rules) (e : Entry) where
   hears_is : (octets : List ℕ) (old : PppState) (says : PppSaid) (new : PppState) → hears r e octets old says new → PppSteps r.link (frame_of octets) e.moment e.item.random old says new
   hears_is octets old says new h = frame_steps r.link e.moment e.item.random old says new octets h
 
-  settles_is : (v : Saying) (old : PppState) (says : PppSaid) (new : PppState) → settles r e v old says new → PppSteps r.link (verdict_of v) e.moment e.item.random old says new
-  settles_is v old says new h = verdict_steps r.link e.moment e.item.random old says new v h
+  settles_is : (t : Told) (old : PppState) (says : PppSaid) (new : PppState) → settles r e t old says new → PppSteps r.link (verdict_of t) e.moment e.item.random old says new
+  settles_is t old says new h = verdict_steps r.link e.moment e.item.random old says new t h
 
   equal_still : (s : State) (outs outs' : List OutRecord) (s' : State) → outs' ≡ outs → Still s outs s' → Still s outs' s'
   equal_still s outs outs' s' e h = subst (λ (os : List OutRecord). Still s os s') (sym e) h
@@ -446,9 +471,11 @@ module _ (r : Rules) (e : Entry) where
   ticks_still : (k : ℕ) (s : State) (outs : List OutRecord) (s' : State) → Ticks k r e s outs s' → Still s outs s'
   ticks_still zero s outs s' h = same_still s s' outs h.1 (empty_no_yes outs h.0)
   ticks_still (suc k) s outs s' (inl h) = same_still s s' outs h.2 (empty_no_yes outs h.1)
-  ticks_still (suc k) s outs s' (inr (n, due, x, x', at, first, asked', drives, rest, more, are)) =
-      let d = drove r e (at_of s e) (told r e Timer) Timer (told_is Timer) s.asked x first x' asked' drives in
-      equal_still s (first ++ rest) outs s' are (chain_still s (with_driven s n x' asked') s' first rest (drove_still s n x first x' asked' Timer at d refl refl) (ticks_still k (with_driven s n x' asked') rest s' more))
+  ticks_still (suc k) s outs s' (inr (n, due, x, x', at, first, cause, asked', drives, rest, more, are)) =
+      let d = drove r e (at_of s e) (told r e Timer) Timer (told_is Timer) s.asked x first cause x' asked' drives in
+      let next = with_driven s n x.lease cause x' asked' in
+      equal_still s (first ++ rest) outs s' are
+      (chain_still s next s' first rest (drove_still s n x first x' asked' Timer at d s.begun (closed x.lease cause s.terms) s.news refl refl) (ticks_still k next rest s' more))
 
   ends_no_yes : (a : At) (x : Session) (outs : List OutRecord) → EndsWith r a x outs → NoYes outs
   ends_no_yes a x outs h = subst (λ (os : List OutRecord). NoYes os) (sym h.outs_are) (padt_no_yes a x h.port h.offers)
@@ -461,11 +488,13 @@ module _ (r : Rules) (e : Entry) where
   ends_still zero s outs s' h = same_still s s' outs h.1 (empty_no_yes outs h.0)
   ends_still (suc k) s outs s' (inl h) = same_still s s' outs h.2 (empty_no_yes outs h.1)
   ends_still (suc k) s outs s' (inr (n, lowest, x, at, padt, rest, with_padt, more, are)) =
-      equal_still s (padt ++ rest) outs s' are (chain_still s (with_session s n (ended x)) s' padt rest (over_still s n x padt at (tells_no_yes x.service (at_of s e) x padt with_padt)) (ends_still k (with_session s n (ended x)) rest s' more))
+      let next = with_ended s n x.lease nas_request (ended x) in
+      equal_still s (padt ++ rest) outs s' are
+      (chain_still s next s' padt rest (over_still s n x padt (closed x.lease (Some nas_request) s.terms) at (tells_no_yes x.service (at_of s e) x padt with_padt)) (ends_still k next rest s' more))
 
 -- Entries -----------------------------------------------------------------------------------------------------------------
 
-module _ (r : Rules) (s : State) (e : Entry) (d : Deed) where
+module _ (r : Rules) (s : State) (limited : Bool) (e : Entry) (d : Deed) where
   abbrev Deeds : Type 0
   Deeds = Grants s (IsGranted s e) d.outs d.next
 
@@ -485,7 +514,7 @@ module _ (r : Rules) (s : State) (e : Entry) (d : Deed) where
     fresh = new_session h.session number p.src (host_uniq_of tags) h.link
 
     started : Drove Start s.asked (new_session h.session number p.src (host_uniq_of tags) h.link) h.outs h.x h.asked
-    started = drove r e (at_of s e) (told r e Start) Start (told_is r e Start) s.asked (new_session h.session number p.src (host_uniq_of tags) h.link) h.outs h.x h.asked h.starts
+    started = drove r e (at_of s e) (told r e Start) Start (told_is r e Start) s.asked (new_session h.session number p.src (host_uniq_of tags) h.link) h.outs h.cause h.x h.asked h.starts
 
     auth_in : Authentication → Service → Authentication
     auth_in a (Provisioned l) = a
@@ -520,7 +549,7 @@ module _ (r : Rules) (s : State) (e : Entry) (d : Deed) where
 
     makes_grants : Deeds
     makes_grants = deed _ h.done (record {
-      sound = λ sound. sound_driven s h.session h.x h.asked (sound_with s h.session h.x sound (ap (λ (i : SessionNo). i.0) started.number) h.vacant.of_shard (started.has has_none));
+      sound = λ sound. sound_driven s h.session h.x h.asked s.begun s.terms s.news (sound_with s h.session h.x sound (ap (λ (i : SessionNo). i.0) started.number) h.vacant.of_shard (started.has has_none));
       yes = λ sound port' mac n o c tells. absurd (both_no_yes (frame_outs (at_of s e) number port (pads_of offers p.src h.session tags)) h.outs pads_no_yes (start_no_yes sound) port' mac n o c tells);
       accepted = λ n ask is. elim (accepted_with s h.session h.x n ask is) [
         | inl here ↦ absurd (no_question here.1 (started.accepted here.1 here.2).0)
@@ -549,16 +578,17 @@ module _ (r : Rules) (s : State) (e : Entry) (d : Deed) where
   -- the link of a session hears a frame
   ppp : (x : Session) (made : Made) (p : PppoeFrame) → value_at s.sessions p.session ≡ Some x → HearsPpp r s e x made p d → Deeds
   ppp x made p at (inl (gone, h)) = quiet _ h refl none_yes
-  ppp x made p at (inr (live, outs, x', asked', drives, h)) =
-      let heard = drove r e (at_of s e) (hears r e p.payload) (frame_of p.payload) (hears_is r e p.payload) s.asked x outs x' asked' drives in
-      deed _ h (drove_grants s p.session x outs x' asked' (frame_of p.payload) at heard (IsGranted s e) (λ q is may. elim may [
+  ppp x made p at (inr (live, outs, cause, x', asked', drives, h)) =
+      let heard = drove r e (at_of s e) (hears r e p.payload) (frame_of p.payload) (hears_is r e p.payload) s.asked x outs cause x' asked' drives in
+      deed _ h (drove_grants s p.session x outs x' asked' (frame_of p.payload) at heard s.begun (closed x.lease cause s.terms) s.news (IsGranted s e) (λ q is may. elim may [
         | inl was ↦ inl (accepted_there s p.session x at heard.made heard.is_made q is was)
         | inr found ↦ absurd (false≢true found.0)
       ]) (λ m ask is. inl is))
 
   control : (v : Service) (x : Session) (p : PppoeFrame) → value_at s.sessions p.session ≡ Some x → HearsControl v r s e x p d → Deeds
   control (Provisioned l) x p at h = quiet _ h refl none_yes
-  control (Discovered made) x p at (inl (padt, h)) = still _ h (over_still s p.session x [] at none_yes)
+  control (Discovered made) x p at (inl (padt, inl (gone, h))) = quiet _ h refl none_yes
+  control (Discovered made) x p at (inl (padt, inr (live, h))) = still _ h (over_still s p.session x [] (closed x.lease (Some user_request) s.terms) at none_yes)
   control (Discovered made) x p at (inr (data_frame, h)) = ppp x made p at h
 
   named : (number : ℕ) (p : PppoeFrame) (found : Option Session) → session_of s number p.src p.session ≡ found → HearsIn found r s e p d → Deeds
@@ -586,18 +616,35 @@ module _ (r : Rules) (s : State) (e : Entry) (d : Deed) where
       let inside = if_some (not made.ended && is_open made.link.auth) made.question found.0 found.1 in
       ap (λ (p : Question). p.ask) (same_some q found.0 (sym is ∙ inside.1)) ∙ found.2
 
-  judged : e.item.kind ≡ Verdict → HearsVerdict r s e d → Deeds
-  judged kind (inl (asks, v, is, h)) =
-      let told = drove r e (at_of s e) (settles r e v) (verdict_of v) (settles_is r e v) s.asked h.x h.outs h.after h.asked h.drives in
-      let ask : option_map (λ (p : Question). p.ask) (open_of h.x) ≡ Some e.item.ask = ap (λ (o : Option Session). option_map (λ (p : Question). p.ask) (option_and_then open_of o)) (sym h.found) ∙ asks in
-      deed _ h.done (drove_grants s e.item.target h.x h.outs h.after h.asked (verdict_of v) h.found told (IsGranted s e) (λ q was may. elim may [
-        | inl accepted ↦ inl (accepted_there s e.item.target h.x h.found told.made told.is_made q was accepted)
-        | inr found ↦
-            let same : q.ask ≡ e.item.ask = open_last h.x told.made q told.is_made was ask in
-            inr (record { kind = kind; target = refl; number = sym same; verdict = v; says = is; yes = found.0 }, asks ∙ ap (λ (i : ℕ). Some i) (sym same))
-      ]) (λ m k before. inl before))
-  judged kind (inr (inl (asks, is, h))) = quiet _ h refl none_yes
-  judged kind (inr (inr (other, h))) = quiet _ h refl none_yes
+  -- the session's link was told what the octets of the entry come to
+  module _ (kind : e.item.kind ≡ Verdict) (asks : open_ask_at s e.item.target ≡ Some e.item.ask) (t : Told) (decides : Decides r.pools limited e.item.frame.payload e.claim (Some t)) (h : Judges r s e t d) where
+    was_told : Drove (verdict_of t) s.asked h.x h.outs h.after h.asked
+    was_told = drove r e (at_of s e) (settles r e t) (verdict_of t) (settles_is r e t) s.asked h.x h.outs h.cause h.after h.asked h.drives
+
+    ask_there : option_map (λ (p : Question). p.ask) (open_of h.x) ≡ Some e.item.ask
+    ask_there = ap (λ (o : Option Session). option_map (λ (p : Question). p.ask) (option_and_then open_of o)) (sym h.found) ∙ asks
+
+    told_grants : (q : Question) → was_told.made.question ≡ Some q → MayAccept (verdict_of t) was_told.made.link.auth → IsGranted s e e.item.target q.ask
+    told_grants q was (inl accepted) = inl (accepted_there s e.item.target h.x h.found was_told.made was_told.is_made q was accepted)
+    told_grants q was (inr found) =
+        let same : q.ask ≡ e.item.ask = open_last h.x was_told.made q was_told.is_made was ask_there in
+        let v = decided_yes r.pools limited e.item.frame.payload e.claim t decides found.0 in
+        inr (record { kind = kind; target = refl; number = sym same; verdict = v.0; says = v.1; yes = v.2 }, asks ∙ ap (λ (i : ℕ). Some i) (sym same))
+
+    -- whether a term begins or not
+    settled_grants : (lease : Option Ip4) → Grants s (IsGranted s e) h.outs (settled_by s e.item.target h.x h.question t e.moment h.after h.asked lease)
+    settled_grants None =
+        drove_grants s e.item.target h.x h.outs h.after h.asked (verdict_of t) h.found was_told s.begun s.terms s.news (IsGranted s e) told_grants (λ m k before. inl before)
+    settled_grants (Some a) =
+        let new = next_term s h.x h.question t.class e.moment a in
+        let lease = Some (next_lease s a) in
+        drove_grants s e.item.target h.x h.outs (record h.after { lease = lease }) h.asked (verdict_of t) h.found (leased (verdict_of t) s.asked h.x h.outs h.after h.asked lease was_told)
+        (s.begun + 1) (s.terms ++ new ∷ []) (s.news ++ new ∷ []) (IsGranted s e) told_grants (λ m k before. inl before)
+
+  judged : e.item.kind ≡ Verdict → HearsVerdict r s e limited d → Deeds
+  judged kind (inl (asks, t, decides, h)) = deed _ h.done (settled_grants kind asks t decides h t.lease)
+  judged kind (inr (inl (asks, decides, h))) = quiet _ h refl none_yes
+  judged kind (inr (inr (other, none, h))) = quiet _ h refl none_yes
 
   tick : HearsTick r s e d → Deeds
   tick (outs, s', ticks, h) = still _ h (ticks_still r e at_once s outs s' ticks)
@@ -605,7 +652,7 @@ module _ (r : Rules) (s : State) (e : Entry) (d : Deed) where
   ends : HearsEnd r s e d → Deeds
   ends (outs, s', all, h) = still _ h (ends_still r e at_once s outs s' all)
 
-  hears_grants : (kind : ItemKind) → e.item.kind ≡ kind → Hears kind r s e d → Deeds
+  hears_grants : (kind : ItemKind) → e.item.kind ≡ kind → Hears kind r s limited e d → Deeds
   hears_grants (Access number) is h = access number h
   hears_grants Core is h = core h
   hears_grants Tunnel is h = quiet _ h refl none_yes
@@ -614,9 +661,9 @@ module _ (r : Rules) (s : State) (e : Entry) (d : Deed) where
   hears_grants Tick is h = tick h
   hears_grants End is h = ends h
 
-module _ (r : Rules) (s : State) (d : Deed) (h : Step r s d) where
+module _ (r : Rules) (s : State) (limited : Bool) (d : Deed) (h : Step r s limited d) where
   grants : Grants s (IsGranted s d.entry) d.outs d.next
-  grants = hears_grants r s d.entry d d.entry.item.kind refl h.hears
+  grants = hears_grants r s limited d.entry d d.entry.item.kind refl h.hears
 
   -- a step keeps a state sound
   pub step_sound : IsSound s → IsSound d.next
@@ -640,7 +687,7 @@ module _ (r : Rules) (s : State) (d : Deed) (h : Step r s d) where
   pub step_few : d.next.asked ≤ s.asked + 1
   step_few = grants.few
 
--- The opening and the settlement ------------------------------------------------------------------------------------------
+-- The settlement ----------------------------------------------------------------------------------------------------------
 
 pub settled_sound : (s : State) → IsSound s → IsSound (settled s)
 settled_sound s h = record {
@@ -651,40 +698,3 @@ settled_sound s h = record {
       h.of_shard n (ap is_some (kept_from (λ (y : Session). not (leaves y)) s.sessions n x.0 x.1).0);
   questions = λ n x at. h.questions n x (kept_from (λ (y : Session). not (leaves y)) s.sessions n x at).0;
 }
-
-module _ (number : ℕ) (circuits : List Static) (apart : AllPairs (λ a b. a.session ≢ b.session) circuits) where
-  -- circuits one after another
-  record Opened (k : ℕ) : Type 0 where
-    sessions : Sessions Session
-    begun : ℕ
-    opens : Opens number circuits k sessions begun
-
-  opened_next : (k : ℕ) → Opened k → (o : Option Static) → find (λ c. c.session.0 == number * 1024 + 1 + k) circuits ≡ o → Opened (suc k)
-  opened_next k h None e = record {
-    sessions = h.sessions;
-    begun = h.begun;
-    opens = opens_other number circuits k h.sessions h.begun h.opens (circuit_none circuits (number * 1024 + 1 + k) apart e);
-  }
-  opened_next k h (Some c) e = record {
-    sessions = with_value h.sessions (number * 1024 + 1 + k) (provisioned c (h.begun + 1));
-    begun = h.begun + 1;
-    opens = opens_more number circuits k h.sessions h.begun h.opens (number * 1024 + 1 + k) c refl (circuit_found circuits (number * 1024 + 1 + k) c apart e) (h.begun + 1) refl;
-  }
-
-  opened_all : (k : ℕ) → Opened k
-  opened_all zero =
-      let none : Sessions Session = record { shard = number; by_number = empty } in
-      record { sessions = none; begun = 0; opens = opens_none number circuits none refl refl }
-  opened_all (suc k) = opened_next k (opened_all k) (find (λ c. c.session.0 == number * 1024 + 1 + k) circuits) refl
-
-  pub opened_sound : number < 64 → All (λ c. IsNumberOf number c.session.0) circuits → IsSound (opened_slots number circuits)
-  opened_sound low own =
-      let h = opened_all 1022 in
-      let shard : h.sessions.shard ≡ number = h.opens.shard in
-      let sound : IsSound (record { sessions = h.sessions; begun = h.begun; asked = 0 }) = record {
-        shard = omega (arith, shard, low);
-        own = opened_own number circuits h.sessions h.begun h.opens;
-        of_shard = opened_of_shard number circuits h.sessions h.begun h.opens;
-        questions = λ n x at. subst (λ (y : Session). HasQuestion y.service) (sym (stands_for number circuits 1022 h.sessions h.begun h.opens n x at).is) tt;
-      } in
-      subst (λ (s : State). IsSound s) (opened_is number circuits h.sessions h.begun h.opens own) sound

@@ -9,13 +9,17 @@ pub mod InCircuits
 pub mod ListParts
 pub mod LeavingFirst
 pub mod Beginning
+pub mod Walking
 pub mod TermLaws
+pub mod Poolless
 pub mod Reading
 pub mod Spelling
+pub mod Naming
 pub mod LinkSteps
 pub mod QuestionLaws
 pub mod Granted
 pub mod GrantLaws
+pub mod SoundOpening
 pub mod Packets
 pub mod Sends
 pub mod StepLaws

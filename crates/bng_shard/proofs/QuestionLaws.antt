@@ -1,9 +1,10 @@
 -- After a step each open question was open before, or has a number that the step gave.
-use Rattle.std.proofs.Common.{◌≡◌, ◌⊎◌, inl, inr, ℕ, zero, suc, ◌-◌, ◌^◌, ◌<◌, ◌≤◌, Bool, true, false, not, ◌&&◌, List, [], ◌∷◌, Option, Some, None, is_some, if◌then◌else◌, Contains, refl, sym, ap, subst, ◌∙◌, arith}
+use Rattle.std.proofs.Common.{◌≡◌, ◌⊎◌, inl, inr, ℕ, zero, suc, ◌+◌, ◌-◌, ◌^◌, ◌<◌, ◌≤◌, Bool, true, false, not, ◌&&◌, List, [], ◌∷◌, ◌++◌, Option, Some, None, is_some, if◌then◌else◌, Contains, refl, sym, ap, subst, ◌∙◌, arith}
 use Rattle.std.specs.List.{flat_map}
 use Rattle.std.specs.Option.{option_map, option_and_then}
 use Rattle.std.proofs.lemmas.Bool.{cases_eq, false≢true}
 use Rattle.std.proofs.lemmas.List.Elements.{Contains-append_cases, Contains-append_left, Contains-append_right}
+use Rattle.bng_base.specs.declared.address.Ip4.{Ip4}
 use Rattle.bng_base.specs.declared.item.Entry.{Entry}
 use Rattle.bng_base.specs.declared.item.ItemKind.{ItemKind}
 use Rattle.bng_base.specs.declared.item.ItemKind.TheVariants.{Access, Core, Tunnel, Verdict, Change, Tick, End}
@@ -22,26 +23,26 @@ use Rattle.bng_ppp.specs.PppState.{PppState, is_open}
 use Rattle.bng_slots.specs.Sessions.{value_at, with_value}
 use Rattle.bng_slots.specs.Listed.{values}
 use Rattle.bng_slots.proofs.SessionLaws.{value_at-with_value, value_at-with_other}
-use Rattle.bng_verdict.specs.Verdicts.{Saying}
 use Rattle.bng_shard.specs.Made.{Made, Question}
 use Rattle.bng_shard.specs.declared.rules.Rules.{Rules}
 use Rattle.bng_shard.specs.declared.sending.At.{At}
+use Rattle.bng_shard.specs.declared.session.Lease.{Lease}
 use Rattle.bng_shard.specs.declared.session.Service.{Service}
 use Rattle.bng_shard.specs.declared.session.Service.TheVariants.{Provisioned, Discovered}
 use Rattle.bng_shard.specs.declared.session.Session.{Session}
-use Rattle.bng_shard.specs.State.{State, session_of, with_session, with_driven}
+use Rattle.bng_shard.specs.State.{State, session_of, with_session, with_driven, with_ended}
 use Rattle.bng_shard.specs.Deed.{Deed, at_of}
-use Rattle.bng_shard.specs.Discovery.{Answers, Makes}
+use Rattle.bng_shard.specs.Discovery.{Answers, Makes, host_uniq_of, new_session}
 use Rattle.bng_shard.specs.Frames.{HearsData, HearsPpp, HearsControl, HearsIn, HearsFrame, HearsAccess, HearsCore}
-use Rattle.bng_shard.specs.Link.{LinkStep, Drives, asked_after, ended, ended_service, hears, next_ask, question_after, settles, told, with_link}
+use Rattle.bng_shard.specs.Link.{LinkStep, Drives, Told, asked_after, ended, ended_service, hears, nas_request, next_ask, question_after, settles, told, user_request, with_link}
 use Rattle.bng_shard.specs.Questions.{Asking, AsksOn, asked_in, asking_of, open_in, open_of, questions_of}
 use Rattle.bng_shard.specs.Step.{Hears, Step}
+use Rattle.bng_shard.specs.Tenures.{Tenure, closed, kept_lease}
 use Rattle.bng_shard.specs.Timers.{Ticks, Ends, HearsTick, HearsEnd, at_once, deadline_in, deadline_of, deadline_unless, link_deadline}
-use Rattle.bng_shard.specs.Verdicts.{HearsVerdict}
+use Rattle.bng_shard.specs.Verdicts.{HearsVerdict, Judges, next_lease, next_term, settled_by}
 use Rattle.bng_ppp.proofs.WholeQuestions.{open_was_asked}
 use Rattle.bng_shard.proofs.LinkSteps.{frame_of, verdict_of, frame_steps, verdict_steps}
-use Rattle.bng_shard.proofs.OneEffect.{same_made}
-use Rattle.bng_shard.proofs.TermLaws.{at_number, next_of}
+use Rattle.bng_shard.proofs.Naming.{at_number, next_of, same_made}
 use Rattle.bng_shard.proofs.Values.{none_some, numbered, same_some, stands}
 
 -- Lists of questions ------------------------------------------------------------------------------------------------------
@@ -72,6 +73,10 @@ the_question : (x : Session) (o : Option Question) (a : Asking) → Contains (as
 the_question x None a (k, l, is) = absurd (omega arith)
 the_question x (Some q) a (zero, l, is) = (q, refl, is)
 the_question x (Some q) a (suc k, l, is) = absurd (omega arith)
+
+-- the state with another session at a number, after so many questions, whatever it has of terms
+abbrev pub state_with : State → ℕ → Session → ℕ → ℕ → List Tenure → List Tenure → State
+state_with s n x asked begun terms news = record { sessions = with_value s.sessions n x; begun = begun; asked = asked; terms = terms; news = news }
 
 -- once another session stands at a number, a question is its own, or was open before
 among : (s : State) (n : ℕ) (y : Session) (a : Asking) → Contains (questions_of (with_session s n y)) a → Contains (asks y) a ⊎ Contains (questions_of s) a
@@ -156,8 +161,8 @@ told_opens r e what old says new h opened = open_was_asked r.link e.moment e.ite
 hears_opens : (r : Rules) (e : Entry) (octets : List ℕ) → OpensByAsking (hears r e octets)
 hears_opens r e octets old says new h opened = open_was_asked r.link e.moment e.item.random (frame_of octets) old says new (frame_steps r.link e.moment e.item.random old says new octets h) opened
 
-settles_opens : (r : Rules) (e : Entry) (v : Saying) → OpensByAsking (settles r e v)
-settles_opens r e v old says new h opened = open_was_asked r.link e.moment e.item.random (verdict_of v) old says new (verdict_steps r.link e.moment e.item.random old says new v h) opened
+settles_opens : (r : Rules) (e : Entry) (t : Told) → OpensByAsking (settles r e t)
+settles_opens r e t old says new h opened = open_was_asked r.link e.moment e.item.random (verdict_of t) old says new (verdict_steps r.link e.moment e.item.random old says new t h) opened
 
 -- the open question of a link after a step: the step asked it, or it was the last one before
 after_step : (finished opened : Bool) (n : ℕ) (claim : Option Claim) (begun : Bool) (last : Option Question) (q : Question)
@@ -180,15 +185,17 @@ new_number n m k e f low = (omega (arith, e, f, low), omega (arith, e, f))
 abbrev IsOpenIn : State → Session → Type 0
 IsOpenIn s x = (m : Made) (q : Question) → x.service ≡ Discovered m → m.question ≡ Some q → is_open m.link.auth ≡ true → Contains (questions_of s) (asking_of x q)
 
-module _ (r : Rules) (a : At) (s : State) (n : ℕ) (x : Session) (outs : List OutRecord) (x' : Session) (asked' : ℕ) (Steps : LinkStep) (opens : OpensByAsking Steps) where
-  driven : IsOpenIn s x → Drives r a s.asked x Steps outs x' asked' → On s (with_driven s n x' asked')
-  driven was h = record {
+module _ (r : Rules) (a : At) (s : State) (n : ℕ) (x : Session) (outs : List OutRecord) (cause : Option ℕ) (x' : Session) (asked' : ℕ) (Steps : LinkStep) (opens : OpensByAsking Steps) (was : IsOpenIn s x)
+    (h : Drives r a s.asked x Steps outs cause x' asked') (begun : ℕ) (terms news : List Tenure) where
+  -- whatever the session leases after the step
+  with_lease : (y : Session) (lease : Option Lease) → y ≡ record (with_link x h.made s.asked h.says h.link) { lease = lease } → On s (state_with s n y asked' begun terms news)
+  with_lease y lease is = record {
     counted = subst (λ (m : ℕ). Counts s.asked m) (sym h.count) (after_counts s.asked h.says.asked);
-    asked = λ low b there. elim (among s n x' b there) [
+    asked = λ low b there. elim (among s n y b there) [
       | inr before ↦ inl before
       | inl own ↦
-          let z : Session = with_link x h.made s.asked h.says h.link in
-          let found = the_question z (open_of z) b (subst (λ (y : Session). Contains (asks y) b) h.session own) in
+          let z : Session = record (with_link x h.made s.asked h.says h.link) { lease = lease } in
+          let found = the_question z (open_of z) b (subst (λ (w : Session). Contains (asks w) b) is own) in
           let q = found.0 in
           let number : q.ask ≡ b.number.ask = ap (λ (c : Asking). c.number.ask) found.2 in
           let after = after_step h.says.finished (is_open h.link.auth) s.asked h.says.asked (is_begun h.link.auth) h.made.question q found.1 in
@@ -201,6 +208,12 @@ module _ (r : Rules) (a : At) (s : State) (n : ℕ) (x : Session) (outs : List O
           ]
     ];
   }
+
+  driven : On s (state_with s n x' asked' begun terms news)
+  driven = with_lease x' (kept_lease h.says.term_ended x.lease) h.session
+
+  leased : (lease : Option Lease) → On s (state_with s n (record x' { lease = lease }) asked' begun terms news)
+  leased lease = with_lease (record x' { lease = lease }) lease (ap (λ (z : Session). record z { lease = lease }) h.session)
 
 -- a session that has not ended stands there
 open_in_live : (m : Made) (q : Question) → m.ended ≡ false → m.question ≡ Some q → is_open m.link.auth ≡ true → open_in (Discovered m) ≡ Some q
@@ -233,8 +246,8 @@ ended_silent : (v : Service) → open_in (ended_service v) ≡ None
 ended_silent (Provisioned l) = refl
 ended_silent (Discovered m) = refl
 
-over : (s : State) (n : ℕ) (x : Session) → On s (with_session s n (ended x))
-over s n x = record {
+over : (s : State) (n : ℕ) (x : Session) (terms : List Tenure) → On s (state_with s n (ended x) s.asked s.begun terms s.news)
+over s n x terms = record {
   counted = counts_same s.asked s.asked refl;
   asked = λ low a there. elim (among s n (ended x) a there) [
     | inl own ↦ absurd (no_question (ended x) (open_of (ended x)) a (ended_silent x.service) own)
@@ -248,20 +261,23 @@ module _ (r : Rules) (e : Entry) where
   ticks_on : (k : ℕ) (s : State) (outs : List OutRecord) (s' : State) → Ticks k r e s outs s' → On s s'
   ticks_on zero s outs s' h = same s s' h.1
   ticks_on (suc k) s outs s' (inl h) = same s s' h.2
-  ticks_on (suc k) s outs s' (inr (n, due, x, x', at, first, asked', drives, rest, more, are)) =
+  ticks_on (suc k) s outs s' (inr (n, due, x, x', at, first, cause, asked', drives, rest, more, are)) =
       let deadline : deadline_of x ≡ Some due.deadline = ap (option_and_then deadline_of) (sym at) ∙ due.is in
-      let here = driven r (at_of s e) s n x first x' asked' (told r e Timer) (told_opens r e Timer) (was_open s n x at (due_lives x due.deadline deadline)) drives in
-      chained s (with_driven s n x' asked') s' here (ticks_on k (with_driven s n x' asked') rest s' more)
+      let next = with_driven s n x.lease cause x' asked' in
+      let here : On s next =
+      driven r (at_of s e) s n x first cause x' asked' (told r e Timer) (told_opens r e Timer) (was_open s n x at (due_lives x due.deadline deadline)) drives s.begun (closed x.lease cause s.terms) s.news in
+      chained s next s' here (ticks_on k next rest s' more)
 
   ends_on : (k : ℕ) (s : State) (outs : List OutRecord) (s' : State) → Ends k r e s outs s' → On s s'
   ends_on zero s outs s' h = same s s' h.1
   ends_on (suc k) s outs s' (inl h) = same s s' h.2
   ends_on (suc k) s outs s' (inr (n, lowest, x, at, padt, rest, with_padt, more, are)) =
-      chained s (with_session s n (ended x)) s' (over s n x) (ends_on k (with_session s n (ended x)) rest s' more)
+      let next = with_ended s n x.lease nas_request (ended x) in
+      chained s next s' (over s n x (closed x.lease (Some nas_request) s.terms)) (ends_on k next rest s' more)
 
 -- Entries -----------------------------------------------------------------------------------------------------------------
 
-module _ (r : Rules) (s : State) (e : Entry) (d : Deed) where
+module _ (r : Rules) (s : State) (limited : Bool) (e : Entry) (d : Deed) where
   -- a deed that is this one, which leaves all as it was
   kept : (f : Deed) → d ≡ f → f.next ≡ s → On s d.next
   kept f is next = same s d.next (next_of d f is ∙ next)
@@ -271,8 +287,10 @@ module _ (r : Rules) (s : State) (e : Entry) (d : Deed) where
 
   makes : (number : ℕ) (port : AccessPort) (offers : PortRules) (p : PppoeFrame) (tags : List PppoeTag) → Makes r s e number port offers p tags d → On s d.next
   makes number port offers p tags h =
-      after (with_driven s h.session h.x h.asked) _ h.done refl
-      (driven r (at_of s e) s h.session _ h.outs h.x h.asked (told r e Start) (told_opens r e Start) (was_silent s _ h.starts.made h.starts.is_made (sym (ap question_in h.starts.is_made))) h.starts)
+      after (with_driven s h.session None h.cause h.x h.asked) _ h.done refl
+      (driven r (at_of s e) s h.session (new_session h.session number p.src (host_uniq_of tags) h.link) h.outs h.cause h.x h.asked (told r e Start) (told_opens r e Start)
+      (was_silent s (new_session h.session number p.src (host_uniq_of tags) h.link) h.starts.made h.starts.is_made (sym (ap question_in h.starts.is_made))) h.starts
+      s.begun s.terms s.news)
     where
       question_in : Service → Option Question
       question_in (Provisioned l) = None
@@ -293,13 +311,15 @@ module _ (r : Rules) (s : State) (e : Entry) (d : Deed) where
 
   ppp : (x : Session) (made : Made) (p : PppoeFrame) → value_at s.sessions p.session ≡ Some x → x.service ≡ Discovered made → HearsPpp r s e x made p d → On s d.next
   ppp x made p at is (inl (gone, h)) = kept _ h refl
-  ppp x made p at is (inr (live, outs, x', asked', drives, h)) =
+  ppp x made p at is (inr (live, outs, cause, x', asked', drives, h)) =
       let lives : (m : Made) → x.service ≡ Discovered m → m.ended ≡ false = λ m is'. ap (λ (k : Made). k.ended) (same_made x.service m made is' is) ∙ live in
-      after (with_driven s p.session x' asked') _ h refl (driven r (at_of s e) s p.session x outs x' asked' (hears r e p.payload) (hears_opens r e p.payload) (was_open s p.session x at lives) drives)
+      after (with_driven s p.session x.lease cause x' asked') _ h refl
+      (driven r (at_of s e) s p.session x outs cause x' asked' (hears r e p.payload) (hears_opens r e p.payload) (was_open s p.session x at lives) drives s.begun (closed x.lease cause s.terms) s.news)
 
   control : (v : Service) (x : Session) (p : PppoeFrame) → value_at s.sessions p.session ≡ Some x → x.service ≡ v → HearsControl v r s e x p d → On s d.next
   control (Provisioned l) x p at is h = kept _ h refl
-  control (Discovered made) x p at is (inl (padt, h)) = after (with_session s p.session (ended x)) _ h refl (over s p.session x)
+  control (Discovered made) x p at is (inl (padt, inl (gone, h))) = kept _ h refl
+  control (Discovered made) x p at is (inl (padt, inr (live, h))) = after (with_ended s p.session x.lease user_request (ended x)) _ h refl (over s p.session x (closed x.lease (Some user_request) s.terms))
   control (Discovered made) x p at is (inr (data_frame, h)) = ppp x made p at is h
 
   named : (number : ℕ) (p : PppoeFrame) (found : Option Session) → session_of s number p.src p.session ≡ found → HearsIn found r s e p d → On s d.next
@@ -320,13 +340,20 @@ module _ (r : Rules) (s : State) (e : Entry) (d : Deed) where
   core (inr (v, is, (fate, decides, inl (forwards, down)))) = kept _ down.done refl
   core (inr (v, is, (fate, decides, inr (stays, h)))) = kept _ h refl
 
-  judged : HearsVerdict r s e d → On s d.next
-  judged (inl (asked_it, v, is, h)) =
+  -- a session whose link was told what was found, whether a term begins or not
+  module _ (t : Told) (h : Judges r s e t d) (was : IsOpenIn s h.x) where
+    settled_on : (lease : Option Ip4) → On s (settled_by s e.item.target h.x h.question t e.moment h.after h.asked lease)
+    settled_on None = driven r (at_of s e) s e.item.target h.x h.outs h.cause h.after h.asked (settles r e t) (settles_opens r e t) was h.drives s.begun s.terms s.news
+    settled_on (Some a) =
+        let new = next_term s h.x h.question t.class e.moment a in
+        leased r (at_of s e) s e.item.target h.x h.outs h.cause h.after h.asked (settles r e t) (settles_opens r e t) was h.drives (s.begun + 1) (s.terms ++ new ∷ []) (s.news ++ new ∷ []) (Some (next_lease s a))
+
+  judged : HearsVerdict r s e limited d → On s d.next
+  judged (inl (asked_it, t, decides, h)) =
       let number : option_map (λ q. q.ask) (open_of h.x) ≡ Some e.item.ask = ap (λ (o : Option Session). option_map (λ q. q.ask) (option_and_then open_of o)) (sym h.found) ∙ asked_it in
-      after (with_driven s e.item.target h.after h.asked) _ h.done refl
-      (driven r (at_of s e) s e.item.target h.x h.outs h.after h.asked (settles r e v) (settles_opens r e v) (was_open s e.item.target h.x h.found (open_lives h.x e.item.ask number)) h.drives)
+      after (settled_by s e.item.target h.x h.question t e.moment h.after h.asked t.lease) _ h.done refl (settled_on t h (was_open s e.item.target h.x h.found (open_lives h.x e.item.ask number)) t.lease)
   judged (inr (inl (asked_it, is, h))) = kept _ h refl
-  judged (inr (inr (other, h))) = kept _ h refl
+  judged (inr (inr (other, none, h))) = kept _ h refl
 
   tick : HearsTick r s e d → On s d.next
   tick (outs, s', ticks, h) = after s' _ h refl (ticks_on r e at_once s outs s' ticks)
@@ -334,7 +361,7 @@ module _ (r : Rules) (s : State) (e : Entry) (d : Deed) where
   ends : HearsEnd r s e d → On s d.next
   ends (outs, s', all, h) = after s' _ h refl (ends_on r e at_once s outs s' all)
 
-  hears_on : (kind : ItemKind) → Hears kind r s e d → On s d.next
+  hears_on : (kind : ItemKind) → Hears kind r s limited e d → On s d.next
   hears_on (Access number) h = access number h
   hears_on Core h = core h
   hears_on Tunnel h = kept _ h refl
@@ -344,7 +371,7 @@ module _ (r : Rules) (s : State) (e : Entry) (d : Deed) where
   hears_on End h = ends h
 
 -- the questions of a step
-pub step_asks : (r : Rules) (s : State) (d : Deed) → Step r s d → AsksOn s d.next
-step_asks r s d h =
-    let on = hears_on r s d.entry d d.entry.item.kind h.hears in
+pub step_asks : (r : Rules) (s : State) (limited : Bool) (d : Deed) → Step r s limited d → AsksOn s d.next
+step_asks r s limited d h =
+    let on = hears_on r s limited d.entry d d.entry.item.kind h.hears in
     record { count = on.counted.count; asks = on.asked }

@@ -16,15 +16,12 @@ use Rattle.bng_discovery.specs.declared.answers.Answer.TheVariants.{Offer, Make,
 use Rattle.bng_discovery.specs.declared.port.PortRules.{PortRules}
 use Rattle.bng_discovery.specs.Reply.{pado_of, pads_of, refusal_of}
 use Rattle.bng_engine.specs.Lists.{AnyOf}
-use Rattle.bng_engine.specs.Terms.{Term}
 use Rattle.bng_engine.proofs.Everywhere.{all_append}
 use Rattle.bng_forward.specs.Fates.{IsFrame, Carries}
 use Rattle.bng_forward.specs.Framed.{circuit_frame}
 use Rattle.bng_ppp.specs.declared.whole_input.WholeInput.{WholeInput}
 use Rattle.bng_ppp.specs.declared.whole_input.WholeInput.TheVariants.{Start, Timer}
 use Rattle.bng_ppp.proofs.WholeOuts.{ppp_steps_written}
-use Rattle.bng_slots.specs.Sessions.{value_at}
-use Rattle.bng_verdict.specs.Verdicts.{Saying}
 use Rattle.bng_shard.specs.Made.{Made}
 use Rattle.bng_shard.specs.declared.rules.Rules.{Rules}
 use Rattle.bng_shard.specs.declared.sending.At.{At}
@@ -32,12 +29,11 @@ use Rattle.bng_shard.specs.declared.session.Lease.{Lease}
 use Rattle.bng_shard.specs.declared.session.Service.{Service}
 use Rattle.bng_shard.specs.declared.session.Service.TheVariants.{Provisioned, Discovered}
 use Rattle.bng_shard.specs.declared.session.Session.{Session}
-use Rattle.bng_shard.specs.State.{State, session_of, leases, with_session, with_driven}
+use Rattle.bng_shard.specs.State.{State, IsTermOf, session_of, with_driven, with_ended}
 use Rattle.bng_shard.specs.Deed.{Deed, at_of, out, frame_outs, is_forwarded, arrival_in}
 use Rattle.bng_shard.specs.Discovery.{Answers, Discovers}
 use Rattle.bng_shard.specs.Frames.{charge_of, HearsData, HearsPpp, HearsControl, HearsIn, HearsFrame, HearsAccess, HearsCore}
-use Rattle.bng_shard.specs.Link.{Drives, EndsWith, told, hears, settles, ended}
-use Rattle.bng_shard.specs.Protocol.{term_of}
+use Rattle.bng_shard.specs.Link.{Drives, EndsWith, Told, told, hears, settles, ended, nas_request}
 use Rattle.bng_shard.specs.Reader.{IsInDirection}
 use Rattle.bng_shard.specs.Step.{Hears, Step}
 use Rattle.bng_shard.specs.Timers.{Ticks, Ends, TellsEnd, at_once, HearsTick, HearsEnd}
@@ -45,7 +41,6 @@ use Rattle.bng_shard.specs.Verdicts.{HearsVerdict}
 use Rattle.bng_shard.proofs.LinkSteps.{frame_of, verdict_of, frame_steps, verdict_steps}
 use Rattle.bng_shard.proofs.Packets.{spelled_up, short_up, spelled_down}
 use Rattle.bng_shard.proofs.Spelling.{IsControl, AreControl, discovery_control, padt_control, said_control}
-use Rattle.bng_shard.proofs.TermLaws.{terms_there, at_number, term_at_number, term_passing}
 
 -- nothing is charged, and what is sent is of the entry's seat
 pub record SendsNone (e : Entry) (d : Deed) : Type 0 where
@@ -56,7 +51,7 @@ pub record SendsNone (e : Entry) (d : Deed) : Type 0 where
 pub record SendsOne (s : State) (e : Entry) (d : Deed) : Type 0 where
   pub session : Session
   pub lease : Lease
-  pub there : AnyOf (λ (t : Term). t ≡ term_of session lease None) (terms_there s)
+  pub there : AnyOf (IsTermOf session lease) s.terms
   pub octets : ℕ
   pub input : Bool
   pub way : Role
@@ -74,27 +69,27 @@ not_forwarded (Dropped cause) other = refl
 
 -- Sessions --------------------------------------------------------------------------------------------------------------
 
-module _ (r : Rules) (e : Entry) (a : At) (asked : ℕ) (x : Session) (outs : List OutRecord) (x' : Session) (asked' : ℕ) where
-  told_control : (input : WholeInput) → Drives r a asked x (told r e input) outs x' asked' → AreControl a.seat outs
+module _ (r : Rules) (e : Entry) (a : At) (asked : ℕ) (x : Session) (outs : List OutRecord) (cause : Option ℕ) (x' : Session) (asked' : ℕ) where
+  told_control : (input : WholeInput) → Drives r a asked x (told r e input) outs cause x' asked' → AreControl a.seat outs
   told_control input h =
       subst (λ (os : List OutRecord). AreControl a.seat os) (sym h.outs_are) (said_control a x h.port h.offers h.says (ppp_steps_written r.link e.moment e.item.random input h.made.link h.says h.link h.steps))
 
-  hears_control : (octets : List ℕ) → Drives r a asked x (hears r e octets) outs x' asked' → AreControl a.seat outs
+  hears_control : (octets : List ℕ) → Drives r a asked x (hears r e octets) outs cause x' asked' → AreControl a.seat outs
   hears_control octets h =
       subst (λ (os : List OutRecord). AreControl a.seat os) (sym h.outs_are)
       (said_control a x h.port h.offers h.says (ppp_steps_written r.link e.moment e.item.random (frame_of octets) h.made.link h.says h.link (frame_steps r.link e.moment e.item.random h.made.link h.says h.link octets h.steps)))
 
-  settles_control : (v : Saying) → Drives r a asked x (settles r e v) outs x' asked' → AreControl a.seat outs
-  settles_control v h =
+  settles_control : (t : Told) → Drives r a asked x (settles r e t) outs cause x' asked' → AreControl a.seat outs
+  settles_control t h =
       subst (λ (os : List OutRecord). AreControl a.seat os) (sym h.outs_are)
-      (said_control a x h.port h.offers h.says (ppp_steps_written r.link e.moment e.item.random (verdict_of v) h.made.link h.says h.link (verdict_steps r.link e.moment e.item.random h.made.link h.says h.link v h.steps)))
+      (said_control a x h.port h.offers h.says (ppp_steps_written r.link e.moment e.item.random (verdict_of t) h.made.link h.says h.link (verdict_steps r.link e.moment e.item.random h.made.link h.says h.link t h.steps)))
 
 ticks_control : (n : ℕ) (r : Rules) (e : Entry) (s : State) (outs : List OutRecord) (s' : State) → Ticks n r e s outs s' → AreControl e.seat outs
 ticks_control zero r e s outs s' h = subst (λ (os : List OutRecord). AreControl e.seat os) (sym h.0) tt
 ticks_control (suc n) r e s outs s' (inl h) = subst (λ (os : List OutRecord). AreControl e.seat os) (sym h.1) tt
-ticks_control (suc n) r e s outs s' (inr (k, due, x, x', at, first, asked', drives, rest, more, are)) =
+ticks_control (suc n) r e s outs s' (inr (k, due, x, x', at, first, cause, asked', drives, rest, more, are)) =
     subst (λ (os : List OutRecord). AreControl e.seat os) (sym are)
-    (all_append (IsControl e.seat) first rest (told_control r e (at_of s e) s.asked x first x' asked' Timer drives) (ticks_control n r e (with_driven s k x' asked') rest s' more))
+    (all_append (IsControl e.seat) first rest (told_control r e (at_of s e) s.asked x first cause x' asked' Timer drives) (ticks_control n r e (with_driven s k x.lease cause x' asked') rest s' more))
 
 ends_with_control : (r : Rules) (a : At) (x : Session) (outs : List OutRecord) → EndsWith r a x outs → AreControl a.seat outs
 ends_with_control r a x outs h = subst (λ (os : List OutRecord). AreControl a.seat os) (sym h.outs_are) (padt_control a x h.port h.offers)
@@ -108,7 +103,7 @@ ends_control zero r e s outs s' h = subst (λ (os : List OutRecord). AreControl 
 ends_control (suc n) r e s outs s' (inl h) = subst (λ (os : List OutRecord). AreControl e.seat os) (sym h.1) tt
 ends_control (suc n) r e s outs s' (inr (k, lowest, x, at, padt, rest, with_padt, more, are)) =
     subst (λ (os : List OutRecord). AreControl e.seat os) (sym are)
-    (all_append (IsControl e.seat) padt rest (tells_control x.service r (at_of s e) x padt with_padt) (ends_control n r e (with_session s k (ended x)) rest s' more))
+    (all_append (IsControl e.seat) padt rest (tells_control x.service r (at_of s e) x padt with_padt) (ends_control n r e (with_ended s k x.lease nas_request (ended x)) rest s' more))
 
 -- Entries ---------------------------------------------------------------------------------------------------------------
 
@@ -127,7 +122,7 @@ module _ (r : Rules) (s : State) (e : Entry) (d : Deed) where
   answers Offer number port offers p tags h = none s e d _ h (discovery_control (at_of s e) number port (pado_of offers p.src tags) refl) refl
   answers Make number port offers p tags h =
       let confirmed = pads_of offers p.src h.session tags in
-      none s e d _ h.done (all_append (IsControl e.seat) (frame_outs (at_of s e) number port confirmed) h.outs (discovery_control (at_of s e) number port confirmed refl) (told_control r e (at_of s e) s.asked _ h.outs h.x h.asked Start h.starts)) refl
+      none s e d _ h.done (all_append (IsControl e.seat) (frame_outs (at_of s e) number port confirmed) h.outs (discovery_control (at_of s e) number port confirmed refl) (told_control r e (at_of s e) s.asked _ h.outs h.cause h.x h.asked Start h.starts)) refl
   answers Again number port offers p tags h = none s e d _ h.done (discovery_control (at_of s e) number port (pads_of offers p.src h.x.number.0 tags) refl) refl
   answers (Refuse error) number port offers p tags h = none s e d _ h (discovery_control (at_of s e) number port (refusal_of offers p.src error tags) refl) refl
   answers Ended number port offers p tags h = none s e d _ h tt refl
@@ -142,7 +137,7 @@ module _ (r : Rules) (s : State) (e : Entry) (d : Deed) where
       one s e d _ h.done (record {
         session = h.x;
         lease = h.lease;
-        there = term_at_number s p.session h.x h.lease (at_number number p.src (value_at s.sessions p.session) h.x h.found) h.live;
+        there = h.term;
         octets = h.header.total;
         input = true;
         way = role.Core;
@@ -157,7 +152,7 @@ module _ (r : Rules) (s : State) (e : Entry) (d : Deed) where
 
   ppp : (x : Session) (made : Made) (p : PppoeFrame) → HearsPpp r s e x made p d → Sends
   ppp x made p (inl (over, h)) = none s e d _ h tt refl
-  ppp x made p (inr (live, outs, x', asked', drives, h)) = none s e d _ h (hears_control r e (at_of s e) s.asked x outs x' asked' p.payload drives) refl
+  ppp x made p (inr (live, outs, cause, x', asked', drives, h)) = none s e d _ h (hears_control r e (at_of s e) s.asked x outs cause x' asked' p.payload drives) refl
 
   control : (v : Service) (x : Session) (p : PppoeFrame) → HearsControl v r s e x p d → Sends
   control (Provisioned l) x p h = none s e d _ h tt refl
@@ -183,7 +178,7 @@ module _ (r : Rules) (s : State) (e : Entry) (d : Deed) where
       one s e d _ h.done (record {
         session = h.x;
         lease = h.lease;
-        there = term_passing s (leases v.dst) h.x h.lease h.found h.live;
+        there = h.term;
         octets = v.total;
         input = false;
         way = role.Access h.x.port;
@@ -196,10 +191,10 @@ module _ (r : Rules) (s : State) (e : Entry) (d : Deed) where
       })
   core (inr (v, is, (fate, decides, inr (other, h)))) = none s e d _ h tt (not_forwarded fate other)
 
-  judged : HearsVerdict r s e d → Sends
-  judged (inl (asks, v, is, h)) = none s e d _ h.done (settles_control r e (at_of s e) s.asked h.x h.outs h.after h.asked v h.drives) refl
-  judged (inr (inl (asks, is, h))) = none s e d _ h tt refl
-  judged (inr (inr (other, h))) = none s e d _ h tt refl
+  judged : (limited : Bool) → HearsVerdict r s e limited d → Sends
+  judged limited (inl (asks, t, decides, h)) = none s e d _ h.done (settles_control r e (at_of s e) s.asked h.x h.outs h.cause h.after h.asked t h.drives) refl
+  judged limited (inr (inl (asks, decides, h))) = none s e d _ h tt refl
+  judged limited (inr (inr (other, no_claim, h))) = none s e d _ h tt refl
 
   tick : HearsTick r s e d → Sends
   tick (outs, s', ticks, h) = none s e d _ h (ticks_control at_once r e s outs s' ticks) refl
@@ -207,15 +202,15 @@ module _ (r : Rules) (s : State) (e : Entry) (d : Deed) where
   ends : HearsEnd r s e d → Sends
   ends (outs, s', all, h) = none s e d _ h (ends_control at_once r e s outs s' all) refl
 
-  hears_sends : (kind : ItemKind) → Hears kind r s e d → Sends
-  hears_sends (Access number) h = access number h
-  hears_sends Core h = core h
-  hears_sends Tunnel h = none s e d _ h tt refl
-  hears_sends Verdict h = judged h
-  hears_sends Change h = none s e d _ h tt refl
-  hears_sends Tick h = tick h
-  hears_sends End h = ends h
+  hears_sends : (kind : ItemKind) (limited : Bool) → Hears kind r s limited e d → Sends
+  hears_sends (Access number) limited h = access number h
+  hears_sends Core limited h = core h
+  hears_sends Tunnel limited h = none s e d _ h tt refl
+  hears_sends Verdict limited h = judged limited h
+  hears_sends Change limited h = none s e d _ h tt refl
+  hears_sends Tick limited h = tick h
+  hears_sends End limited h = ends h
 
 -- what a step sends
-pub step_sends : (r : Rules) (s : State) (d : Deed) → Step r s d → SendsNone d.entry d ⊎ SendsOne s d.entry d
-step_sends r s d h = hears_sends r s d.entry d d.entry.item.kind h.hears
+pub step_sends : (r : Rules) (s : State) (limited : Bool) (d : Deed) → Step r s limited d → SendsNone d.entry d ⊎ SendsOne s d.entry d
+step_sends r s limited d h = hears_sends r s d.entry d d.entry.item.kind limited h.hears

@@ -1,26 +1,14 @@
 use Rattle.bng_shard.proofs.Fewer.{end_leaves_fewer}
 use Rattle.bng_shard.proofs.OneEffect.{pppoe_alike}
 use Rattle.bng_shard.proofs.QuestionLaws.{step_asks}
-use Rattle.bng_shard.proofs.StepLaws.{pppoe_laws, step_begins_none, step_claims, step_ends, step_terms, step_whole, light, data_fates}
+use Rattle.bng_shard.proofs.StepLaws.{pppoe_laws, step_whole, light, data_fates}
 use Rattle.bng_shard.proofs.laws.steps_meet_laws.Goals as goal
 
 pub returns-clause-laws : goal.returns-clause-laws
 returns-clause-laws c = pppoe_laws
 
-pub returns-clause-claims : goal.returns-clause-claims
-returns-clause-claims c = step_claims
-
 pub returns-clause-whole : goal.returns-clause-whole
 returns-clause-whole c = step_whole
-
-pub returns-clause-begun : goal.returns-clause-begun
-returns-clause-begun c = step_begins_none
-
-pub returns-clause-terms : goal.returns-clause-terms
-returns-clause-terms c = step_terms
-
-pub returns-clause-ends : goal.returns-clause-ends
-returns-clause-ends c = step_ends
 
 pub returns-clause-light : goal.returns-clause-light
 returns-clause-light c = light

@@ -1,8 +1,9 @@
-use Rattle.bng_shard.proofs.GrantLaws.{opened_sound, settled_sound, step_accepted, step_few, step_last, step_sound, step_yes}
+use Rattle.bng_shard.proofs.GrantLaws.{settled_sound, step_accepted, step_few, step_last, step_sound, step_yes}
+use Rattle.bng_shard.proofs.SoundOpening.{opened_sound}
 use Rattle.bng_shard.proofs.laws.yeses_are_granted.Goals as goal
 
 pub returns-clause-opened : goal.returns-clause-opened
-returns-clause-opened c number circuits low own apart = opened_sound number circuits apart low own
+returns-clause-opened c number circuits now low own apart = opened_sound number circuits apart now low own
 
 pub returns-clause-kept : goal.returns-clause-kept
 returns-clause-kept c = step_sound

@@ -1,0 +1,125 @@
+-- What holds of each change that an entry makes to a shard's state holds of the step, a verdict aside.
+use Rattle.std.proofs.Common.{◌≡◌, ◌⊎◌, inl, inr, ℕ, zero, suc, Bool, List, Option, Some, None, refl, sym, subst, ◌∙◌}
+use Rattle.bng_base.specs.declared.item.Entry.{Entry}
+use Rattle.bng_base.specs.declared.item.ItemKind.{ItemKind}
+use Rattle.bng_base.specs.declared.item.ItemKind.TheVariants.{Access, Core, Tunnel, Verdict, Change, Tick, End}
+use Rattle.bng_base.specs.declared.item.OutRecord.{OutRecord}
+use Rattle.bng_base.specs.declared.settings.AccessPort.{AccessPort}
+use Rattle.bng_base.specs.PppoeGrammar.{PppoeFrame, PppoeTag}
+use Rattle.bng_discovery.specs.declared.answers.Answer.{Answer}
+use Rattle.bng_discovery.specs.declared.answers.Answer.TheVariants.{Offer, Make, Again, Refuse, Ended, NoSession, Ignore}
+use Rattle.bng_discovery.specs.declared.port.PortRules.{PortRules}
+use Rattle.bng_ppp.specs.declared.whole_input.WholeInput.TheVariants.{Start, Timer}
+use Rattle.bng_slots.specs.Sessions.{value_at}
+use Rattle.bng_shard.specs.Made.{Made}
+use Rattle.bng_shard.specs.declared.rules.Rules.{Rules}
+use Rattle.bng_shard.specs.declared.session.Service.{Service}
+use Rattle.bng_shard.specs.declared.session.Service.TheVariants.{Provisioned, Discovered}
+use Rattle.bng_shard.specs.declared.session.Session.{Session}
+use Rattle.bng_shard.specs.State.{State, session_of, with_driven, with_ended}
+use Rattle.bng_shard.specs.Deed.{Deed, at_of}
+use Rattle.bng_shard.specs.Discovery.{Answers, Discovers}
+use Rattle.bng_shard.specs.Frames.{HearsData, HearsPpp, HearsControl, HearsIn, HearsFrame, HearsAccess, HearsCore}
+use Rattle.bng_shard.specs.Link.{LinkStep, Drives, ended, hears, nas_request, told, user_request}
+use Rattle.bng_shard.specs.Step.{Hears}
+use Rattle.bng_shard.specs.Timers.{Ticks, Ends, HearsTick, HearsEnd, at_once}
+use Rattle.bng_shard.proofs.Naming.{at_number, next_of}
+
+-- A relation of states that holds where nothing changes, and of two changes one after the other. It holds of a step of the link of a
+-- session that stands there, of one of a session that is made, and of a PADT.
+pub record Walks (r : Rules) (R : State → State → Type 0) : Type 1 where
+  pub same : (s s' : State) → s' ≡ s → R s s'
+  pub then : (s s' s'' : State) → R s s' → R s' s'' → R s s''
+  pub driven : (Steps : LinkStep) (e : Entry) (s : State) (n : ℕ) (x x' : Session) (outs : List OutRecord) (cause : Option ℕ) (asked' : ℕ) → value_at s.sessions n ≡ Some x
+      → Drives r (at_of s e) s.asked x Steps outs cause x' asked' → R s (with_driven s n x.lease cause x' asked')
+  pub made : (Steps : LinkStep) (e : Entry) (s : State) (n : ℕ) (x x' : Session) (outs : List OutRecord) (cause : Option ℕ) (asked' : ℕ) → x.lease ≡ None
+      → Drives r (at_of s e) s.asked x Steps outs cause x' asked' → R s (with_driven s n None cause x' asked')
+  pub padt : (s : State) (n : ℕ) (x : Session) (m : Made) → value_at s.sessions n ≡ Some x → x.service ≡ Discovered m → R s (with_ended s n x.lease user_request (ended x))
+
+-- and of one that the gateway ends
+abbrev pub Stops : (State → State → Type 0) → Type 0
+Stops R = (s : State) (n : ℕ) (x : Session) → value_at s.sessions n ≡ Some x → R s (with_ended s n x.lease nas_request (ended x))
+
+module _ (r : Rules) (R : State → State → Type 0) (w : Walks r R) where
+  ticks_walk : (k : ℕ) (e : Entry) (s : State) (outs : List OutRecord) (s' : State) → Ticks k r e s outs s' → R s s'
+  ticks_walk zero e s outs s' h = w.same s s' h.1
+  ticks_walk (suc k) e s outs s' (inl h) = w.same s s' h.2
+  ticks_walk (suc k) e s outs s' (inr (n, due, x, x', at, first, cause, asked', drives, rest, more, are)) =
+      w.then s (with_driven s n x.lease cause x' asked') s' (w.driven (told r e Timer) e s n x x' first cause asked' at drives)
+      (ticks_walk k e (with_driven s n x.lease cause x' asked') rest s' more)
+
+  ends_walk : Stops R → (k : ℕ) (e : Entry) (s : State) (outs : List OutRecord) (s' : State) → Ends k r e s outs s' → R s s'
+  ends_walk stops zero e s outs s' h = w.same s s' h.1
+  ends_walk stops (suc k) e s outs s' (inl h) = w.same s s' h.2
+  ends_walk stops (suc k) e s outs s' (inr (n, lowest, x, at, padt, rest, tells, more, are)) =
+      w.then s (with_ended s n x.lease nas_request (ended x)) s' (stops s n x at) (ends_walk stops k e (with_ended s n x.lease nas_request (ended x)) rest s' more)
+
+  module _ (s : State) (limited : Bool) (e : Entry) (d : Deed) where
+    -- a deed that is this one, which leaves all as it was
+    kept : (f : Deed) → d ≡ f → f.next ≡ s → R s d.next
+    kept f is next = w.same s d.next (next_of d f is ∙ next)
+
+    after : (s' : State) (f : Deed) → d ≡ f → f.next ≡ s' → R s s' → R s d.next
+    after s' f is next h = subst (λ (t : State). R s t) (sym (next_of d f is ∙ next)) h
+
+    answers : (answer : Answer) (number : ℕ) (port : AccessPort) (offers : PortRules) (p : PppoeFrame) (tags : List PppoeTag) → Answers answer r s e number port offers p tags d → R s d.next
+    answers Offer number port offers p tags h = kept _ h refl
+    answers Make number port offers p tags h =
+        after (with_driven s h.session None h.cause h.x h.asked) _ h.done refl (w.made (told r e Start) e s h.session _ h.x h.outs h.cause h.asked refl h.starts)
+    answers Again number port offers p tags h = kept _ h.done refl
+    answers (Refuse error) number port offers p tags h = kept _ h refl
+    answers Ended number port offers p tags h = kept _ h refl
+    answers NoSession number port offers p tags h = kept _ h refl
+    answers Ignore number port offers p tags h = kept _ h refl
+
+    discovers : (number : ℕ) (p : PppoeFrame) → Discovers r s e number p d → R s d.next
+    discovers number p h = answers h.answer number h.port h.offers p h.tags h.does
+
+    data_kept : (number : ℕ) (p : PppoeFrame) (info : List ℕ) → HearsData r s e number p info d → R s d.next
+    data_kept number p info (fate, is, inl (forwards, up)) = kept _ up.done refl
+    data_kept number p info (fate, is, inr (stays, h)) = kept _ h refl
+
+    ppp : (x : Session) (made : Made) (p : PppoeFrame) → value_at s.sessions p.session ≡ Some x → HearsPpp r s e x made p d → R s d.next
+    ppp x made p at (inl (over, h)) = kept _ h refl
+    ppp x made p at (inr (live, outs, cause, x', asked', drives, h)) =
+        after (with_driven s p.session x.lease cause x' asked') _ h refl (w.driven (hears r e p.payload) e s p.session x x' outs cause asked' at drives)
+
+    control : (v : Service) (x : Session) (p : PppoeFrame) → value_at s.sessions p.session ≡ Some x → x.service ≡ v → HearsControl v r s e x p d → R s d.next
+    control (Provisioned over) x p at is h = kept _ h refl
+    control (Discovered made) x p at is (inl (padt, h)) = after (with_ended s p.session x.lease user_request (ended x)) _ h refl (w.padt s p.session x made at is)
+    control (Discovered made) x p at is (inr (other, h)) = ppp x made p at h
+
+    named : (number : ℕ) (p : PppoeFrame) (found : Option Session) → session_of s number p.src p.session ≡ found → HearsIn found r s e p d → R s d.next
+    named number p None is h = kept _ h refl
+    named number p (Some x) is h = control x.service x p (at_number number p.src (value_at s.sessions p.session) x is) refl h
+
+    frame : (number : ℕ) (p : PppoeFrame) → HearsFrame r s e number p d → R s d.next
+    frame number p (inl (info, carries, h)) = data_kept number p info h
+    frame number p (inr (inl (names, no_packet, h))) = named number p (session_of s number p.src p.session) refl h
+    frame number p (inr (inr (before, h))) = discovers number p h
+
+    access : (number : ℕ) → HearsAccess r s e number d → R s d.next
+    access number (inl (none, h)) = kept _ h refl
+    access number (inr (p, is, h)) = frame number p h
+
+    core : HearsCore r s e d → R s d.next
+    core (inl (none, h)) = kept _ h refl
+    core (inr (v, is, (fate, decides, inl (forwards, down)))) = kept _ down.done refl
+    core (inr (v, is, (fate, decides, inr (stays, h)))) = kept _ h refl
+
+    tick : HearsTick r s e d → R s d.next
+    tick (outs, s', ticks, h) = after s' _ h refl (ticks_walk at_once e s outs s' ticks)
+
+    -- of an End
+    pub end_walks : Stops R → HearsEnd r s e d → R s d.next
+    end_walks stops (outs, s', all, h) = after s' _ h refl (ends_walk stops at_once e s outs s' all)
+
+    -- of each other entry that is no verdict
+    pub hears_walks : (kind : ItemKind) → Hears kind r s limited e d → (kind ≡ Verdict) ⊎ ((kind ≡ End) ⊎ R s d.next)
+    hears_walks (Access number) h = inr (inr (access number h))
+    hears_walks Core h = inr (inr (core h))
+    hears_walks Tunnel h = inr (inr (kept _ h refl))
+    hears_walks Verdict h = inl refl
+    hears_walks Change h = inr (inr (kept _ h refl))
+    hears_walks Tick h = inr (inr (tick h))
+    hears_walks End h = inr (inl refl)
