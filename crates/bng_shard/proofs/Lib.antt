@@ -9,6 +9,8 @@ pub mod InCircuits
 pub mod ListParts
 pub mod LeavingFirst
 pub mod Beginning
+pub mod Wishing
+pub mod Asking
 pub mod TermLaws
 pub mod Reading
 pub mod Spelling
