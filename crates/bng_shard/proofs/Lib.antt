@@ -10,6 +10,8 @@ pub mod ListParts
 pub mod LeavingFirst
 pub mod Beginning
 pub mod Walking
+pub mod Wishing
+pub mod Asking
 pub mod TermLaws
 pub mod Poolless
 pub mod Reading

@@ -1,26 +1,38 @@
 //! Verdicts on the questions of sessions.
-ghost use Rattle.std.specs.Prelude.{◌≡◌, ◌<◌, ◌≤◌, ◌+◌, ◌^◌, length, vec_capacity};
+ghost use Rattle.std.specs.Prelude.{◌≡◌, ◌<◌, ◌≤◌, ◌+◌, ◌^◌, ◌++◌, ◌∷◌, [], ℕ, true, Option as Maybe, Some, None as Nothing, length, vec_capacity};
+ghost use Rattle.std.specs.List.{All};
 ghost use Rattle.bng_base.specs.declared.address.Ip4.{Ip4 as Address};
 ghost use Rattle.bng_base.specs.declared.item.ItemKind.TheVariants.{Verdict as VerdictKind};
+ghost use Rattle.bng_grant.specs.Grants.{gift};
+ghost use Rattle.bng_shard.specs.Driven.{Driven};
 ghost use Rattle.bng_shard.specs.Fits.{ArePlaced};
 ghost use Rattle.bng_shard.specs.Hearing.{Does};
+ghost use Rattle.bng_shard.specs.Link.{IsToldVerdict};
+ghost use Rattle.bng_shard.specs.Made.{Question as Asked};
 ghost use Rattle.bng_shard.specs.Protocol.{entry_with};
-ghost use Rattle.bng_shard.specs.Running.{MayBegin, whole};
-ghost use Rattle.bng_shard.specs.Verdicts.{HearsVerdict};
+ghost use Rattle.bng_shard.specs.Questions.{open_of};
+ghost use Rattle.bng_shard.specs.Running.{tenures_in, whole, MayBegin};
+ghost use Rattle.bng_shard.specs.Verdicts.{next_lease, next_term, settled_by, HearsVerdict};
 ghost use Rattle.bng_shard.specs.Wished.{IsAnswered};
+ghost use Rattle.bng_shard.specs.Wishes.{refused_with, told_by, told_of, Decides, IsAnswerTo, Wishes};
+ghost use Rattle.bng_shard.specs.declared.session.Session.{Session as Seen};
+ghost use Rattle.bng_shard.specs.declared.wish.Wish.{Wish as Asks};
+ghost use Rattle.bng_slots.specs.Sessions.{value_at};
 
 use crate::drive::drive;
 use crate::rules::Rules;
 use crate::sending::At;
 use crate::served::Served;
 use crate::session::{Lease, Session};
+use crate::term_rows::copied;
 use crate::terms::{Running, Terms};
 use crate::wish::pool_for;
 use arrayvec::ArrayVec;
-use bng_base::{Book, Claim, Fate, Ip4, Item, OutRecord, SessionNo, TermId};
-use bng_grant::grant_of;
+use bng_base::{Book, Claim, Fate, Ip4, Item, NamedRange, OutRecord, SessionNo, TermId};
+use bng_grant::{Grant, grant_of};
 use bng_ppp::WholeInput;
 use bng_verdict::verdict_of;
+use std::marker::Model;
 
 /// What a link is told of its peer: whether it is accepted, the address that it has then, if it has one, and the text of the reply. And
 /// what the records of its term say of the Class attributes of the Accept.
@@ -32,23 +44,79 @@ struct Told {
     class: ArrayVec<u8, 512>,
 }
 
-fn refused(text: &[u8]) -> Told {
-    let mut list = ArrayVec::new();
-    for octet in text {
-        if !list.is_full() {
-            list.push(*octet);
-        }
-    }
+impl Model for Told {
+    ghost use Rattle.bng_shard.specs.Link.{Told as Seen};
+
+    ghost Value = { Seen };
+
+    ghost view = { λ t. record { yes = t.yes; lease = t.lease; text = t.text.items; class = t.class.items } };
+}
+
+// The peer is refused with this text.
+fn refused(text: &[u8]) -> Told
+    requires short { length text.now ≤ 253 }
+    ensures { result ≡ refused_with text.now }
+{
+    let Ok(text) = ArrayVec::try_from(text) else {
+        unreachable!();
+    };
     Told {
         yes: false,
         lease: None,
-        text: list,
+        text,
         class: ArrayVec::new(),
     }
 }
 
-// What the octets of a reply come to.
-fn told_by(rules: &Rules, octets: &[u8], claim: Claim, limited: bool) -> Option<Told> {
+// What comes of the answer to what an Accept asked of the pools.
+fn told_by(claim: Claim, text: ArrayVec<u8, 253>, grant: Grant<'_>) -> Told
+    ensures { result ≡ told_by claim text.items (gift grant) }
+{
+    match claim {
+        Claim::Claimed(address) => Told {
+            yes: true,
+            lease: Some(address),
+            text,
+            class: grant.class,
+        },
+        Claim::NoClaim | Claim::Held(_) | Claim::Exhausted(_) => refused(b"no address"),
+    }
+}
+
+// What an Accept comes to.
+fn told_of(
+    pools: &[NamedRange],
+    limited: bool,
+    claim: Claim,
+    text: ArrayVec<u8, 253>,
+    grant: Grant<'_>,
+) -> Told
+    requires few { length pools.now ≤ 16 }
+    ensures { result ≡ told_of pools.now limited claim text.items (gift grant) }
+{
+    if pools.is_empty() {
+        return Told {
+            yes: true,
+            lease: None,
+            text,
+            class: grant.class,
+        };
+    }
+    if pool_for(pools, grant.pool).is_none() {
+        return refused(b"no pool");
+    }
+    if limited {
+        return refused(b"no record");
+    }
+    told_by(claim, text, grant)
+}
+
+// What the octets of a reply come to, where what they ask of the pools was answered by this claim.
+fn told_for(pools: &[NamedRange], limited: bool, octets: &[u8], claim: Claim) -> Option<Told>
+    requires few { length pools.now ≤ 16 }
+    requires answered { (wish : Asks) × Wishes pools.now limited octets.now wish × IsAnswerTo pools.now wish claim }
+    ensures { Decides pools.now limited octets.now claim result }
+{
     let verdict = verdict_of(octets)?;
     if !verdict.yes {
         return Some(Told {
@@ -58,39 +126,115 @@ fn told_by(rules: &Rules, octets: &[u8], claim: Claim, limited: bool) -> Option<
             class: ArrayVec::new(),
         });
     }
-    let grant = grant_of(octets)?;
-    let pools = rules.pools.as_slice();
-    let lease = if pools.is_empty() {
-        None
-    } else if pool_for(pools, grant.pool).is_none() {
-        return Some(refused(b"no pool"));
-    } else if limited {
-        return Some(refused(b"no record"));
-    } else {
-        match claim {
-            Claim::Claimed(address) => Some(address),
-            _ => return Some(refused(b"no address")),
-        }
+    let Some(grant) = grant_of(octets) else {
+        unreachable!();
     };
-    Some(Told {
-        yes: true,
-        lease,
-        text: verdict.text,
-        class: grant.class,
-    })
+    Some(told_of(pools, limited, claim, verdict.text, grant))
 }
 
-// The name of the session's question.
-fn name_of(session: &Session) -> ArrayVec<u8, 128> {
-    let mut name = ArrayVec::new();
-    if let Some(question) = session.question() {
-        for octet in question.credentials.name.as_slice() {
-            if !name.is_full() {
-                name.push(*octet);
-            }
-        }
-    }
-    name
+// The name of the session's open question.
+fn name_of(session: &Session) -> ArrayVec<u8, 128>
+    requires asks { (q : Asked) × (open_of session.now ≡ Some q) }
+    ensures { (q : Asked) → open_of session.now ≡ Some q → result.items ≡ q.claim.name }
+{
+    let Some(question) = session.question() else {
+        unreachable!();
+    };
+    copied(&question.credentials.name)
+}
+
+// A term of the session begins, with this address.
+fn begin_term(
+    served: &mut Served,
+    terms: &mut Terms,
+    session: &mut Session,
+    address: Ip4,
+    user: ArrayVec<u8, 128>,
+    class: ArrayVec<u8, 512>,
+    now: u64,
+)
+    requires few { served.old.begun + 1 < 2 ^ 48 }
+    requires room { 0 < terms.old.room }
+    requires numbered { All (λ r. r.term.serial ≤ served.old.begun) terms.old.rows }
+    requires numbered_news { All (λ r. r.term.serial ≤ served.old.begun) terms.old.news }
+    ensures session { session.new ≡ record session.old { lease = Some (next_lease served.old address) } }
+    ensures served { served.new ≡ record served.old { begun = served.old.begun + 1 } }
+    ensures terms { (q : Asked) → q.claim.name ≡ user.items → tenures_in terms.new.rows ≡ tenures_in terms.old.rows ++ next_term served.old session.old q class.items now address ∷ [] }
+    ensures news { (q : Asked) → q.claim.name ≡ user.items → tenures_in terms.new.news ≡ tenures_in terms.old.news ++ next_term served.old session.old q class.items now address ∷ [] }
+{
+    let serial = served.count_begun();
+    session.lease = Some(Lease {
+        serial,
+        address,
+        profile: 0,
+    });
+    terms.begin(Running {
+        term: TermId {
+            session: session.number,
+            serial,
+        },
+        circuit: session.pppoe_circuit(),
+        lease: address,
+        profile: 0,
+        carried: Book::empty(),
+        user,
+        class,
+        began: now,
+        cause: None,
+    });
+}
+
+// The session's link is told what was found of its open question, and a term begins where the peer is accepted with an address.
+fn settle_question(
+    served: &mut Served,
+    terms: &mut Terms,
+    number: SessionNo,
+    rules: &Rules,
+    at: At,
+    told: Told,
+    now: u64,
+    random: &[u8; 16],
+    outs: &mut Vec<OutRecord>,
+)
+    requires moment { now < 2 ^ 60 }
+    requires auth { 0 < length rules.now.link.auth.items }
+    requires offers { length rules.now.offers ≡ length rules.now.access }
+    requires placed { ArePlaced rules.now served.old.sessions }
+    requires asks { (x : Seen) × (q : Asked) × (value_at served.old.sessions number.0 ≡ Some x) × (open_of x ≡ Some q) }
+    requires begins { (a : Address) → told.lease ≡ Some a → (told.yes ≡ true) × MayBegin a served.old terms.old }
+    requires room { length outs.old.items + 5 ≤ vec_capacity outs.old }
+    ensures settled { (x : Seen) (q : Asked) → value_at served.old.sessions number.0 ≡ Some x → open_of x ≡ Some q → (x' : Seen) × (cause : Maybe ℕ) × (asked : ℕ)
+        × Driven rules.now at (IsToldVerdict rules.now.link told now random.now) served.old.asked x cause x' asked outs.old.items outs.new.items
+        × (x.lease ≡ Nothing) × (whole served.new terms.new ≡ settled_by (whole served.old terms.old) number.0 x q told now x' asked told.lease) }
+    ensures capacity { vec_capacity outs.new ≡ vec_capacity outs.old }
+    ensures few { length outs.new.items ≤ length outs.old.items + 5 }
+{
+    let mut session = served.take(number);
+    let user = name_of(&session);
+    let Told {
+        yes,
+        lease,
+        text,
+        class,
+    } = told;
+    let input = WholeInput::Verdict { yes, lease, text };
+    let (asked, _) = drive(
+        &mut session,
+        served.asked(),
+        rules,
+        at,
+        input,
+        now,
+        random,
+        outs,
+    );
+    served.count_asked(asked);
+    let Some(address) = lease else {
+        served.put(session);
+        return;
+    };
+    begin_term(served, terms, &mut session, address, user, class, now);
+    served.put(session);
 }
 
 /// Handles the octets of a reply to a question. Where the question that the item names is open, its session's link is told what they
@@ -109,6 +253,7 @@ pub(crate) fn hear_verdict(
     requires moment { now < 2 ^ 60 }
     requires auth { 0 < length rules.now.link.auth.items }
     requires offers { length rules.now.offers ≡ length rules.now.access }
+    requires few_pools { length rules.now.pools ≤ 16 }
     requires placed { ArePlaced rules.now served.old.sessions }
     requires here { at.shard ≡ served.old.sessions.shard }
     requires kind { item.now.kind ≡ VerdictKind }
@@ -122,49 +267,20 @@ pub(crate) fn hear_verdict(
     if served.open_ask(number) != Some(item.ask) {
         return Fate::Consumed;
     }
-    let Some(told) = told_by(rules, item.frame.payload(), claim, limited) else {
+    let pools = rules.pools.as_slice();
+    let Some(told) = told_for(pools, limited, item.frame.payload(), claim) else {
         return Fate::Consumed;
     };
-    let input = WholeInput::Verdict {
-        yes: told.yes,
-        lease: told.lease,
-        text: told.text,
-    };
-    let mut session = served.take(number);
-    let user = name_of(&session);
-    let (asked, _cause) = drive(
-        &mut session,
-        served.asked(),
+    settle_question(
+        served,
+        terms,
+        number,
         rules,
         at,
-        input,
+        told,
         now,
         &item.random,
         outs,
     );
-    served.count_asked(asked);
-    if let Some(address) = told.lease {
-        let serial = served.count_begun();
-        session.lease = Some(Lease {
-            serial,
-            address,
-            profile: 0,
-        });
-        terms.begin(Running {
-            term: TermId {
-                session: number,
-                serial,
-            },
-            circuit: session.pppoe_circuit(),
-            lease: address,
-            profile: 0,
-            carried: Book::empty(),
-            user,
-            class: told.class,
-            began: now,
-            cause: None,
-        });
-    }
-    served.put(session);
     Fate::Consumed
 }

@@ -1,5 +1,10 @@
 //! What an Access-Accept asks of the pools of addresses.
-ghost use Rattle.bng_shard.specs.Wished.{IsWished};
+ghost use Rattle.std.specs.Prelude.{◌≡◌, ◌≤◌, length};
+ghost use Rattle.std.specs.List.{list_any};
+ghost use Rattle.std.specs.Option.{option_map};
+ghost use Rattle.bng_grant.specs.Grants.{gift};
+ghost use Rattle.bng_shard.specs.Wished.{IsWished, WishesVerdict};
+ghost use Rattle.bng_shard.specs.Wishes.{is_named, is_within, pool_for, wish_in, wish_of, Wishes};
 
 use crate::rules::Rules;
 use crate::served::Served;
@@ -15,21 +20,58 @@ pub enum Wish {
     Pool(u8),
 }
 
+fn is_named(pool: &NamedRange, name: &[u8]) -> bool
+    ensures { result ≡ is_named name.now pool.now }
+{
+    pool.name.as_slice() == name
+}
+
 /// The place of the pool that an Accept names (Framed-Pool, RFC 2869 section 5.18), and of the first where it names none.
-pub(crate) fn pool_for(pools: &[NamedRange], named: Option<&[u8]>) -> Option<u8> {
+pub(crate) fn pool_for(pools: &[NamedRange], named: Option<&[u8]>) -> Option<u8>
+    requires few { length pools.now ≤ 16 }
+    ensures { result ≡ pool_for pools.now (option_map (λ n. n.now) named.entry) }
+{
     let Some(name) = named else {
         return Some(0);
     };
-    for (place, pool) in pools.iter().enumerate() {
-        if pool.name.as_slice() == name {
-            return Some(place as u8);
+    let place = pools.iter().position(|p| is_named(p, name))?;
+    Some(place as u8)
+}
+
+fn is_within(pool: &NamedRange, address: Ip4) -> bool
+    ensures { result ≡ is_within address.0 pool.now }
+{
+    pool.range.first.0 <= address.0 && address.0 <= pool.range.last.0
+}
+
+// Whether a pool has this address.
+fn has_address(pools: &[NamedRange], address: Ip4) -> bool
+    ensures { result ≡ list_any (is_within address.0) pools.now }
+{
+    pools.iter().any(|p| is_within(p, address))
+}
+
+// An address is asked for itself, where a pool has it; else any address of the pool at this place is.
+fn wish_in(pools: &[NamedRange], address: Option<Ip4>, place: u8) -> Wish
+    ensures { result ≡ wish_in pools.now (option_map (λ a. a.0) address) place }
+{
+    match address {
+        None => Wish::Pool(place),
+        Some(address) => {
+            if has_address(pools, address) {
+                Wish::Address(address)
+            } else {
+                Wish::Nothing
+            }
         }
     }
-    None
 }
 
 // What an Accept that gives this asks of the pools.
-fn wish_of(pools: &[NamedRange], limited: bool, grant: &Grant<'_>) -> Wish {
+fn wish_of(pools: &[NamedRange], limited: bool, grant: &Grant<'_>) -> Wish
+    requires few { length pools.now ≤ 16 }
+    ensures { result ≡ wish_of pools.now limited (gift grant.now) }
+{
     if pools.is_empty() {
         return Wish::Nothing;
     }
@@ -39,37 +81,50 @@ fn wish_of(pools: &[NamedRange], limited: bool, grant: &Grant<'_>) -> Wish {
     if limited {
         return Wish::Nothing;
     }
-    match grant.address {
-        None => Wish::Pool(place),
-        Some(address) => {
-            let within = |pool: &NamedRange| {
-                pool.range.first.0 <= address.0 && address.0 <= pool.range.last.0
-            };
-            if pools.iter().any(within) {
-                Wish::Address(address)
-            } else {
-                Wish::Nothing
-            }
-        }
-    }
+    wish_in(pools, grant.address, place)
 }
 
-/// What an item asks of the pools of addresses, where the shard's allowance of new terms is used up (`limited`) or is not. Only a
-/// verdict on an open question asks for an address.
-pub(crate) fn wish_for(served: &Served, rules: &Rules, item: &Item, limited: bool) -> Wish
-    ensures { IsWished rules.now served.now item.now limited result }
+// What the octets of a reply ask of them.
+fn octets_wish(pools: &[NamedRange], limited: bool, octets: &[u8]) -> Wish
+    requires few { length pools.now ≤ 16 }
+    ensures { Wishes pools.now limited octets.now result }
 {
-    if item.kind != ItemKind::Verdict || served.open_ask(SessionNo(item.target)) != Some(item.ask) {
-        return Wish::Nothing;
-    }
-    let Some(verdict) = verdict_of(item.frame.payload()) else {
+    let Some(verdict) = verdict_of(octets) else {
         return Wish::Nothing;
     };
     if !verdict.yes {
         return Wish::Nothing;
     }
-    match grant_of(item.frame.payload()) {
-        Some(grant) => wish_of(rules.pools.as_slice(), limited, &grant),
-        None => Wish::Nothing,
+    let Some(grant) = grant_of(octets) else {
+        unreachable!();
+    };
+    wish_of(pools, limited, &grant)
+}
+
+// What a verdict asks, where the question that it names is open.
+fn verdict_wish(served: &Served, rules: &Rules, item: &Item, limited: bool) -> Wish
+    requires few { length rules.now.pools ≤ 16 }
+    ensures { WishesVerdict rules.now served.now item.now limited result }
+{
+    if served.open_ask(SessionNo(item.target)) != Some(item.ask) {
+        return Wish::Nothing;
+    }
+    octets_wish(rules.pools.as_slice(), limited, item.frame.payload())
+}
+
+/// What an item asks of the pools of addresses, where the shard's allowance of new terms is used up (`limited`) or is not. Only a
+/// verdict on an open question asks for an address.
+pub(crate) fn wish_for(served: &Served, rules: &Rules, item: &Item, limited: bool) -> Wish
+    requires few { length rules.now.pools ≤ 16 }
+    ensures { IsWished rules.now served.now item.now limited result }
+{
+    match item.kind {
+        ItemKind::Verdict => verdict_wish(served, rules, item, limited),
+        ItemKind::Access(_)
+        | ItemKind::Core
+        | ItemKind::Tunnel
+        | ItemKind::Change
+        | ItemKind::Tick
+        | ItemKind::End => Wish::Nothing,
     }
 }

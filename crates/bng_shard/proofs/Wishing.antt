@@ -1,0 +1,94 @@
+-- What the octets of a reply ask of the pools of addresses, and what they come to.
+use Rattle.std.proofs.Common.{◌≡◌, ℕ, Bool, true, false, List, Option, Some, None, inl, inr, refl, sym, ap, subst, ◌∙◌}
+use Rattle.std.specs.Prelude.{if◌then◌else◌}
+use Rattle.bng_base.specs.declared.address.Ip4.{Ip4}
+use Rattle.bng_base.specs.declared.item.Claim.{Claim}
+use Rattle.bng_base.specs.declared.item.Claim.TheVariants.{NoClaim, Claimed, Held, Exhausted}
+use Rattle.bng_base.specs.declared.settings.NamedRange.{NamedRange}
+use Rattle.bng_grant.specs.Grants.{Gift, IsGrant}
+use Rattle.bng_grant.specs.Grants.IsGrant.{Replied as Given, NoReply as NotGiven}
+use Rattle.bng_grant.proofs.One.{one_grant}
+use Rattle.bng_verdict.specs.Verdicts.{Saying, IsVerdict, silence}
+use Rattle.bng_verdict.specs.Verdicts.IsVerdict.{Silent, Replied, NoReply}
+use Rattle.bng_verdict.proofs.One.{one_verdict}
+use Rattle.bng_shard.specs.declared.wish.Wish.{Wish}
+use Rattle.bng_shard.specs.declared.wish.Wish.TheVariants.{Nothing}
+use Rattle.bng_shard.specs.Link.{Told}
+use Rattle.bng_shard.specs.Wishes.{Decides, IsAnswerTo, Wishes, accepted_with, has_none, pool_for, refused_with, told_at, told_by, told_of, wish_of}
+
+same : {A : Type 0} (a b : A) → Some a ≡ Some b → a ≡ b
+same a b e = cc
+
+never : {A : Type 0} (a : A) → None ≡ Some a → ⊥
+never a e = cc
+
+both : (b : Bool) → b ≡ true → b ≡ false → ⊥
+both b e f = cc
+
+-- a yes is said by a packet, which gives something
+pub yes_gives : (octets : List ℕ) (v : Saying) → IsVerdict octets (Some v) → v.yes ≡ true → IsGrant octets None → ⊥
+yes_gives octets v (Silent none told) yes grant = both v.yes yes (ap (λ (s : Saying). s.yes) (same v silence told))
+yes_gives octets v (Replied p reply told) yes (Given q is g gives e) = never g e
+yes_gives octets v (Replied p reply told) yes (NotGiven other e) = other p (record { packet = reply.packet; few = reply.few })
+yes_gives octets v (NoReply some other told) yes grant = never v (sym told)
+
+-- what was asked was answered by this claim
+abbrev pub Answered : List NamedRange → Bool → List ℕ → Claim → Type 0
+Answered pools limited octets claim = (wish : Wish) × Wishes pools limited octets wish × IsAnswerTo pools wish claim
+
+module _ (pools : List NamedRange) (limited : Bool) (octets : List ℕ) (claim : Claim) (answered : Answered pools limited octets claim) where
+  answered_by : (wish : Wish) → answered.0 ≡ wish → IsAnswerTo pools wish claim
+  answered_by wish e = subst (λ (w : Wish). IsAnswerTo pools w claim) e answered.2
+
+  -- octets that say nothing, or no, asked nothing
+  claims_nothing : ((v : Saying) → IsVerdict octets (Some v) → v.yes ≡ false) → Wishes pools limited octets answered.0 → claim ≡ NoClaim
+  claims_nothing no (inl none) = answered_by Nothing none.1
+  claims_nothing no (inr (inl refuses)) = answered_by Nothing refuses.3
+  claims_nothing no (inr (inr accepts)) = absurd (both accepts.0.yes accepts.2 (no accepts.0 accepts.1))
+
+  pub decides_nothing : IsVerdict octets None → Decides pools limited octets claim None
+  decides_nothing is = inl (is, claims_nothing (λ v said. absurd (never v (one_verdict octets None (Some v) is said))) answered.1, refl)
+
+  pub decides_no : (v : Saying) → IsVerdict octets (Some v) → v.yes ≡ false → Decides pools limited octets claim (Some (refused_with v.text))
+  decides_no v is no =
+      inr (inl (v, is, no, claims_nothing (λ u said. ap (λ (s : Saying). s.yes) (same u v (one_verdict octets (Some u) (Some v) said is)) ∙ no) answered.1, refl))
+
+  -- and what an Accept asked was answered
+  accept_answered : (v : Saying) (g : Gift) → IsVerdict octets (Some v) → v.yes ≡ true → IsGrant octets (Some g) → Wishes pools limited octets answered.0 → IsAnswerTo pools (wish_of pools limited g) claim
+  accept_answered v g is yes gives (inl none) = absurd (never v (one_verdict octets None (Some v) none.0 is))
+  accept_answered v g is yes gives (inr (inl refuses)) =
+      absurd (both v.yes yes (ap (λ (s : Saying). s.yes) (same v refuses.0 (one_verdict octets (Some v) (Some refuses.0) is refuses.1)) ∙ refuses.2))
+  accept_answered v g is yes gives (inr (inr accepts)) =
+      subst (λ (h : Gift). IsAnswerTo pools (wish_of pools limited h) claim) (same accepts.3 g (one_grant octets (Some accepts.3) (Some g) accepts.4 gives)) (answered_by (wish_of pools limited accepts.3) accepts.5)
+
+  pub decides_yes : (v : Saying) (g : Gift) → IsVerdict octets (Some v) → v.yes ≡ true → IsGrant octets (Some g) → Decides pools limited octets claim (Some (told_of pools limited claim v.text g))
+  decides_yes v g is yes gives = inr (inr (v, is, yes, g, gives, accept_answered v g is yes gives answered.1, refl))
+
+-- An address comes of a claim alone, for a peer that is accepted.
+claimed_by : (claim : Claim) (text : List ℕ) (g : Gift) (a : Ip4) → (told_by claim text g).lease ≡ Some a → ((told_by claim text g).yes ≡ true) × (claim ≡ Claimed a)
+claimed_by NoClaim text g a e = absurd (never a e)
+claimed_by (Claimed b) text g a e = (refl, ap (λ (x : Ip4). Claimed x) (same b a e))
+claimed_by (Held b) text g a e = absurd (never a e)
+claimed_by (Exhausted k) text g a e = absurd (never a e)
+
+claimed_at : (limited : Bool) (place : Option ℕ) (claim : Claim) (text : List ℕ) (g : Gift) (a : Ip4) → (told_at limited place claim text g).lease ≡ Some a → ((told_at limited place claim text g).yes ≡ true) × (claim ≡ Claimed a)
+claimed_at limited None claim text g a e = absurd (never a e)
+claimed_at true (Some k) claim text g a e = absurd (never a e)
+claimed_at false (Some k) claim text g a e = claimed_by claim text g a e
+
+claimed_of : (pools : List NamedRange) (limited : Bool) (claim : Claim) (text : List ℕ) (g : Gift) (a : Ip4) → (told_of pools limited claim text g).lease ≡ Some a → ((told_of pools limited claim text g).yes ≡ true) × (claim ≡ Claimed a)
+claimed_of pools limited claim text g a =
+    elim (has_none pools) as (λ b. (if b then accepted_with None text g else told_at limited (pool_for pools g.pool) claim text g).lease ≡ Some a → ((if b then accepted_with None text g else told_at limited (pool_for pools g.pool) claim text g).yes ≡ true) × (claim ≡ Claimed a)) [
+      | true ↦ λ e. absurd (never a e)
+      | false ↦ claimed_at limited (pool_for pools g.pool) claim text g a
+    ]
+
+pub claimed : (pools : List NamedRange) (limited : Bool) (octets : List ℕ) (claim : Claim) (t : Told) (a : Ip4) → Decides pools limited octets claim (Some t) → t.lease ≡ Some a → (t.yes ≡ true) × (claim ≡ Claimed a)
+claimed pools limited octets claim t a (inl none) e = absurd (never t (sym none.2))
+claimed pools limited octets claim t a (inr (inl refuses)) e =
+    let is = same t (refused_with refuses.0.text) refuses.4 in absurd (never a (ap (λ (u : Told). u.lease) (sym is) ∙ e))
+claimed pools limited octets claim t a (inr (inr accepts)) e =
+    let told = told_of pools limited claim accepts.0.text accepts.3 in
+    let is : t ≡ told = same t told accepts.6 in
+    let so = claimed_of pools limited claim accepts.0.text accepts.3 a (ap (λ (u : Told). u.lease) (sym is) ∙ e) in
+    (ap (λ (u : Told). u.yes) is ∙ so.0, so.1)
