@@ -1,6 +1,6 @@
 -- A step tells a peer yes only where that was granted.
-use Rattle.std.proofs.Common.{◌≡◌, ◌≢◌, ◌⊎◌, inl, inr, ℕ, zero, suc, ◌+◌, ◌-◌, ◌*◌, ◌^◌, ◌<◌, ◌≤◌, Bool, true, false, not, ◌&&◌, List, [], ◌∷◌, ◌++◌, Option, Some, None, is_some, if◌then◌else◌, Contains, refl, sym, ap, subst, ◌∙◌, arith}
-use Rattle.std.specs.Prelude.{IsSome, ◌==◌}
+use Rattle.std.proofs.Common.{◌≡◌, ◌⊎◌, inl, inr, ℕ, zero, suc, ◌+◌, ◌-◌, ◌^◌, ◌<◌, ◌≤◌, Bool, true, false, not, ◌&&◌, List, [], ◌∷◌, ◌++◌, Option, Some, None, is_some, if◌then◌else◌, Contains, refl, sym, ap, subst, ◌∙◌, arith}
+use Rattle.std.specs.Prelude.{IsSome}
 use Rattle.std.specs.Option.{option_map, option_and_then}
 use Rattle.std.proofs.lemmas.Bool.{cases_eq, false≢true}
 use Rattle.std.proofs.lemmas.List.Elements.{All-contains, Contains-append_cases}
@@ -236,7 +236,8 @@ module _ (r : Rules) (e : Entry) (a : At) (Steps : LinkStep) (what : WholeInput)
   }
 
 -- whatever the session leases after the step
-abbrev leased : (what : WholeInput) (asked : ℕ) (x : Session) (outs : List OutRecord) (x' : Session) (asked' : ℕ) (lease : Option Lease) → Drove what asked x outs x' asked' → Drove what asked x outs (record x' { lease = lease }) asked'
+abbrev leased : (what : WholeInput) (asked : ℕ) (x : Session) (outs : List OutRecord) (x' : Session) (asked' : ℕ) (lease : Option Lease)
+    → Drove what asked x outs x' asked' → Drove what asked x outs (record x' { lease = lease }) asked'
 leased what asked x outs x' asked' lease d = record {
   made = d.made;
   is_made = d.is_made;
