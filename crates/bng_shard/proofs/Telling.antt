@@ -1,33 +1,37 @@
 -- What was done with a verdict, of what is known of its parts.
-use Rattle.std.proofs.Common.{◌≡◌, ℕ, ◌+◌, ◌≤◌, ◌&&◌, Bool, true, false, not, List, Option, Some, None, length, inl, inr, refl, sym, ap, ◌∙◌}
+use Rattle.std.proofs.Common.{◌≡◌, ℕ, ◌+◌, ◌≤◌, Bool, true, false, not, List, Option, Some, None, length, inl, inr, refl, sym, ap, subst, ◌∙◌, arith, append-nil}
 use Rattle.std.specs.Prelude.{if◌then◌else◌}
 use Rattle.std.specs.Option.{option_map, option_and_then, option_eq}
 use Rattle.std.proofs.Math.Dec.{eqb}
 use Rattle.std.proofs.lemmas.Bool.{eq-eqb, eqb-true}
+use Rattle.bng_base.specs.declared.address.Ip4.{Ip4}
 use Rattle.bng_base.specs.declared.fate.Fate.TheVariants.{Consumed}
+use Rattle.bng_base.specs.declared.item.Claim.{Claim}
+use Rattle.bng_base.specs.declared.item.Claim.TheVariants.{NoClaim, Claimed, Held, Exhausted}
+use Rattle.bng_base.specs.declared.item.Entry.{Entry}
 use Rattle.bng_base.specs.declared.item.Item.{Item}
+use Rattle.bng_base.specs.declared.item.ItemKind.{ItemKind}
+use Rattle.bng_base.specs.declared.item.ItemKind.TheVariants.{Verdict}
 use Rattle.bng_base.specs.declared.item.OutRecord.{OutRecord}
-use Rattle.bng_ppp.specs.PppRelation.{PppSaid}
-use Rattle.bng_ppp.specs.PppState.{PppState, is_open}
+use Rattle.bng_base.specs.declared.settings.NamedRange.{NamedRange}
+use Rattle.bng_grant.specs.Grants.{Gift}
 use Rattle.bng_slots.specs.Sessions.{value_at}
-use Rattle.bng_verdict.specs.Verdicts.{Saying, IsVerdict}
 use Rattle.bng_shard.specs.Made.{Question}
 use Rattle.bng_shard.specs.declared.rules.Rules.{Rules}
 use Rattle.bng_shard.specs.declared.sending.At.{At}
-use Rattle.bng_shard.specs.declared.session.Service.{Service}
-use Rattle.bng_shard.specs.declared.session.Service.TheVariants.{Provisioned, Discovered}
 use Rattle.bng_shard.specs.declared.session.Session.{Session}
-use Rattle.bng_shard.specs.State.{State, with_driven}
-use Rattle.bng_shard.specs.Deed.{at_of, handled}
-use Rattle.bng_shard.specs.Doing.{DoesWith}
+use Rattle.bng_shard.specs.declared.wish.Wish.{Wish}
+use Rattle.bng_shard.specs.State.{State}
+use Rattle.bng_shard.specs.Deed.{handled, ignored}
 use Rattle.bng_shard.specs.Driven.{Driven}
-use Rattle.bng_shard.specs.Link.{IsToldVerdict, LinkStep, settles}
-use Rattle.bng_shard.specs.Protocol.{entry_of}
-use Rattle.bng_shard.specs.Questions.{open_ask_at, open_in, open_of}
-use Rattle.bng_shard.specs.Timers.{does_live, lives_at, lives_in}
-use Rattle.bng_shard.specs.Verdicts.{HearsVerdict}
-use Rattle.bng_shard.proofs.Carrying.{nothing_done}
-use Rattle.bng_shard.proofs.Speaking.{drives, drives_so, driven_few}
+use Rattle.bng_shard.specs.Hearing.{Does}
+use Rattle.bng_shard.specs.Link.{IsToldVerdict, Told}
+use Rattle.bng_shard.specs.Protocol.{entry_with}
+use Rattle.bng_shard.specs.Questions.{open_ask_at, open_of}
+use Rattle.bng_shard.specs.Verdicts.{HearsVerdict, settled_by}
+use Rattle.bng_shard.specs.Wished.{IsAnswered, WishesFor, WishesVerdict}
+use Rattle.bng_shard.specs.Wishes.{Decides, IsAnswerTo, Wishes, accepted_with, has_none, pool_for, refused_with, told_at, told_by, told_of}
+use Rattle.bng_shard.proofs.Speaking.{drives, driven_few}
 use Rattle.bng_shard.proofs.Values.{none_some, same_some}
 
 not_true : (b : Bool) → not b ≡ true → b ≡ true → ⊥
@@ -48,62 +52,123 @@ pub same_ask : (o : Option ℕ) (n : ℕ) → not (option_eq eqb o (Some n)) ≡
 same_ask None n e = absurd (let never : ⊥ = cc in never)
 same_ask (Some m) n e = ap (λ (k : ℕ). Some k) (eqb-true m n (not_false (eqb m n) e))
 
-asks_on : (ended asks : Bool) (o : Option Question) (n : ℕ) → option_map (λ (q : Question). q.ask) (if not ended && asks then o else None) ≡ Some n → not ended ≡ true
-asks_on true asks o n e = absurd (none_some n e)
-asks_on false asks o n e = refl
+asked_of : (x : Session) (o : Option Question) (n : ℕ) → open_of x ≡ o → option_map (λ (q : Question). q.ask) o ≡ Some n → (q : Question) × (open_of x ≡ Some q)
+asked_of x None n is e = absurd (none_some n e)
+asked_of x (Some q) n is e = (q, is)
 
-asks_and_lives : (v : Service) (n : ℕ) → option_map (λ (q : Question). q.ask) (open_in v) ≡ Some n → lives_in v ≡ true
-asks_and_lives (Provisioned l) n e = absurd (none_some n e)
-asks_and_lives (Discovered m) n e = asks_on m.ended (is_open m.link.auth) m.question n e
-
-asked_there : (o : Option Session) (n : ℕ) → option_map (λ (q : Question). q.ask) (option_and_then open_of o) ≡ Some n → (x : Session) × (o ≡ Some x) × (lives_in x.service ≡ true)
+asked_there : (o : Option Session) (n : ℕ) → option_map (λ (q : Question). q.ask) (option_and_then open_of o) ≡ Some n → (x : Session) × (q : Question) × (o ≡ Some x) × (open_of x ≡ Some q)
 asked_there None n e = absurd (none_some n e)
-asked_there (Some x) n e = (x, refl, asks_and_lives x.service n e)
+asked_there (Some x) n e = let found = asked_of x (open_of x) n refl e in (x, found.0, refl, found.1)
 
--- a session with an open question is there, and lives
-pub asks_there : (s : State) (n ask : ℕ) → open_ask_at s n ≡ Some ask → (x : Session) × (value_at s.sessions n ≡ Some x) × (lives_in x.service ≡ true)
+-- a session with an open question is there
+pub asks_there : (s : State) (n ask : ℕ) → open_ask_at s n ≡ Some ask → (x : Session) × (q : Question) × (value_at s.sessions n ≡ Some x) × (open_of x ≡ Some q)
 asks_there s n ask e = asked_there (value_at s.sessions n) ask e
 
-pub asks_lives : (s : State) (n ask : ℕ) → open_ask_at s n ≡ Some ask → lives_at s n ≡ true
-asks_lives s n ask e = let is = asks_there s n ask e in ap does_live is.1 ∙ is.2
+-- What comes of an Accept ------------------------------------------------------------------------------------------------
 
-module _ (r : Rules) (s : State) (a : At) (item : Item) (outs : List OutRecord) (here : a.shard ≡ s.sessions.shard) where
+refused_lease : (text : List ℕ) (t : Told) (a : Ip4) → t ≡ refused_with text → t.lease ≡ Some a → ⊥
+refused_lease text t a is leases = none_some a (sym (ap (λ (u : Told). u.lease) is) ∙ leases)
+
+by_claim : (claim : Claim) (text : List ℕ) (g : Gift) (t : Told) (a : Ip4) → t ≡ told_by claim text g → t.lease ≡ Some a → (t.yes ≡ true) × (claim ≡ Claimed a)
+by_claim NoClaim text g t a is leases = absurd (refused_lease _ t a is leases)
+by_claim (Claimed b) text g t a is leases =
+    let same : b ≡ a = same_some b a (sym (ap (λ (u : Told). u.lease) is) ∙ leases) in
+    (ap (λ (u : Told). u.yes) is, ap (λ (c : Ip4). Claimed c) same)
+by_claim (Held b) text g t a is leases = absurd (refused_lease _ t a is leases)
+by_claim (Exhausted k) text g t a is leases = absurd (refused_lease _ t a is leases)
+
+at_pool : (limited : Bool) (place : Option ℕ) (claim : Claim) (text : List ℕ) (g : Gift) (t : Told) (a : Ip4) → t ≡ told_at limited place claim text g → t.lease ≡ Some a → (t.yes ≡ true) × (claim ≡ Claimed a)
+at_pool limited None claim text g t a is leases = absurd (refused_lease _ t a is leases)
+at_pool true (Some k) claim text g t a is leases = absurd (refused_lease _ t a is leases)
+at_pool false (Some k) claim text g t a is leases = by_claim claim text g t a is leases
+
+by_pools : (b limited : Bool) (place : Option ℕ) (claim : Claim) (text : List ℕ) (g : Gift) (t : Told) (a : Ip4) → t ≡ (if b then accepted_with None text g else told_at limited place claim text g) → t.lease ≡ Some a
+    → (t.yes ≡ true) × (claim ≡ Claimed a)
+by_pools true limited place claim text g t a is leases = absurd (none_some a (sym (ap (λ (u : Told). u.lease) is) ∙ leases))
+by_pools false limited place claim text g t a is leases = at_pool limited place claim text g t a is leases
+
+-- a peer with an address is accepted, and the address was claimed
+pub decided_lease : (pools : List NamedRange) (limited : Bool) (octets : List ℕ) (claim : Claim) (t : Told) (a : Ip4) → Decides pools limited octets claim (Some t) → t.lease ≡ Some a
+    → (t.yes ≡ true) × (claim ≡ Claimed a)
+decided_lease pools limited octets claim t a (inl (silent, none, is)) leases = absurd (none_some t (sym is))
+decided_lease pools limited octets claim t a (inr (inl (v, says, denies, none, is))) leases = absurd (refused_lease v.text t a (same_some t (refused_with v.text) is) leases)
+decided_lease pools limited octets claim t a (inr (inr (v, says, allows, g, grant, answers, is))) leases =
+    by_pools (has_none pools) limited (pool_for pools g.pool) claim v.text g t a (same_some t (told_of pools limited claim v.text g) is) leases
+
+-- Entries ----------------------------------------------------------------------------------------------------------------
+
+-- a verdict's wish, and its answer
+pub answered_verdict : (r : Rules) (s : State) (item : Item) (limited : Bool) (claim : Claim) → item.kind ≡ Verdict → IsAnswered r s item limited claim
+    → (wish : Wish) × WishesVerdict r s item limited wish × IsAnswerTo r.pools wish claim
+answered_verdict r s item limited claim kind h = (h.wish, subst (λ (k : ItemKind). WishesFor k r s item limited h.wish) kind h.is_wished, h.answers)
+
+-- where its question is open, it asks as its octets say
+pub answered_open : (r : Rules) (s : State) (item : Item) (limited : Bool) (claim : Claim) → item.kind ≡ Verdict → IsAnswered r s item limited claim → open_ask_at s item.target ≡ Some item.ask
+    → (wish : Wish) × Wishes r.pools limited item.frame.payload wish × IsAnswerTo r.pools wish claim
+answered_open r s item limited claim kind h asked =
+    let (wish, wishes, answers) = answered_verdict r s item limited claim kind h in
+    elim wishes [ inl there ↦ (wish, there.1, answers) | inr elsewhere ↦ absurd (elsewhere.0 asked) ]
+
+-- and where it is not, it asks nothing
+pub answered_other : (r : Rules) (s : State) (item : Item) (limited : Bool) (claim : Claim) → item.kind ≡ Verdict → IsAnswered r s item limited claim → ¬ (open_ask_at s item.target ≡ Some item.ask) → claim ≡ NoClaim
+answered_other r s item limited claim kind h other =
+    let (wish, wishes, answers) = answered_verdict r s item limited claim kind h in
+    elim wishes [ inl there ↦ absurd (other there.0) | inr elsewhere ↦ subst (λ (w : Wish). IsAnswerTo r.pools w claim) elsewhere.1 answers ]
+
+module _ (r : Rules) (s : State) (limited : Bool) (a : At) (now : ℕ) (item : Item) (claim : Claim) (outs : List OutRecord) where
+  abbrev entry : Entry
+  entry = entry_with claim a.seat a.place now item
+
+  ignores : HearsVerdict r s entry limited (ignored s entry) → Does (HearsVerdict r s entry limited) 5 s s outs outs entry Consumed
+  ignores h = record {
+    deed = ignored s entry;
+    entry = refl;
+    fate_is = refl;
+    next = refl;
+    says = h;
+    outs_are = sym (append-nil outs);
+    few = omega arith;
+  }
+
   -- the question that the item names is not open
-  pub not_open : (¬ (open_ask_at s item.target ≡ Some item.ask)) → (now : ℕ) → DoesWith (HearsVerdict r s) 5 s s outs outs a now item Consumed
-  not_open other = nothing_done r s a item outs here (HearsVerdict r s) 5 Consumed (λ moment. inr (inr (other, refl)))
+  pub not_open : (¬ (open_ask_at s item.target ≡ Some item.ask)) → claim ≡ NoClaim → Does (HearsVerdict r s entry limited) 5 s s outs outs entry Consumed
+  not_open other none = ignores (inr (inr (other, none, refl)))
 
   -- the octets say nothing
-  pub no_verdict : open_ask_at s item.target ≡ Some item.ask → IsVerdict item.frame.payload None → (now : ℕ) → DoesWith (HearsVerdict r s) 5 s s outs outs a now item Consumed
-  no_verdict asked none = nothing_done r s a item outs here (HearsVerdict r s) 5 Consumed (λ moment. inr (inl (asked, none, refl)))
+  pub no_verdict : open_ask_at s item.target ≡ Some item.ask → Decides r.pools limited item.frame.payload claim None → Does (HearsVerdict r s entry limited) 5 s s outs outs entry Consumed
+  no_verdict asked decides = ignores (inr (inl (asked, decides, refl)))
 
-  -- the session's link is told what they say
-  pub is_told : (Steps : LinkStep) (v : Saying) (now : ℕ) → ((old : PppState) (says : PppSaid) (new : PppState) → Steps old says new → IsToldVerdict r.link v now item.random old says new)
-      → open_ask_at s item.target ≡ Some item.ask → IsVerdict item.frame.payload (Some v) → (s' : State) (outs' : List OutRecord)
-      → ((x : Session) → value_at s.sessions item.target ≡ Some x → (x' : Session) × (asked' : ℕ) × Driven r a Steps s.asked x x' asked' outs outs' × (s' ≡ with_driven s item.target x' asked'))
-      → length outs' ≤ length outs + 5 → DoesWith (HearsVerdict r s) 5 s s' outs outs' a now item Consumed
-  is_told Steps v now turn asked says s' outs' driven few =
-      let e = entry_of a.seat a.place now item in
-      let is = asks_there s item.target item.ask asked in
-      let (x', asked', step, next) = driven is.0 is.1 in
+  -- the session's link is told what they come to, and a term begins where the peer is accepted with an address
+  pub is_told : a.shard ≡ s.sessions.shard → open_ask_at s item.target ≡ Some item.ask → (t : Told) → Decides r.pools limited item.frame.payload claim (Some t) → (s' : State) (outs' : List OutRecord)
+      → ((x : Session) (q : Question) → value_at s.sessions item.target ≡ Some x → open_of x ≡ Some q → (x' : Session) × (cause : Option ℕ) × (asked : ℕ)
+      × Driven r a (IsToldVerdict r.link t now item.random) s.asked x cause x' asked outs outs' × (x.lease ≡ None) × (s' ≡ settled_by s item.target x q t now x' asked t.lease))
+      → length outs' ≤ length outs + 5 → Does (HearsVerdict r s entry limited) 5 s s' outs outs' entry Consumed
+  is_told here asked t decides s' outs' settled few =
+      let (x, q, found, asks) = asks_there s item.target item.ask asked in
+      let (x', cause, asked', step, no_term, next) = settled x q found asks in
       record {
-        deed = handled s e step.more (with_driven s item.target x' asked');
+        deed = handled s entry step.more (settled_by s item.target x q t now x' asked' t.lease);
         entry = refl;
         fate_is = refl;
         next = sym next;
         says = inl (
           asked,
-          v,
-          says,
+          t,
+          decides,
           record {
-            x = is.0;
-            found = is.1;
+            x = x;
+            found = found;
+            no_term = no_term;
+            question = q;
+            asks = asks;
             outs = step.more;
             after = x';
             asked = asked';
-            drives = drives_so r (at_of s e) s.asked is.0 x' Steps (settles r e v) step.more asked' turn (drives r s a now item outs outs' is.0 x' Steps s.asked asked' here step);
+            cause = cause;
+            drives = drives r s a now item outs outs' x x' (IsToldVerdict r.link t now item.random) s.asked cause asked' here step;
             done = refl;
           },
         );
         outs_are = step.outs_are;
-        few = driven_few r s a now item outs outs' is.0 x' Steps s.asked asked' here step 5 few;
+        few = driven_few r s a now item outs outs' x x' (IsToldVerdict r.link t now item.random) s.asked cause asked' here step 5 few;
       }
