@@ -111,6 +111,12 @@ module _ (echo now : ℕ) (old : LinkState) (says : Said) (new : LinkState) wher
       let still : is ≡ mid = follows_calm Up _ echo now h.opened last h.on_up refl in
       on_up ∙ neither h.opened.said.opened (comes was mid) (comes mid is) on_open (calmly was mid same) (calmly mid is still) ∙ sym (calmly was is (still ∙ same))
 
+-- Open and Up neither bring LCP to Opened nor away from it
+pub starts_calm : (echo now : ℕ) (old : LinkState) (says : Said) (new : LinkState) (auth : List AuthKind) (random : List ℕ) → Starts auth random echo now old says new → is_opened new.lcp.state ≡ is_opened old.lcp.state
+starts_calm echo now old says new auth random h =
+    follows_calm Up _ echo now h.opened (record { link = new; said = says }) h.on_up refl
+    ∙ follows_calm Open _ echo now (record { link = record old { ask = h.ask }; said = quiet }) h.opened h.on_open refl
+
 pub steps_open : (r : LinkRules) (told : Input) (now : ℕ) (random : List ℕ) (old : LinkState) (says : Said) (new : LinkState) → LinkSteps r told now random old says new → TellsOpened old says new
 steps_open r input.Start now random old says new h = starts_open r.echo now old says new r.auth.items random h
 steps_open r (input.Frame octets) now random old says new h = hears_open r.echo now old says new octets.now random h

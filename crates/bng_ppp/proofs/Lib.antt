@@ -1,6 +1,7 @@
 pub mod RejectLaws
 pub mod ReplyLaws
 pub mod RoomLaws
+pub mod TermLaws
 pub mod MruLaws
 pub mod LcpOuts
 pub mod OneOutcome

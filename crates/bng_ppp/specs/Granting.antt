@@ -1,5 +1,5 @@
--- What tells a peer that it is accepted, and what may, by RFC 1334 section 2.2 and RFC 1994 section 4.
-use Rattle.std.specs.Prelude.{◌≡◌, ◌⊎◌, ℕ, Bool, true, false, List}
+-- What tells a peer that it is accepted, what may, by RFC 1334 section 2.2 and RFC 1994 section 4, and what begins its term.
+use Rattle.std.specs.Prelude.{◌≡◌, ◌⊎◌, ◌&&◌, ℕ, Bool, true, false, List, is_some}
 use Rattle.bng_base.specs.PppGrammar.{PppFrame, ControlPacket, IsPpp, IsControlPacket}
 use Rattle.bng_ppp_wire.specs.Codes as code
 use Rattle.bng_ppp_wire.specs.Protocols as protocol
@@ -37,6 +37,25 @@ is_frame told.Timer = false
 is_frame (told.Verdict found lease text) = false
 is_frame told.Close = false
 is_frame told.Lost = false
+
+-- a verdict by which a peer is accepted and is given an address
+abbrev pub gives_address : WholeInput → Bool
+gives_address told.Start = false
+gives_address (told.Frame octets) = false
+gives_address told.Timer = false
+gives_address (told.Verdict found lease text) = found && is_some lease
+gives_address told.Close = false
+gives_address told.Lost = false
+
+-- what comes of the link and its peer alone: they begin, a frame, the time. The rest is what the gateway decides, or learns of the
+-- layer below.
+abbrev pub goes_by_itself : WholeInput → Bool
+goes_by_itself told.Start = true
+goes_by_itself (told.Frame octets) = true
+goes_by_itself told.Timer = true
+goes_by_itself (told.Verdict found lease text) = false
+goes_by_itself told.Close = false
+goes_by_itself told.Lost = false
 
 -- the peer was accepted before, or this is the verdict yes on the question that is open
 abbrev pub MayAccept : WholeInput → Authentication → Type 0

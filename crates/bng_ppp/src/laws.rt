@@ -9,18 +9,20 @@ ghost use Rattle.std.specs.List.{All};
 ghost use Rattle.bng_ppp.specs.LinkRelation.{LinkSteps};
 ghost use Rattle.bng_ppp.specs.declared.whole_input.WholeInput.{WholeInput};
 ghost use Rattle.bng_ppp.specs.declared.whole_step.WholeSteps.{WholeSteps};
-ghost use Rattle.bng_ppp.specs.PppRelation.{PppSaid, PppSteps};
+ghost use Rattle.bng_ppp.specs.PppRelation.{PppSaid, PppSteps, after_turn, ended_by};
 ghost use Rattle.bng_ppp.specs.WholeStep.{ppp_said};
 ghost use Rattle.bng_ppp.specs.PppState.{PppState, is_accepted, is_open, passes};
-ghost use Rattle.std.specs.Prelude.{true, ◌<◌, length};
+ghost use Rattle.std.specs.Prelude.{true, ◌<◌, ◌&&◌, length};
 ghost use Rattle.bng_base.specs.PppGrammar.{ControlPacket, IsPpp, IsControlPacket, packet_text, ppp_text};
 ghost use Rattle.bng_ppp.specs.Messages.{frame_text, ReadsBack};
 ghost use Rattle.bng_ppp.specs.Phases.{KeepsPhases, is_begun};
 ghost use Rattle.bng_ppp.specs.Claims.{Claim};
-ghost use Rattle.bng_ppp.specs.Granting.{IsYes, MayAccept, is_frame};
+ghost use Rattle.bng_ppp.specs.Granting.{IsYes, MayAccept, gives_address, goes_by_itself, is_frame};
 ghost use Rattle.bng_ppp.specs.Layers.{Turn};
 ghost use Rattle.bng_ppp.specs.Saying.{Says};
 ghost use Rattle.bng_ppp.specs.WholeFrame.{HearsOctets};
+ghost use Rattle.bng_ppp.specs.Verdict.{Settles};
+ghost use Rattle.bng_base.specs.declared.address.Ip4.{Ip4};
 
 /// From one state of LCP one input leads to one state, and one list of frames is sent (RFC 1661 section 4): no two cases
 /// of the relation hold at once.
@@ -100,4 +102,20 @@ pub fn questions_open_by_asking()
 pub fn questions_stand_in_frames()
     ensures { (r : LinkRules) (octets : List ℕ) (now : ℕ) (random : List ℕ) (old : PppState) (after : Turn) (claim : Claim)
         → HearsOctets r octets now random old after → after.asked ≡ Some claim → Says old.auth octets claim }
+{}
+
+/// A live term lasts until the step that tells its end: by itself, by frames of the peer and by the time, it ends only with a cause, where
+/// LCP leaves Opened (RFC 1661 section 3.2) or IPCP finishes. A term begins by nothing but the verdict yes with an address on the question
+/// that is open, and begins then. It is so of every state.
+pub fn terms_last()
+    ensures lasts { (r : LinkRules) (now : ℕ) (random : List ℕ) (what : WholeInput) (old : PppState) (says : PppSaid) (new : PppState)
+        → PppSteps r what now random old says new → goes_by_itself what ≡ true → old.live ≡ true → says.term_ended ≡ None → new.live ≡ true }
+    ensures heard { (r : LinkRules) (octets : List ℕ) (now : ℕ) (random : List ℕ) (old : PppState) (turn : Turn)
+        → HearsOctets r octets now random old turn → old.live ≡ true → ended_by turn.link.live turn.left turn.ended 1 ≡ None → (after_turn turn).live ≡ true }
+    ensures begins { (r : LinkRules) (now : ℕ) (random : List ℕ) (what : WholeInput) (old : PppState) (says : PppSaid) (new : PppState)
+        → PppSteps r what now random old says new → (gives_address what && is_open old.auth) ≡ true → new.live ≡ true }
+    ensures settled { (r : LinkRules) (a : Ip4) (text : List ℕ) (now : ℕ) (random : List ℕ) (old : PppState) (turn : Turn)
+        → Settles true true r (Some a) text now random old turn → (after_turn turn).live ≡ true }
+    ensures none { (r : LinkRules) (now : ℕ) (random : List ℕ) (what : WholeInput) (old : PppState) (says : PppSaid) (new : PppState)
+        → PppSteps r what now random old says new → (gives_address what && is_open old.auth) ≡ false → old.live ≡ false → new.live ≡ false }
 {}
