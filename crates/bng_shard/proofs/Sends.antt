@@ -156,7 +156,8 @@ module _ (r : Rules) (s : State) (e : Entry) (d : Deed) where
 
   control : (v : Service) (x : Session) (p : PppoeFrame) → HearsControl v r s e x p d → Sends
   control (Provisioned l) x p h = none s e d _ h tt refl
-  control (Discovered made) x p (inl (padt, h)) = none s e d _ h tt refl
+  control (Discovered made) x p (inl (padt, inl (over, h))) = none s e d _ h tt refl
+  control (Discovered made) x p (inl (padt, inr (live, h))) = none s e d _ h tt refl
   control (Discovered made) x p (inr (data_frame, h)) = ppp x made p h
 
   named : (p : PppoeFrame) (found : Option Session) → HearsIn found r s e p d → Sends

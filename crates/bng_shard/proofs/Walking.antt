@@ -86,7 +86,8 @@ module _ (r : Rules) (R : State → State → Type 0) (w : Walks r R) where
 
     control : (v : Service) (x : Session) (p : PppoeFrame) → value_at s.sessions p.session ≡ Some x → x.service ≡ v → HearsControl v r s e x p d → R s d.next
     control (Provisioned over) x p at is h = kept _ h refl
-    control (Discovered made) x p at is (inl (padt, h)) = after (with_ended s p.session x.lease user_request (ended x)) _ h refl (w.padt s p.session x made at is)
+    control (Discovered made) x p at is (inl (padt, inl (over, h))) = kept _ h refl
+    control (Discovered made) x p at is (inl (padt, inr (live, h))) = after (with_ended s p.session x.lease user_request (ended x)) _ h refl (w.padt s p.session x made at is)
     control (Discovered made) x p at is (inr (other, h)) = ppp x made p at h
 
     named : (number : ℕ) (p : PppoeFrame) (found : Option Session) → session_of s number p.src p.session ≡ found → HearsIn found r s e p d → R s d.next
