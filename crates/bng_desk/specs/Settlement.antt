@@ -5,7 +5,6 @@ use Rattle.bng_base.specs.declared.item.Item.{Item}
 use Rattle.bng_base.specs.declared.round.RoundRecord.{RoundRecord}
 use Rattle.bng_base.specs.Causes.{HasCause}
 use Rattle.bng_base.specs.Told.{PlantTold, TraceTold, Grows}
-use Rattle.bng_shard.specs.declared.pool.Holder.{Holder}
 use Rattle.bng_shard.specs.declared.rules.Rules.{Rules}
 use Rattle.bng_shard.specs.Sums.{IsLow, AreLow, RowsAreLow}
 use Rattle.bng_billing.specs.State.{BillingState}
@@ -33,6 +32,10 @@ pub record AreBlank (shards : ℕ) (lists : Lists) : Type 0 where
   pub allowances : lists.allowances.items ≡ replicate shards 0
   pub refused : lists.refused.items ≡ []
 
+-- no session that discovery made has a term, and of each term that began a Start was formed
+abbrev pub IsPlainly : ShardView ShardState Entry → Type 0
+IsPlainly v = HasNoLogins v.state.slots × (v.state.slots.news ≡ [])
+
 -- The shards are those of the rules, in their order, with nothing of a round in them, and no sum is near its end; what the circuits have
 -- carried stands in the tally, and their terms are billed. Nothing stays of the round before, and there is room for what may stay of this
 -- one.
@@ -43,7 +46,11 @@ pub record IsReady (r : Rules) (named : Named) (lists : Lists) (w : Works) : Typ
   pub order : AreInOrder w.shards.items
   pub empty : All IsEmpty w.shards.items
   pub sessions : All HasFewSessions w.shards.items
-  pub holders : All (λ (h : Holder). h.shard < r.shards) w.pool
+  pub places : w.pool.shards ≡ r.shards
+  pub held : All (λ v. AreHeld v.number (terms_of v.state) w.pool.table) w.shards.items
+  pub no_pools : r.pools ≡ []
+  pub one_rule : All (λ v. v.state.rules ≡ r) w.shards.items
+  pub plain : All IsPlainly w.shards.items
   pub low : All (λ v. RowsAreLow (2 ^ 62 + 2 ^ 61) v.rows) w.shards.items
   pub books : All (λ v. AreLow (2 ^ 62 + 2 ^ 61) v.books) w.shards.items
   pub tally : IsLow (2 ^ 62 + 2 ^ 61) w.tally
@@ -90,3 +97,6 @@ pub record KeepsWorks (w w' : Works) : Type 0 where
   pub drawn : w'.draws.drawn ≤ w.draws.drawn + 256
   pub handed : length w'.handed.items ≡ length w.handed.items
   pub room : vec_capacity w'.kept ≡ vec_capacity w.kept
+  pub places : w'.pool.shards ≡ w.pool.shards
+  pub held : All (λ v. AreHeld v.number (terms_of v.state) w'.pool.table) w'.shards.items
+  pub plain : All IsPlainly w'.shards.items
