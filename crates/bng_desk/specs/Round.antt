@@ -1,5 +1,5 @@
 -- A round and its settlement.
-use Rattle.std.specs.Prelude.{◌≡◌, ℕ, ◌+◌, ◌<◌, ◌==◌, Bool, not, ◌&&◌, List, [], ◌∷◌, ◌++◌, map, filter, length, replicate, is_some, count_by, slice_index_or}
+use Rattle.std.specs.Prelude.{◌≡◌, ℕ, ◌+◌, ◌<◌, ◌==◌, Bool, not, ◌&&◌, List, [], ◌∷◌, ◌++◌, Option, None, map, filter, length, replicate, is_some, count_by, slice_index_or, if◌then◌else◌}
 use Rattle.std.specs.List.{All, AllZip, flat_map, list_any}
 use Rattle.bng_base.specs.declared.address.Ip4.{Ip4}
 use Rattle.bng_base.specs.declared.book.Book.{Book}

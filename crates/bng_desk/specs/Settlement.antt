@@ -6,6 +6,7 @@ use Rattle.bng_base.specs.declared.round.RoundRecord.{RoundRecord}
 use Rattle.bng_base.specs.Causes.{HasCause}
 use Rattle.bng_base.specs.Told.{PlantTold, TraceTold, Grows}
 use Rattle.bng_shard.specs.declared.rules.Rules.{Rules}
+use Rattle.bng_shard.specs.Protocol.{AreHeld, terms_of}
 use Rattle.bng_shard.specs.Sums.{IsLow, AreLow, RowsAreLow}
 use Rattle.bng_billing.specs.State.{BillingState}
 use Rattle.bng_desk.specs.declared.holding.Named.{Named}
@@ -18,7 +19,7 @@ use Rattle.bng_desk.specs.Intake.{SendsRequests, SendsRecords}
 use Rattle.bng_desk.specs.Items.{kept_of}
 use Rattle.bng_desk.specs.Kept.{octets_most, drops_most}
 use Rattle.bng_desk.specs.Model.{keys_in}
-use Rattle.bng_desk.specs.Taking.{IsEmpty, HasFewSessions, AreInOrder, AreItems, AreTallied, Holds, outs_of_items}
+use Rattle.bng_desk.specs.Taking.{IsEmpty, IsPlainly, HasFewSessions, AreInOrder, AreItems, AreTallied, Holds, outs_of_items}
 use Rattle.bng_desk.specs.Turn.{told_if}
 
 -- the lists of a turn over so many shards, with nothing on them but its items, and with room for all that it may put on them
@@ -31,10 +32,6 @@ pub record AreBlank (shards : ℕ) (lists : Lists) : Type 0 where
   pub outs_room : 5760 + 320 * shards ≤ vec_capacity lists.outs
   pub allowances : lists.allowances.items ≡ replicate shards 0
   pub refused : lists.refused.items ≡ []
-
--- no session that discovery made has a term, and of each term that began a Start was formed
-abbrev pub IsPlainly : ShardView ShardState Entry → Type 0
-IsPlainly v = HasNoLogins v.state.slots × (v.state.slots.news ≡ [])
 
 -- The shards are those of the rules, in their order, with nothing of a round in them, and no sum is near its end; what the circuits have
 -- carried stands in the tally, and their terms are billed. Nothing stays of the round before, and there is room for what may stay of this

@@ -28,7 +28,7 @@ use Rattle.bng_shard.specs.declared.sums.Charged.TheVariants.{Packet, Control}
 use Rattle.bng_shard.specs.declared.whose.Whose.{Whose}
 use Rattle.bng_shard.specs.declared.whose.Whose.TheVariants.{Loose as IsLoose, Stands}
 use Rattle.bng_shard.specs.Hearing.{outs_most}
-use Rattle.bng_shard.specs.Protocol.{ShardState, Handled, pppoe, sessions_of, terms_of, entry_of, Handles}
+use Rattle.bng_shard.specs.Protocol.{ShardState, Handled, pppoe, sessions_of, terms_of, entry_of, HasNoLogins, Handles}
 use Rattle.bng_shard.specs.Room.{is_tick, is_end}
 use Rattle.bng_shard.specs.Sums.{AreLow, RowsAreLow}
 use Rattle.bng_shard.specs.Whose.{IsWhose}
@@ -52,6 +52,10 @@ Sight = ShardView ShardState Handled
 -- nothing of a round is there
 abbrev pub IsEmpty : Shown → Type 0
 IsEmpty v = (v.journal ≡ []) × (v.outs ≡ [])
+
+-- no session that discovery made has a term, and of each term that began a Start was formed
+abbrev pub IsPlainly : Shown → Type 0
+IsPlainly v = HasNoLogins v.state.slots × (v.state.slots.news ≡ [])
 
 -- a row for each term
 abbrev pub HasRows : Shown → Type 0
