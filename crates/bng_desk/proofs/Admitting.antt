@@ -12,7 +12,7 @@ use Rattle.bng_base.specs.declared.item.ItemKind.{ItemKind}
 use Rattle.bng_base.specs.declared.item.ItemKind.TheVariants.{Access, Core, Tunnel, Verdict, Change, Tick, End}
 use Rattle.bng_engine.specs.Views.{ShardView}
 use Rattle.bng_engine.proofs.Everywhere.{all_append, all_weaker}
-use Rattle.bng_shard.specs.declared.pool.Holder.{Holder}
+use Rattle.bng_pool.specs.Tables.{Table}
 use Rattle.bng_shard.specs.declared.rules.Rules.{Rules}
 use Rattle.bng_shard.specs.declared.whose.Whose.{Whose}
 use Rattle.bng_shard.specs.declared.whose.Whose.TheVariants.{Loose as IsLoose, Stands}
@@ -58,14 +58,14 @@ target_is : (r : Rules) (target n : ℕ) → IsForTarget r target (Stands n) →
 target_is r target n h = ⊎_elim (λ h. let e = h.1 in cc) (λ h. let e = h.1 in absurd (cc)) h
 
 -- a Tick or an End stands in the shard that it is for
-once_target : (kind : ItemKind) (r : Rules) (holders : List Holder) (item : Item) (n : ℕ) → IsForKind kind r holders item (Stands n) → is_once kind ≡ true → item.target ≡ n
-once_target (Access number) r holders item n h e = absurd (false≢true e)
-once_target Core r holders item n h e = absurd (false≢true e)
-once_target Tunnel r holders item n h e = absurd (false≢true e)
-once_target Verdict r holders item n h e = absurd (false≢true e)
-once_target Change r holders item n h e = absurd (false≢true e)
-once_target Tick r holders item n h e = target_is r item.target n h
-once_target End r holders item n h e = target_is r item.target n h
+once_target : (kind : ItemKind) (r : Rules) (table : Table) (item : Item) (n : ℕ) → IsForKind kind r table item (Stands n) → is_once kind ≡ true → item.target ≡ n
+once_target (Access number) r table item n h e = absurd (false≢true e)
+once_target Core r table item n h e = absurd (false≢true e)
+once_target Tunnel r table item n h e = absurd (false≢true e)
+once_target Verdict r table item n h e = absurd (false≢true e)
+once_target Change r table item n h e = absurd (false≢true e)
+once_target Tick r table item n h e = target_is r item.target n h
+once_target End r table item n h e = target_is r item.target n h
 
 abbrev NotOnce : Entry → Type 0
 NotOnce e = is_once e.item.kind ≡ false
@@ -82,19 +82,19 @@ none_in : (b : Bool) (n place moment : ℕ) (i : Item) → (b ≡ true → is_on
 none_in true n place moment i h = (h refl, tt)
 none_in false n place moment i h = tt
 
-not_here : (r : Rules) (holders : List Holder) (n : ℕ) (i : Item) (w : Whose) → IsWhose r holders i w → IsLower n i → stands_in n w ≡ true → is_once i.kind ≡ false
-not_here r holders n i (IsLoose fate) is low e = absurd (false≢true e)
-not_here r holders n i (Stands m) is low e =
+not_here : (r : Rules) (table : Table) (n : ℕ) (i : Item) (w : Whose) → IsWhose r table i w → IsLower n i → stands_in n w ≡ true → is_once i.kind ≡ false
+not_here r table n i (IsLoose fate) is low e = absurd (false≢true e)
+not_here r table n i (Stands m) is low e =
     let same : m ≡ n = same_number m n e in
-    not_true (is_once i.kind) (λ (yes : is_once i.kind ≡ true). let target = once_target i.kind r holders i m is yes in let lower = low yes in omega (arith, same, target, lower))
+    not_true (is_once i.kind) (λ (yes : is_once i.kind ≡ true). let target = once_target i.kind r table i m is yes in let lower = low yes in omega (arith, same, target, lower))
 
-none_once : (r : Rules) (holders : List Holder) (n place moment : ℕ) (done : List Item) (whose : List Whose) → AllZip (IsWhose r holders) done whose → AllByRecursion (IsLower n) done → AllByRecursion NotOnce (entries_in 0 n place moment done whose)
-none_once r holders n place moment [] whose is low = tt
-none_once r holders n place moment (i ∷ done) [] is low = tt
-none_once r holders n place moment (i ∷ done) (w ∷ whose) is low =
+none_once : (r : Rules) (table : Table) (n place moment : ℕ) (done : List Item) (whose : List Whose) → AllZip (IsWhose r table) done whose → AllByRecursion (IsLower n) done → AllByRecursion NotOnce (entries_in 0 n place moment done whose)
+none_once r table n place moment [] whose is low = tt
+none_once r table n place moment (i ∷ done) [] is low = tt
+none_once r table n place moment (i ∷ done) (w ∷ whose) is low =
     all_append NotOnce (if stands_in n w then entry_of 0 place moment i ∷ [] else []) (entries_in 0 n (place + 1) moment done whose)
-    (none_in (stands_in n w) n place moment i (not_here r holders n i w is.0 low.0))
-    (none_once r holders n (place + 1) moment done whose is.1 low.1)
+    (none_in (stands_in n w) n place moment i (not_here r table n i w is.0 low.0))
+    (none_once r table n (place + 1) moment done whose is.1 low.1)
 
 tick_once : (kind : ItemKind) → is_tick kind ≡ true → is_once kind ≡ true
 tick_once kind e = ap (λ (b : Bool). b || is_end kind) e
@@ -119,9 +119,9 @@ none_admits v kind h = record {
 }
 
 -- the shard of the next item admits it
-pub admits_next : (r : Rules) (holders : List Holder) (moment : ℕ) (done : List Item) (whose : List Whose) (item : Item) (left : List Item) (n : ℕ) (v : ShardView ShardState Entry)
-    → AreOnce (done ++ item ∷ left) → AllZip (IsWhose r holders) done whose → IsWhose r holders item (Stands n) → v.journal ≡ entries_in 0 n 0 moment done whose → Admits v item.kind
-admits_next r holders moment done whose item left n v once are is journal = none_admits v item.kind (λ yes.
-    let target : item.target ≡ n = once_target item.kind r holders item n is yes in
+pub admits_next : (r : Rules) (table : Table) (moment : ℕ) (done : List Item) (whose : List Whose) (item : Item) (left : List Item) (n : ℕ) (v : ShardView ShardState Entry)
+    → AreOnce (done ++ item ∷ left) → AllZip (IsWhose r table) done whose → IsWhose r table item (Stands n) → v.journal ≡ entries_in 0 n 0 moment done whose → Admits v item.kind
+admits_next r table moment done whose item left n v once are is journal = none_admits v item.kind (λ yes.
+    let target : item.target ≡ n = once_target item.kind r table item n is yes in
     let low : AllByRecursion (IsLower n) done = subst (λ (m : ℕ). AllByRecursion (IsLower m) done) target (once_before done item left once yes) in
-    subst (λ (es : List Entry). AllByRecursion NotOnce es) (sym journal) (none_once r holders n 0 moment done whose are low))
+    subst (λ (es : List Entry). AllByRecursion NotOnce es) (sym journal) (none_once r table n 0 moment done whose are low))

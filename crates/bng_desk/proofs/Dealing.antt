@@ -11,7 +11,7 @@ use Rattle.bng_base.specs.declared.item.Entry.{Entry}
 use Rattle.bng_base.specs.declared.item.Item.{Item}
 use Rattle.bng_base.specs.declared.item.Loose.{Loose}
 use Rattle.bng_engine.specs.Views.{ShardView}
-use Rattle.bng_shard.specs.declared.pool.Holder.{Holder}
+use Rattle.bng_pool.specs.Tables.{Table}
 use Rattle.bng_shard.specs.declared.rules.Rules.{Rules}
 use Rattle.bng_shard.specs.declared.whose.Whose.{Whose}
 use Rattle.bng_shard.specs.declared.whose.Whose.TheVariants.{Stands}
@@ -81,8 +81,8 @@ entry_if shard place moment i w = if stands_in shard w then entry_of 0 place mom
 next_place : (place n : ℕ) → place + 1 + n ≡ place + suc n
 next_place place n = omega arith
 
-module _ (r : Rules) (holders : List Holder) (moment : ℕ) where
-  pub entries_push : (shard place : ℕ) (is : List Item) (ws : List Whose) (i : Item) (w : Whose) → AllZip (IsWhose r holders) is ws
+module _ (r : Rules) (table : Table) (moment : ℕ) where
+  pub entries_push : (shard place : ℕ) (is : List Item) (ws : List Whose) (i : Item) (w : Whose) → AllZip (IsWhose r table) is ws
       → entries_in 0 shard place moment (is ++ i ∷ []) (ws ++ w ∷ []) ≡ entries_in 0 shard place moment is ws ++ entry_if shard (place + length is) moment i w
   entries_push shard place [] [] i w h = append-nil (entry_if shard place moment i w) ∙ ap (λ (n : ℕ). entry_if shard n moment i w) (sym (add-zero place))
   entries_push shard place [] (x ∷ ws) i w h = absurd h
@@ -91,7 +91,7 @@ module _ (r : Rules) (holders : List Holder) (moment : ℕ) where
       ap (λ (es : List Entry). entry_if shard place moment x y ++ es) (entries_push shard (place + 1) is ws i w h.1 ∙ ap (λ (n : ℕ). entries_in 0 shard (place + 1) moment is ws ++ entry_if shard n moment i w) (next_place place (length is)))
       ∙ sym (append_assoc (entry_if shard place moment x y) (entries_in 0 shard (place + 1) moment is ws) (entry_if shard (place + suc (length is)) moment i w))
 
-  pub loose_push : (place : ℕ) (is : List Item) (ws : List Whose) (i : Item) (w : Whose) → AllZip (IsWhose r holders) is ws
+  pub loose_push : (place : ℕ) (is : List Item) (ws : List Whose) (i : Item) (w : Whose) → AllZip (IsWhose r table) is ws
       → loose_in 0 place (is ++ i ∷ []) (ws ++ w ∷ []) ≡ loose_in 0 place is ws ++ loose_item 0 (place + length is) i w
   loose_push place [] [] i w h = append-nil (loose_item 0 place i w) ∙ ap (λ (n : ℕ). loose_item 0 n i w) (sym (add-zero place))
   loose_push place [] (x ∷ ws) i w h = absurd h
@@ -101,7 +101,7 @@ module _ (r : Rules) (holders : List Holder) (moment : ℕ) where
       ∙ sym (append_assoc (loose_item 0 place x y) (loose_in 0 (place + 1) is ws) (loose_item 0 (place + suc (length is)) i w))
 
   -- the shards in which the item does not stand
-  pub dealt_others : (shard : ℕ) (is : List Item) (ws : List Whose) (i : Item) (w : Whose) (vs : Seens) → AllZip (IsWhose r holders) is ws
+  pub dealt_others : (shard : ℕ) (is : List Item) (ws : List Whose) (i : Item) (w : Whose) (vs : Seens) → AllZip (IsWhose r table) is ws
       → ((k : ℕ) → shard ≤ k → stands_in k w ≡ false) → AreDealt shard moment is ws vs → AreDealt shard moment (is ++ i ∷ []) (ws ++ w ∷ []) vs
   dealt_others shard is ws i w [] h not_in so_far = tt
   dealt_others shard is ws i w (v ∷ vs) h not_in so_far =
@@ -117,7 +117,7 @@ module _ (r : Rules) (holders : List Holder) (moment : ℕ) where
   other_is a b e = grind (arith, nat_tests)
 
   -- the shard in which it stands has one entry more
-  pub dealt_at : (shard n m : ℕ) (is : List Item) (ws : List Whose) (i : Item) (vs : Seens) (d v : ShardView ShardState Handled) → AllZip (IsWhose r holders) is ws → n < length vs → m ≡ shard + n
+  pub dealt_at : (shard n m : ℕ) (is : List Item) (ws : List Whose) (i : Item) (vs : Seens) (d v : ShardView ShardState Handled) → AllZip (IsWhose r table) is ws → n < length vs → m ≡ shard + n
       → entries_of v ≡ entries_of (get_or vs n d) ++ entry_of 0 (length is) moment i ∷ []
       → AreDealt shard moment is ws vs → AreDealt shard moment (is ++ i ∷ []) (ws ++ Stands m ∷ []) (set vs n v)
   dealt_at shard n m is ws i [] d v h lt at more so_far = absurd (omega (arith, lt))

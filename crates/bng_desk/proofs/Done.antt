@@ -12,7 +12,7 @@ use Rattle.bng_base.proofs.StretchLaws.{plant_assoc, plant_more, plant_stays}
 use Rattle.bng_billing.specs.State.{BillingState}
 use Rattle.bng_engine.specs.Views.{ShardView}
 use Rattle.bng_ppp.specs.LinkRelation.{earliest}
-use Rattle.bng_shard.specs.declared.pool.Holder.{Holder}
+use Rattle.bng_pool.specs.Plain.{PlainView}
 use Rattle.bng_shard.specs.Protocol.{ShardState}
 use Rattle.bng_desk.specs.declared.drops.Drops.{Drops}
 use Rattle.bng_desk.specs.declared.holding.Named.{Named}
@@ -31,11 +31,11 @@ abbrev Shards : Type 0
 Shards = List (ShardView ShardState Entry)
 
 -- what a turn has of its round, before which accounting stood so
-pub record RoundDone (d : Desk) (heard : BillingState) (moment wall : ℕ) (items : List Item) (old new : PlantTold) (shards : Shards) (holders : List Holder) (accounts : Accounts) (drops : Drops) (tally : Book) (told_is : RoundRecord) (opened : Bool) (kept : List Item) : Type 0 where
+pub record RoundDone (d : Desk) (heard : BillingState) (moment wall : ℕ) (items : List Item) (old new : PlantTold) (shards : Shards) (pool : PlainView) (accounts : Accounts) (drops : Drops) (tally : Book) (told_is : RoundRecord) (opened : Bool) (kept : List Item) : Type 0 where
   pub round : Option Round
   pub is : RoundOf d moment items round
   pub shards_are : shards ≡ (after_round d items round).shards
-  pub holders_are : holders ≡ (after_round d items round).holders
+  pub pool_is : pool ≡ (after_round d items round).pool
   pub lines_are : accounts.lines ≡ (after_round d items round).lines
   pub formed : List FormedRecord
   pub forms : Forms heard formed accounts.billing
@@ -51,17 +51,17 @@ pub record RoundDone (d : Desk) (heard : BillingState) (moment wall : ℕ) (item
 abbrev accounts_of : Desk → BillingState → Accounts
 accounts_of d heard = record { lines = d.lines; billing = heard; began = d.began }
 
-pub round_done : (d : Desk) (heard : BillingState) (named : Named) (items : List Item) (p p' : PlantTold) (vs ws : Shards) (holders' : List Holder) (accounts' : Accounts) (drops' : Drops) (tally tally' : Book) (told_is : RoundRecord) (opened : Bool) (kept : List Item) → Holds d.rules d.holders holders' (accounts_of d heard) accounts' named items p p' vs ws d.drops drops' tally tally' told_is opened kept
-    → d.shards ≡ map rested vs → d.tallies ≡ tally ∷ [] → named.number ≡ d.told + 1 → RoundDone d heard named.moment named.wall items p p' (map rested ws) holders' accounts' drops' tally' told_is opened kept
-round_done d heard named items p p' vs ws holders' accounts' drops' tally tally' told_is opened kept (inl (opened_is, kept_is, h)) shards tallies number =
+pub round_done : (d : Desk) (heard : BillingState) (named : Named) (items : List Item) (p p' : PlantTold) (vs ws : Shards) (pool' : PlainView) (accounts' : Accounts) (drops' : Drops) (tally tally' : Book) (told_is : RoundRecord) (opened : Bool) (kept : List Item) → Holds d.rules d.pool pool' (accounts_of d heard) accounts' named items p p' vs ws d.drops drops' tally tally' told_is opened kept
+    → d.shards ≡ map rested vs → d.tallies ≡ tally ∷ [] → named.number ≡ d.told + 1 → RoundDone d heard named.moment named.wall items p p' (map rested ws) pool' accounts' drops' tally' told_is opened kept
+round_done d heard named items p p' vs ws pool' accounts' drops' tally tally' told_is opened kept (inl (opened_is, kept_is, h)) shards tallies number =
     let same : map rested h.ready ≡ d.shards = kept_rested vs h.ready h.kept ∙ sym shards in
     let lists : List (List Item) = items ∷ [] in
     record {
       round = Some h.held.round;
-      is = subst (λ (bs : List Book). IsRound d.rules d.shards d.holders bs named.moment lists h.held.round) (sym tallies)
-          (subst (λ (xs : Shards). IsRound d.rules xs d.holders (tally ∷ []) named.moment lists h.held.round) same (round_rested d.rules h.ready d.holders (tally ∷ []) named.moment lists h.held.round h.held.is));
+      is = subst (λ (bs : List Book). IsRound d.rules d.shards d.pool bs named.moment lists h.held.round) (sym tallies)
+          (subst (λ (xs : Shards). IsRound d.rules xs d.pool (tally ∷ []) named.moment lists h.held.round) same (round_rested d.rules h.ready d.pool (tally ∷ []) named.moment lists h.held.round h.held.is));
       shards_are = left_rested ws h.held.round.shards h.held.shards_are;
-      holders_are = h.held.holders_are;
+      pool_is = h.held.pool_are;
       lines_are = h.held.booked.lines_are;
       formed = h.held.booked.formed;
       forms = h.held.booked.forms;
@@ -74,13 +74,13 @@ round_done d heard named items p p' vs ws holders' accounts' drops' tally tally'
       opened_is = opened_is;
       kept_is = kept_is;
     }
-round_done d heard named items p p' vs ws holders' accounts' drops' tally tally' told_is opened kept (inr (opened_is, kept_is, h)) shards tallies number =
+round_done d heard named items p p' vs ws pool' accounts' drops' tally tally' told_is opened kept (inr (opened_is, kept_is, h)) shards tallies number =
     let count : length vs ≡ length d.shards = sym (length-map vs rested) ∙ ap (λ (xs : Shards). length xs) (sym shards) in
     record {
       round = None;
       is = tt;
       shards_are = kept_rested vs ws h.kept ∙ sym shards;
-      holders_are = h.holders_are;
+      pool_is = h.pool_is;
       lines_are = ap (λ (a : Accounts). a.lines) h.accounts_are;
       formed = [];
       forms = ap (λ (a : Accounts). a.billing) h.accounts_are;
@@ -98,7 +98,7 @@ round_done d heard named items p p' vs ws holders' accounts' drops' tally tally'
 pub after_parts : (d : Desk) (items : List Item) (round : Option Round)
     → record d {
       shards = (after_round d items round).shards;
-      holders = (after_round d items round).holders;
+      pool = (after_round d items round).pool;
       lines = (after_round d items round).lines;
       drops = (after_round d items round).drops;
       tallies = (after_round d items round).tallies;
@@ -108,21 +108,21 @@ pub after_parts : (d : Desk) (items : List Item) (round : Option Round)
 after_parts d items None = refl
 after_parts d items (Some round) = refl
 
-abbrev with_round : Desk → Shards → List Holder → List Line → Drops → List Book → List Item → Desk
-with_round d shards holders lines drops tallies kept = record d { shards = shards; holders = holders; lines = lines; drops = drops; tallies = tallies; kept = kept }
+abbrev with_round : Desk → Shards → PlainView → List Line → Drops → List Book → List Item → Desk
+with_round d shards pool lines drops tallies kept = record d { shards = shards; pool = pool; lines = lines; drops = drops; tallies = tallies; kept = kept }
 
 -- the desk after its round, from its parts
-module _ (d : Desk) (items : List Item) (round : Option Round) (shards : Shards) (holders : List Holder) (lines : List Line) (drops : Drops) (tallies : List Book) (kept : List Item) where
-  pub is_after_round : shards ≡ (after_round d items round).shards → holders ≡ (after_round d items round).holders → lines ≡ (after_round d items round).lines → drops ≡ (after_round d items round).drops → tallies ≡ (after_round d items round).tallies → kept ≡ (after_round d items round).kept
-      → record d { shards = shards; holders = holders; lines = lines; drops = drops; tallies = tallies; kept = kept } ≡ after_round d items round
-  is_after_round shards_are holders_are lines_are drops_are tallies_are kept_is =
+module _ (d : Desk) (items : List Item) (round : Option Round) (shards : Shards) (pool : PlainView) (lines : List Line) (drops : Drops) (tallies : List Book) (kept : List Item) where
+  pub is_after_round : shards ≡ (after_round d items round).shards → pool ≡ (after_round d items round).pool → lines ≡ (after_round d items round).lines → drops ≡ (after_round d items round).drops → tallies ≡ (after_round d items round).tallies → kept ≡ (after_round d items round).kept
+      → record d { shards = shards; pool = pool; lines = lines; drops = drops; tallies = tallies; kept = kept } ≡ after_round d items round
+  is_after_round shards_are pool_is lines_are drops_are tallies_are kept_is =
       let r = after_round d items round in
-      ap (λ (xs : Shards). with_round d xs holders lines drops tallies kept) shards_are
-      ∙ ap (λ (hs : List Holder). with_round d r.shards hs lines drops tallies kept) holders_are
-      ∙ ap (λ (ls : List Line). with_round d r.shards r.holders ls drops tallies kept) lines_are
-      ∙ ap (λ (y : Drops). with_round d r.shards r.holders r.lines y tallies kept) drops_are
-      ∙ ap (λ (bs : List Book). with_round d r.shards r.holders r.lines r.drops bs kept) tallies_are
-      ∙ ap (λ (is : List Item). with_round d r.shards r.holders r.lines r.drops r.tallies is) kept_is
+      ap (λ (xs : Shards). with_round d xs pool lines drops tallies kept) shards_are
+      ∙ ap (λ (hs : PlainView). with_round d r.shards hs lines drops tallies kept) pool_is
+      ∙ ap (λ (ls : List Line). with_round d r.shards r.pool ls drops tallies kept) lines_are
+      ∙ ap (λ (y : Drops). with_round d r.shards r.pool r.lines y tallies kept) drops_are
+      ∙ ap (λ (bs : List Book). with_round d r.shards r.pool r.lines r.drops bs kept) tallies_are
+      ∙ ap (λ (is : List Item). with_round d r.shards r.pool r.lines r.drops r.tallies is) kept_is
       ∙ after_parts d items round
 
 -- the phases of a turn, one after the other

@@ -15,7 +15,6 @@ use Rattle.bng_engine.specs.Terms.{Key, keys}
 use Rattle.bng_shard.specs.Protocol.{ShardState, opened, terms_of}
 use Rattle.bng_shard.specs.Questions.{none_handed}
 use Rattle.bng_shard.specs.Sums.{IsLow, AreLow, RowsAreLow}
-use Rattle.bng_shard.specs.declared.pool.Holder.{Holder}
 use Rattle.bng_shard.specs.declared.rules.Rules.{Rules}
 use Rattle.bng_base.specs.declared.item.Item.{Item}
 use Rattle.bng_desk.specs.declared.drops.Drops.{Drops}
@@ -25,8 +24,9 @@ use Rattle.bng_desk.specs.Counting.{Within, no_drops}
 use Rattle.bng_desk.specs.Kept.{IsKept, IsUnended, is_verdict, all_turns, rested, octets_most, drops_most}
 use Rattle.bng_desk.specs.Model.{Desk, keys_in, is_of}
 use Rattle.bng_desk.specs.Opening.{line_of}
-use Rattle.bng_desk.specs.Taking.{IsEmpty, HasFewSessions, AreInOrder, AreTallied, CarriesWithin, kept_in, stopped_in}
-use Rattle.bng_desk.proofs.Dwindling.{WorksBy}
+use Rattle.bng_desk.specs.Taking.{IsEmpty, IsPlainly, HasFewSessions, AreInOrder, AreTallied, CarriesWithin, kept_in, stopped_in}
+use Rattle.bng_desk.proofs.Readying.{WorksBy}
+use Rattle.bng_desk.proofs.Returning.{HoldsOwn}
 use Rattle.bng_desk.proofs.Keeping.{AreKept, none_kept, one_low, unended_left}
 
 -- Nothing was carried ---------------------------------------------------------------------------------------------------
@@ -51,9 +51,9 @@ empty_low most q input = omega (arith, nothing_in q input)
 
 -- Shards ----------------------------------------------------------------------------------------------------------------
 
-module _ (rules : Rules) (statics : ℕ → List Static) where
+module _ (rules : Rules) (statics : ℕ → List Static) (now : ℕ) where
   abbrev pub fresh : ℕ → ShardView ShardState Entry
-  fresh n = opened n rules (statics n)
+  fresh n = opened n rules (statics n) now
 
   pub fresh_rested : (ns : List ℕ) → map rested (map fresh ns) ≡ map fresh ns
   fresh_rested [] = refl
@@ -61,6 +61,10 @@ module _ (rules : Rules) (statics : ℕ → List Static) where
 
   fresh_at : (n k : ℕ) (d : ShardView ShardState Entry) → k < length (map fresh (range_with_len 0 n)) → get_or (map fresh (range_with_len 0 n)) k d ≡ fresh k
   fresh_at n k d lt = get_or-map-range_with_len fresh 0 n k k d (omega (arith, lt, length-map-range_with_len fresh 0 n)) (omega arith)
+
+  -- what each of them is, all are
+  pub fresh_all : (P : ShardView ShardState Entry → Type 0) (n : ℕ) → ((k : ℕ) → k < n → P (fresh k)) → All P (map fresh (range_with_len 0 n))
+  fresh_all P n each k d lt = subst P (sym (fresh_at n k d lt)) (each k (omega (arith, lt, length-map-range_with_len fresh 0 n)))
 
   pub fresh_order : (n : ℕ) → AreInOrder (map fresh (range_with_len 0 n))
   fresh_order n k d lt = ap (λ (v : ShardView ShardState Entry). v.number) (fresh_at n k d lt)
@@ -87,28 +91,31 @@ none_stopped : (input : Bool) (c : Static) → stopped_in input (line_of c) ≡ 
 none_stopped true c = refl
 none_stopped false c = refl
 
-pub fresh_tallied : (rules : Rules) (statics : ℕ → List Static) (tally : Book) (ns : List ℕ) (cs : List Static) → AreTallied tally (map (fresh rules statics) ns) (map line_of cs)
-fresh_tallied rules statics tally ns cs =
-    All-map (CarriesWithin (λ input. in_book Octets input tally) (map (fresh rules statics) ns)) line_of cs (λ k d lt input. omega (arith, none_stopped input (get_or cs k d), kept_none rules statics input (line_of (get_or cs k d)) ns))
+pub fresh_tallied : (rules : Rules) (statics : ℕ → List Static) (now : ℕ) (tally : Book) (ns : List ℕ) (cs : List Static) → AreTallied tally (map (fresh rules statics now) ns) (map line_of cs)
+fresh_tallied rules statics now tally ns cs =
+    All-map (CarriesWithin (λ input. in_book Octets input tally) (map (fresh rules statics now) ns)) line_of cs (λ k d lt input. omega (arith, none_stopped input (get_or cs k d), kept_none rules statics now input (line_of (get_or cs k d)) ns))
 
 -- a desk with such shards, in which nothing has happened
-pub kept_fresh : (d : Desk) (statics : ℕ → List Static) (cs : List Static) → d.shards ≡ map (λ n. opened n d.rules (statics n)) (range_with_len 0 d.rules.shards) → All HasFewSessions d.shards → d.lines ≡ map line_of cs → 1 ≤ length d.rules.access → length d.rules.access ≤ 16 → 1 ≤ d.rules.shards → d.rules.shards ≤ 64
-    → All (λ (h : Holder). h.shard < d.rules.shards) d.holders → d.rounds ≤ 2 ^ 40 → d.turns ≡ 0 → d.endings ≡ 0 → d.unopened ≡ 0 → d.closed ≡ false → d.told ≡ 0 → d.drawn ≡ 1 → d.drops ≡ no_drops → d.tallies ≡ empty_book ∷ [] → d.kept ≡ [] → d.handed ≡ map (λ n. none_handed) (range_with_len 0 d.rules.shards) → d.began ≡ d.moment → d.closing ≡ d.moment → d.graces ≡ 0 → AreBilled (keys_in d.shards) d.billing → IsKept d
-kept_fresh d statics cs shards few lines some_port few_ports some_shard few_shards holders most turns endings unopened closed told drawn drops tallies kept handed began closing graces billed =
+pub kept_fresh : (d : Desk) (statics : ℕ → List Static) (now : ℕ) (cs : List Static) → d.shards ≡ map (λ n. opened n d.rules (statics n) now) (range_with_len 0 d.rules.shards) → All HasFewSessions d.shards → d.lines ≡ map line_of cs → 1 ≤ length d.rules.access → length d.rules.access ≤ 16 → 1 ≤ d.rules.shards → d.rules.shards ≤ 64
+    → d.rules.pools ≡ [] → d.pool.shards ≡ d.rules.shards → All (HoldsOwn d.pool.table) d.shards → All IsPlainly d.shards → d.rounds ≤ 2 ^ 40 → d.turns ≡ 0 → d.endings ≡ 0 → d.unopened ≡ 0 → d.closed ≡ false → d.told ≡ 0 → d.drawn ≡ 1 → d.drops ≡ no_drops → d.tallies ≡ empty_book ∷ [] → d.kept ≡ [] → d.handed ≡ map (λ n. none_handed) (range_with_len 0 d.rules.shards) → d.began ≡ d.moment → d.closing ≡ d.moment → d.graces ≡ 0 → AreBilled (keys_in d.shards) d.billing → IsKept d
+kept_fresh d statics now cs shards few lines some_port few_ports some_shard few_shards no_pools places held plain most turns endings unopened closed told drawn drops tallies kept handed began closing graces billed =
     let staying = subst (λ (is : List Item). AreKept d is) (sym kept) (none_kept d) in
     let unended : IsUnended d = record { endings = endings; unopened = unopened; closed = closed; graces = graces } in
-    let count = ap (λ (xs : List (ShardView ShardState Entry)). length xs) shards ∙ length-map-range_with_len (λ (n : ℕ). opened n d.rules (statics n)) 0 d.rules.shards in
+    let count = ap (λ (xs : List (ShardView ShardState Entry)). length xs) shards ∙ length-map-range_with_len (λ (n : ℕ). opened n d.rules (statics n) now) 0 d.rules.shards in
     record {
       some_port = some_port;
       few_ports = few_ports;
       shards = count;
       some_shard = some_shard;
       few_shards = few_shards;
-      order = subst AreInOrder (sym shards) (fresh_order d.rules statics d.rules.shards);
-      rules = subst (λ (xs : List (ShardView ShardState Entry)). All (WorksBy d.rules) xs) (sym shards) (fresh_rules d.rules statics d.rules.shards);
+      order = subst AreInOrder (sym shards) (fresh_order d.rules statics now d.rules.shards);
+      rules = subst (λ (xs : List (ShardView ShardState Entry)). All (WorksBy d.rules) xs) (sym shards) (fresh_rules d.rules statics now d.rules.shards);
       sessions = few;
-      empty = subst (λ (xs : List (ShardView ShardState Entry)). All IsEmpty xs) (sym shards) (fresh_empty d.rules statics d.rules.shards);
-      holders = holders;
+      empty = subst (λ (xs : List (ShardView ShardState Entry)). All IsEmpty xs) (sym shards) (fresh_empty d.rules statics now d.rules.shards);
+      no_pools = no_pools;
+      places = places;
+      held = held;
+      plain = plain;
       most = most;
       made = omega (arith, turns);
       serving = λ _. unended;
@@ -117,12 +124,12 @@ kept_fresh d statics cs shards few lines some_port few_ports some_shard few_shar
       left = unended_left d d.shards unended few (omega (arith, count, few_shards));
       told = omega (arith, told);
       drawn = omega (arith, drawn);
-      low = subst (λ (xs : List (ShardView ShardState Entry)). All (λ v. RowsAreLow (octets_most * all_turns d) v.rows) xs) (sym shards) (fresh_low d.rules statics (octets_most * all_turns d) d.rules.shards);
-      books = subst (λ (xs : List (ShardView ShardState Entry)). All (λ v. AreLow (octets_most * all_turns d) v.books) xs) (sym shards) (fresh_books d.rules statics (octets_most * all_turns d) d.rules.shards);
+      low = subst (λ (xs : List (ShardView ShardState Entry)). All (λ v. RowsAreLow (octets_most * all_turns d) v.rows) xs) (sym shards) (fresh_low d.rules statics now (octets_most * all_turns d) d.rules.shards);
+      books = subst (λ (xs : List (ShardView ShardState Entry)). All (λ v. AreLow (octets_most * all_turns d) v.books) xs) (sym shards) (fresh_books d.rules statics now (octets_most * all_turns d) d.rules.shards);
       one_seat = ap (λ (bs : List Book). length bs) tallies;
       tallies = subst (λ (bs : List Book). AreLow (octets_most * all_turns d) bs) (sym tallies) (one_low (octets_most * all_turns d) empty_book (empty_low (octets_most * all_turns d)));
       tallied = subst (λ (ls : List Line). AreTallied (book_at 0 d.tallies) d.shards ls) (sym lines)
-          (subst (λ (xs : List (ShardView ShardState Entry)). AreTallied (book_at 0 d.tallies) xs (map line_of cs)) (sym shards) (fresh_tallied d.rules statics (book_at 0 d.tallies) (range_with_len 0 d.rules.shards) cs));
+          (subst (λ (xs : List (ShardView ShardState Entry)). AreTallied (book_at 0 d.tallies) xs (map line_of cs)) (sym shards) (fresh_tallied d.rules statics now (book_at 0 d.tallies) (range_with_len 0 d.rules.shards) cs));
       counts = subst (λ (x : Drops). Within (drops_most * all_turns d) x) (sym drops) (record { malformed = omega arith; no_session = omega arith; not_open = omega arith; expired = omega arith; spoofed = omega arith; too_big = omega arith; exceeded = omega arith; link_failed = omega arith; want_of_memory = omega arith });
       kept = staying.items;
       stays = staying.stays;

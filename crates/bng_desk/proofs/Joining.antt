@@ -26,7 +26,7 @@ use Rattle.bng_engine.specs.Views.{Row, ShardView}
 use Rattle.bng_engine.proofs.Everywhere.{all_append, all_mapped}
 use Rattle.bng_engine.proofs.Joining.{turn_made}
 use Rattle.bng_engine.proofs.Journals.{run_seated}
-use Rattle.bng_shard.specs.declared.pool.Holder.{Holder}
+use Rattle.bng_pool.specs.Plain.{PlainView}
 use Rattle.bng_shard.specs.declared.rules.Rules.{Rules}
 use Rattle.bng_shard.specs.declared.whose.Whose.{Whose}
 use Rattle.bng_shard.specs.Protocol.{ShardState, Handled, pppoe, entry_of, sessions_of}
@@ -36,13 +36,14 @@ use Rattle.bng_desk.specs.declared.drops.Drops.{Drops}
 use Rattle.bng_desk.specs.declared.holding.Named.{Named}
 use Rattle.bng_desk.specs.Counting.{plus, drops_of}
 use Rattle.bng_desk.specs.Items.{entries_in, loose_in, all_loose, stands_in}
-use Rattle.bng_desk.specs.Round.{Round, AreParts, StandsWithin, views_of, held_by, stops_of, holders_after, entries_of, of_seat, is_failed, with_failed, fates_in, sends_stretch}
+use Rattle.bng_desk.specs.Round.{Round, AreParts, StandsWithin, views_of, IsReturned, held_by, stops_of, entries_of, of_seat, is_failed, with_failed, fates_in, sends_stretch}
 use Rattle.bng_desk.specs.Taking.{Accounts, BooksStops, HasFewSessions, AreDealt, Deals, Falls, IsPlain, IsTurning, AllTurn, SendsAll, ReapsAll, RoundHeld}
 use Rattle.bng_desk.proofs.Dealing.{Seens}
 use Rattle.bng_desk.proofs.DropLaws.{same}
 use Rattle.bng_desk.proofs.OneMore.{dealt_count}
 use Rattle.bng_desk.proofs.Readying.{Shards, all_onward}
-use Rattle.bng_desk.proofs.Reaping.{as_seen, gives_back}
+use Rattle.bng_desk.proofs.Reaping.{as_seen}
+use Rattle.bng_desk.proofs.Returning.{gives_back}
 use Rattle.bng_desk.proofs.Zips.{zip_length}
 
 pub plus_assoc : (a b c : Drops) → plus (plus a b) c ≡ plus a (plus b c)
@@ -81,7 +82,7 @@ turning (w ∷ ws) was [] turns shown sends = absurd shown
 turning (w ∷ ws) [] (x ∷ now) turns shown sends = absurd turns
 turning (w ∷ ws) (b ∷ was) (x ∷ now) turns shown sends = (record { turn = turns.0; shows = shown.0; sends = sends.0 }, turning ws was now turns.1 shown.1 sends.1)
 
-module _ (r : Rules) (holders : List Holder) (moment : ℕ) (items : List Item) (vs ws : Shards) (loose : List Loose) (d d' : Drops) (t t' : Book) (deals : Deals r holders moment items vs ws loose d d' t t') where
+module _ (r : Rules) (pool : PlainView) (moment : ℕ) (items : List Item) (vs ws : Shards) (loose : List Loose) (d d' : Drops) (t t' : Book) (deals : Deals r pool moment items vs ws loose d d' t t') where
   pub all_turning : Zip3 IsTurning ws (views_of vs) deals.seen
   all_turning = turning ws (views_of vs) deals.seen deals.round.shards deals.shown deals.round.unsent
 
@@ -144,7 +145,7 @@ shown_outs f (w ∷ ws) (x ∷ now) h =
       shown_outs f ws now h.1,
     )
 
-module _ (r : Rules) (holders : List Holder) (moment : ℕ) (items : List Item) (vs ws : Shards) (loose : List Loose) (d d' : Drops) (t t' : Book) (deals : Deals r holders moment items vs ws loose d d' t t') where
+module _ (r : Rules) (pool : PlainView) (moment : ℕ) (items : List Item) (vs ws : Shards) (loose : List Loose) (d d' : Drops) (t t' : Book) (deals : Deals r pool moment items vs ws loose d d' t t') where
   -- what is to be sent stands in the tally
   pub dealt_covered : (q : Quantity) (input : Bool) → sum_by (λ (v : ShardView ShardState Entry). passed_sum (charge_if q (is_directed input)) v.outs) ws ≤ in_book q input t'
   dealt_covered q input =
@@ -244,22 +245,23 @@ pub told_as : (named : Named) (n : ℕ) (allowances : List ℕ) (journals : List
 told_as named n allowances journals loose outs refused none_begin none =
     ap (λ (zs : List ℕ). made named zs journals loose outs refused) none_begin ∙ ap (λ (rs : List Item). made named (replicate n 0) journals loose outs rs) none
 
-pub round_held : (r : Rules) (holders holders' : List Holder) (accounts accounts' : Accounts) (named : Named) (items : List Item) (p p' : PlantTold) (vs ws us left : Shards) (loose : List Loose) (outs : List OutRecord) (journals : List (List Entry)) (d d' d'' : Drops) (t t' t'' : Book) (told : RoundRecord)
-    → (deals : Deals r holders named.moment items vs ws loose d d' t t')
-    → SendsAll ws us p p' outs journals d' d'' t' t'' → ReapsAll named.moment named.wall us left holders holders' accounts accounts'
-    → told ≡ told_of named (length vs) journals loose outs → RoundHeld r holders holders' accounts accounts' named items p p' vs left d d'' t t'' told
-round_held r holders holders' accounts accounts' named items p p' vs ws us left loose outs journals d d' d'' t t' t'' told deals s y is =
-    let reaped = as_seen ws (views_of vs) deals.seen us s.sends left y.stops (all_turning r holders named.moment items vs ws loose d d' t t' deals) s.each y.each in
+pub round_held : (r : Rules) (pool pool' : PlainView) (accounts accounts' : Accounts) (named : Named) (items : List Item) (p p' : PlantTold) (vs ws us left : Shards) (loose : List Loose) (outs : List OutRecord) (journals : List (List Entry)) (d d' d'' : Drops) (t t' t'' : Book) (told : RoundRecord)
+    → (deals : Deals r pool named.moment items vs ws loose d d' t t')
+    → SendsAll ws us p p' outs journals d' d'' t' t'' → ReapsAll named.moment named.wall us left pool pool' accounts accounts'
+    → told ≡ told_of named (length vs) journals loose outs → RoundHeld r pool pool' accounts accounts' named items p p' vs left d d'' t t'' told
+round_held r pool pool' accounts accounts' named items p p' vs ws us left loose outs journals d d' d'' t t' t'' told deals s y is =
+    let reaped = as_seen ws (views_of vs) deals.seen us s.sends left y.stops (all_turning r pool named.moment items vs ws loose d d' t t' deals) s.each y.each in
     let xs = reaped.settled in
     let seen = reaped.is in
+    let back : IsReturned (flat_map (λ (v : ShardView ShardState Handled). v.stops) xs) pool pool' = subst (λ (ss : List Stop). IsReturned ss pool pool') seen.stops y.returned in
     let c = carries (views_of vs) deals.seen xs seen.settles seen.allowances in
     let allowances = c.allowances (recursion_from_All IsPlain deals.seen deals.plain) in
-    let round : Round = record { whose = deals.whose ∷ []; shards = xs; tallies = t'' ∷ [] } in
+    let round : Round = record { whose = deals.whose ∷ []; shards = xs; tallies = t'' ∷ []; pool = pool' } in
     let seats = sends_seats (views_of vs) deals.seen xs seen.settles deals.round.seats in
     let falls : Falls t' (all_sends xs) t'' = subst (λ (os : List OutRecord). Falls t' os t'') seen.sends s.falls in
     let fall : TalliesSoFar (t' ∷ []) [] (all_sends xs) (t'' ∷ []) = record { count = refl; each = fall_each t' t'' (all_sends xs) seats falls } in
     let count : length xs ≡ length vs =
-    c.count ∙ sym (zip_length (Shows pppoe) ws deals.seen deals.shown) ∙ dealt_count r holders named.moment items vs ws loose d d' t t' deals in
+    c.count ∙ sym (zip_length (Shows pppoe) ws deals.seen deals.shown) ∙ dealt_count r pool named.moment items vs ws loose d d' t t' deals in
     let n = count_by is_failed (all_sends xs) in
     let first = map (λ (l : Loose). l.fate) (loose_in 0 0 items deals.whose) in
     let ls : loose_in 0 0 items deals.whose ≡ all_loose 0 (items ∷ []) (deals.whose ∷ []) = sym (append-nil (loose_in 0 0 items deals.whose)) in
@@ -273,10 +275,11 @@ round_held r holders holders' accounts accounts' named items p p' vs ws us left 
           parts = parts items deals.whose 0 named.moment xs (c.dealt 0 named.moment items deals.whose deals.dealt);
           allowances = All-from_recursion (λ (v : ShardView ShardState Handled). v.allowance ≡ 0) xs allowances;
         };
-        turn = turn_made pppoe (views_of vs) deals.seen xs (held_by holders) (held_by holders) (held_by (holders_after (stops_of round) holders)) (t ∷ []) (t' ∷ []) (t'' ∷ []) deals.round seen.settles (gives_back xs holders) fall;
+        turn = turn_made pppoe (views_of vs) deals.seen xs (held_by pool) (held_by pool) (held_by pool') (t ∷ []) (t' ∷ []) (t'' ∷ []) deals.round seen.settles (gives_back xs pool pool' back) fall;
+        returned = back;
       };
       shards_are = seen.left;
-      holders_are = y.holders_are ∙ ap (λ (ss : List Stop). holders_after ss holders) seen.stops;
+      pool_is = refl;
       booked = subst (λ (ss : List Stop). BooksStops named.moment named.wall ss accounts accounts') seen.stops y.booked;
       tallies_are = refl;
       drops_are = s.drops_are

@@ -28,18 +28,18 @@ use Rattle.bng_desk.specs.Model.{Desk, keys_in, is_over, grace_is_over, graces_m
 use Rattle.bng_desk.specs.Items.{kept_of, stays}
 use Rattle.bng_desk.specs.Random.{Drawn}
 use Rattle.bng_desk.specs.Reading.{EndsRight, is_empty}
-use Rattle.bng_desk.specs.Taking.{IsEmpty, HasFewSessions, AreInOrder, AreItems, AreTallied}
-use Rattle.bng_desk.proofs.Readying.{Shards}
+use Rattle.bng_desk.specs.Taking.{IsEmpty, IsPlainly, HasFewSessions, AreInOrder, AreItems, AreTallied}
+use Rattle.bng_desk.proofs.Readying.{Shards, WorksBy}
+use Rattle.bng_desk.proofs.Returning.{HoldsOwn}
 use Rattle.bng_desk.specs.Turn.{ending_items, ending_draws, has_end, told_after, ReadsWhere}
 use Rattle.bng_desk.proofs.DropLaws.{within_wider}
 use Rattle.bng_desk.proofs.Ending.{after_ending}
 use Rattle.bng_desk.proofs.ItemLaws.{IsWhole}
-use Rattle.bng_shard.specs.declared.pool.Holder.{Holder}
 use Rattle.bng_shard.specs.Protocol.{ShardState, sessions_of}
 use Rattle.bng_shard.specs.Sums.{IsLow, AreLow}
 use Rattle.bng_engine.specs.Books.{book_at}
 use Rattle.bng_engine.specs.Views.{ShardView}
-use Rattle.bng_desk.proofs.Dwindling.{WorksBy, Nears, less_left, still_left, unopened_low}
+use Rattle.bng_desk.proofs.Dwindling.{Nears, less_left, still_left, unopened_low}
 use Rattle.bng_desk.proofs.Joining.{HasLow, HasLowBooks, low_wider, books_wider}
 use Rattle.bng_desk.proofs.OneMore.{low_more}
 use Rattle.bng_desk.proofs.Staying.{AreEnds, IsStaying, are_there, ends_by, ending_few, ending_kept, ending_stays, few_while, items_of_ends, serving_stays, verdict_items, verdicts_stay}
@@ -157,7 +157,9 @@ pub record IsLeft (d : Desk) (w : Works) : Type 0 where
   pub sessions : All HasFewSessions w.shards.items
   pub low : All (HasLow (octets_most * all_turns d + octets_most)) w.shards.items
   pub books : All (HasLowBooks (octets_most * all_turns d + octets_most)) w.shards.items
-  pub holders_are : All (λ (h : Holder). h.shard < d.rules.shards) w.pool
+  pub places : w.pool.shards ≡ d.pool.shards
+  pub held : All (HoldsOwn w.pool.table) w.shards.items
+  pub plain : All IsPlainly w.shards.items
   pub tally_low : IsLow (octets_most * all_turns d + octets_most) w.tally
   pub tallied : AreTallied w.tally w.shards.items w.accounts.lines
   pub counts : Within (drops_most * all_turns d + drops_most) w.drops
@@ -191,7 +193,10 @@ kept_served d w stopped moment told k serves turns later l up staying verdicts =
       rules = l.rules;
       empty = l.empty;
       sessions = l.sessions;
-      holders = l.holders_are;
+      no_pools = k.no_pools;
+      places = l.places ∙ k.places;
+      held = l.held;
+      plain = l.plain;
       most = k.most;
       made = omega (arith, turns);
       serving = λ _. record { endings = u.endings; unopened = u.unopened; closed = u.closed; graces = u.graces };
@@ -249,7 +254,10 @@ kept_ended d w unopened closed closing moment told k over near later before l up
   rules = l.rules;
   empty = l.empty;
   sessions = l.sessions;
-  holders = l.holders_are;
+  no_pools = k.no_pools;
+  places = l.places ∙ k.places;
+  held = l.held;
+  plain = l.plain;
   most = k.most;
   made = k.made;
   serving = λ serves. not_served (is_over d) (IsUnended (after_ending (kept_with d w) unopened closed closing moment told)) over serves;

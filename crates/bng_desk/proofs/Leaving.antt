@@ -1,14 +1,11 @@
 -- What a turn gives to its settlement, and what that leaves.
-use Rattle.std.proofs.Common.{◌≡◌, inl, inr, ◌+◌, ◌*◌, ◌^◌, ◌<◌, ◌≤◌, not, eqb, List, [], Vec, Global, length, vec_capacity, sym, ap, subst, arith}
-use Rattle.std.specs.List.{All, list_any}
-use Rattle.std.proofs.lemmas.List.Elements.{All-filter}
+use Rattle.std.proofs.Common.{◌≡◌, inl, inr, ◌+◌, ◌*◌, ◌^◌, ◌<◌, ◌≤◌, List, [], Vec, Global, length, vec_capacity, sym, ap, subst, arith}
+use Rattle.std.specs.List.{All}
 use Rattle.bng_base.specs.declared.item.Item.{Item}
 use Rattle.bng_base.specs.declared.round.RoundRecord.{RoundRecord}
 use Rattle.bng_base.specs.Told.{PlantTold, TraceTold}
 use Rattle.bng_billing.specs.State.{BillingState}
-use Rattle.bng_engine.specs.Terms.{Stop}
 use Rattle.bng_lane.specs.State.{LaneState}
-use Rattle.bng_shard.specs.declared.pool.Holder.{Holder}
 use Rattle.bng_desk.specs.declared.holding.Named.{Named}
 use Rattle.bng_desk.specs.declared.lists.Lists.{Lists}
 use Rattle.bng_desk.specs.declared.settlement.Settled.{Settled}
@@ -18,7 +15,6 @@ use Rattle.bng_desk.specs.Items.{kept_of}
 use Rattle.bng_desk.specs.Kept.{IsKept, all_turns, octets_most, drops_most}
 use Rattle.bng_desk.specs.Model.{Desk, keys_in, sessions_in}
 use Rattle.bng_desk.specs.Random.{Drawn}
-use Rattle.bng_desk.specs.Round.{stops_of}
 use Rattle.bng_desk.specs.Settlement.{AreBlank, IsReady, KeepsWorks, Settles}
 use Rattle.bng_desk.specs.Taking.{Accounts, AreItems, Holds, outs_of_items}
 use Rattle.bng_desk.proofs.DropLaws.{within_wider}
@@ -42,7 +38,11 @@ module _ (d : Desk) (w : Works) (heard : BillingState) (lane : LaneState) (draws
         order = k.order;
         empty = k.empty;
         sessions = k.sessions;
-        holders = k.holders;
+        places = k.places;
+        held = k.held;
+        no_pools = k.no_pools;
+        one_rule = k.rules;
+        plain = k.plain;
         low = low_wider (octets_most * turns) (2 ^ 62 + 2 ^ 61) w.shards.items most k.low;
         books = books_wider (octets_most * turns) (2 ^ 62 + 2 ^ 61) w.shards.items most k.books;
         tally = low_more (octets_most * turns) (2 ^ 62 + 2 ^ 61) w.tally most (k.tallies 0 (omega arith));
@@ -69,12 +69,6 @@ module _ (d : Desk) (w w' : Works) (heard : BillingState) (lane : LaneState) (dr
 
   abbrev Held : PlantTold → RoundRecord → BillingState → Type 0
   Held sent round booked = Holds d.rules w.pool w'.pool before (record w'.accounts { billing = booked }) named items p sent w.shards.items w'.shards.items w.drops w'.drops w.tally w'.tally round s.is_opened w'.kept.items
-
-  -- those who hold an address held it before the round
-  holders_kept : (P : Holder → Type 0) (sent : PlantTold) (round : RoundRecord) (booked : BillingState) → Held sent round booked → All P w.pool → All P w'.pool
-  holders_kept P sent round booked (inl h) all =
-      subst (λ (hs : List Holder). All P hs) (sym h.2.held.holders_are) (All-filter (λ (x : Holder). not (list_any (λ (y : Stop). eqb y.key.lease.0 x.address.0) (stops_of h.2.held.round))) P w.pool all)
-  holders_kept P sent round booked (inr h) all = subst (λ (hs : List Holder). All P hs) (sym h.2.holders_are) all
 
   -- the terms began when they did
   began_kept : (sent : PlantTold) (round : RoundRecord) (booked : BillingState) → Held sent round booked → w'.accounts.began ≡ w.accounts.began
@@ -103,7 +97,9 @@ module _ (d : Desk) (w w' : Works) (heard : BillingState) (lane : LaneState) (dr
     sessions = keeps.sessions;
     low = keeps.low (octets_most * all_turns d) k.low;
     books = keeps.books (octets_most * all_turns d) k.books;
-    holders_are = holders_kept (λ (h : Holder). h.shard < d.rules.shards) settles.sent settles.round settles.booked settles.holds k.holders;
+    places = keeps.places;
+    held = keeps.held;
+    plain = keeps.plain;
     tally_low = keeps.tally (octets_most * all_turns d) (k.tallies 0 (omega arith));
     tallied = keeps.tallied;
     counts = keeps.counts (drops_most * all_turns d) k.counts;

@@ -6,7 +6,9 @@ pub mod TakeLaws
 pub mod ItemLaws
 pub mod Zips
 pub mod Readying
+pub mod PlainLaws
 pub mod Unclaiming
+pub mod Returning
 pub mod Sending
 pub mod Settling
 pub mod Parts
@@ -33,6 +35,7 @@ pub mod Lanes
 pub mod Settled
 pub mod Fresh
 pub mod OpenedTerms
+pub mod Leases
 pub mod Turning
 pub mod Ending
 pub mod Keeping

@@ -7,6 +7,8 @@ use Rattle.std.proofs.lemmas.List.Sums.{sum_by-append, sum_by-cons, sum_by-le, s
 use Rattle.bng_base.specs.declared.book.Book.{Book}
 use Rattle.bng_base.specs.declared.fate.Fate.{Fate}
 use Rattle.bng_base.specs.declared.item.Charge.{Charge}
+use Rattle.bng_base.specs.declared.item.Claim.{Claim}
+use Rattle.bng_base.specs.declared.item.Claim.TheVariants.{NoClaim}
 use Rattle.bng_base.specs.declared.item.Entry.{Entry}
 use Rattle.bng_base.specs.declared.item.Item.{Item}
 use Rattle.bng_base.specs.declared.item.ItemKind.{ItemKind}
@@ -27,12 +29,12 @@ use Rattle.bng_engine.proofs.Everywhere.{all_append}
 use Rattle.bng_engine.proofs.Joining.{round_begins, round_goes_on}
 use Rattle.bng_engine.proofs.SameLists.{same_equal}
 use Rattle.bng_engine.proofs.Showing.{shows_begin, shows_handles, shows_more}
-use Rattle.bng_shard.specs.declared.pool.Holder.{Holder}
+use Rattle.bng_pool.specs.Plain.{PlainView}
 use Rattle.bng_shard.specs.declared.rules.Rules.{Rules}
 use Rattle.bng_shard.specs.declared.whose.Whose.{Whose}
 use Rattle.bng_shard.specs.declared.whose.Whose.TheVariants.{Loose as IsLoose, Stands}
 use Rattle.bng_shard.specs.Hearing.{outs_most}
-use Rattle.bng_shard.specs.Protocol.{ShardState, Handled, pppoe, packet_octets, entry_of, terms_of}
+use Rattle.bng_shard.specs.Protocol.{ShardState, Handled, pppoe, packet_octets, entry_of, entry_with, terms_of}
 use Rattle.bng_shard.specs.Sums.{Rises, IsLow, AreLow, RowsAreLow}
 use Rattle.bng_shard.specs.Whose.{IsWhose}
 use Rattle.bng_shard.proofs.StepLaws.{pppoe_laws}
@@ -42,8 +44,10 @@ use Rattle.bng_desk.specs.Items.{entries_in, loose_item, loose_in}
 use Rattle.bng_desk.specs.Round.{StandsWithin, views_of, held_by, entries_of}
 use Rattle.bng_desk.specs.Taking.{AreDealt, AreInOrder, Deals, DealsOne, DealsTo, HasRows, IsLight, IsPlain}
 use Rattle.bng_desk.proofs.DropLaws.{drops_none}
-use Rattle.bng_desk.proofs.Readying.{Shards}
-use Rattle.bng_desk.proofs.Unclaiming.{asks_nothing}
+use Rattle.bng_desk.proofs.PlainLaws.{no_claim}
+use Rattle.bng_desk.proofs.Readying.{Shards, WorksBy}
+use Rattle.bng_desk.proofs.Returning.{HoldsOwn}
+use Rattle.bng_desk.proofs.Unclaiming.{after_rules, asks_nothing, news_stay}
 use Rattle.bng_desk.proofs.Zips.{zip_push, zip_length, zip_at, zip_set_both}
 use Rattle.bng_desk.proofs.Dealing.{all_fates, drops_with, loose_fates, shard_fates, loose_push, dealt_others, dealt_at, dealt_in}
 
@@ -129,7 +133,7 @@ rises_so_far tally tally' outs seats rises = record { count = refl; each = rises
 
 -- One item more ----------------------------------------------------------------------------------------------------------
 
-module _ (r : Rules) (holders : List Holder) (moment : ℕ) (done : List Item) (item : Item) (olds shards shards' : Shards) (loose loose' : List Loose) (first drops drops' : Drops) (start tally tally' : Book) (fate : Fate) (so_far : Deals r holders moment done olds shards loose first drops start tally) (counted : drops' ≡ with_fate drops fate) where
+module _ (r : Rules) (pool : PlainView) (moment : ℕ) (no_pools : r.pools ≡ []) (done : List Item) (item : Item) (olds shards shards' : Shards) (loose loose' : List Loose) (first drops drops' : Drops) (start tally tally' : Book) (fate : Fate) (so_far : Deals r pool moment done olds shards loose first drops start tally) (counted : drops' ≡ with_fate drops fate) (rules : All (WorksBy r) shards) where
   abbrev all : List Item
   all = done ++ item ∷ []
 
@@ -137,26 +141,26 @@ module _ (r : Rules) (holders : List Holder) (moment : ℕ) (done : List Item) (
   longer = length-append done (item ∷ [])
 
   abbrev DealsAll : Type 0
-  DealsAll = Deals r holders moment all olds shards' loose' first drops' start tally'
+  DealsAll = Deals r pool moment all olds shards' loose' first drops' start tally'
 
   -- a loose item
-  more_loose : (cause : Fate) → IsWhose r holders item (IsLoose cause) → DealsTo (IsLoose cause) (length done) moment item shards shards' loose loose' tally tally' fate → DealsAll
+  more_loose : (cause : Fate) → IsWhose r pool.table item (IsLoose cause) → DealsTo pool (IsLoose cause) (length done) moment item shards shards' loose loose' tally tally' fate → DealsAll
   more_loose cause is deals =
       let w : Whose = IsLoose cause in
       let l : Loose = record { seat = 0; place = length done; item = item; fate = cause } in
       let old = loose_in 0 0 done so_far.whose in
       let at : 0 + length done ≡ length done = omega arith in
-      let new : loose_in 0 0 all (so_far.whose ++ w ∷ []) ≡ old ++ l ∷ [] = loose_push r holders moment 0 done so_far.whose item w so_far.is_whose ∙ ap (λ (n : ℕ). old ++ loose_item 0 n item w) at in
+      let new : loose_in 0 0 all (so_far.whose ++ w ∷ []) ≡ old ++ l ∷ [] = loose_push r pool.table moment 0 done so_far.whose item w so_far.is_whose ∙ ap (λ (n : ℕ). old ++ loose_item 0 n item w) at in
       let same : shards' ≡ shards = deals.1 in
       record {
         whose = so_far.whose ++ w ∷ [];
-        is_whose = zip_push (IsWhose r holders) done so_far.whose item w so_far.is_whose is;
+        is_whose = zip_push (IsWhose r pool.table) done so_far.whose item w so_far.is_whose is;
         inside = all_append (StandsWithin (length olds)) so_far.whose (w ∷ []) so_far.inside (tt, tt);
         seen = so_far.seen;
-        round = subst (λ (b : Book). InRound pppoe (views_of olds) (held_by holders) (start ∷ []) so_far.seen (held_by holders) (b ∷ [])) (sym deals.3) so_far.round;
+        round = subst (λ (b : Book). InRound pppoe (views_of olds) (held_by pool) (start ∷ []) so_far.seen (held_by pool) (b ∷ [])) (sym deals.3) so_far.round;
         shown = subst (λ (vs : Shards). AllZip (Shows pppoe) vs so_far.seen) (sym same) so_far.shown;
         plain = so_far.plain;
-        dealt = dealt_others r holders moment 0 done so_far.whose item w so_far.seen so_far.is_whose (λ k le. refl) so_far.dealt;
+        dealt = dealt_others r pool.table moment 0 done so_far.whose item w so_far.seen so_far.is_whose (λ k le. refl) so_far.dealt;
         loose_are = deals.2 ∙ ap (λ (ls : List Loose). ls ++ l ∷ []) so_far.loose_are ∙ sym new;
         drops_are = drops_with first drops drops' (all_fates old so_far.seen) (all_fates (old ++ l ∷ []) so_far.seen) cause so_far.drops_are (counted ∙ ap (with_fate drops) deals.0) (loose_fates old l so_far.seen)
             ∙ ap (λ (ls : List Loose). plus first (drops_of (all_fates ls so_far.seen))) (sym new);
@@ -165,7 +169,7 @@ module _ (r : Rules) (holders : List Holder) (moment : ℕ) (done : List Item) (
       }
 
   -- an item that stands in a shard
-  more_standing : (n : ℕ) → IsWhose r holders item (Stands n) → DealsTo (Stands n) (length done) moment item shards shards' loose loose' tally tally' fate → DealsAll
+  more_standing : (n : ℕ) → IsWhose r pool.table item (Stands n) → DealsTo pool (Stands n) (length done) moment item shards shards' loose loose' tally tally' fate → DealsAll
   more_standing n is deals =
       let h = deals.0 in
       let e = entry_of 0 (length done) moment item in
@@ -180,31 +184,35 @@ module _ (r : Rules) (holders : List Holder) (moment : ℕ) (done : List Item) (
       zip_length (Shows pppoe) shards so_far.seen so_far.shown ∙ sym (zip_length (InTurn pppoe) (views_of olds) so_far.seen so_far.round.shards) ∙ length-map olds (λ (v : ShardView ShardState Entry). with_journal {E = Handled} v []) in
       let within : n < length so_far.seen = omega (arith, h.within, zip_length (Shows pppoe) shards so_far.seen so_far.shown) in
       let shows : Shows pppoe was v = zip_at (Shows pppoe) shards so_far.seen n w' d so_far.shown h.within in
-      let step : HandlesSeen pppoe v effect v' = shows_handles pppoe was e w' v shows hs.shown in
-      let shows' : Shows pppoe w' v' = shows_more pppoe was e w' v shows hs.shown in
-      let seat : effect.deed.entry.seat ≡ 0 = ap (λ (x : Entry). x.seat) hs.shown.entry in
+      let asked = entry_with hs.claim 0 (length done) moment item in
+      let step : HandlesSeen pppoe v effect v' = shows_handles pppoe was asked w' v shows hs.shown in
+      let shows' : Shows pppoe w' v' = shows_more pppoe was asked w' v shows hs.shown in
+      let without : v.state.rules.pools ≡ [] = sym (ap (λ (x : ShardView ShardState Handled). x.state.rules.pools) shows.same) ∙ ap (λ (x : Rules). x.pools) (rules n w' h.within) ∙ no_pools in
+      let claimed : effect.deed.entry.claim ≡ NoClaim = no_claim v.state.rules v.state.slots effect.limited effect.deed step.is_step.step without in
+      let shown : effect.deed.entry ≡ e = hs.shown.entry ∙ ap (λ (x : Claim). entry_with x 0 (length done) moment item) (sym (ap (λ (x : Entry). x.claim) hs.shown.entry) ∙ claimed) in
+      let seat : effect.deed.entry.seat ≡ 0 = ap (λ (x : Entry). x.seat) shown in
       let seats : AllByRecursion (IsOfSeat 0) effect.deed.outs = subst (λ (s : ℕ). AllByRecursion (IsOfSeat s) effect.deed.outs) seat (pppoe_laws.seated v.state effect step.is_step) in
       let tallied = rises_so_far tally tally' effect.deed.outs seats hs.tallied in
       let plain = so_far.plain n d within in
       let entries : entries_of v' ≡ entries_of v ++ e ∷ [] =
-      map-append (λ (x : Handled). x.deed.entry) v.journal (effect ∷ []) ∙ ap (λ (x : Entry). entries_of v ++ x ∷ []) hs.shown.entry in
+      map-append (λ (x : Handled). x.deed.entry) v.journal (effect ∷ []) ∙ ap (λ (x : Entry). entries_of v ++ x ∷ []) shown in
       let outs : w'.outs ≡ was.outs ++ effect.deed.outs = step.outs ∙ ap (λ (x : ShardView ShardState Handled). x.outs ++ effect.deed.outs) (sym shows.same) in
       let w : Whose = Stands n in
       let old = loose_in 0 0 done so_far.whose in
-      let new : loose_in 0 0 all (so_far.whose ++ w ∷ []) ≡ old = loose_push r holders moment 0 done so_far.whose item w so_far.is_whose ∙ append-nil old in
+      let new : loose_in 0 0 all (so_far.whose ++ w ∷ []) ≡ old = loose_push r pool.table moment 0 done so_far.whose item w so_far.is_whose ∙ append-nil old in
       let whole = sum_by-set outs_in shards n w' w' h.within in
       let number = ap (λ (xs : List OutRecord). length xs) outs in
       let one = step_light e.item.kind effect.deed.outs hs.light hs.few in
       record {
         whose = so_far.whose ++ w ∷ [];
-        is_whose = zip_push (IsWhose r holders) done so_far.whose item w so_far.is_whose is;
+        is_whose = zip_push (IsWhose r pool.table) done so_far.whose item w so_far.is_whose is;
         inside = all_append (StandsWithin (length olds)) so_far.whose (w ∷ []) so_far.inside (omega (arith, h.within, count), tt);
         seen = set so_far.seen n v';
-        round = round_goes_on pppoe (views_of olds) (held_by holders) (start ∷ []) so_far.seen (held_by holders) (held_by holders) (tally ∷ []) (tally' ∷ []) n d v' effect within (omega (arith, seat)) step
-            (asks_nothing v.state effect (held_by holders) step.is_step) tallied so_far.round;
+        round = round_goes_on pppoe (views_of olds) (held_by pool) (start ∷ []) so_far.seen (held_by pool) (held_by pool) (tally ∷ []) (tally' ∷ []) n d v' effect within (omega (arith, seat)) step
+            (asks_nothing v.state effect (held_by pool) step.is_step without) tallied so_far.round;
         shown = subst (λ (vs : Shards). AllZip (Shows pppoe) vs (set so_far.seen n v')) (sym h.others) (zip_set_both (Shows pppoe) shards so_far.seen n w' v' so_far.shown shows');
         plain = All-set IsPlain so_far.seen n v' (record { allowance = step.allowance ∙ plain.allowance; stops = step.stops ∙ plain.stops; starts = step.starts ∙ plain.starts }) so_far.plain;
-        dealt = dealt_at r holders moment 0 n n done so_far.whose item so_far.seen d v' so_far.is_whose within (omega arith) entries so_far.dealt;
+        dealt = dealt_at r pool.table moment 0 n n done so_far.whose item so_far.seen d v' so_far.is_whose within (omega arith) entries so_far.dealt;
         loose_are = deals.1 ∙ so_far.loose_are ∙ sym new;
         drops_are = drops_with first drops drops' (all_fates old so_far.seen) (all_fates old (set so_far.seen n v')) effect.deed.fate so_far.drops_are (counted ∙ ap (with_fate drops) (sym hs.fate_is)) (λ cause. shard_fates old so_far.seen n d v' effect cause within refl)
             ∙ ap (λ (ls : List Loose). plus first (drops_of (all_fates ls (set so_far.seen n v')))) (sym new);
@@ -215,11 +223,11 @@ module _ (r : Rules) (holders : List Holder) (moment : ℕ) (done : List Item) (
         few = omega (arith, ap (λ (vs : Shards). sum_by outs_in vs) h.others, whole, number, length-append was.outs effect.deed.outs, so_far.few, hs.few, sum_by_push outs_for done item);
       }
 
-  more_by : (w : Whose) → IsWhose r holders item w → DealsTo w (length done) moment item shards shards' loose loose' tally tally' fate → DealsAll
+  more_by : (w : Whose) → IsWhose r pool.table item w → DealsTo pool w (length done) moment item shards shards' loose loose' tally tally' fate → DealsAll
   more_by (IsLoose cause) is deals = more_loose cause is deals
   more_by (Stands n) is deals = more_standing n is deals
 
-  pub deals_more : DealsOne r holders (length done) moment item shards shards' loose loose' tally tally' fate → DealsAll
+  pub deals_more : DealsOne r pool (length done) moment item shards shards' loose loose' tally tally' fate → DealsAll
   deals_more one = more_by one.whose one.is_whose one.deals
 
 -- The first -------------------------------------------------------------------------------------------------------------
@@ -263,15 +271,15 @@ both : (n : ℕ) (vs : Shards) → AllByRecursion (IsReady n 0) vs → AllByRecu
 both n [] a b = tt
 both n (v ∷ vs) a b = ((a.0, b.0), both n vs a.1 b.1)
 
-pub deals_none : (r : Rules) (holders : List Holder) (moment n : ℕ) (olds : Shards) (loose : List Loose) (drops : Drops) (tally : Book) → All (IsReady n 0) olds → All HasRows olds → loose ≡ [] → Deals r holders moment [] olds olds loose drops drops tally tally
-deals_none r holders moment n olds loose drops tally ready rows none =
+pub deals_none : (r : Rules) (pool : PlainView) (moment n : ℕ) (olds : Shards) (loose : List Loose) (drops : Drops) (tally : Book) → All (IsReady n 0) olds → All HasRows olds → loose ≡ [] → Deals r pool moment [] olds olds loose drops drops tally tally
+deals_none r pool moment n olds loose drops tally ready rows none =
     let begins = both n olds (recursion_from_All (IsReady n 0) olds ready) (recursion_from_All HasRows olds rows) in
     record {
       whose = [];
       is_whose = tt;
       inside = tt;
       seen = views_of olds;
-      round = round_begins pppoe n (views_of olds) (views_of olds) (held_by holders) (tally ∷ []) (all_readied n olds begins);
+      round = round_begins pppoe n (views_of olds) (views_of olds) (held_by pool) (tally ∷ []) (all_readied n olds begins);
       shown = shown_none n olds begins;
       plain = All-from_recursion IsPlain (views_of olds) (plain_none n olds begins);
       dealt = dealt_none moment 0 olds;
@@ -283,7 +291,7 @@ deals_none r holders moment n olds loose drops tally ready rows none =
 
 -- Each shard ------------------------------------------------------------------------------------------------------------
 
-module _ (r : Rules) (holders : List Holder) (moment : ℕ) (items : List Item) (olds shards : Shards) (loose : List Loose) (first drops : Drops) (start tally : Book) (s : Deals r holders moment items olds shards loose first drops start tally) where
+module _ (r : Rules) (pool : PlainView) (moment : ℕ) (items : List Item) (olds shards : Shards) (loose : List Loose) (first drops : Drops) (start tally : Book) (s : Deals r pool moment items olds shards loose first drops start tally) where
   record AtPlace (k : ℕ) (d : ShardView ShardState Entry) : Type 0 where
     seen : ShardView ShardState Handled
     among : k < length olds
@@ -306,7 +314,7 @@ module _ (r : Rules) (holders : List Holder) (moment : ℕ) (items : List Item) 
             (zip_at (InTurn pppoe) (views_of olds) s.seen k e e s.round.shards within);
         shows = zip_at (Shows pppoe) shards s.seen k d e s.shown lt;
         sends = All-from_recursion (λ (v : ShardView ShardState Handled). v.sends ≡ []) s.seen s.round.unsent k e inside;
-        entries = dealt_in r holders moment 0 k items s.whose s.seen e inside s.dealt ∙ ap (λ (n : ℕ). entries_in 0 n 0 moment items s.whose) at;
+        entries = dealt_in r pool.table moment 0 k items s.whose s.seen e inside s.dealt ∙ ap (λ (n : ℕ). entries_in 0 n 0 moment items s.whose) at;
       }
 
   pub numbers_dealt : AreInOrder olds → AreInOrder shards
@@ -345,11 +353,25 @@ module _ (r : Rules) (holders : List Holder) (moment : ℕ) (items : List Item) 
         low k d a.among i inside q input,
       )
 
+  -- the rules stay what they are, and no Start is owed
+  pub dealt_rules : (by : Rules) → All (WorksBy by) olds → All (WorksBy by) shards
+  dealt_rules by works k d lt =
+      let a = at_place k d lt in
+      ap (λ (x : ShardView ShardState Handled). x.state.rules) a.shows.same ∙ ap (λ (x : ShardState). x.rules) a.turn.state ∙ after_rules (get_or olds k d).state a.seen.journal ∙ works k d a.among
+
+  pub dealt_news : r.pools ≡ [] → All (WorksBy r) olds → All (λ v. v.state.slots.news ≡ []) olds → All (λ v. v.state.slots.news ≡ []) shards
+  dealt_news none works news k d lt =
+      let a = at_place k d lt in
+      ap (λ (x : ShardView ShardState Handled). x.state.slots.news) a.shows.same
+      ∙ ap (λ (x : ShardState). x.slots.news) a.turn.state
+      ∙ news_stay (get_or olds k d).state a.seen.journal a.turn.steps (ap (λ (x : Rules). x.pools) (works k d a.among) ∙ none)
+      ∙ news k d a.among
+
   pub dealt_count : length shards ≡ length olds
   dealt_count = zip_length (Shows pppoe) shards s.seen s.shown ∙ sym (zip_length (InTurn pppoe) (views_of olds) s.seen s.round.shards) ∙ length-map olds (λ (v : ShardView ShardState Entry). with_journal {E = Handled} v [])
 
   module _ (place : ℕ) (item : Item) (shards' : Shards) (loose' : List Loose) (tally' : Book) (fate : Fate) where
-    room_by : (w : Whose) → DealsTo w place moment item shards shards' loose loose' tally tally' fate → (total n : ℕ) → n < total → All (λ v. total ≤ v.room + n) shards → All (λ v. total ≤ v.room + (n + 1)) shards'
+    room_by : (w : Whose) → DealsTo pool w place moment item shards shards' loose loose' tally tally' fate → (total n : ℕ) → n < total → All (λ v. total ≤ v.room + n) shards → All (λ v. total ≤ v.room + (n + 1)) shards'
     room_by (IsLoose cause) deals total n lt room =
         subst (λ (vs : Shards). All (λ v. total ≤ v.room + (n + 1)) vs) (sym deals.1)
         (All-weaker (λ (v : ShardView ShardState Entry). total ≤ v.room + n) (λ (v : ShardView ShardState Entry). total ≤ v.room + (n + 1)) (λ v le. omega (arith, le)) shards room)
@@ -362,22 +384,32 @@ module _ (r : Rules) (holders : List Holder) (moment : ℕ) (items : List Item) 
         (All-weaker (λ (v : ShardView ShardState Entry). total ≤ v.room + n) (λ (v : ShardView ShardState Entry). total ≤ v.room + (n + 1)) (λ v le. omega (arith, le)) shards room))
 
     -- an item takes one place
-    pub room_more : DealsOne r holders place moment item shards shards' loose loose' tally tally' fate → (total n : ℕ) → n < total → All (λ v. total ≤ v.room + n) shards → All (λ v. total ≤ v.room + (n + 1)) shards'
+    pub room_more : DealsOne r pool place moment item shards shards' loose loose' tally tally' fate → (total n : ℕ) → n < total → All (λ v. total ≤ v.room + n) shards → All (λ v. total ≤ v.room + (n + 1)) shards'
     room_more one total n lt room = room_by one.whose one.deals total n lt room
 
-    loose_by : (w : Whose) → DealsTo w place moment item shards shards' loose loose' tally tally' fate → length loose' ≤ length loose + 1
+    held_by_one : (w : Whose) → DealsTo pool w place moment item shards shards' loose loose' tally tally' fate → All (HoldsOwn pool.table) shards → All (HoldsOwn pool.table) shards'
+    held_by_one (IsLoose cause) deals held = subst (λ (vs : Shards). All (HoldsOwn pool.table) vs) (sym deals.1) held
+    held_by_one (Stands k) deals held =
+        let h = deals.0 in
+        subst (λ (vs : Shards). All (HoldsOwn pool.table) vs) (sym h.others) (All-set (HoldsOwn pool.table) shards k h.shard h.handles.held held)
+
+    -- each term holds its address still
+    pub held_more : DealsOne r pool place moment item shards shards' loose loose' tally tally' fate → All (HoldsOwn pool.table) shards → All (HoldsOwn pool.table) shards'
+    held_more one held = held_by_one one.whose one.deals held
+
+    loose_by : (w : Whose) → DealsTo pool w place moment item shards shards' loose loose' tally tally' fate → length loose' ≤ length loose + 1
     loose_by (IsLoose cause) deals = omega (arith, ap (λ (ls : List Loose). length ls) deals.2, length-append loose (loose_item 0 place item (IsLoose cause)))
     loose_by (Stands k) deals = omega (arith, ap (λ (ls : List Loose). length ls) deals.1)
 
-    pub loose_more : DealsOne r holders place moment item shards shards' loose loose' tally tally' fate → length loose' ≤ length loose + 1
+    pub loose_more : DealsOne r pool place moment item shards shards' loose loose' tally tally' fate → length loose' ≤ length loose + 1
     loose_more one = loose_by one.whose one.deals
 
-    tally_by : (w : Whose) → DealsTo w place moment item shards shards' loose loose' tally tally' fate → (most : ℕ) → IsLow most tally → IsLow (most + 4160) tally'
+    tally_by : (w : Whose) → DealsTo pool w place moment item shards shards' loose loose' tally tally' fate → (most : ℕ) → IsLow most tally → IsLow (most + 4160) tally'
     tally_by (IsLoose cause) deals most low q input = omega (arith, ap (in_book q input) deals.3, low q input)
     tally_by (Stands k) deals most low q input =
         let hs = deals.0.handles in
         omega (arith, hs.tallied q input, step_light item.kind hs.shown.effect.deed.outs hs.light hs.few q (is_directed input), low q input)
 
     -- and adds to the tally what passes
-    pub tally_more : DealsOne r holders place moment item shards shards' loose loose' tally tally' fate → (most : ℕ) → IsLow most tally → IsLow (most + 4160) tally'
+    pub tally_more : DealsOne r pool place moment item shards shards' loose loose' tally tally' fate → (most : ℕ) → IsLow most tally → IsLow (most + 4160) tally'
     tally_more one most low = tally_by one.whose one.deals most low

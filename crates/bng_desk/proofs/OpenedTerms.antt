@@ -15,9 +15,8 @@ use Rattle.bng_engine.proofs.Adding.{sum_plus}
 use Rattle.bng_config.specs.declared.config.Config.{Config}
 use Rattle.bng_config.specs.Rules.{IsSessionOf, KeepsRules}
 use Rattle.bng_shard.specs.declared.rules.Rules.{Rules}
-use Rattle.bng_shard.specs.Opening.{circuit_at, in_order, opened_slots}
-use Rattle.bng_shard.specs.Protocol.{opened, profiles_there, terms_after, terms_of}
-use Rattle.bng_shard.proofs.Opened.{opened_keys}
+use Rattle.bng_shard.specs.Opening.{circuit_at, in_order, opened_slots, tenures_after}
+use Rattle.bng_shard.specs.Protocol.{opened, profiles_there, term_in, terms_of}
 use Rattle.bng_shard.proofs.OpenedKeys.{rows_apart, rows_of_shard}
 use Rattle.bng_shard.proofs.RowLaws.{new_keys}
 use Rattle.bng_slots.specs.Sessions.{IsNumberOf}
@@ -72,9 +71,9 @@ module _ {X : Type 0} (number : X → ℕ) where
         few_numbered a k xs,
       )
 
-terms_count : (n : ℕ) (cs : List Static) → length (keys (terms_after n cs)) ≡ length cs
-terms_count n [] = refl
-terms_count n (c ∷ cs) = ap suc (terms_count (n + 1) cs)
+terms_count : (now n : ℕ) (cs : List Static) → length (keys (map term_in (tenures_after now n cs))) ≡ length cs
+terms_count now n [] = refl
+terms_count now n (c ∷ cs) = ap suc (terms_count now (n + 1) cs)
 
 circuits_few : (a k : ℕ) (cs : List Static) → length (flat_map (circuit_at cs) (range_with_len a k)) ≤ length cs
 circuits_few a k cs = omega (arith, length-flat_map (circuit_at cs) (range_with_len a k), few_numbered (λ (c : Static). c.session.0) a k cs)
@@ -93,51 +92,51 @@ other_session j k false e other = refl
 apart_by : (j k : Key) → j.term.session ≢ k.term.session → AreApart j k
 apart_by j k other = other_session j k (eqb j.term.session.0 k.term.session.0) refl other
 
-module _ (r : Rules) (circuits : List Static) (served : AreServed r circuits) where
+module _ (r : Rules) (circuits : List Static) (now : ℕ) (served : AreServed r circuits) where
   abbrev opens : ℕ → List Key
-  opens n = row_keys (opened n r (of_shard circuits n)).rows
+  opens n = row_keys (opened n r (of_shard circuits n) now).rows
 
   opens_count : (n : ℕ) → length (opens n) ≤ length (of_shard circuits n)
   opens_count n =
       let cs = of_shard circuits n in
       omega (
         arith,
-        ap (λ (ks : List Key). length ks) (new_keys (keys (terms_of (record { rules = r; slots = opened_slots n cs }))) ∙ opened_keys r n cs (opened_slots n cs) refl (are_of r circuits n served).sessions),
-        terms_count 0 (in_order n cs),
+        ap (λ (ks : List Key). length ks) (new_keys (keys (terms_of (record { rules = r; slots = opened_slots n cs now })))),
+        terms_count now 0 (in_order n cs),
         in_order_few n cs,
       )
 
-  keys_count : (a k : ℕ) → length (keys_in (map (λ n. opened n r (of_shard circuits n)) (range_with_len a k))) ≤ sum_by (λ n. length (of_shard circuits n)) (range_with_len a k)
+  keys_count : (a k : ℕ) → length (keys_in (map (λ n. opened n r (of_shard circuits n) now) (range_with_len a k))) ≤ sum_by (λ n. length (of_shard circuits n)) (range_with_len a k)
   keys_count a zero = omega arith
   keys_count a (suc k) =
       omega (
         arith,
-        length-append (opens a) (keys_in (map (λ n. opened n r (of_shard circuits n)) (range_with_len (a + 1) k))),
+        length-append (opens a) (keys_in (map (λ n. opened n r (of_shard circuits n) now) (range_with_len (a + 1) k))),
         opens_count a,
         keys_count (a + 1) k,
         sum_by-cons (λ n. length (of_shard circuits n)) a (range_with_len (a + 1) k),
       )
 
   -- there are no more terms than circuits
-  pub few_terms : length (keys_in (map (λ n. opened n r (of_shard circuits n)) (range_with_len 0 r.shards))) ≤ length circuits
+  pub few_terms : length (keys_in (map (λ n. opened n r (of_shard circuits n) now) (range_with_len 0 r.shards))) ≤ length circuits
   few_terms = omega (arith, keys_count 0 r.shards, few_numbered shard_of 0 r.shards circuits)
 
   of_this : (n : ℕ) → n < 64 → All (λ (k : Key). k.term.session.0 / 1024 ≡ n) (opens n)
-  of_this n low = rows_of_shard n r (of_shard circuits n) (are_of r circuits n served).sessions (are_of r circuits n served).own
+  of_this n low = rows_of_shard n r (of_shard circuits n) now (are_of r circuits n served).sessions (are_of r circuits n served).own
 
-  from_this : (a k : ℕ) → a + k ≤ 64 → All (λ (x : Key). a ≤ x.term.session.0 / 1024) (keys_in (map (λ n. opened n r (of_shard circuits n)) (range_with_len a k)))
+  from_this : (a k : ℕ) → a + k ≤ 64 → All (λ (x : Key). a ≤ x.term.session.0 / 1024) (keys_in (map (λ n. opened n r (of_shard circuits n) now) (range_with_len a k)))
   from_this a zero low = λ i d lt. absurd (omega (arith, lt))
   from_this a (suc k) low =
-      All-append (λ (x : Key). a ≤ x.term.session.0 / 1024) (opens a) (keys_in (map (λ n. opened n r (of_shard circuits n)) (range_with_len (a + 1) k)))
+      All-append (λ (x : Key). a ≤ x.term.session.0 / 1024) (opens a) (keys_in (map (λ n. opened n r (of_shard circuits n) now) (range_with_len (a + 1) k)))
       (λ i d lt. omega (arith, of_this a (omega (arith, low)) i d lt))
       (λ i d lt. omega (arith, from_this (a + 1) k (omega (arith, low)) i d lt))
 
-  apart_from : (a k : ℕ) → a + k ≤ 64 → AllPairs AreApart (keys_in (map (λ n. opened n r (of_shard circuits n)) (range_with_len a k)))
+  apart_from : (a k : ℕ) → a + k ≤ 64 → AllPairs AreApart (keys_in (map (λ n. opened n r (of_shard circuits n) now) (range_with_len a k)))
   apart_from a zero low = λ i j d lt within. absurd (omega (arith, within))
   apart_from a (suc k) low =
-      let later = keys_in (map (λ n. opened n r (of_shard circuits n)) (range_with_len (a + 1) k)) in
+      let later = keys_in (map (λ n. opened n r (of_shard circuits n) now) (range_with_len (a + 1) k)) in
       pairs_append AreApart (opens a) later
-      (λ i j d lt within. apart_by (get_or (opens a) i d) (get_or (opens a) j d) (rows_apart a r (of_shard circuits a) (are_of r circuits a served).sessions i j d lt within))
+      (λ i j d lt within. apart_by (get_or (opens a) i d) (get_or (opens a) j d) (rows_apart a r (of_shard circuits a) now (are_of r circuits a served).sessions i j d lt within))
       (apart_from (a + 1) k (omega (arith, low)))
       (λ i d lt j e within.
       apart_by (get_or (opens a) i d) (get_or later j e)
@@ -145,7 +144,7 @@ module _ (r : Rules) (circuits : List Static) (served : AreServed r circuits) wh
       omega (arith, ap (λ (s : SessionNo). s.0) is, of_this a (omega (arith, low)) i d lt, from_this (a + 1) k (omega (arith, low)) j e within)))
 
   -- and no two of them are one
-  pub terms_apart : r.shards ≤ 64 → AllPairs (λ (j k : Key). same j.term k.term ≡ false) (keys_in (map (λ n. opened n r (of_shard circuits n)) (range_with_len 0 r.shards)))
+  pub terms_apart : r.shards ≤ 64 → AllPairs (λ (j k : Key). same j.term k.term ≡ false) (keys_in (map (λ n. opened n r (of_shard circuits n) now) (range_with_len 0 r.shards)))
   terms_apart few = apart_from 0 r.shards (omega (arith, few))
 
 -- a session number of a shard

@@ -1,16 +1,25 @@
 -- The shards are made ready, one after the other.
-use Rattle.std.proofs.Common.{◌≡◌, ℕ, ◌+◌, ◌<◌, List, length, get_or, set, refl, subst, ◌∙◌, arith}
+use Rattle.std.proofs.Common.{◌≡◌, ℕ, ◌+◌, ◌<◌, List, [], length, get_or, set, refl, subst, ◌∙◌, arith}
 use Rattle.std.specs.List.{All, AllZip}
 use Rattle.std.proofs.lemmas.List.Elements.{AllZip-get_or, length_all_zip}
 use Rattle.bng_base.specs.declared.item.Entry.{Entry}
 use Rattle.bng_engine.specs.Calls.{Kept, IsReady}
 use Rattle.bng_engine.specs.Views.{ShardView}
 use Rattle.bng_engine.proofs.Walks.{Walked, walk_all, walk_more, walk_stop, walk_weaker}
+use Rattle.bng_shard.specs.declared.rules.Rules.{Rules}
 use Rattle.bng_shard.specs.Protocol.{ShardState}
 use Rattle.bng_desk.specs.Taking.{IsEmpty, HasRows, AreInOrder}
 
 abbrev pub Shards : Type 0
 Shards = List (ShardView ShardState Entry)
+
+-- of each term that began a Start was formed
+abbrev pub OwesNone : ShardView ShardState Entry → Type 0
+OwesNone v = v.state.slots.news ≡ []
+
+-- it works by these rules
+abbrev pub WorksBy : Rules → ShardView ShardState Entry → Type 0
+WorksBy r v = v.state.rules ≡ r
 
 -- what each step of a walk over the shards keeps
 pub all_right : (R : ShardView ShardState Entry → ShardView ShardState Entry → Type 0) (P : ShardView ShardState Entry → Type 0) → ((x y : ShardView ShardState Entry) → R x y → P y) → (vs ws : Shards) → AllZip R vs ws → All P ws

@@ -1,5 +1,5 @@
 -- The terms that ended leave the shards, one shard after the other.
-use Rattle.std.proofs.Common.{◌≡◌, ℕ, ◌+◌, ◌<◌, Bool, true, false, not, ◌&&◌, ◌||◌, cond, eqb, List, [], ◌∷◌, ◌++◌, map, filter, length, take, drop, get_or, set, refl, sym, ap, subst, ◌∙◌, append_assoc, append-nil, arith}
+use Rattle.std.proofs.Common.{◌≡◌, ◌≢◌, ℕ, ◌+◌, ◌<◌, Bool, true, false, not, ◌&&◌, ◌||◌, cond, eqb, List, [], ◌∷◌, ◌++◌, map, filter, length, take, Some, drop, get_or, set, refl, sym, ap, subst, ◌∙◌, append_assoc, append-nil, arith}
 use Rattle.std.specs.List.{All, AllZip, flat_map, list_any, sum_by}
 use Rattle.std.proofs.lemmas.Bool.{false≢true}
 use Rattle.std.proofs.lemmas.Bool.Decides.{nat_tests}
@@ -27,17 +27,18 @@ use Rattle.bng_engine.specs.Views.{Row, ShardView, row_keys, rows_where}
 use Rattle.bng_engine.proofs.Reaping.{reaping_begins, reaping_goes_on, reaping_ends}
 use Rattle.bng_engine.proofs.SameLists.{same_equal, same_map}
 use Rattle.bng_engine.proofs.Walks.{same_at}
-use Rattle.bng_shard.specs.declared.pool.Holder.{Holder}
+use Rattle.bng_pool.specs.Plain.{PlainView}
+use Rattle.bng_pool.specs.Tables.{TableFrees, entry}
 use Rattle.bng_shard.specs.declared.rules.Rules.{Rules}
-use Rattle.bng_shard.specs.Protocol.{ShardState, Handled, Leaves, pppoe, ended_terms, terms_of}
-use Rattle.bng_shard.specs.State.{State, settled}
+use Rattle.bng_shard.specs.Protocol.{ShardState, AreHeld, Handled, Leaves, pppoe, ended_terms, terms_of}
+use Rattle.bng_shard.specs.State.{State, reaped as reaped_slots, settled}
 use Rattle.bng_shard.specs.Sums.{AreLow, RowsAreLow}
-use Rattle.bng_shard.specs.Whose.{without_holder}
+use Rattle.bng_shard.specs.Tenures.{Tenure}
 use Rattle.bng_shard.proofs.StepLaws.{pppoe_laws}
 use Rattle.bng_desk.specs.declared.line.Line.{Line}
 use Rattle.bng_desk.specs.Accounting.{AreBilled}
 use Rattle.bng_desk.specs.Model.{is_of, keys_in}
-use Rattle.bng_desk.specs.Round.{held_by, holders_after, entries_of}
+use Rattle.bng_desk.specs.Round.{IsReturned, entries_of}
 use Rattle.bng_desk.specs.Taking.{IsEmpty, HasFewSessions, Accounts, AreInOrder, BooksStops, IsLeftBy, IsTurning, LinesWithin, TakesIn, SentTo, ReapedTo, ReapsShard, ReapsAll, settled_as, kept_in, joined, far}
 use Rattle.bng_desk.proofs.Billed.{billed_part, billed_there, billed_without}
 use Rattle.bng_desk.proofs.Booking.{books_more, books_none, others_booked}
@@ -47,92 +48,9 @@ use Rattle.bng_desk.proofs.Parts.{stands_at}
 use Rattle.bng_desk.proofs.Readying.{Shards}
 use Rattle.bng_desk.proofs.Sending.{not_sent_yet}
 use Rattle.bng_desk.proofs.ShardKeys.{keys_set, keys_split}
-use Rattle.bng_desk.proofs.Unclaiming.{keys_stay}
+use Rattle.bng_desk.proofs.Returning.{HoldsOwn, all_hold, order_set, others_hold, returned_more, returned_none, returned_one}
+use Rattle.bng_desk.proofs.Unclaiming.{after_rules, keys_stay}
 use Rattle.bng_desk.proofs.Zips.{zip3_push, zip3_at, zip3_length}
-
--- Holders ---------------------------------------------------------------------------------------------------------------
-
-abbrev has : List Stop → Holder → Bool
-has stops h = list_any (λ (s : Stop). eqb s.key.lease.0 h.address.0) stops
-
-pub holders_none : (hs : List Holder) → hs ≡ holders_after [] hs
-holders_none [] = refl
-holders_none (h ∷ hs) = ap (λ (xs : List Holder). h ∷ xs) (holders_none hs)
-
-filter_both : {X : Type 0} (p q : X → Bool) (xs : List X) → filter q (filter p xs) ≡ filter (λ x. p x && q x) xs
-filter_both p q [] = refl
-filter_both {X} p q (x ∷ xs) =
-    elim (p x) as (λ b. filter q (cond b (x ∷ filter p xs) (filter p xs)) ≡ cond (b && q x) (x ∷ filter (λ y. p y && q y) xs) (filter (λ y. p y && q y) xs)) [
-      | true ↦ ap (λ (ys : List X). cond (q x) (x ∷ ys) ys) (filter_both p q xs)
-      | false ↦ filter_both p q xs
-    ]
-
-filter_same : {X : Type 0} (p q : X → Bool) → ((x : X) → p x ≡ q x) → (xs : List X) → filter p xs ≡ filter q xs
-filter_same p q e [] = refl
-filter_same {X} p q e (x ∷ xs) =
-    ap (λ (b : Bool). cond b (x ∷ filter p xs) (filter p xs)) (e x) ∙ ap (λ (ys : List X). cond (q x) (x ∷ ys) ys) (filter_same p q e xs)
-
-neither : (a b : Bool) → not (a || b) ≡ (not a && not b)
-neither true b = refl
-neither false b = refl
-
--- some leave, and then some more
-pub holders_more : (a b : List Stop) (hs : List Holder) → holders_after (a ++ b) hs ≡ holders_after b (holders_after a hs)
-holders_more a b hs =
-    filter_same (λ (h : Holder). not (has (a ++ b) h)) (λ (h : Holder). not (has a h) && not (has b h))
-    (λ h. ap not (list_any-append (λ (s : Stop). eqb s.key.lease.0 h.address.0) a b) ∙ neither (has a h) (has b h)) hs
-    ∙ sym (filter_both (λ (h : Holder). not (has a h)) (λ (h : Holder). not (has b h)) hs)
-
-held_by_one : (b : Bool) (h : Holder) (hs : List Holder) (a : ℕ) → is_held a (held_by (cond (not b) (h ∷ hs) hs)) ≡ cond (not b) (eqb h.address.0 a || is_held a (held_by hs)) (is_held a (held_by hs))
-held_by_one true h hs a = refl
-held_by_one false h hs a = refl
-
--- an address that is given back, by whether this one is it
-less_by : (here it rest given : Bool) → (here ≡ true → it ≡ given) → (here ≡ false → it ≡ true → given ≡ false) → cond (not here) (it || (rest && not given)) (rest && not given) ≡ ((it || rest) && not given)
-less_by true true true true f g = refl
-less_by true true false true f g = refl
-less_by true true rest false f g = absurd (false≢true (sym (f refl)))
-less_by true false rest given f g = refl
-less_by false true rest true f g = absurd (false≢true (sym (g refl refl)))
-less_by false true rest false f g = refl
-less_by false false rest given f g = refl
-
-same_lease : (x h a : ℕ) → (eqb x h || false) ≡ true → eqb h a ≡ eqb x a
-same_lease x h a e = grind (arith, nat_tests)
-
-other_lease : (x h a : ℕ) → (eqb x h || false) ≡ false → eqb h a ≡ true → eqb x a ≡ false
-other_lease x h a e f = grind (arith, nat_tests)
-
-one_given : (s : Stop) (hs : List Holder) (a : ℕ) → is_held a (held_by (holders_after (s ∷ []) hs)) ≡ (is_held a (held_by hs) && not (eqb s.key.lease.0 a))
-one_given s [] a = refl
-one_given s (h ∷ hs) a =
-    let x = s.key.lease.0 in
-    let here = eqb x h.address.0 || false in
-    held_by_one here h (holders_after (s ∷ []) hs) a
-    ∙ ap (λ (b : Bool). cond (not here) (eqb h.address.0 a || b) b) (one_given s hs a)
-    ∙ less_by here (eqb h.address.0 a) (is_held a (held_by hs)) (eqb x a) (same_lease x h.address.0 a) (other_lease x h.address.0 a)
-
-abbrev leases : List Stop → List ℕ
-leases stops = map (λ (s : Stop). s.key.lease.0) stops
-
--- the addresses of the Stops are given back, one after another
-all_given : (stops : List Stop) (hs : List Holder) → GivesAllBack (leases stops) (held_by hs) (held_by (holders_after stops hs))
-all_given [] hs = λ a. ap (λ (xs : List Holder). is_held a (held_by xs)) (sym (holders_none hs))
-all_given (s ∷ stops) hs = (
-  held_by (holders_after (s ∷ []) hs),
-  one_given s hs,
-  subst (λ (xs : List Holder). GivesAllBack (leases stops) (held_by (holders_after (s ∷ []) hs)) (held_by xs)) (sym (holders_more (s ∷ []) stops hs)) (all_given stops (holders_after (s ∷ []) hs)),
-)
-
-leases_of : (xs : Seens) → leases (flat_map (λ v. v.stops) xs) ≡ given_back xs
-leases_of [] = refl
-leases_of (x ∷ xs) =
-    map-append (λ (s : Stop). s.key.lease.0) x.stops (flat_map (λ v. v.stops) xs) ∙ ap (λ (ns : List ℕ). leases x.stops ++ ns) (leases_of xs)
-
-pub gives_back : (xs : Seens) (hs : List Holder) → GivesAllBack (given_back xs) (held_by hs) (held_by (holders_after (flat_map (λ v. v.stops) xs) hs))
-gives_back xs hs =
-    let stops = flat_map (λ (v : ShardView ShardState Handled). v.stops) xs in
-    subst (λ (ns : List ℕ). GivesAllBack ns (held_by hs) (held_by (holders_after stops hs))) (leases_of xs) (all_given stops hs)
 
 -- One shard -------------------------------------------------------------------------------------------------------------
 
@@ -143,7 +61,7 @@ seen v stops = settled_as v [] [] [] stops
 pub record LeavesSome (v w : ShardView ShardState Entry) (stops : List Stop) : Type 0 where
   pub reaping : InReaping pppoe (seen v []) (seen w stops)
   pub rules : w.state.rules ≡ v.state.rules
-  pub slots : settled w.state.slots ≡ settled v.state.slots
+  pub slots : reaped_slots w.state.slots ≡ reaped_slots v.state.slots
   pub fit : Same (row_keys v.rows) (keys (terms_of v.state)) → Same (row_keys w.rows) (keys (terms_of w.state))
   pub number : w.number ≡ v.number
   pub allowance : w.allowance ≡ v.allowance
@@ -186,30 +104,28 @@ leaves_more v w w' stops s some one = record {
   outs = one.outs ∙ some.outs;
 }
 
--- and its address is given back, and it is booked
-pub record ReapsFew (moment wall : ℕ) (v w : ShardView ShardState Entry) (holders holders' : List Holder) (a a' : Accounts) : Type 0 where
+-- and its address is given back, and it is booked; each term that is left holds its own, of this shard and of others
+pub record ReapsFew (moment wall : ℕ) (v w : ShardView ShardState Entry) (pool pool' : PlainView) (a a' : Accounts) : Type 0 where
   pub stops : List Stop
   pub some : LeavesSome v w stops
-  pub holders_are : holders' ≡ holders_after stops holders
+  pub returned : IsReturned stops pool pool'
   pub booked : BooksStops moment wall stops a a'
   pub within : (most : Bool → ℕ) → LinesWithin most (v ∷ []) a.lines → LinesWithin most (w ∷ []) a'.lines
   pub billed : (front back : List Key) → AreBilled (front ++ (row_keys v.rows ++ back)) a.billing → AreBilled (front ++ (row_keys w.rows ++ back)) a'.billing
+  pub held : HoldsOwn pool'.table w
+  pub others : (n : ℕ) (ts : List Term) → n ≢ v.number → AreHeld n ts pool.table → AreHeld n ts pool'.table
 
-pub reaps_begin : (moment wall : ℕ) (v : ShardView ShardState Entry) (holders : List Holder) (a : Accounts) → ReapsFew moment wall v v holders holders a a
-reaps_begin moment wall v holders a = record {
+pub reaps_begin : (moment wall : ℕ) (v : ShardView ShardState Entry) (pool : PlainView) (a : Accounts) → HoldsOwn pool.table v → ReapsFew moment wall v v pool pool a a
+reaps_begin moment wall v pool a held = record {
   stops = [];
   some = leaves_none v;
-  holders_are = holders_none holders;
+  returned = returned_none pool;
   booked = books_none moment wall a;
   within = λ most h. h;
   billed = λ front back h. h;
+  held = held;
+  others = λ n ts other h. h;
 }
-
-given_once : (x a : ℕ) → not (eqb a x) ≡ not (eqb x a || false)
-given_once x a = grind (arith, nat_tests)
-
-without_is : (s : Stop) (hs : List Holder) → without_holder s.key.lease hs ≡ holders_after (s ∷ []) hs
-without_is s hs = filter_same (λ (h : Holder). not (eqb h.address.0 s.key.lease.0)) (λ (h : Holder). not (has (s ∷ []) h)) (λ h. given_once s.key.lease.0 h.address.0) hs
 
 -- the line has room for what leaves the row
 pub takes_in : (w w' : ShardView ShardState Entry) (s : Stop) (ls : List Line) → Leaves w w' s → LinesWithin far (w ∷ []) ls → All (TakesIn (s ∷ [])) ls
@@ -242,15 +158,18 @@ leaves_billed front back w w' s moment wall a a' one booked billed =
     subst (λ (ks : List Key). AreBilled ks a'.billing) is
     (billed_without (front ++ one.before) (one.after ++ back) s.key a.billing a'.billing (others_booked moment wall s a a' booked) (subst (λ (ks : List Key). AreBilled ks a.billing) was billed))
 
-pub reaps_on : (moment wall : ℕ) (v w w' : ShardView ShardState Entry) (s : Stop) (holders holders' holders'' : List Holder) (a a' a'' : Accounts) → ReapsFew moment wall v w holders holders' a a' → Leaves w w' s
-    → holders'' ≡ without_holder s.key.lease holders' → BooksStops moment wall (s ∷ []) a' a'' → ReapsFew moment wall v w' holders holders'' a a''
-reaps_on moment wall v w w' s holders holders' holders'' a a' a'' so_far one given booked = record {
+pub reaps_on : (moment wall : ℕ) (v w w' : ShardView ShardState Entry) (s : Stop) (k : ℕ) (pool pool' pool'' : PlainView) (a a' a'' : Accounts) → ReapsFew moment wall v w pool pool' a a' → Leaves w w' s
+    → TableFrees pool'.table k s.key.lease.0 pool''.table → (pool''.ranges ≡ pool'.ranges) × (pool''.shards ≡ pool'.shards) → entry pool'.table s.key.lease.0 ≡ Some w.number → HoldsOwn pool''.table w'
+    → BooksStops moment wall (s ∷ []) a' a'' → ReapsFew moment wall v w' pool pool'' a a''
+reaps_on moment wall v w w' s k pool pool' pool'' a a' a'' so_far one frees rest mine held booked = record {
   stops = so_far.stops ++ s ∷ [];
   some = leaves_more v w w' so_far.stops s so_far.some one;
-  holders_are = given ∙ without_is s holders' ∙ ap (holders_after (s ∷ [])) so_far.holders_are ∙ sym (holders_more so_far.stops (s ∷ []) holders);
+  returned = returned_more so_far.stops (s ∷ []) pool pool' pool'' so_far.returned (returned_one s k pool' pool'' frees rest);
   booked = books_more moment wall so_far.stops (s ∷ []) a a' a'' so_far.booked booked;
   within = λ most h. subst (λ (ls : List Line). LinesWithin most (w' ∷ []) ls) (sym booked.lines_are) (within_more most (w ∷ []) 0 w w' (s ∷ []) a'.lines (omega arith) one.rows (so_far.within most h));
   billed = λ front back h. leaves_billed front back w w' s moment wall a' a'' one booked (so_far.billed front back h);
+  held = held;
+  others = λ n ts other h. others_hold pool'.table pool''.table k s.key.lease.0 w.number n ts frees mine (λ same. other (same ∙ so_far.some.number)) (so_far.others n ts other h);
 }
 
 -- how many terms have still to leave
@@ -263,7 +182,7 @@ all_live [] e = refl
 all_live (t ∷ ts) e = live_by t.ended t ts e (all_live ts)
 
 abbrev pub over : ShardView ShardState Entry → ShardView ShardState Entry
-over w = record w { state = record w.state { slots = settled w.state.slots }; room = 0 }
+over w = record w { state = record w.state { slots = reaped_slots w.state.slots }; room = 0 }
 
 abbrev state_with : Rules → State → ShardState
 state_with rules slots = record { rules = rules; slots = slots }
@@ -273,9 +192,15 @@ pub over_billed : (front back : List Key) (w w' : ShardView ShardState Entry) (b
 over_billed front back w w' b is billed = subst (λ (rs : List Row). AreBilled (front ++ (row_keys rs ++ back)) b) (sym (ap (λ (x : ShardView ShardState Entry). x.rows) is)) billed
 
 -- all have left
-module _ (v w w' : ShardView ShardState Entry) (stops : List Stop) (some : LeavesSome v w stops) (none : filter is_ended (terms_of w.state) ≡ []) (is : w' ≡ over w) where
+-- where no Start is owed, a shard of which all terms that ended have left is settled
+no_start : (s : State) (news : List Tenure) → s.news ≡ news → news ≡ [] → reaped_slots s ≡ settled s
+no_start s news is none = ap (λ (ns : List Tenure). let t : State = record (reaped_slots s) { news = ns } in t) (is ∙ none)
+
+module _ (v w w' : ShardView ShardState Entry) (stops : List Stop) (none_new : v.state.slots.news ≡ []) (no_pools : v.state.rules.pools ≡ []) (some : LeavesSome v w stops) (none : filter is_ended (terms_of w.state) ≡ []) (is : w' ≡ over w) where
   state_is : w'.state ≡ pppoe.settled v.state
-  state_is = ap (λ (x : ShardView ShardState Entry). x.state) is ∙ ap (λ (r : Rules). state_with r (settled w.state.slots)) some.rules ∙ ap (λ (s : State). state_with v.state.rules s) some.slots
+  state_is = ap (λ (x : ShardView ShardState Entry). x.state) is
+      ∙ ap (λ (r : Rules). state_with r (reaped_slots w.state.slots)) some.rules
+      ∙ ap (λ (s : State). state_with v.state.rules s) (some.slots ∙ no_start v.state.slots v.state.slots.news refl none_new)
 
   rows_are : w'.rows ≡ w.rows
   rows_are = ap (λ (x : ShardView ShardState Entry). x.rows) is
@@ -297,7 +222,7 @@ module _ (v w w' : ShardView ShardState Entry) (stops : List Stop) (some : Leave
       order = some.reaping.order;
       each = reaping_ends pppoe (seen v []) (seen w stops) some.reaping none;
       rows = rows_left;
-      begun = record { order = tt; each = λ f. ap (λ (s : ShardState). sum_by f (keys (terms_of s))) turn.state ∙ keys_stay was.state es turn.steps f };
+      begun = record { order = tt; each = λ f. ap (λ (s : ShardState). sum_by f (keys (terms_of s))) turn.state ∙ keys_stay was.state es turn.steps (ap (λ (r : Rules). r.pools) (sym (ap (λ (s : ShardState). s.rules) turn.state ∙ after_rules was.state es)) ∙ no_pools) f };
       books = ap (λ (x : ShardView ShardState Entry). x.books) is ∙ some.books;
       journal = refl;
       sends = refl;
@@ -314,12 +239,14 @@ module _ (v w w' : ShardView ShardState Entry) (stops : List Stop) (some : Leave
 -- Shard by shard --------------------------------------------------------------------------------------------------------
 
 -- the first shards are reaped, and the others are as they were
-pub record ReapsSome (moment wall : ℕ) (olds shards : Shards) (i : ℕ) (holders holders' : List Holder) (a a' : Accounts) : Type 0 where
+pub record ReapsSome (moment wall : ℕ) (olds shards : Shards) (i : ℕ) (pool pool' : PlainView) (a a' : Accounts) : Type 0 where
   pub stops : List (List Stop)
   pub done : Zip3 ReapedTo (take i olds) (take i shards) stops
   pub rest : drop i shards ≡ drop i olds
-  pub holders_are : holders' ≡ holders_after (joined stops) holders
+  pub returned : IsReturned (joined stops) pool pool'
   pub booked : BooksStops moment wall (joined stops) a a'
+  pub order : AreInOrder shards
+  pub held : All (HoldsOwn pool'.table) shards
   pub within : (most : Bool → ℕ) → LinesWithin most olds a.lines → LinesWithin most shards a'.lines
   pub billed : AreBilled (keys_in shards) a'.billing
 
@@ -329,16 +256,22 @@ tails xs ys i e = sym (drop-drop 1 i xs) ∙ ap (drop 1) e ∙ drop-drop 1 i ys
 joined_push : (sss : List (List Stop)) (ss : List Stop) → joined (sss ++ ss ∷ []) ≡ joined sss ++ ss
 joined_push sss ss = flat_map-append (λ (x : List Stop). x) sss (ss ∷ []) ∙ ap (λ (ys : List Stop). joined sss ++ ys) (append-nil ss)
 
-pub reaps_none : (moment wall : ℕ) (olds : Shards) (holders : List Holder) (a : Accounts) → AreBilled (keys_in olds) a.billing → ReapsSome moment wall olds olds 0 holders holders a a
-reaps_none moment wall olds holders a billed = record {
+pub reaps_none : (moment wall : ℕ) (olds : Shards) (pool : PlainView) (a : Accounts) → AreInOrder olds → All (HoldsOwn pool.table) olds → AreBilled (keys_in olds) a.billing → ReapsSome moment wall olds olds 0 pool pool a a
+reaps_none moment wall olds pool a order held billed = record {
   stops = [];
   done = tt;
   rest = refl;
-  holders_are = holders_none holders;
+  returned = returned_none pool;
   booked = books_none moment wall a;
+  order = order;
+  held = held;
   within = λ most h. h;
   billed = billed;
 }
+
+-- a shard that was not reaped yet keeps what it kept
+pub untouched : (P : ShardView ShardState Entry → Type 0) (olds shards : Shards) (i : ℕ) (d : ShardView ShardState Entry) → i < length olds → drop i shards ≡ drop i olds → All P olds → P (get_or shards i d)
+untouched P olds shards i d lt rest all = subst P (sym (same_at olds shards i d rest)) (all i d lt)
 
 -- the terms of the shard at a place are among those that are billed
 pub billed_at : (vs : Shards) (i : ℕ) (d : ShardView ShardState Entry) (b : BillingState) → i < length vs → AreBilled (keys_in vs) b → AreBilled (keys_in (take i vs) ++ (row_keys (get_or vs i d).rows ++ keys_in (drop (i + 1) vs))) b
@@ -351,10 +284,10 @@ billed_of vs i d b lt billed = billed_part (keys_in (take i vs)) (row_keys (get_
 abbrev pub KeepsBilled : ShardView ShardState Entry → ShardView ShardState Entry → BillingState → BillingState → Type 0
 KeepsBilled v w b b' = (front back : List Key) → AreBilled (front ++ (row_keys v.rows ++ back)) b → AreBilled (front ++ (row_keys w.rows ++ back)) b'
 
-pub reaps_more : (moment wall : ℕ) (olds shards : Shards) (i : ℕ) (d w : ShardView ShardState Entry) (holders holders' holders'' : List Holder) (a a' a'' : Accounts) → i < length olds → length shards ≡ length olds
-    → ReapsSome moment wall olds shards i holders holders' a a' → ReapsShard moment wall (get_or shards i d) w holders' holders'' a' a'' → KeepsBilled (get_or shards i d) w a'.billing a''.billing
-    → ReapsSome moment wall olds (set shards i w) (i + 1) holders holders'' a a''
-reaps_more moment wall olds shards i d w holders holders' holders'' a a' a'' lt same so_far one keeps =
+pub reaps_more : (moment wall : ℕ) (olds shards : Shards) (i : ℕ) (d w : ShardView ShardState Entry) (pool pool' pool'' : PlainView) (a a' a'' : Accounts) → i < length olds → length shards ≡ length olds
+    → ReapsSome moment wall olds shards i pool pool' a a' → ReapsShard moment wall (get_or shards i d) w pool' pool'' a' a'' → KeepsBilled (get_or shards i d) w a'.billing a''.billing
+    → HoldsOwn pool''.table w → ((n : ℕ) (ts : List Term) → n ≢ (get_or shards i d).number → AreHeld n ts pool'.table → AreHeld n ts pool''.table) → ReapsSome moment wall olds (set shards i w) (i + 1) pool pool'' a a''
+reaps_more moment wall olds shards i d w pool pool' pool'' a a' a'' lt same so_far one keeps held others =
     let v = get_or olds i d in
     let at : get_or shards i d ≡ v = same_at olds shards i d so_far.rest in
     let within : i < length shards = omega (arith, lt, same) in
@@ -367,21 +300,23 @@ reaps_more moment wall olds shards i d w holders holders' holders'' a a' a'' lt 
           (subst (λ (ws : Shards). Zip3 ReapedTo (take i olds ++ v ∷ []) ws (sss ++ ss ∷ [])) (sym (take_more_set shards i w within))
           (zip3_push ReapedTo (take i olds) (take i shards) sss v w ss so_far.done (subst (λ (x : ShardView ShardState Entry). ReapedTo x w ss) at one.reaped)));
       rest = drop-set-lt (i + 1) shards i w (omega arith) ∙ tails shards olds i so_far.rest;
-      holders_are = one.holders_are ∙ ap (holders_after ss) so_far.holders_are ∙ sym (holders_more (joined sss) ss holders) ∙ ap (λ (xs : List Stop). holders_after xs holders) (sym all);
+      returned = subst (λ (xs : List Stop). IsReturned xs pool pool'') (sym all) (returned_more (joined sss) ss pool pool' pool'' so_far.returned one.returned);
+      order = order_set shards i w within d so_far.order one.reaped.number;
+      held = all_hold shards i w within d pool'.table pool''.table so_far.order held others so_far.held;
       booked = subst (λ (xs : List Stop). BooksStops moment wall xs a a'') (sym all) (books_more moment wall (joined sss) ss a a' a'' so_far.booked one.booked);
       within = λ most h. subst (λ (ls : List Line). LinesWithin most (set shards i w) ls) (sym one.booked.lines_are) (within_more most shards i d w ss a'.lines within one.reaped.rows (so_far.within most h));
       billed = subst (λ (ks : List Key). AreBilled ks a''.billing) (sym (keys_set shards i w within)) (keeps (keys_in (take i shards)) (keys_in (drop (i + 1) shards)) (billed_at shards i d a'.billing within so_far.billed));
     }
 
-pub reaps_them : (moment wall : ℕ) (olds shards : Shards) (i : ℕ) (holders holders' : List Holder) (a a' : Accounts) → i ≡ length olds → length shards ≡ length olds → ReapsSome moment wall olds shards i holders holders' a a'
-    → ReapsAll moment wall olds shards holders holders' a a'
-reaps_them moment wall olds shards i holders holders' a a' e same s =
+pub reaps_them : (moment wall : ℕ) (olds shards : Shards) (i : ℕ) (pool pool' : PlainView) (a a' : Accounts) → i ≡ length olds → length shards ≡ length olds → ReapsSome moment wall olds shards i pool pool' a a'
+    → ReapsAll moment wall olds shards pool pool' a a'
+reaps_them moment wall olds shards i pool pool' a a' e same s =
     let all : take i olds ≡ olds = take_all i olds (omega (arith, e)) in
     let those : take i shards ≡ shards = take_all i shards (omega (arith, e, same)) in
     record {
       stops = s.stops;
       each = subst (λ (vs : Shards). Zip3 ReapedTo vs shards s.stops) all (subst (λ (ws : Shards). Zip3 ReapedTo (take i olds) ws s.stops) those s.done);
-      holders_are = s.holders_are;
+      returned = s.returned;
       booked = s.booked;
     }
 

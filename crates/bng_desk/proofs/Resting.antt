@@ -12,7 +12,7 @@ use Rattle.bng_engine.specs.Showing.{with_journal}
 use Rattle.bng_engine.specs.Turns.{TurnOf}
 use Rattle.bng_engine.specs.Views.{Row, ShardView}
 use Rattle.bng_ppp.specs.LinkRelation.{earliest}
-use Rattle.bng_shard.specs.declared.pool.Holder.{Holder}
+use Rattle.bng_pool.specs.Plain.{PlainView}
 use Rattle.bng_shard.specs.declared.rules.Rules.{Rules}
 use Rattle.bng_shard.specs.declared.sums.Traffic.{Traffic}
 use Rattle.bng_shard.specs.Protocol.{ShardState, Handled, pppoe, deadline_of, sessions_of}
@@ -20,7 +20,7 @@ use Rattle.bng_desk.specs.declared.line.Line.{Line}
 use Rattle.bng_desk.specs.Items.{for_shard, is_due, ticks_of}
 use Rattle.bng_desk.specs.Kept.{rested}
 use Rattle.bng_desk.specs.Model.{sessions_in, carried_on, plus_traffic, traffic_at}
-use Rattle.bng_desk.specs.Round.{Round, IsRound, stops_of, holders_after, left_by, views_of, view_of, view_after}
+use Rattle.bng_desk.specs.Round.{Round, IsRound, left_by, views_of, view_of, view_after}
 use Rattle.bng_desk.specs.Taking.{IsLeftBy}
 use Rattle.bng_desk.specs.Turn.{deadline_in}
 
@@ -114,8 +114,8 @@ all_move [] (x ∷ xs) h = absurd h
 all_move (v ∷ vs) [] h = absurd h
 all_move (v ∷ vs) (x ∷ xs) h = (moves_rested v x h.0, all_move vs xs h.1)
 
-turn_rested : (vs : Shards) (holders holders' : List Holder) (tallies : List Book) (round : Round) → TurnOf pppoe (view_of vs holders tallies) (view_after holders' round) → TurnOf pppoe (view_of (map rested vs) holders tallies) (view_after holders' round)
-turn_rested vs holders holders' tallies round t = record { shards = all_move vs round.shards t.shards; mid = t.mid; claims = t.claims; given = t.given; seats = t.seats; tallies = t.tallies }
+turn_rested : (vs : Shards) (pool : PlainView) (tallies : List Book) (round : Round) → TurnOf pppoe (view_of vs pool tallies) (view_after round) → TurnOf pppoe (view_of (map rested vs) pool tallies) (view_after round)
+turn_rested vs pool tallies round t = record { shards = all_move vs round.shards t.shards; mid = t.mid; claims = t.claims; given = t.given; seats = t.seats; tallies = t.tallies }
 
-pub round_rested : (r : Rules) (vs : Shards) (holders : List Holder) (tallies : List Book) (moment : ℕ) (lists : List (List Item)) (round : Round) → IsRound r vs holders tallies moment lists round → IsRound r (map rested vs) holders tallies moment lists round
-round_rested r vs holders tallies moment lists round is = record { dealt = is.dealt; turn = turn_rested vs holders (holders_after (stops_of round) holders) tallies round is.turn }
+pub round_rested : (r : Rules) (vs : Shards) (pool : PlainView) (tallies : List Book) (moment : ℕ) (lists : List (List Item)) (round : Round) → IsRound r vs pool tallies moment lists round → IsRound r (map rested vs) pool tallies moment lists round
+round_rested r vs pool tallies moment lists round is = record { dealt = is.dealt; turn = turn_rested vs pool tallies round is.turn; returned = is.returned }

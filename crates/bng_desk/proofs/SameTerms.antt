@@ -97,20 +97,20 @@ kept_keys (v ∷ vs) [] h = absurd h
 kept_keys (v ∷ vs) (w ∷ ws) h = ap (λ (rs : List Row). row_keys rs ++ keys_in ws) h.0.rows ∙ ap (λ (ks : List Key). row_keys v.rows ++ ks) (kept_keys vs ws h.1)
 
 -- what a shard sent leaves it its terms
-one_keys : (v w u : Shown) (was x : Sight) (sends : List OutRecord) → was.state ≡ v.state → IsTurning w was x → SentTo w u sends → HasRows v → Same (row_keys u.rows) (row_keys v.rows)
-one_keys v w u was x sends state t s rows f =
+one_keys : (v w u : Shown) (was x : Sight) (sends : List OutRecord) → was.state ≡ v.state → IsTurning w was x → SentTo w u sends → v.state.rules.pools ≡ [] → HasRows v → Same (row_keys u.rows) (row_keys v.rows)
+one_keys v w u was x sends state t s none rows f =
     let turn = s.turn was x t in
     turn.fit f
     ∙ ap (λ (y : ShardState). sum_by f (keys (terms_of y))) turn.state
-    ∙ keys_stay was.state x.journal turn.steps f
+    ∙ keys_stay was.state x.journal turn.steps (ap (λ (y : ShardState). y.rules.pools) state ∙ none) f
     ∙ ap (λ (ks : List Key). sum_by f ks) (append-nil (keys (terms_of was.state)))
     ∙ ap (λ (y : ShardState). sum_by f (keys (terms_of y))) state
     ∙ ap (λ (ks : List Key). sum_by f ks) (sym rows)
 
-pub sent_keys : (vs ws : Shards) (now : Seens) (us : Shards) (rss : List (List OutRecord)) → Zip3 IsTurning ws (views_of vs) now → Zip3 SentTo ws us rss → AllByRecursion HasRows vs → Same (keys_in us) (keys_in vs)
-sent_keys [] [] [] [] [] t z h = same_itself []
-sent_keys [] [] [] us rss t z h = absurd z
-sent_keys (v ∷ vs) (w ∷ ws) (x ∷ now) (u ∷ us) (rs ∷ rss) t z h =
-    same_append (row_keys u.rows) (row_keys v.rows) (keys_in us) (keys_in vs) (one_keys v w u _ x rs refl t.0 z.0 h.0) (sent_keys vs ws now us rss t.1 z.1 h.1)
-sent_keys (v ∷ vs) (w ∷ ws) (x ∷ now) us rss t z h = absurd z
-sent_keys vs ws now us rss t z h = absurd t
+pub sent_keys : (vs ws : Shards) (now : Seens) (us : Shards) (rss : List (List OutRecord)) → Zip3 IsTurning ws (views_of vs) now → Zip3 SentTo ws us rss → AllByRecursion (λ v. v.state.rules.pools ≡ []) vs → AllByRecursion HasRows vs → Same (keys_in us) (keys_in vs)
+sent_keys [] [] [] [] [] t z none h = same_itself []
+sent_keys [] [] [] us rss t z none h = absurd z
+sent_keys (v ∷ vs) (w ∷ ws) (x ∷ now) (u ∷ us) (rs ∷ rss) t z none h =
+    same_append (row_keys u.rows) (row_keys v.rows) (keys_in us) (keys_in vs) (one_keys v w u _ x rs refl t.0 z.0 none.0 h.0) (sent_keys vs ws now us rss t.1 z.1 none.1 h.1)
+sent_keys (v ∷ vs) (w ∷ ws) (x ∷ now) us rss t z none h = absurd z
+sent_keys vs ws now us rss t z none h = absurd t

@@ -78,5 +78,5 @@ module _ (d : Desk) (w w' : Works) (heard : BillingState) (lane : LaneState) (dr
         rounds = subst (λ (r : RoundRecord). Grows t.rounds t'.rounds (told_if settled.noted r)) done.record_told s.rounds;
         after = ap (λ (x : Drawn). with_draws x w'.accounts.began) drew_all
             ∙ ap (λ (n : ℕ). with_draws (record { seed = w.draws.seed; drawn = drawn + length q.asked }) n) done.began_is
-            ∙ ap settled_as (is_after_round was all done.round (map rested w'.shards.items) w'.pool w'.accounts.lines w'.drops (w'.tally ∷ []) w'.kept.items done.shards_are done.holders_are done.lines_are done.drops_are done.tallies_are done.kept_is);
+            ∙ ap settled_as (is_after_round was all done.round (map rested w'.shards.items) w'.pool w'.accounts.lines w'.drops (w'.tally ∷ []) w'.kept.items done.shards_are done.pool_is done.lines_are done.drops_are done.tallies_are done.kept_is);
       }

@@ -21,6 +21,7 @@ use Rattle.bng_engine.specs.Views.{ShardView}
 use Rattle.bng_engine.specs.Wire.{went}
 use Rattle.bng_engine.proofs.Walks.{same_at}
 use Rattle.bng_engine.proofs.Wire.{went_append}
+use Rattle.bng_pool.specs.Tables.{Table}
 use Rattle.bng_shard.specs.Protocol.{ShardState, Handled}
 use Rattle.bng_shard.specs.Sums.{IsLow, AreLow, RowsAreLow}
 use Rattle.bng_desk.specs.declared.drops.Drops.{Drops}
@@ -28,6 +29,7 @@ use Rattle.bng_desk.specs.Counting.{plus}
 use Rattle.bng_desk.specs.Round.{is_failed, with_failed, not_sent, sends_stretch}
 use Rattle.bng_desk.specs.Taking.{IsEmpty, IsLight, AreInOrder, IsTurning, Turns, AllTurn, Covers, Falls, SentTo, Sends, SendsAll, joined}
 use Rattle.bng_desk.proofs.Readying.{Shards}
+use Rattle.bng_desk.proofs.Returning.{HoldsOwn, holds_still}
 use Rattle.bng_desk.proofs.Sending.{failed_none, failed_more, failed_least, passed_unsent}
 use Rattle.bng_desk.proofs.Zips.{zip3_push, zip3_at, zip3_length}
 
@@ -187,6 +189,19 @@ module _ (vs ws : Shards) (rss : List (List OutRecord)) (z : Zip3 SentTo vs ws r
 
   pub in_order : AreInOrder vs → AreInOrder ws
   in_order order k d lt = (each k d lt).number ∙ order k d (omega (arith, lt, count))
+
+  -- sending changes no state
+  pub same_state : AllTurn vs → (k : ℕ) (d : ShardView ShardState Entry) → k < length ws → (get_or ws k d).state ≡ (get_or vs k d).state
+  same_state all k d lt =
+      let x : ShardView ShardState Handled = with_lists d [] [] [] in
+      let t = zip3_at IsTurning vs all.was all.now k d x x all.turning (omega (arith, lt, count)) in
+      ((each k d lt).turn (get_or all.was k x) (get_or all.now k x) t).state ∙ sym t.turn.state ∙ sym (ap (λ (y : ShardView ShardState Handled). y.state) t.shows.same)
+
+  pub all_state : (P : ShardState → Type 0) → AllTurn vs → All (λ v. P v.state) vs → All (λ v. P v.state) ws
+  all_state P all these k d lt = subst P (sym (same_state all k d lt)) (these k d (omega (arith, lt, count)))
+
+  pub all_held : (table : Table) → AllTurn vs → All (HoldsOwn table) vs → All (HoldsOwn table) ws
+  all_held table all held k d lt = holds_still table (get_or vs k d) (get_or ws k d) (each k d lt).number (same_state all k d lt) (held k d (omega (arith, lt, count)))
 
 pub falls_low : (tally tally' : Book) (sends : List OutRecord) → Falls tally sends tally' → (most : ℕ) → IsLow most tally → IsLow most tally'
 falls_low tally tally' sends falls most low q input = omega (arith, falls q input, low q input)

@@ -16,7 +16,7 @@ use Rattle.bng_engine.specs.Sums.{same, part_of_charge, charge_if, is_directed, 
 use Rattle.bng_engine.specs.Terms.{Key, key_in}
 use Rattle.bng_engine.specs.Views.{Row, ShardView, rows_where}
 use Rattle.bng_engine.proofs.Adding.{sum_plus}
-use Rattle.bng_shard.specs.declared.pool.Holder.{Holder}
+use Rattle.bng_pool.specs.Plain.{PlainView}
 use Rattle.bng_shard.specs.declared.rules.Rules.{Rules}
 use Rattle.bng_shard.specs.declared.sums.Traffic.{Traffic}
 use Rattle.bng_shard.specs.Protocol.{ShardState, row_at}
@@ -103,16 +103,16 @@ pub lines_far : (most : ℕ) (tally : Book) (vs : Shards) (ls : List Line) → m
 lines_far most tally vs ls le low within k e lt input = omega (arith, within k e lt input, low Octets input, le)
 
 -- the outs of the shards were sent: what each circuit has carried stands in the tally still
-pub sent_tallied : (r : Rules) (holders : List Holder) (moment : ℕ) (items : List Item) (vs ws us : Shards) (loose : List Loose) (d d' d'' : Drops) (t t' t'' : Book) (p p' : PlantTold) (outs : List OutRecord) (journals : List (List Entry)) (ls : List Line)
-    → (deals : Deals r holders moment items vs ws loose d d' t t') → SendsAll ws us p p' outs journals d' d'' t' t'' → AreTallied t vs ls → AreTallied t'' us ls
-sent_tallied r holders moment items vs ws us loose d d' d'' t t' t'' p p' outs journals ls deals s within k e lt input =
+pub sent_tallied : (r : Rules) (pool : PlainView) (moment : ℕ) (items : List Item) (vs ws us : Shards) (loose : List Loose) (d d' d'' : Drops) (t t' t'' : Book) (p p' : PlantTold) (outs : List OutRecord) (journals : List (List Entry)) (ls : List Line)
+    → (deals : Deals r pool moment items vs ws loose d d' t t') → SendsAll ws us p p' outs journals d' d'' t' t'' → AreTallied t vs ls → AreTallied t'' us ls
+sent_tallied r pool moment items vs ws us loose d d' d'' t t' t'' p p' outs journals ls deals s within k e lt input =
     let l = get_or ls k e in
     let pick = is_of l.session.0 in
     let f = charge_if Octets (is_directed input) in
     omega (
       arith,
       within k e lt input,
-      rows_sent Octets pick input vs ws deals.seen us s.sends (all_turning r holders moment items vs ws loose d d' t t' deals) s.each,
+      rows_sent Octets pick input vs ws deals.seen us s.sends (all_turning r pool moment items vs ws loose d d' t t' deals) s.each,
       picked_less Octets pick input (joined s.sends),
       passed_is f (joined s.sends),
       joined_passed f ws us s.sends s.each,

@@ -15,7 +15,7 @@ abbrev pub with_works : Desk → Works → Shards → Desk
 with_works d w shards = record d {
   lines = w.accounts.lines;
   shards = shards;
-  holders = w.pool;
+  pool = w.pool;
   tallies = w.tally ∷ [];
   seed = w.draws.seed;
   drawn = w.draws.drawn;

@@ -6,15 +6,14 @@ use Rattle.bng_base.specs.declared.item.Item.{Item}
 use Rattle.bng_base.specs.declared.item.ItemKind.TheVariants.{Verdict}
 use Rattle.bng_engine.specs.Books.{book_at}
 use Rattle.bng_engine.specs.Views.{ShardView}
-use Rattle.bng_shard.specs.declared.pool.Holder.{Holder}
-use Rattle.bng_shard.specs.Protocol.{ShardState}
+use Rattle.bng_shard.specs.Protocol.{ShardState, AreHeld, terms_of}
 use Rattle.bng_shard.specs.Sums.{AreLow, RowsAreLow}
 use Rattle.bng_desk.specs.Accounting.{AreBilled}
 use Rattle.bng_desk.specs.Counting.{Within}
 use Rattle.bng_desk.specs.Items.{ends_of}
 use Rattle.bng_desk.specs.Logins.{verdicts_most}
 use Rattle.bng_desk.specs.Model.{Desk, HasOneRule, keys_in, is_over, graces_most, rounds_left, unopened_most}
-use Rattle.bng_desk.specs.Taking.{IsEmpty, HasFewSessions, AreInOrder, AreItems, AreTallied}
+use Rattle.bng_desk.specs.Taking.{IsEmpty, IsPlainly, HasFewSessions, AreInOrder, AreItems, AreTallied}
 
 -- a shard between two rounds, as the desk's contracts see it: nothing of a round, and no room for one
 abbrev pub rested : ShardView ShardState Entry → ShardView ShardState Entry
@@ -74,7 +73,10 @@ pub record IsKept (d : Desk) : Type 0 where
   pub rules : HasOneRule d
   pub empty : All IsEmpty d.shards
   pub sessions : All HasFewSessions d.shards
-  pub holders : All (λ (h : Holder). h.shard < d.rules.shards) d.holders
+  pub no_pools : d.rules.pools ≡ []
+  pub places : d.pool.shards ≡ d.rules.shards
+  pub held : All (λ v. AreHeld v.number (terms_of v.state) d.pool.table) d.shards
+  pub plain : All IsPlainly d.shards
   pub most : d.rounds ≤ 2 ^ 40
   pub made : d.turns ≤ d.rounds
   pub serving : is_over d ≡ false → IsUnended d

@@ -11,7 +11,7 @@ use Rattle.bng_engine.specs.Sums.{stopped_where}
 use Rattle.bng_engine.specs.Terms.{Key, Stop}
 use Rattle.bng_engine.specs.Views.{ShardView, Row, row_keys}
 use Rattle.bng_lane.specs.State.{LaneState}
-use Rattle.bng_shard.specs.declared.pool.Holder.{Holder}
+use Rattle.bng_pool.specs.Plain.{PlainView}
 use Rattle.bng_shard.specs.declared.rules.Rules.{Rules}
 use Rattle.bng_shard.specs.declared.sums.Traffic.{Traffic}
 use Rattle.bng_shard.specs.Protocol.{ShardState, row_at, sessions_of}
@@ -37,7 +37,7 @@ pub record Desk : Type 0 where
   pub turns : ℕ
   pub stopped : Bool
   pub shards : List (ShardView ShardState Entry)
-  pub holders : List Holder
+  pub pool : PlainView
   pub tallies : List Book
   pub seed : List ℕ
   pub drawn : ℕ

@@ -1,10 +1,11 @@
 -- A desk that was opened over a configuration.
-use Rattle.std.specs.Prelude.{◌≡◌, ◌≢◌, ℕ, ◌+◌, ◌/◌, ◌<◌, ◌≤◌, ◌==◌, false, List, [], ◌∷◌, Option, None, length, map, filter}
+use Rattle.std.specs.Prelude.{◌≡◌, ◌≢◌, ℕ, ◌+◌, ◌/◌, ◌<◌, ◌≤◌, ◌==◌, false, List, [], ◌∷◌, Option, find, length, map, filter, option_map, slice_get}
 use Rattle.std.specs.List.{All, AllPairs, AllZip, range_with_len}
 use Rattle.arrayvec.specs.ArrayVec.{ArrayVec}
 use Rattle.bng_base.specs.declared.address.Ip4.{Ip4}
 use Rattle.bng_base.specs.declared.item.Entry.{Entry}
 use Rattle.bng_base.specs.declared.settings.AccessPort.{AccessPort}
+use Rattle.bng_base.specs.declared.settings.NamedRange.{NamedRange}
 use Rattle.bng_base.specs.declared.settings.Static.{Static}
 use Rattle.bng_config.specs.declared.config.Config.{Config}
 use Rattle.bng_discovery.specs.declared.port.PortRules.{PortRules}
@@ -15,7 +16,8 @@ use Rattle.bng_billing.specs.declared.rules.BillingRules.{BillingRules}
 use Rattle.bng_billing.specs.State.{BillingState, IsNewBilling}
 use Rattle.bng_lane.specs.declared.rules.LaneRules.{LaneRules}
 use Rattle.bng_lane.specs.State.{LaneState, IsNewLane}
-use Rattle.bng_shard.specs.declared.pool.Holder.{Holder}
+use Rattle.bng_pool.specs.Plain.{PlainView}
+use Rattle.bng_pool.specs.Tables.{entry}
 use Rattle.bng_shard.specs.declared.rules.Rules.{Rules}
 use Rattle.bng_shard.specs.Protocol.{ShardState, opened, profiles_there}
 use Rattle.bng_shard.specs.Questions.{none_handed}
@@ -45,12 +47,9 @@ AreOffersOf name services key number (port ∷ ports) (offer ∷ offers) = IsOff
 abbrev pub AreOffers : Config → List ℕ → List AccessPort → List PortRules → Type 0
 AreOffers config seed ports offers = AreOffersOf config.name.items config.services.items (draw seed 0) 1 ports offers
 
--- the gateway's own address and the DNS servers that it offers, for which there are no keys yet: it offers none, and 0.0.0.0
-abbrev pub no_address : Ip4
-no_address = record { 0 = 0 }
-
-abbrev pub no_dns : List (Option Ip4)
-no_dns = None ∷ None ∷ []
+-- the DNS servers that it offers: at most two (RFC 1877 sections 1.1 and 1.3)
+abbrev pub dns_of : List Ip4 → List (Option Ip4)
+dns_of servers = slice_get servers 0 ∷ slice_get servers 1 ∷ []
 
 -- by what the shards work
 pub record AreRules (config : Config) (seed : List ℕ) (r : Rules) : Type 0 where
@@ -58,9 +57,10 @@ pub record AreRules (config : Config) (seed : List ℕ) (r : Rules) : Type 0 whe
   pub core_peer : r.core_peer ≡ config.core_peer
   pub access : r.access ≡ config.access
   pub offers : AreOffers config seed config.access r.offers
+  pub pools : r.pools ≡ []
   pub name : r.link.name.items ≡ config.name.items
-  pub address : r.link.address ≡ no_address
-  pub dns : r.link.dns ≡ no_dns
+  pub address : r.link.address ≡ config.address
+  pub dns : r.link.dns ≡ dns_of config.dns.items
   pub auth : r.link.auth.items ≡ config.auth.items
   pub echo : r.link.echo ≡ config.echo
 
@@ -71,8 +71,15 @@ line_of c = record { session = c.session; address = c.address; user = c.user; st
 abbrev pub shard_of : Static → ℕ
 shard_of c = c.session.0 / 1024
 
-abbrev pub holder_of : Static → Holder
-holder_of c = record { address = c.address; shard = shard_of c }
+-- the circuit with an address, and the shard of it
+abbrev pub circuit_with : List Static → ℕ → Option Static
+circuit_with circuits a = find (λ (c : Static). c.address.0 == a) circuits
+
+-- The addresses of the configured pools, of which each circuit's is held by the circuit's shard, and no other is held.
+pub record IsOpenedPool (config : Config) (pool : PlainView) : Type 0 where
+  pub ranges : pool.ranges ≡ map (λ (p : NamedRange). p.range) config.pools
+  pub shards : pool.shards ≡ config.shards
+  pub table : (a : ℕ) → entry pool.table a ≡ option_map shard_of (circuit_with config.statics a)
 
 -- The circuits are of the shards and on the ports that there are, with the first profile, and no two have the same session number
 -- or the same address.
@@ -88,8 +95,8 @@ pub record AreServed (r : Rules) (circuits : List Static) : Type 0 where
 abbrev pub statics_of : Config → ℕ → List Static
 statics_of config shard = filter (λ c. shard_of c == shard) config.statics
 
-abbrev pub opened_shards : Config → Rules → List (ShardView ShardState Entry)
-opened_shards config rules = map (λ n. opened n rules (statics_of config n)) (range_with_len 0 config.shards)
+abbrev pub opened_shards : Config → Rules → ℕ → List (ShardView ShardState Entry)
+opened_shards config rules now = map (λ n. opened n rules (statics_of config n) now) (range_with_len 0 config.shards)
 
 -- what the lane of questions is opened with: what an Access-Request says of the gateway, the server, the secret and how often a request
 -- is sent
@@ -121,10 +128,12 @@ pub record IsOpened (config : Config) (rounds : ℕ) (seed : List ℕ) (now wall
   pub are_rules : AreRules config seed rules
   pub lane : LaneState
   pub new_lane : IsNewLane (lane_rules config) lane
+  pub pool : PlainView
+  pub is_pool : IsOpenedPool config pool
   pub new_billing : BillingState
   pub is_new : IsNewBilling (billing_rules config wall) new_billing
   pub starts : List FormedRecord
-  pub are_starts : AllZip (IsStartOf (map line_of config.statics) now wall) (keys_in (opened_shards config rules)) starts
+  pub are_starts : AllZip (IsStartOf (map line_of config.statics) now wall) (keys_in (opened_shards config rules now)) starts
   pub billing : BillingState
   pub forms : Forms new_billing starts billing
   pub desk : d ≡ record {
@@ -133,8 +142,8 @@ pub record IsOpened (config : Config) (rounds : ℕ) (seed : List ℕ) (now wall
     rounds = rounds;
     turns = 0;
     stopped = false;
-    shards = opened_shards config rules;
-    holders = map holder_of config.statics;
+    shards = opened_shards config rules now;
+    pool = pool;
     tallies = empty_book ∷ [];
     seed = seed;
     drawn = 1;

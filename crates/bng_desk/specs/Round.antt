@@ -1,5 +1,5 @@
 -- A round and its settlement.
-use Rattle.std.specs.Prelude.{◌≡◌, ℕ, ◌+◌, ◌<◌, ◌==◌, Bool, not, ◌&&◌, List, [], ◌∷◌, ◌++◌, map, filter, length, replicate, is_some, count_by, slice_index_or}
+use Rattle.std.specs.Prelude.{◌≡◌, ℕ, ◌+◌, ◌<◌, ◌==◌, Bool, not, ◌&&◌, List, [], ◌∷◌, ◌++◌, Option, None, map, filter, length, replicate, is_some, count_by, slice_index_or, if◌then◌else◌}
 use Rattle.std.specs.List.{All, AllZip, flat_map, list_any}
 use Rattle.bng_base.specs.declared.address.Ip4.{Ip4}
 use Rattle.bng_base.specs.declared.book.Book.{Book}
@@ -15,7 +15,8 @@ use Rattle.bng_engine.specs.Terms.{Stop}
 use Rattle.bng_engine.specs.Turns.{TurnOf}
 use Rattle.bng_engine.specs.Views.{ShardView, DeskView}
 use Rattle.bng_engine.specs.Wire.{went}
-use Rattle.bng_shard.specs.declared.pool.Holder.{Holder}
+use Rattle.bng_pool.specs.Plain.{PlainView}
+use Rattle.bng_pool.specs.Tables.{Table, entry}
 use Rattle.bng_shard.specs.declared.rules.Rules.{Rules}
 use Rattle.bng_shard.specs.declared.whose.Whose.{Whose}
 use Rattle.bng_shard.specs.declared.whose.Whose.TheVariants.{Loose as IsLoose, Stands}
@@ -26,33 +27,40 @@ use Rattle.bng_desk.specs.Counting.{no_drops, drops_of, plus}
 use Rattle.bng_desk.specs.Items.{entries_in, all_loose, is_from_outside}
 
 -- Whose each item of each seat's list was; each shard as the engine sees it once the round is settled: with what its entries did, what
--- they had to send and the answers to these sends; and the tally of each seat.
+-- they had to send and the answers to these sends; the tally of each seat; and who holds which address then.
 pub record Round : Type 0 where
   pub whose : List (List Whose)
   pub shards : List (ShardView ShardState Handled)
   pub tallies : List Book
+  pub pool : PlainView
 
 -- the shards before a round
 abbrev pub views_of : List (ShardView ShardState Entry) → List (ShardView ShardState Handled)
 views_of shards = map (λ v. with_journal v []) shards
 
-abbrev pub held_by : List Holder → List Ip4
-held_by holders = map (λ (h : Holder). h.address) holders
+abbrev pub held_by : PlainView → List Ip4
+held_by pool = map (λ e. record { 0 = e.0 }) pool.table
 
 -- the desk as the engine sees it, before a round and once one is settled
-abbrev pub view_of : List (ShardView ShardState Entry) → List Holder → List Book → DeskView ShardState Handled
-view_of shards holders tallies = record { shards = views_of shards; held = held_by holders; tallies = tallies }
+abbrev pub view_of : List (ShardView ShardState Entry) → PlainView → List Book → DeskView ShardState Handled
+view_of shards pool tallies = record { shards = views_of shards; held = held_by pool; tallies = tallies }
 
-abbrev pub view_after : List Holder → Round → DeskView ShardState Handled
-view_after holders round = record { shards = round.shards; held = held_by holders; tallies = round.tallies }
+abbrev pub view_after : Round → DeskView ShardState Handled
+view_after round = record { shards = round.shards; held = held_by round.pool; tallies = round.tallies }
 
 -- the Stops of a round, of the first shard first
 abbrev pub stops_of : Round → List Stop
 stops_of round = flat_map (λ v. v.stops) round.shards
 
--- who holds an address once the terms of these Stops have left
-abbrev pub holders_after : List Stop → List Holder → List Holder
-holders_after stops holders = filter (λ (h : Holder). not (list_any (λ (s : Stop). s.key.lease.0 == h.address.0) stops)) holders
+-- whose an address is once the terms of these Stops have left
+abbrev pub holder_after : List Stop → Table → ℕ → Option ℕ
+holder_after stops table a = if list_any (λ (s : Stop). s.key.lease.0 == a) stops then None else entry table a
+
+-- the addresses of these Stops were given back, and no other changed
+pub record IsReturned (stops : List Stop) (pool pool' : PlainView) : Type 0 where
+  pub table : (a : ℕ) → entry pool'.table a ≡ holder_after stops pool.table a
+  pub ranges : pool'.ranges ≡ pool.ranges
+  pub shards : pool'.shards ≡ pool.shards
 
 -- the entries of a shard, and those of a seat among some
 abbrev pub entries_of : ShardView ShardState Handled → List Entry
@@ -79,17 +87,18 @@ StandsWithin shards (Stands n) = n < shards
 
 -- Each item of each seat's list is handled in the shard that it is for, which is one of those that there are, or loose, and no term
 -- may begin yet.
-pub record IsDealt (r : Rules) (holders : List Holder) (moment : ℕ) (lists : List (List Item)) (round : Round) : Type 0 where
-  pub whose : AllZip (AllZip (IsWhose r holders)) lists round.whose
+pub record IsDealt (r : Rules) (pool : PlainView) (moment : ℕ) (lists : List (List Item)) (round : Round) : Type 0 where
+  pub whose : AllZip (AllZip (IsWhose r pool.table)) lists round.whose
   pub inside : All (All (StandsWithin (length round.shards))) round.whose
   pub parts : AreParts lists round.whose 0 moment round.shards
   pub allowances : All (λ (v : ShardView ShardState Handled). v.allowance ≡ 0) round.shards
 
 -- A round with its settlement: its items were dealt, and the shards made one turn of the engine, in which each journal is a run of steps,
 -- each of its outs was sent once, what was sent was charged, each term that ended has a Stop, and its address was given back.
-pub record IsRound (r : Rules) (shards : List (ShardView ShardState Entry)) (holders : List Holder) (tallies : List Book) (moment : ℕ) (lists : List (List Item)) (round : Round) : Type 0 where
-  pub dealt : IsDealt r holders moment lists round
-  pub turn : TurnOf pppoe (view_of shards holders tallies) (view_after (holders_after (stops_of round) holders) round)
+pub record IsRound (r : Rules) (shards : List (ShardView ShardState Entry)) (pool : PlainView) (tallies : List Book) (moment : ℕ) (lists : List (List Item)) (round : Round) : Type 0 where
+  pub dealt : IsDealt r pool moment lists round
+  pub turn : TurnOf pppoe (view_of shards pool tallies) (view_after round)
+  pub returned : IsReturned (stops_of round) pool round.pool
 
 -- a shard once its round is over
 abbrev pub left_by : ShardView ShardState Handled → ShardView ShardState Entry

@@ -5,8 +5,8 @@ use Rattle.bng_base.specs.declared.item.Item.{Item}
 use Rattle.bng_base.specs.declared.round.RoundRecord.{RoundRecord}
 use Rattle.bng_base.specs.Causes.{HasCause}
 use Rattle.bng_base.specs.Told.{PlantTold, TraceTold, Grows}
-use Rattle.bng_shard.specs.declared.pool.Holder.{Holder}
 use Rattle.bng_shard.specs.declared.rules.Rules.{Rules}
+use Rattle.bng_shard.specs.Protocol.{AreHeld, terms_of}
 use Rattle.bng_shard.specs.Sums.{IsLow, AreLow, RowsAreLow}
 use Rattle.bng_billing.specs.State.{BillingState}
 use Rattle.bng_desk.specs.declared.holding.Named.{Named}
@@ -19,7 +19,7 @@ use Rattle.bng_desk.specs.Intake.{SendsRequests, SendsRecords}
 use Rattle.bng_desk.specs.Items.{kept_of}
 use Rattle.bng_desk.specs.Kept.{octets_most, drops_most}
 use Rattle.bng_desk.specs.Model.{keys_in}
-use Rattle.bng_desk.specs.Taking.{IsEmpty, HasFewSessions, AreInOrder, AreItems, AreTallied, Holds, outs_of_items}
+use Rattle.bng_desk.specs.Taking.{IsEmpty, IsPlainly, HasFewSessions, AreInOrder, AreItems, AreTallied, Holds, outs_of_items}
 use Rattle.bng_desk.specs.Turn.{told_if}
 
 -- the lists of a turn over so many shards, with nothing on them but its items, and with room for all that it may put on them
@@ -43,7 +43,11 @@ pub record IsReady (r : Rules) (named : Named) (lists : Lists) (w : Works) : Typ
   pub order : AreInOrder w.shards.items
   pub empty : All IsEmpty w.shards.items
   pub sessions : All HasFewSessions w.shards.items
-  pub holders : All (λ (h : Holder). h.shard < r.shards) w.pool
+  pub places : w.pool.shards ≡ r.shards
+  pub held : All (λ v. AreHeld v.number (terms_of v.state) w.pool.table) w.shards.items
+  pub no_pools : r.pools ≡ []
+  pub one_rule : All (λ v. v.state.rules ≡ r) w.shards.items
+  pub plain : All IsPlainly w.shards.items
   pub low : All (λ v. RowsAreLow (2 ^ 62 + 2 ^ 61) v.rows) w.shards.items
   pub books : All (λ v. AreLow (2 ^ 62 + 2 ^ 61) v.books) w.shards.items
   pub tally : IsLow (2 ^ 62 + 2 ^ 61) w.tally
@@ -90,3 +94,6 @@ pub record KeepsWorks (w w' : Works) : Type 0 where
   pub drawn : w'.draws.drawn ≤ w.draws.drawn + 256
   pub handed : length w'.handed.items ≡ length w.handed.items
   pub room : vec_capacity w'.kept ≡ vec_capacity w.kept
+  pub places : w'.pool.shards ≡ w.pool.shards
+  pub held : All (λ v. AreHeld v.number (terms_of v.state) w'.pool.table) w'.shards.items
+  pub plain : All IsPlainly w'.shards.items

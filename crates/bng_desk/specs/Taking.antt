@@ -21,14 +21,14 @@ use Rattle.bng_engine.specs.Sums.{same, charge_if, is_directed, passed_sum, fail
 use Rattle.bng_engine.specs.Terms.{Key, Stop, keys}
 use Rattle.bng_engine.specs.Turns.{InRound}
 use Rattle.bng_engine.specs.Views.{ShardView, row_keys, rows_where}
-use Rattle.bng_shard.specs.declared.pool.Holder.{Holder}
+use Rattle.bng_pool.specs.Plain.{PlainView}
 use Rattle.bng_shard.specs.declared.rules.Rules.{Rules}
 use Rattle.bng_shard.specs.declared.sums.Charged.{Charged}
 use Rattle.bng_shard.specs.declared.sums.Charged.TheVariants.{Packet, Control}
 use Rattle.bng_shard.specs.declared.whose.Whose.{Whose}
 use Rattle.bng_shard.specs.declared.whose.Whose.TheVariants.{Loose as IsLoose, Stands}
 use Rattle.bng_shard.specs.Hearing.{outs_most}
-use Rattle.bng_shard.specs.Protocol.{ShardState, Handled, pppoe, sessions_of, terms_of, entry_of, Handles}
+use Rattle.bng_shard.specs.Protocol.{ShardState, Handled, pppoe, sessions_of, terms_of, entry_of, HasNoLogins, Handles}
 use Rattle.bng_shard.specs.Room.{is_tick, is_end}
 use Rattle.bng_shard.specs.Sums.{AreLow, RowsAreLow}
 use Rattle.bng_shard.specs.Whose.{IsWhose}
@@ -40,7 +40,7 @@ use Rattle.bng_desk.specs.Accounting.{FormedRecord, Forms, IsStartOf, IsStopOf}
 use Rattle.bng_desk.specs.Counting.{drops_of, plus}
 use Rattle.bng_desk.specs.Items.{entries_in, kept_of, loose_item, loose_in}
 use Rattle.bng_desk.specs.Model.{is_of, line_after}
-use Rattle.bng_desk.specs.Round.{Round, IsRound, StandsWithin, views_of, held_by, stops_of, holders_after, is_failed, with_failed, sends_stretch, drops_in, record_of, refused_of, refused_record, with_refused, entries_of}
+use Rattle.bng_desk.specs.Round.{Round, IsRound, StandsWithin, views_of, held_by, stops_of, IsReturned, is_failed, with_failed, sends_stretch, drops_in, record_of, refused_of, refused_record, with_refused, entries_of}
 
 -- a shard as the desk has it, and as the engine sees it
 abbrev pub Shown : Type 0
@@ -52,6 +52,10 @@ Sight = ShardView ShardState Handled
 -- nothing of a round is there
 abbrev pub IsEmpty : Shown → Type 0
 IsEmpty v = (v.journal ≡ []) × (v.outs ≡ [])
+
+-- no session that discovery made has a term, and of each term that began a Start was formed
+abbrev pub IsPlainly : Shown → Type 0
+IsPlainly v = HasNoLogins v.state.slots × (v.state.slots.news ≡ [])
 
 -- a row for each term
 abbrev pub HasRows : Shown → Type 0
@@ -106,23 +110,23 @@ lost_part q input (Packet way octets) sent = cond sent 0 (cond (same input way) 
 lost_part q input Control sent = 0
 
 -- the shard at this place handled the entry, and the others are as they were
-pub record HandledAt (place : ℕ) (e : Entry) (fate : Fate) (shards shards' : List Shown) (tally tally' : Book) : Type 0 where
+pub record HandledAt (pool : PlainView) (place : ℕ) (e : Entry) (fate : Fate) (shards shards' : List Shown) (tally tally' : Book) : Type 0 where
   pub within : place < length shards
   pub shard : Shown
-  pub handles : Handles (slice_index_or shards place shard) shard e fate tally tally'
+  pub handles : Handles (slice_index_or shards place shard) shard pool pool e fate tally tally'
   pub others : shards' ≡ slice_set shards place shard
 
 -- the item, from this place of the list, was handed to its shard, or is one of the loose
-abbrev pub DealsTo : Whose → ℕ → ℕ → Item → List Shown → List Shown → List Loose → List Loose → Book → Book → Fate → Type 0
-DealsTo (IsLoose cause) place moment item shards shards' loose loose' tally tally' fate =
+abbrev pub DealsTo : PlainView → Whose → ℕ → ℕ → Item → List Shown → List Shown → List Loose → List Loose → Book → Book → Fate → Type 0
+DealsTo pool (IsLoose cause) place moment item shards shards' loose loose' tally tally' fate =
     (fate ≡ cause) × (shards' ≡ shards) × (loose' ≡ loose ++ loose_item 0 place item (IsLoose cause)) × (tally' ≡ tally)
-DealsTo (Stands n) place moment item shards shards' loose loose' tally tally' fate =
-    HandledAt n (entry_of 0 place moment item) fate shards shards' tally tally' × (loose' ≡ loose)
+DealsTo pool (Stands n) place moment item shards shards' loose loose' tally tally' fate =
+    HandledAt pool n (entry_of 0 place moment item) fate shards shards' tally tally' × (loose' ≡ loose)
 
-pub record DealsOne (r : Rules) (holders : List Holder) (place moment : ℕ) (item : Item) (shards shards' : List Shown) (loose loose' : List Loose) (tally tally' : Book) (fate : Fate) : Type 0 where
+pub record DealsOne (r : Rules) (pool : PlainView) (place moment : ℕ) (item : Item) (shards shards' : List Shown) (loose loose' : List Loose) (tally tally' : Book) (fate : Fate) : Type 0 where
   pub whose : Whose
-  pub is_whose : IsWhose r holders item whose
-  pub deals : DealsTo whose place moment item shards shards' loose loose' tally tally' fate
+  pub is_whose : IsWhose r pool.table item whose
+  pub deals : DealsTo pool whose place moment item shards shards' loose loose' tally tally' fate
 
 -- the shards, from this one on, have the entries of the items that stand in them
 abbrev pub AreDealt : ℕ → ℕ → List Item → List Whose → List Sight → Type 0
@@ -137,12 +141,12 @@ pub record IsPlain (v : Sight) : Type 0 where
 
 -- Each item was handed to its shard or is loose: the shards are in a round from those before, the fates were counted, and what passed
 -- is in the tally.
-pub record Deals (r : Rules) (holders : List Holder) (moment : ℕ) (items : List Item) (shards shards' : List Shown) (loose : List Loose) (drops drops' : Drops) (tally tally' : Book) : Type 0 where
+pub record Deals (r : Rules) (pool : PlainView) (moment : ℕ) (items : List Item) (shards shards' : List Shown) (loose : List Loose) (drops drops' : Drops) (tally tally' : Book) : Type 0 where
   pub whose : List Whose
-  pub is_whose : AllZip (IsWhose r holders) items whose
+  pub is_whose : AllZip (IsWhose r pool.table) items whose
   pub inside : AllByRecursion (StandsWithin (length shards)) whose
   pub seen : List Sight
-  pub round : InRound pppoe (views_of shards) (held_by holders) (tally ∷ []) seen (held_by holders) (tally' ∷ [])
+  pub round : InRound pppoe (views_of shards) (held_by pool) (tally ∷ []) seen (held_by pool) (tally' ∷ [])
   pub shown : AllZip (Shows pppoe) shards' seen
   pub plain : All IsPlain seen
   pub dealt : AreDealt 0 moment items whose seen
@@ -252,17 +256,17 @@ pub record BooksStarts (wall : ℕ) (keys : List Key) (a a' : Accounts) : Type 0
   pub began : a'.began ≡ a.began
 
 -- and their addresses were given back, and they were booked
-pub record ReapsShard (moment wall : ℕ) (v v' : Shown) (holders holders' : List Holder) (a a' : Accounts) : Type 0 where
+pub record ReapsShard (moment wall : ℕ) (v v' : Shown) (pool pool' : PlainView) (a a' : Accounts) : Type 0 where
   pub stops : List Stop
   pub reaped : ReapedTo v v' stops
-  pub holders_are : holders' ≡ holders_after stops holders
+  pub returned : IsReturned stops pool pool'
   pub booked : BooksStops moment wall stops a a'
 
 -- so in all shards, in their order
-pub record ReapsAll (moment wall : ℕ) (vs vs' : List Shown) (holders holders' : List Holder) (a a' : Accounts) : Type 0 where
+pub record ReapsAll (moment wall : ℕ) (vs vs' : List Shown) (pool pool' : PlainView) (a a' : Accounts) : Type 0 where
   pub stops : List (List Stop)
   pub each : Zip3 ReapedTo vs vs' stops
-  pub holders_are : holders' ≡ holders_after (joined stops) holders
+  pub returned : IsReturned (joined stops) pool pool'
   pub booked : BooksStops moment wall (joined stops) a a'
 
 -- what the Stops of a circuit's terms say so far, in octets of one direction
@@ -301,11 +305,11 @@ pub record IsLeftBy (w : Shown) (v : Sight) : Type 0 where
   pub books : w.books ≡ v.books
 
 -- A round was opened and settled: what it was, and what the trace is to be told.
-pub record RoundHeld (r : Rules) (holders holders' : List Holder) (accounts accounts' : Accounts) (named : Named) (items : List Item) (old new : PlantTold) (shards shards' : List Shown) (drops drops' : Drops) (tally tally' : Book) (record_is : RoundRecord) : Type 0 where
+pub record RoundHeld (r : Rules) (pool pool' : PlainView) (accounts accounts' : Accounts) (named : Named) (items : List Item) (old new : PlantTold) (shards shards' : List Shown) (drops drops' : Drops) (tally tally' : Book) (record_is : RoundRecord) : Type 0 where
   pub round : Round
-  pub is : IsRound r shards holders (tally ∷ []) named.moment (items ∷ []) round
+  pub is : IsRound r shards pool (tally ∷ []) named.moment (items ∷ []) round
   pub shards_are : AllZip IsLeftBy shards' round.shards
-  pub holders_are : holders' ≡ holders_after (stops_of round) holders
+  pub pool_is : round.pool ≡ pool'
   pub booked : BooksStops named.moment named.wall (stops_of round) accounts accounts'
   pub tallies_are : round.tallies ≡ tally' ∷ []
   pub drops_are : drops' ≡ plus drops (drops_in (items ∷ []) round)
@@ -313,23 +317,23 @@ pub record RoundHeld (r : Rules) (holders holders' : List Holder) (accounts acco
   pub record_told : record_is ≡ record_of named.number named.moment named.wall (items ∷ []) round
 
 -- The shards were made ready, and the round was held.
-pub record IsHeld (r : Rules) (holders holders' : List Holder) (accounts accounts' : Accounts) (named : Named) (items : List Item) (old new : PlantTold) (shards shards' : List Shown) (drops drops' : Drops) (tally tally' : Book) (record_is : RoundRecord) : Type 0 where
+pub record IsHeld (r : Rules) (pool pool' : PlainView) (accounts accounts' : Accounts) (named : Named) (items : List Item) (old new : PlantTold) (shards shards' : List Shown) (drops drops' : Drops) (tally tally' : Book) (record_is : RoundRecord) : Type 0 where
   pub ready : List Shown
   pub kept : AllZip Kept shards ready
-  pub held : RoundHeld r holders holders' accounts accounts' named items old new ready shards' drops drops' tally tally' record_is
+  pub held : RoundHeld r pool pool' accounts accounts' named items old new ready shards' drops drops' tally tally' record_is
 
 -- The shards could not be made ready: the items of the outside were dropped, and nothing was sent.
-pub record IsRefused (holders holders' : List Holder) (accounts accounts' : Accounts) (named : Named) (items : List Item) (old new : PlantTold) (shards shards' : List Shown) (drops drops' : Drops) (tally tally' : Book) (record_is : RoundRecord) : Type 0 where
+pub record IsRefused (pool pool' : PlainView) (accounts accounts' : Accounts) (named : Named) (items : List Item) (old new : PlantTold) (shards shards' : List Shown) (drops drops' : Drops) (tally tally' : Book) (record_is : RoundRecord) : Type 0 where
   pub kept : AllZip Kept shards shards'
   pub told : new ≡ old
   pub drops_are : drops' ≡ plus drops (with_refused (length (refused_of items)))
-  pub holders_are : holders' ≡ holders
+  pub pool_is : pool' ≡ pool
   pub accounts_are : accounts' ≡ accounts
   pub tally_is : tally' ≡ tally
   pub record_told : record_is ≡ refused_record named.number named.moment named.wall (length shards) items
 
 -- A round was held, and no item stays; or it could not be opened, and its verdicts and Ends stay.
-abbrev pub Holds : Rules → List Holder → List Holder → Accounts → Accounts → Named → List Item → PlantTold → PlantTold → List Shown → List Shown → Drops → Drops → Book → Book → RoundRecord → Bool → List Item → Type 0
-Holds r holders holders' accounts accounts' named items old new shards shards' drops drops' tally tally' record_is opened kept =
-    ((opened ≡ true) × (kept ≡ []) × IsHeld r holders holders' accounts accounts' named items old new shards shards' drops drops' tally tally' record_is)
-    ⊎ ((opened ≡ false) × (kept ≡ kept_of items) × IsRefused holders holders' accounts accounts' named items old new shards shards' drops drops' tally tally' record_is)
+abbrev pub Holds : Rules → PlainView → PlainView → Accounts → Accounts → Named → List Item → PlantTold → PlantTold → List Shown → List Shown → Drops → Drops → Book → Book → RoundRecord → Bool → List Item → Type 0
+Holds r pool pool' accounts accounts' named items old new shards shards' drops drops' tally tally' record_is opened kept =
+    ((opened ≡ true) × (kept ≡ []) × IsHeld r pool pool' accounts accounts' named items old new shards shards' drops drops' tally tally' record_is)
+    ⊎ ((opened ≡ false) × (kept ≡ kept_of items) × IsRefused pool pool' accounts accounts' named items old new shards shards' drops drops' tally tally' record_is)

@@ -33,7 +33,7 @@ use Rattle.bng_desk.specs.Items.{DataReading, taken_items, ticks_of, ends_of, dr
 use Rattle.bng_desk.specs.Logins.{Answered, Requests, Hears, TimesOut, SettlesLane, reply_items, timeout_items, auth_reading, requests_stretch, verdicts_most}
 use Rattle.bng_desk.specs.Model.{Desk, grace_most, has_ended, line_after}
 use Rattle.bng_desk.specs.Reading.{receives, taken_in, ending_stretch, EndsRight, is_empty}
-use Rattle.bng_desk.specs.Round.{Round, IsRound, stops_of, holders_after, left_by, drops_in, sends_stretch, record_of, refused_of, refused_record, with_refused}
+use Rattle.bng_desk.specs.Round.{Round, IsRound, stops_of, left_by, drops_in, sends_stretch, record_of, refused_of, refused_record, with_refused}
 
 -- the access ports so far, and then the core
 abbrev pub ports_up_to : ℕ → List Role
@@ -125,14 +125,14 @@ ending_draws d = if has_end d.kept then 0 else length d.shards
 -- the round, where it was opened
 abbrev pub RoundOf : Desk → ℕ → List Item → Option Round → Type 0
 RoundOf d moment items None = Unit {0}
-RoundOf d moment items (Some round) = IsRound d.rules d.shards d.holders d.tallies moment (items ∷ []) round
+RoundOf d moment items (Some round) = IsRound d.rules d.shards d.pool d.tallies moment (items ∷ []) round
 
 -- the desk after a round, or after one that was not opened, whose items of the outside are dropped, and whose verdicts and Ends stay
 abbrev pub after_round : Desk → List Item → Option Round → Desk
 after_round d items None = record d { drops = plus d.drops (with_refused (length (refused_of items))); kept = kept_of items }
 after_round d items (Some round) = record d {
   shards = map left_by round.shards;
-  holders = holders_after (stops_of round) d.holders;
+  pool = round.pool;
   lines = map (line_after (stops_of round)) d.lines;
   tallies = round.tallies;
   drops = plus d.drops (drops_in (items ∷ []) round);

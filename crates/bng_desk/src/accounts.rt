@@ -23,7 +23,7 @@ use crate::records::send_records;
 use crate::unanswered::unanswered;
 use arrayvec::ArrayVec;
 use bng_acct::{Moment, TermFacts};
-use bng_base::{Book, Frame, SessionNo};
+use bng_base::{Book, Circuit, Frame, Ip4, SessionNo, TermId};
 use bng_billing::Billing;
 use bng_plant::Plant;
 use bng_shard::{EndedTerm, LiveTerm, Shard};
@@ -85,14 +85,21 @@ fn user_of(lines: &[Line], session: SessionNo) -> ArrayVec<u8, 128>
 }
 
 // What a record says of a term that carried so much. It began at the opening, and has no Class.
-fn facts_of(lines: &[Line], began: u64, term: LiveTerm, carried: Book) -> TermFacts
-    ensures { AreFactsOf lines.now began (key_of term) carried result }
+fn facts_of(
+    lines: &[Line],
+    began: u64,
+    term: TermId,
+    circuit: Circuit,
+    address: Ip4,
+    carried: Book,
+) -> TermFacts
+    ensures { AreFactsOf lines.now began (record { term = term; circuit = circuit; lease = address }) carried result }
 {
     TermFacts {
-        term: term.term,
-        circuit: term.circuit,
-        address: term.address,
-        user: user_of(lines, term.term.session),
+        term,
+        circuit,
+        address,
+        user: user_of(lines, term.session),
         class: ArrayVec::new(),
         began,
         carried,
@@ -107,7 +114,14 @@ impl Accounts {
         requires room { length self.old.billing.spool.held < self.old.billing.spool.rules.terms }
         ensures { BooksStarts wall (key_of term ∷ []) self.old self.new }
     {
-        let facts = facts_of(self.lines.as_slice(), self.began, term, Book::empty());
+        let facts = facts_of(
+            self.lines.as_slice(),
+            self.began,
+            term.term,
+            term.circuit,
+            term.address,
+            Book::empty(),
+        );
         let moment = Moment {
             now: self.began,
             wall,
@@ -140,12 +154,14 @@ impl Accounts {
         requires room { All (TakesIn (stop_of ended.now ∷ [])) self.old.lines }
         ensures { BooksStops moment wall (stop_of ended.now ∷ []) self.old self.new }
     {
-        let term = LiveTerm {
-            term: ended.term,
-            circuit: ended.circuit,
-            address: ended.address,
-        };
-        let facts = facts_of(self.lines.as_slice(), self.began, term, ended.carried);
+        let facts = facts_of(
+            self.lines.as_slice(),
+            self.began,
+            ended.term,
+            ended.circuit,
+            ended.address,
+            ended.carried,
+        );
         let at = Moment {
             now: moment,
             wall,

@@ -1,7 +1,9 @@
-ghost use Rattle.std.specs.Prelude.{◌≡◌, ◌+◌, ◌≤◌, ◌<◌, ◌^◌, ◌++◌, ◌||◌, [], true, not, nat_le, if◌then◌else◌, length, vec_capacity, IfOk, OnOk, OnErr};
+ghost use Rattle.std.specs.Prelude.{◌≡◌, ◌+◌, ◌≤◌, ◌<◌, ◌^◌, ◌++◌, ◌||◌, [], true, not, nat_le, if◌then◌else◌, length, map, vec_capacity, IfOk, OnOk, OnErr};
 ghost use Rattle.std.specs.List.{All};
 ghost use Rattle.bng_acct.specs.Spool.{unacked_stops};
+ghost use Rattle.bng_base.specs.declared.settings.NamedRange.{NamedRange};
 ghost use Rattle.bng_config.specs.Rules.{KeepsRules};
+ghost use Rattle.bng_pool.specs.Ranges.{ArePoolRanges, HasAddress};
 ghost use Rattle.bng_shard.specs.Protocol.{profiles_there};
 ghost use Rattle.bng_desk.specs.Model.{state_of, all_carried, HasOneRule, grace_most, graces_most};
 ghost use Rattle.bng_desk.specs.Opening.{IsOpened};
@@ -17,7 +19,7 @@ use crate::settlement::Works;
 use crate::sums::{all_carried, sessions_in};
 use bng_base::{Book, Item};
 use bng_config::Config;
-use bng_shard::{PlainPool, Rules};
+use bng_shard::Rules;
 use std::alloc::Global;
 use std::marker::Model;
 
@@ -88,9 +90,9 @@ impl Model for Desk {
 
     ghost coded = { Prim.hlevel (codes, state_code) };
 
-    ghost view = { λ d. record { rules = d.rules; lines = d.works.accounts.lines; rounds = d.rounds; turns = d.turns; stopped = d.stopped; shards = map rested d.works.shards.items; holders = d.works.pool; tallies = d.works.tally ∷ []; seed = d.works.draws.seed; drawn = d.works.draws.drawn; drops = d.works.drops; moment = d.moment; told = d.told; lane = d.works.lane; handed = d.works.handed.items; began = d.works.accounts.began; billing = d.works.accounts.billing; endings = d.endings; unopened = d.unopened; closed = d.closed; closing = d.closing; graces = d.graces; kept = d.works.kept.items } };
+    ghost view = { λ d. record { rules = d.rules; lines = d.works.accounts.lines; rounds = d.rounds; turns = d.turns; stopped = d.stopped; shards = map rested d.works.shards.items; pool = d.works.pool; tallies = d.works.tally ∷ []; seed = d.works.draws.seed; drawn = d.works.draws.drawn; drops = d.works.drops; moment = d.moment; told = d.told; lane = d.works.lane; handed = d.works.handed.items; began = d.works.accounts.began; billing = d.works.accounts.billing; endings = d.endings; unopened = d.unopened; closed = d.closed; closing = d.closing; graces = d.graces; kept = d.works.kept.items } };
 
-    ghost invariant = { λ d. IsKept (record { rules = d.rules; lines = d.works.accounts.lines; rounds = d.rounds; turns = d.turns; stopped = d.stopped; shards = d.works.shards.items; holders = d.works.pool; tallies = d.works.tally ∷ []; seed = d.works.draws.seed; drawn = d.works.draws.drawn; drops = d.works.drops; moment = d.moment; told = d.told; lane = d.works.lane; handed = d.works.handed.items; began = d.works.accounts.began; billing = d.works.accounts.billing; endings = d.endings; unopened = d.unopened; closed = d.closed; closing = d.closing; graces = d.graces; kept = d.works.kept.items }) × (192 ≤ vec_capacity d.works.kept) };
+    ghost invariant = { λ d. IsKept (record { rules = d.rules; lines = d.works.accounts.lines; rounds = d.rounds; turns = d.turns; stopped = d.stopped; shards = d.works.shards.items; pool = d.works.pool; tallies = d.works.tally ∷ []; seed = d.works.draws.seed; drawn = d.works.draws.drawn; drops = d.works.drops; moment = d.moment; told = d.told; lane = d.works.lane; handed = d.works.handed.items; began = d.works.accounts.began; billing = d.works.accounts.billing; endings = d.endings; unopened = d.unopened; closed = d.closed; closing = d.closing; graces = d.graces; kept = d.works.kept.items }) × (192 ≤ vec_capacity d.works.kept) };
 }
 
 // An empty list with room for all items that may stay of a round.
@@ -144,39 +146,22 @@ impl Desk {
         requires most { rounds ≤ 2 ^ 40 }
         requires rules { KeepsRules config }
         requires profiles { All (λ c. c.profile < profiles_there) config.statics }
+        requires pools { ArePoolRanges (map (λ (p : NamedRange). p.range) config.pools) }
+        requires within { All (λ c. HasAddress (map (λ (p : NamedRange). p.range) config.pools) c.address.0) config.statics }
         ensures { IfOk result (λ d. IsOpened config rounds seed now wall d) }
     {
-        let Config {
-            name,
-            shards,
-            services,
-            auth,
-            echo,
-            control_local: _,
-            core_local: _,
-            core_peer,
-            access,
-            statics,
-            nas_ip,
-            auth_local: _,
-            auth_server,
-            secret,
-            tries,
-            terms,
-            acct_local: _,
-            acct_server,
-        } = config;
         let mut draws = Draws::of(seed);
         let key = draws.sixteen();
-        let offers = opening::offers(alloc, access.as_slice(), key, &name, &services)?;
-        let lines = opening::lines(alloc, statics.as_slice())?;
-        let holders = opening::holders(alloc, statics.as_slice())?;
-        let billing = opening::billing_rules(&name, nas_ip, terms, acct_server, &secret, wall);
-        let lane = opening::lane(alloc, &name, nas_ip, auth_server, secret, tries)?;
-        let handed = opening::handed(alloc, shards)?;
+        let access = config.access.as_slice();
+        let offers = opening::offers(alloc, access, key, &config.name, &config.services)?;
+        let lines = opening::lines(alloc, config.statics.as_slice())?;
+        let billing = opening::billing_rules(&config, wall);
+        let lane = opening::lane(alloc, &config)?;
+        let pool = opening::pool(alloc, &config)?;
+        let handed = opening::handed(alloc, config.shards)?;
         let kept = room_to_keep(alloc)?;
-        let rules = opening::rules(shards, core_peer, access, offers, name, auth, echo);
-        let opens = opening::shards(alloc, &rules, statics.into_vec())?;
+        let rules = opening::rules(alloc, &config, offers)?;
+        let opens = opening::shards(alloc, &rules, config.statics.into_vec(), now)?;
         let accounts = opening::accounts(alloc, billing, lines, opens.as_slice(), now)?;
         Ok(Desk {
             rules,
@@ -185,7 +170,7 @@ impl Desk {
             stopped: false,
             works: Works {
                 shards: opens,
-                pool: PlainPool::of(holders),
+                pool,
                 accounts,
                 tally: Book::empty(),
                 draws,

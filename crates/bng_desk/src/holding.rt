@@ -4,6 +4,7 @@ ghost use Rattle.std.specs.List.{All};
 ghost use Rattle.bng_base.specs.Causes.{HasCause};
 ghost use Rattle.bng_base.specs.Told.{Grows};
 ghost use Rattle.bng_engine.specs.Calls.{IsReady};
+ghost use Rattle.bng_shard.specs.Protocol.{AreHeld, terms_of};
 ghost use Rattle.bng_shard.specs.Sums.{IsLow, AreLow, RowsAreLow};
 ghost use Rattle.bng_desk.specs.Accounting.{AreBilled};
 ghost use Rattle.bng_desk.specs.Counting.{Within};
@@ -23,7 +24,8 @@ use bng_base::{
     Book, Entry, Frame, Ip4, Item, ItemKind, Listed, Loose, OutRecord, Peer, RoundRecord,
 };
 use bng_plant::{Noted, Plant, Trace};
-use bng_shard::{PlainPool, Rules, Shard};
+use bng_pool::PlainPool;
+use bng_shard::{Rules, Shard};
 use std::alloc::Global;
 use std::mem;
 
@@ -74,7 +76,11 @@ pub(crate) fn opened<P: Plant>(
     requires count { length shards.old ≡ rules.now.shards }
     requires some { 1 ≤ rules.now.shards }
     requires few { rules.now.shards ≤ 64 }
-    requires held { All (λ h. h.shard < rules.now.shards) pool.old }
+    requires one_rule { All (λ v. v.state.rules ≡ rules.now) shards.old }
+    requires no_pools { rules.now.pools ≡ [] }
+    requires no_news { All (λ v. v.state.slots.news ≡ []) shards.old }
+    requires places { pool.old.shards ≡ rules.now.shards }
+    requires held { All (λ v. AreHeld v.number (terms_of v.state) pool.old.table) shards.old }
     requires moment { named.moment < 2 ^ 60 }
     requires items { AreItems lists.items.items }
     requires ready { All (IsReady (length lists.items.items) 0) shards.old }
@@ -101,6 +107,8 @@ pub(crate) fn opened<P: Plant>(
     ensures tally { (most : ℕ) → IsLow most tally.old → IsLow (most + octets_most) tally.new }
     ensures lines { AreTallied tally.new shards.new accounts.new.lines }
     ensures billed { AreBilled (keys_in shards.new) accounts.new.billing }
+    ensures held { All (λ v. AreHeld v.number (terms_of v.state) pool.new.table) shards.new }
+    ensures places { pool.new.shards ≡ pool.old.shards }
     ensures within { (most : ℕ) → Within most drops.old → Within (most + drops_most) drops.new }
 {
     let Lists {
@@ -244,7 +252,11 @@ pub(crate) fn hold<P: Plant>(
     requires count { length shards.old ≡ rules.now.shards }
     requires some { 1 ≤ rules.now.shards }
     requires few { rules.now.shards ≤ 64 }
-    requires held { All (λ h. h.shard < rules.now.shards) pool.old }
+    requires one_rule { All (λ v. v.state.rules ≡ rules.now) shards.old }
+    requires no_pools { rules.now.pools ≡ [] }
+    requires no_news { All (λ v. v.state.slots.news ≡ []) shards.old }
+    requires places { pool.old.shards ≡ rules.now.shards }
+    requires held { All (λ v. AreHeld v.number (terms_of v.state) pool.old.table) shards.old }
     requires moment { named.moment < 2 ^ 60 }
     requires items { AreItems lists.items.items }
     requires empty_before { All IsEmpty shards.old }
@@ -273,6 +285,8 @@ pub(crate) fn hold<P: Plant>(
     ensures tally { (most : ℕ) → IsLow most tally.old → IsLow (most + octets_most) tally.new }
     ensures lines { AreTallied tally.new shards.new accounts.new.lines }
     ensures billed { AreBilled (keys_in shards.new) accounts.new.billing }
+    ensures held { All (λ v. AreHeld v.number (terms_of v.state) pool.new.table) shards.new }
+    ensures places { pool.new.shards ≡ pool.old.shards }
     ensures within { (most : ℕ) → Within most drops.old → Within (most + drops_most) drops.new }
 {
     let count = lists.items.len() as u16;

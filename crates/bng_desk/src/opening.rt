@@ -1,11 +1,13 @@
 //! What a desk is opened with.
-ghost use Rattle.std.specs.Prelude.{◌≡◌, ◌≤◌, ◌<◌, ◌==◌, ◌/◌, [], ◌∷◌, ℕ, false, None, IfOk, length, map, filter};
+ghost use Rattle.std.specs.Prelude.{◌≡◌, ◌≤◌, ◌<◌, ◌==◌, ◌/◌, [], ◌∷◌, ℕ, false, IfOk, length, map, filter};
 ghost use Rattle.std.specs.List.{All, AllPairs, range_with_len};
 ghost use Rattle.bng_acct.specs.Roster.{same};
+ghost use Rattle.bng_base.specs.declared.settings.NamedRange.{NamedRange};
+ghost use Rattle.bng_pool.specs.Ranges.{ArePoolRanges, HasAddress};
 ghost use Rattle.bng_shard.specs.Protocol.{opened};
 ghost use Rattle.bng_lane.specs.State.{IsNewLane};
 ghost use Rattle.bng_shard.specs.Questions.{none_handed};
-ghost use Rattle.bng_desk.specs.Opening.{line_of, holder_of, shard_of, no_address, no_dns, IsOfferOf, AreOffersOf, AreServed, OpensAccounts};
+ghost use Rattle.bng_desk.specs.Opening.{line_of, shard_of, dns_of, lane_rules, billing_rules, AreOffersOf, AreServed, IsOpenedPool, OpensAccounts};
 ghost use Rattle.bng_desk.specs.Model.{keys_in};
 ghost use Rattle.bng_desk.specs.Taking.{HasFewSessions};
 
@@ -16,12 +18,14 @@ use crate::sums::NO_TRAFFIC;
 use arrayvec::ArrayVec;
 use bng_access::NasRules;
 use bng_acct::AcctRules;
-use bng_base::{AccessPort, AuthKind, Ip4, Listed, Peer, Static};
+use bng_base::{AccessPort, AuthKind, Ip4, Listed, NamedRange, Range, Static};
 use bng_billing::{Billing, BillingRules};
+use bng_config::Config;
 use bng_discovery::PortRules;
 use bng_lane::{Lane, LaneRules};
+use bng_pool::PlainPool;
 use bng_ppp::LinkRules;
-use bng_shard::{Handed, Holder, Rules, Shard};
+use bng_shard::{Handed, Rules, Shard};
 use std::alloc::Global;
 
 /// The same octets again.
@@ -105,46 +109,77 @@ fn ports_copied(alloc: Global, ports: &[AccessPort]) -> Result<Vec<AccessPort>, 
     }
 }
 
+// The same pool again.
+fn pool_copied(pool: &NamedRange) -> NamedRange
+    ensures { result ≡ pool.now }
+{
+    NamedRange {
+        name: copied(&pool.name),
+        range: pool.range,
+    }
+}
+
+// The same pools again.
+fn pools_copied(alloc: Global, pools: &[NamedRange]) -> Result<Vec<NamedRange>, DeskError>
+    ensures { IfOk result (λ copies. copies.items ≡ pools.now) }
+{
+    let Ok(mut copies) = Vec::with_capacity(alloc, pools.len()) else {
+        return Err(DeskError::OutOfMemory);
+    };
+    for pool in pools {
+        copies.push_reserved(pool_copied(pool));
+    }
+    Ok(copies)
+}
+
 // The same rules again, for one shard more.
 fn rules_copied(alloc: Global, rules: &Rules) -> Result<Rules, DeskError>
     ensures { IfOk result (λ copy. copy ≡ rules.now) }
 {
     let access = ports_copied(alloc, rules.access.as_slice())?;
     let offers = offers_copied(alloc, rules.offers.as_slice())?;
+    let pools = pools_copied(alloc, rules.pools.as_slice())?;
     Ok(Rules {
         shards: rules.shards,
         core_peer: rules.core_peer,
         access: Listed::of(access),
         offers: Listed::of(offers),
+        pools: Listed::of(pools),
         link: link_copied(&rules.link),
     })
 }
 
-/// By what all shards work. A subscriber is told no address of the gateway and no DNS server yet.
-pub(crate) fn rules(
-    shards: u16,
-    core_peer: Peer,
-    access: Listed<AccessPort>,
-    offers: Vec<PortRules>,
-    name: ArrayVec<u8, 64>,
-    auth: ArrayVec<AuthKind, 2>,
-    echo: u16,
-) -> Rules
-    ensures { result ≡ record { shards = shards; core_peer = core_peer; access = access; offers = offers.items; link = record { name = name; address = no_address; dns = no_dns; auth = auth; echo = echo } } }
+// The DNS servers that a subscriber is told.
+fn dns(servers: &ArrayVec<Ip4, 2>) -> [Option<Ip4>; 2]
+    ensures { result ≡ dns_of servers.now.items }
 {
-    Rules {
-        shards,
-        core_peer,
-        access,
+    let servers = servers.as_slice();
+    [servers.get(0).copied(), servers.get(1).copied()]
+}
+
+/// By what all shards work. They have no pools yet: a peer that the RADIUS server accepts gets no address.
+pub(crate) fn rules(
+    alloc: Global,
+    config: &Config,
+    offers: Vec<PortRules>,
+) -> Result<Rules, DeskError>
+    ensures { IfOk result (λ r. r ≡ record { shards = config.now.shards; core_peer = config.now.core_peer; access = config.now.access; offers = offers.items; pools = []; link = record { name = config.now.name; address = config.now.address; dns = dns_of config.now.dns.items; auth = config.now.auth; echo = config.now.echo } }) }
+{
+    let access = ports_copied(alloc, config.access.as_slice())?;
+    Ok(Rules {
+        shards: config.shards,
+        core_peer: config.core_peer,
+        access: Listed::of(access),
         offers: Listed::of(offers),
+        pools: Listed::of(Vec::new(alloc)),
         link: LinkRules {
-            name,
-            address: Ip4(0),
-            dns: [None, None],
-            auth,
-            echo,
+            name: copied(&config.name),
+            address: config.address,
+            dns: dns(&config.dns),
+            auth: kinds_copied(&config.auth),
+            echo: config.echo,
         },
-    }
+    })
 }
 
 /// What the access ports offer, by their numbers.
@@ -174,25 +209,18 @@ pub(crate) fn offers(
 }
 
 /// The lane of the questions at the RADIUS server, with none.
-pub(crate) fn lane(
-    alloc: Global,
-    name: &ArrayVec<u8, 64>,
-    nas_ip: Ip4,
-    server: Peer,
-    secret: ArrayVec<u8, 64>,
-    tries: u8,
-) -> Result<Lane, DeskError>
-    ensures { IfOk result (λ l. IsNewLane (record { nas = record { name = name.now; nas_ip = nas_ip }; server = server; secret = secret; tries = tries }) l) }
+pub(crate) fn lane(alloc: Global, config: &Config) -> Result<Lane, DeskError>
+    ensures { IfOk result (λ l. IsNewLane (lane_rules config.now) l) }
 {
     let nas = NasRules {
-        name: copied(name),
-        nas_ip,
+        name: copied(&config.name),
+        nas_ip: config.nas_ip,
     };
     let rules = LaneRules {
         nas,
-        server,
-        secret,
-        tries,
+        server: config.auth_server,
+        secret: copied(&config.secret),
+        tries: config.tries,
     };
     match Lane::open(alloc, rules) {
         Ok(lane) => Ok(lane),
@@ -202,26 +230,19 @@ pub(crate) fn lane(
 
 /// What accounting is opened with: for how many terms there is room, the second on the wall at which the run opened, what a record says
 /// of the gateway, the server, and the secret.
-pub(crate) fn billing_rules(
-    name: &ArrayVec<u8, 64>,
-    nas_ip: Ip4,
-    terms: u32,
-    server: Peer,
-    secret: &ArrayVec<u8, 64>,
-    wall: u64,
-) -> BillingRules
-    ensures { result ≡ record { acct = record { terms = terms; wall = wall; name = name.now; nas_ip = nas_ip }; server = server; secret = secret.now } }
+pub(crate) fn billing_rules(config: &Config, wall: u64) -> BillingRules
+    ensures { result ≡ billing_rules config.now wall }
 {
     let acct = AcctRules {
-        terms,
+        terms: config.terms,
         wall,
-        name: copied(name),
-        nas_ip,
+        name: copied(&config.name),
+        nas_ip: config.nas_ip,
     };
     BillingRules {
         acct,
-        server,
-        secret: copied(secret),
+        server: config.acct_server,
+        secret: copied(&config.secret),
     }
 }
 
@@ -286,18 +307,32 @@ pub(crate) fn lines(alloc: Global, circuits: &[Static]) -> Result<Vec<Line>, Des
     }
 }
 
-/// Who holds an address: the shard of its circuit.
-pub(crate) fn holders(alloc: Global, circuits: &[Static]) -> Result<Vec<Holder>, DeskError>
-    ensures { IfOk result (λ holders. holders.items ≡ map holder_of circuits.now) }
+// The addresses of each pool.
+fn ranges(alloc: Global, pools: &[NamedRange]) -> Result<Vec<Range>, DeskError>
+    ensures { IfOk result (λ ranges. ranges.items ≡ map (λ (p : NamedRange). p.range) pools.now) }
 {
-    let held = circuits.iter().map(|circuit| Holder {
-        address: circuit.address,
-        shard: circuit.session.0 / 1024,
-    });
-    match held.collect(alloc) {
-        Ok(holders) => Ok(holders),
+    match pools.iter().map(|pool| pool.range).collect(alloc) {
+        Ok(ranges) => Ok(ranges),
         Err(_) => Err(DeskError::OutOfMemory),
     }
+}
+
+/// Who holds each address of the pools: a circuit's is held by the circuit's shard, and no other is held.
+pub(crate) fn pool(alloc: Global, config: &Config) -> Result<PlainPool, DeskError>
+    requires shards { (1 ≤ config.now.shards) × (config.now.shards ≤ 64) }
+    requires ranges { ArePoolRanges (map (λ (p : NamedRange). p.range) config.now.pools) }
+    requires inside { All (λ c. shard_of c < config.now.shards) config.now.statics }
+    requires within { All (λ c. HasAddress (map (λ (p : NamedRange). p.range) config.now.pools) c.address.0) config.now.statics }
+    ensures { IfOk result (λ p. IsOpenedPool config.now p) }
+{
+    let ranges = ranges(alloc, config.pools.as_slice())?;
+    let Ok(mut pool) = PlainPool::open(alloc, ranges.as_slice(), config.shards) else {
+        return Err(DeskError::OutOfMemory);
+    };
+    for circuit in config.statics.as_slice() {
+        pool.claim(circuit.session.0 / 1024, circuit.address);
+    }
+    Ok(pool)
 }
 
 // So many empty lists.
@@ -328,17 +363,19 @@ fn dealt(alloc: Global, shards: u16, circuits: Vec<Static>) -> Result<Vec<Vec<St
     Ok(lists)
 }
 
-/// The shards that these rules name, each with its circuits and with rules of its own.
+/// The shards that these rules name, each with its circuits and with rules of its own, opened at this moment.
 pub(crate) fn shards(
     alloc: Global,
     rules: &Rules,
     circuits: Vec<Static>,
+    now: u64,
 ) -> Result<Vec<Shard>, DeskError>
     requires few { rules.now.shards ≤ 64 }
+    requires few_pools { length rules.now.pools ≤ 16 }
     requires circuits { AreServed rules.now circuits.items }
     requires offers { length rules.now.offers ≡ length rules.now.access }
     requires auth { 0 < length rules.now.link.auth.items }
-    ensures opened { IfOk result (λ opens. opens.items ≡ map (λ n. opened n rules.now (filter (λ c. shard_of c == n) circuits.items)) (range_with_len 0 rules.now.shards)) }
+    ensures opened { IfOk result (λ opens. opens.items ≡ map (λ n. opened n rules.now (filter (λ c. shard_of c == n) circuits.items) now) (range_with_len 0 rules.now.shards)) }
     ensures sessions { IfOk result (λ opens. All HasFewSessions opens.items) }
 {
     let lists = dealt(alloc, rules.shards, circuits)?;
@@ -348,7 +385,7 @@ pub(crate) fn shards(
     let mut number = 0;
     for circuits in lists {
         let own = rules_copied(alloc, rules)?;
-        let Ok(shard) = Shard::open(alloc, number, own, circuits.as_slice()) else {
+        let Ok(shard) = Shard::open(alloc, number, own, circuits.as_slice(), now) else {
             return Err(DeskError::OutOfMemory);
         };
         opens.push_reserved(shard);

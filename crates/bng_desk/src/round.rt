@@ -5,6 +5,7 @@ ghost use Rattle.bng_engine.specs.Calls.{Kept, IsReady};
 ghost use Rattle.bng_engine.specs.Lists.{one_if};
 ghost use Rattle.bng_engine.specs.Quantities.{Quantity, in_book};
 ghost use Rattle.bng_engine.specs.Sums.{charge_if, is_directed, passed_sum};
+ghost use Rattle.bng_shard.specs.Protocol.{AreHeld, terms_of};
 ghost use Rattle.bng_shard.specs.Room.{Admits};
 ghost use Rattle.bng_shard.specs.Sums.{Has, IsMore, IsLow, AreLow, RowsAreLow};
 ghost use Rattle.bng_shard.specs.Whose.{IsWhose};
@@ -16,7 +17,8 @@ use crate::calls::send;
 use crate::drops::{Drops, count};
 use bng_base::{Book, DropCause, Entry, Fate, Item, Listed, Loose, OutRecord};
 use bng_plant::Plant;
-use bng_shard::{Charged, PlainPool, Rules, Shard, Whose, whose_is};
+use bng_pool::PlainPool;
+use bng_shard::{Charged, Rules, Shard, Whose, whose_is};
 use std::alloc::Global;
 
 // Lends a shard the list of a journal of before, emptied.
@@ -63,11 +65,12 @@ pub(crate) fn prepare_all(
     true
 }
 
-// Hands an item to its shard, or keeps it as a loose one, and answers its fate.
+// Hands an item to its shard, or keeps it as a loose one, and answers its fate. As long as the rules have no pools, no item asks for an
+// address.
 fn deal(
     rules: &Rules,
     shards: &mut [Shard],
-    pool: &PlainPool,
+    pool: &mut PlainPool,
     place: u16,
     now: u64,
     item: Item,
@@ -76,15 +79,20 @@ fn deal(
 ) -> Fate
     requires count { length shards.old ≡ rules.now.shards }
     requires some { 1 ≤ rules.now.shards }
-    requires held { All (λ h. h.shard < rules.now.shards) pool.now }
+    requires numbers { AreInOrder shards.old }
+    requires one_rule { All (λ v. v.state.rules ≡ rules.now) shards.old }
+    requires no_pools { rules.now.pools ≡ [] }
+    requires places { pool.old.shards ≡ rules.now.shards }
+    requires held { All (λ v. AreHeld v.number (terms_of v.state) pool.old.table) shards.old }
     requires moment { now < 2 ^ 60 }
     requires whole { item.frame.headroom ≡ 64 }
     requires room { All (λ v. 0 < v.room) shards.old }
-    requires once { (n : ℕ) (d : Shown) → n < length shards.old → IsWhose rules.now pool.now item (Whose.Stands n) → Admits (slice_index_or shards.old n d) item.kind }
+    requires once { (n : ℕ) (d : Shown) → n < length shards.old → IsWhose rules.now pool.old.table item (Whose.Stands n) → Admits (slice_index_or shards.old n d) item.kind }
     requires low_books { All (λ v. AreLow (2 ^ 63) v.books) shards.old }
     requires low_tally { IsLow (2 ^ 63) tally.old }
     requires loose_room { length loose.old.items < vec_capacity loose.old }
-    ensures deals { DealsOne rules.now pool.now place now item shards.old shards.new loose.old.items loose.new.items tally.old tally.new result }
+    ensures deals { DealsOne rules.now pool.old place now item shards.old shards.new loose.old.items loose.new.items tally.old tally.new result }
+    ensures pool { pool.new ≡ pool.old }
     ensures capacity { vec_capacity loose.new ≡ vec_capacity loose.old }
 {
     match whose_is(rules, pool, &item) {
@@ -97,7 +105,9 @@ fn deal(
             });
             fate
         }
-        Whose::Stands(number) => shards[usize::from(number)].step(0, place, now, item, tally),
+        Whose::Stands(number) => {
+            shards[usize::from(number)].step(pool, 0, place, now, item, tally)
+        }
     }
 }
 
@@ -105,7 +115,7 @@ fn deal(
 pub(crate) fn deal_all(
     rules: &Rules,
     shards: &mut [Shard],
-    pool: &PlainPool,
+    pool: &mut PlainPool,
     now: u64,
     items: Vec<Item>,
     loose: &mut Vec<Loose>,
@@ -115,7 +125,10 @@ pub(crate) fn deal_all(
     requires numbers { AreInOrder shards.old }
     requires count { length shards.old ≡ rules.now.shards }
     requires some { 1 ≤ rules.now.shards }
-    requires held { All (λ h. h.shard < rules.now.shards) pool.now }
+    requires one_rule { All (λ v. v.state.rules ≡ rules.now) shards.old }
+    requires no_pools { rules.now.pools ≡ [] }
+    requires places { pool.old.shards ≡ rules.now.shards }
+    requires held { All (λ v. AreHeld v.number (terms_of v.state) pool.old.table) shards.old }
     requires moment { now < 2 ^ 60 }
     requires items { AreItems items.items }
     requires ready { All (IsReady (length items.items) 0) shards.old }
@@ -125,8 +138,10 @@ pub(crate) fn deal_all(
     requires loose { loose.old.items ≡ [] }
     requires room { length items.items ≤ vec_capacity loose.old }
     requires drops { Within (2 ^ 62) drops.old }
-    ensures deals { Deals rules.now pool.now now items.items shards.old shards.new loose.new.items drops.old drops.new tally.old tally.new }
+    ensures deals { Deals rules.now pool.old now items.items shards.old shards.new loose.new.items drops.old drops.new tally.old tally.new }
     ensures numbers { AreInOrder shards.new }
+    ensures pool { pool.new ≡ pool.old }
+    ensures held { All (λ v. AreHeld v.number (terms_of v.state) pool.old.table) shards.new }
     ensures within { (most : ℕ) → Within most drops.old → Within (most + length items.items) drops.new }
     ensures tally { (most : ℕ) → IsLow most tally.old → IsLow (most + 4160 * length items.items) tally.new }
 {

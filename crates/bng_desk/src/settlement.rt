@@ -11,7 +11,8 @@ use crate::requests::send_requests;
 use bng_base::{Book, Entry, Item};
 use bng_lane::Lane;
 use bng_plant::{Plant, Trace};
-use bng_shard::{Handed, PlainPool, Rules, Shard};
+use bng_pool::PlainPool;
+use bng_shard::{Handed, Rules, Shard};
 use std::alloc::Global;
 
 /// What the turns of a desk work on. The lists of its turns are kept from one to the next: `lists`, and in `spare` those of the shards'

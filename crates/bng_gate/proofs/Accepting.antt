@@ -11,9 +11,11 @@ use Rattle.bng_engine.specs.Views.{ShardView}
 use Rattle.bng_ppp.specs.PppState.{is_accepted}
 use Rattle.bng_slots.specs.Sessions.{value_at}
 use Rattle.bng_shard.specs.Made.{Question}
+use Rattle.bng_shard.specs.declared.rules.Rules.{Rules}
 use Rattle.bng_shard.specs.declared.session.Service.{Service}
 use Rattle.bng_shard.specs.declared.session.Service.TheVariants.{Provisioned, Discovered}
 use Rattle.bng_shard.specs.declared.session.Session.{Session}
+use Rattle.bng_shard.specs.Deed.{Deed}
 use Rattle.bng_shard.specs.Granting.{GivesYes, IsSound, IsYesOn, accepted_ask_at, accepted_in}
 use Rattle.bng_shard.specs.Protocol.{ShardState, Handled, pppoe}
 use Rattle.bng_shard.specs.Questions.{Asking, asking_of, last_asking, last_asking_at, last_in}
@@ -22,7 +24,7 @@ use Rattle.bng_shard.specs.State.{State, leaves, settled}
 use Rattle.bng_shard.specs.Step.{Step}
 use Rattle.bng_shard.proofs.GrantLaws.{settled_sound, step_accepted, step_last, step_sound, step_yes}
 use Rattle.bng_shard.proofs.QuestionLaws.{step_asks}
-use Rattle.bng_shard.proofs.Terms.{step_remains}
+use Rattle.bng_shard.proofs.TermLaws.{step_moves}
 use Rattle.bng_shard.proofs.Values.{kept_from}
 use Rattle.bng_desk.specs.Model.{Desk}
 use Rattle.bng_gate.specs.Granted.{Held, HandledIn}
@@ -106,6 +108,10 @@ none_accepted s n ask silent e =
     let asked : last_asking_at s n ≡ Some (asking_of x.0 q.0) = ap (option_and_then last_asking) x.1 ∙ ap (option_map (asking_of x.0)) (accepted_last x.0.service q.0 x.2) in
     none-some (asking_of x.0 q.0) (sym silent ∙ asked)
 
+-- a step is of its shard
+same_shard : (r : Rules) (s : State) (limited : Bool) (d : Deed) → Step r s limited d → d.next.sessions.shard ≡ s.sessions.shard
+same_shard r s limited d step = elim (step_moves r s limited d step) [ inl remains ↦ remains.1.shard | inr begins ↦ begins.3.shard ]
+
 -- What stays --------------------------------------------------------------------------------------------------------------
 
 module _ (held : List Held) where
@@ -132,28 +138,28 @@ module _ (held : List Held) where
     told = λ n ask is. told_later k n ask (h.told n ask (accepted_stayed s.slots n ask is));
   }
 
-  module _ (k : ℕ) (s : ShardState) (h : Handled) (i : HandledIn held k s h) (step : Step s.rules s.slots h.deed) (low : h.deed.next.asked < 2 ^ 64 - 1) (sure : IsSure held k i.place s) where
+  module _ (k : ℕ) (s : ShardState) (h : Handled) (i : HandledIn held k s h) (step : Step s.rules s.slots h.limited h.deed) (low : h.deed.next.asked < 2 ^ 64 - 1) (sure : IsSure held k i.place s) where
     pub counted_on : s.slots.asked ≤ h.deed.next.asked
-    counted_on = ((step_asks s.rules s.slots h.deed step).count sure.small).0
+    counted_on = ((step_asks s.rules s.slots h.limited h.deed step).count sure.small).0
 
     counted_after : (n : ℕ) (b : Asking) → last_asking_at h.deed.next n ≡ Some b → b.number.ask ≤ h.deed.next.asked
     counted_after n b is =
         let on = counted_on in
-        elim (step_last s.rules s.slots h.deed step low n b is) [
+        elim (step_last s.rules s.slots h.limited h.deed step low n b is) [
           | inl before ↦ let le = sure.counted n b before in omega (arith, le, on)
           | inr new ↦ new.1
         ]
 
     told_after : (n ask : ℕ) → accepted_ask_at h.deed.next n ≡ Some ask → IsTold held k n ask
-    told_after n ask is = elim (step_accepted s.rules s.slots h.deed step n ask is) [
+    told_after n ask is = elim (step_accepted s.rules s.slots h.limited h.deed step n ask is) [
       | inl before ↦ sure.told n ask before
       | inr now ↦ let same : k ≤ k = omega arith in record { turn = k; before = same; state = s; handled = h; at = i; yes = now.0 }
     ]
 
     pub sure_after : IsSure held k i.place ((pppoe).next s h)
     sure_after = record {
-      sound = step_sound s.rules s.slots h.deed step sure.sound;
-      shard = (step_remains s.rules s.slots h.deed step).shard ∙ sure.shard;
+      sound = step_sound s.rules s.slots h.limited h.deed step sure.sound;
+      shard = same_shard s.rules s.slots h.limited h.deed step ∙ sure.shard;
       small = omega (arith, low);
       counted = counted_after;
       told = told_after;
@@ -182,10 +188,10 @@ module _ (held : List Held) where
   sure_opening opening last run fresh count =
       at_first held (IsSure held) (sure_kept count) opening last run (λ p v is. sure_first p v.state (fresh p v is))
 
-  told_cause : (k p : ℕ) (s : ShardState) (h : Handled) (i : HandledIn held k s h) → IsSure held k p s → Step s.rules s.slots h.deed → (o : OutRecord) (port : ℕ) (mac : Mac) (session : ℕ)
+  told_cause : (k p : ℕ) (s : ShardState) (h : Handled) (i : HandledIn held k s h) → IsSure held k p s → Step s.rules s.slots h.limited h.deed → (o : OutRecord) (port : ℕ) (mac : Mac) (session : ℕ)
       → Contains h.deed.outs o → IsYesOn port mac session o.role o.frame → YesCause held k s h port mac session
   told_cause k p s h i sure step o port mac session c tells =
-      let on = step_yes s.rules s.slots h.deed step sure.sound port mac session o c tells in
+      let on = step_yes s.rules s.slots h.limited h.deed step sure.sound port mac session o c tells in
       let number = own_number s.slots session on.asking sure.sound.own on.last in
       elim on.granted [
         | inl before ↦ record {

@@ -162,7 +162,7 @@ handled_is : (P : Item → Type 0) (d : Desk) (moment : ℕ) (items : List Item)
     → P h.deed.entry.item
 handled_is P d moment items None r opened is all place earlier later h journal = absurd cc
 handled_is P d moment items (Some round) r opened is all place earlier later h journal =
-    entry_holds P d.rules d.shards d.holders d.tallies moment items r (subst (λ (o : Option Round). RoundOf d moment items o) opened is) all place earlier later h journal
+    entry_holds P d.rules d.shards d.pool d.tallies moment items r (subst (λ (o : Option Round). RoundOf d moment items o) opened is) all place earlier later h journal
 
 turn_among : (d d' : Desk) (t : Option Turn) (e : Desk) → Step d t d' → AreElse d → (r : Round) → round_of_turn t ≡ Some r
     → (place : ℕ) (earlier later : List Handled) (h : Handled) → option_map (λ v. v.journal) (slice_get r.shards place) ≡ Some (earlier ++ h ∷ later)

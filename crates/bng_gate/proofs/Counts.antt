@@ -53,12 +53,12 @@ use Rattle.bng_gate.proofs.OpeningFacts.{OpeningFacts}
 -- a step asks one question at most
 steps_ask : (s : ShardState) (es : List Handled) → AreSteps pppoe s es → (after_all pppoe s es).slots.asked ≤ s.slots.asked + length es
 steps_ask s [] steps = omega arith
-steps_ask s (e ∷ es) steps = omega (arith, step_few s.rules s.slots e.deed steps.0, steps_ask (record s { slots = e.deed.next }) es steps.1)
+steps_ask s (e ∷ es) steps = omega (arith, step_few s.rules s.slots e.limited e.deed steps.0.step, steps_ask (record s { slots = e.deed.next }) es steps.1)
 
 -- and so does each in it
 one_asks : (s : ShardState) (earlier : List Handled) (h : Handled) (later : List Handled) → AreSteps pppoe s (earlier ++ h ∷ later) → h.deed.next.asked ≤ s.slots.asked + length (earlier ++ h ∷ later)
-one_asks s [] h later steps = omega (arith, step_few s.rules s.slots h.deed steps.0)
-one_asks s (e ∷ earlier) h later steps = omega (arith, step_few s.rules s.slots e.deed steps.0, one_asks (record s { slots = e.deed.next }) earlier h later steps.1)
+one_asks s [] h later steps = omega (arith, step_few s.rules s.slots h.limited h.deed steps.0.step)
+one_asks s (e ∷ earlier) h later steps = omega (arith, step_few s.rules s.slots e.limited e.deed steps.0.step, one_asks (record s { slots = e.deed.next }) earlier h later steps.1)
 
 -- What a round has ------------------------------------------------------------------------------------------------------
 
@@ -112,7 +112,7 @@ whose_parts items (w ∷ v ∷ whose) R moment ws few zip parts = absurd zip.1
 
 round_few : (d : Desk) (moment : ℕ) (items : List Item) (round : Option Round) → RoundOf d moment items round → length items ≤ entries_most → AreFew d.shards round
 round_few d moment items None is few = tt
-round_few d moment items (Some round) is few = (is.turn.shards, whose_parts items round.whose (AllZip (IsWhose d.rules d.holders)) moment round.shards few is.dealt.whose is.dealt.parts)
+round_few d moment items (Some round) is few = (is.turn.shards, whose_parts items round.whose (AllZip (IsWhose d.rules d.pool.table)) moment round.shards few is.dealt.whose is.dealt.parts)
 
 -- The count over turns -----------------------------------------------------------------------------------------------------
 

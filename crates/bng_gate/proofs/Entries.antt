@@ -10,7 +10,7 @@ use Rattle.bng_base.specs.declared.item.Entry.{Entry}
 use Rattle.bng_base.specs.declared.item.Item.{Item}
 use Rattle.bng_engine.specs.Views.{ShardView}
 use Rattle.bng_engine.proofs.Everywhere.{all_append}
-use Rattle.bng_shard.specs.declared.pool.Holder.{Holder}
+use Rattle.bng_pool.specs.Plain.{PlainView}
 use Rattle.bng_shard.specs.declared.rules.Rules.{Rules}
 use Rattle.bng_shard.specs.declared.whose.Whose.{Whose}
 use Rattle.bng_shard.specs.Protocol.{ShardState, Handled, entry_of}
@@ -75,11 +75,11 @@ module _ (P : Item → Type 0) where
       there (Some v) is each = subst (λ (hs : List Handled). AllByRecursion Of (map (λ (x : Handled). x.deed.entry) hs)) (same_Some v.journal journal is) (each v refl)
 
   -- what holds of all items of a round holds of the item of each entry that was handled
-  pub entry_holds : (r : Rules) (shards : List (ShardView ShardState Entry)) (holders : List Holder) (tallies : List Book) (moment : ℕ) (items : List Item) (round : Round)
-      → IsRound r shards holders tallies moment (items ∷ []) round → All P items
+  pub entry_holds : (r : Rules) (shards : List (ShardView ShardState Entry)) (pool : PlainView) (tallies : List Book) (moment : ℕ) (items : List Item) (round : Round)
+      → IsRound r shards pool tallies moment (items ∷ []) round → All P items
       → (place : ℕ) (earlier later : List Handled) (h : Handled) → option_map (λ (v : ShardView ShardState Handled). v.journal) (slice_get round.shards place) ≡ Some (earlier ++ h ∷ later)
       → P h.deed.entry.item
-  entry_holds r shards holders tallies moment items round is all place earlier later h at =
+  entry_holds r shards pool tallies moment items round is all place earlier later h at =
       in_journal earlier later h
       (journal_holds round.shards place (earlier ++ h ∷ later) at
       (λ v here. parts_hold items round.whose 0 moment round.shards is.dealt.parts (recursion_from_All P items all) place v here))

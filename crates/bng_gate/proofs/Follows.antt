@@ -6,11 +6,11 @@ use Rattle.bng_base.specs.declared.item.Item.{Item}
 use Rattle.bng_base.specs.Chain.{Chain}
 use Rattle.bng_base.proofs.ChainLaws.{chain_append}
 use Rattle.bng_engine.specs.Views.{ShardView}
-use Rattle.bng_shard.specs.declared.pool.Holder.{Holder}
+use Rattle.bng_pool.specs.Plain.{PlainView}
 use Rattle.bng_shard.specs.Protocol.{ShardState}
 use Rattle.bng_desk.specs.declared.line.Line.{Line}
 use Rattle.bng_desk.specs.Model.{Desk, line_after}
-use Rattle.bng_desk.specs.Round.{Round, IsRound, holders_after, left_by, stops_of}
+use Rattle.bng_desk.specs.Round.{Round, IsRound, left_by, stops_of}
 use Rattle.bng_desk.specs.Turn.{Turn, RoundOf, Step, after_round, items_of, ending_items}
 use Rattle.bng_gate.specs.Rounds.{round_in, end_round_in, rounds_in}
 use Rattle.bng_gate.specs.Serving.{Made, MadeEnd, Late, Ends, Waits, LateStep, Goes, GoesEnding, Run, EndRun}
@@ -26,9 +26,9 @@ tallies_after tallies None = tallies
 tallies_after tallies (Some round) = round.tallies
 
 -- who holds an address then
-abbrev pub holders_left : List Holder → Option Round → List Holder
-holders_left holders None = holders
-holders_left holders (Some round) = holders_after (stops_of round) holders
+abbrev pub pool_after : PlainView → Option Round → PlainView
+pool_after pool None = pool
+pool_after pool (Some round) = round.pool
 
 -- and what the circuits' Stops say
 abbrev pub lines_left : List Line → Option Round → List Line
@@ -38,14 +38,14 @@ lines_left lines (Some round) = map (line_after (stops_of round)) lines
 -- the round was one of this desk, at some moment and of some items
 abbrev pub IsOf : Desk → Option Round → Type 0
 IsOf d None = Unit {0}
-IsOf d (Some round) = (moment : ℕ) × (lists : List (List Item)) × IsRound d.rules d.shards d.holders d.tallies moment lists round
+IsOf d (Some round) = (moment : ℕ) × (lists : List (List Item)) × IsRound d.rules d.shards d.pool d.tallies moment lists round
 
 -- the desk went on by a round, or as it was; by what it works stays
 pub record Follows (d : Desk) (round : Option Round) (d' : Desk) : Type 0 where
   pub is_round : IsOf d round
   pub shards : d'.shards ≡ left_after d.shards round
   pub tallies : d'.tallies ≡ tallies_after d.tallies round
-  pub holders : d'.holders ≡ holders_left d.holders round
+  pub pool : d'.pool ≡ pool_after d.pool round
   pub rules : d'.rules ≡ d.rules
   pub lines : d'.lines ≡ lines_left d.lines round
 
@@ -62,9 +62,9 @@ tallies_left : (d : Desk) (items : List Item) (round : Option Round) → (after_
 tallies_left d items None = refl
 tallies_left d items (Some round) = refl
 
-holders_there : (d : Desk) (items : List Item) (round : Option Round) → (after_round d items round).holders ≡ holders_left d.holders round
-holders_there d items None = refl
-holders_there d items (Some round) = refl
+pool_left : (d : Desk) (items : List Item) (round : Option Round) → (after_round d items round).pool ≡ pool_after d.pool round
+pool_left d items None = refl
+pool_left d items (Some round) = refl
 
 rules_after : (d : Desk) (items : List Item) (round : Option Round) → (after_round d items round).rules ≡ d.rules
 rules_after d items None = refl
@@ -79,7 +79,7 @@ step_follows d d' None step = record {
   is_round = tt;
   shards = ap (λ (x : Desk). x.shards) step;
   tallies = ap (λ (x : Desk). x.tallies) step;
-  holders = ap (λ (x : Desk). x.holders) step;
+  pool = ap (λ (x : Desk). x.pool) step;
   rules = ap (λ (x : Desk). x.rules) step;
   lines = ap (λ (x : Desk). x.lines) step;
 }
@@ -87,7 +87,7 @@ step_follows d d' (Some t) step = record {
   is_round = is_of d t.moment (items_of d t) t.round step.1;
   shards = ap (λ (x : Desk). x.shards) step.4 ∙ shards_after d (items_of d t) t.round;
   tallies = ap (λ (x : Desk). x.tallies) step.4 ∙ tallies_left d (items_of d t) t.round;
-  holders = ap (λ (x : Desk). x.holders) step.4 ∙ holders_there d (items_of d t) t.round;
+  pool = ap (λ (x : Desk). x.pool) step.4 ∙ pool_left d (items_of d t) t.round;
   rules = ap (λ (x : Desk). x.rules) step.4 ∙ rules_after d (items_of d t) t.round;
   lines = ap (λ (x : Desk). x.lines) step.4 ∙ lines_there d (items_of d t) t.round;
 }
@@ -97,7 +97,7 @@ end_follows d d' (Ends None) step = record {
   is_round = tt;
   shards = ap (λ (x : Desk). x.shards) step;
   tallies = ap (λ (x : Desk). x.tallies) step;
-  holders = ap (λ (x : Desk). x.holders) step;
+  pool = ap (λ (x : Desk). x.pool) step;
   rules = ap (λ (x : Desk). x.rules) step;
   lines = ap (λ (x : Desk). x.lines) step;
 }
@@ -105,7 +105,7 @@ end_follows d d' (Ends (Some t)) step = record {
   is_round = is_of d t.moment (ending_items d) t.round step.1;
   shards = ap (λ (x : Desk). x.shards) step.4 ∙ shards_after d (ending_items d) t.round;
   tallies = ap (λ (x : Desk). x.tallies) step.4 ∙ tallies_left d (ending_items d) t.round;
-  holders = ap (λ (x : Desk). x.holders) step.4 ∙ holders_there d (ending_items d) t.round;
+  pool = ap (λ (x : Desk). x.pool) step.4 ∙ pool_left d (ending_items d) t.round;
   rules = ap (λ (x : Desk). x.rules) step.4 ∙ rules_after d (ending_items d) t.round;
   lines = ap (λ (x : Desk). x.lines) step.4 ∙ lines_there d (ending_items d) t.round;
 }
@@ -113,7 +113,7 @@ end_follows d d' (Waits t) step = record {
   is_round = tt;
   shards = ap (λ (x : Desk). x.shards) step.after;
   tallies = ap (λ (x : Desk). x.tallies) step.after;
-  holders = ap (λ (x : Desk). x.holders) step.after;
+  pool = ap (λ (x : Desk). x.pool) step.after;
   rules = ap (λ (x : Desk). x.rules) step.after;
   lines = ap (λ (x : Desk). x.lines) step.after;
 }

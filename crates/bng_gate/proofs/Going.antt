@@ -19,7 +19,7 @@ use Rattle.bng_engine.specs.Views.{Row, ShardView, DeskView, rows_where, turn_in
 use Rattle.bng_engine.proofs.Walks.{zip_both}
 use Rattle.bng_shard.specs.Protocol.{ShardState, Handled, pppoe}
 use Rattle.bng_desk.specs.Model.{Desk}
-use Rattle.bng_desk.specs.Round.{Round, holders_after, left_by, stops_of, views_of, view_of, view_after, held_by}
+use Rattle.bng_desk.specs.Round.{Round, left_by, views_of, view_of, view_after, held_by}
 use Rattle.bng_gate.specs.Rounds.{turns_of}
 use Rattle.bng_gate.proofs.Follows.{Follows, IsOf}
 
@@ -54,7 +54,7 @@ module _ {S E : Type 0} (p : Protocol S E) where
 -- the desk stands where a turn of the engine left it
 pub record Stands (v : DeskView ShardState Handled) (d : Desk) : Type 0 where
   pub shards : AllZip Kept v.shards (views_of d.shards)
-  pub held : held_by d.holders ≡ v.held
+  pub held : held_by d.pool ≡ v.held
   pub tallies : d.tallies ≡ v.tallies
 
 kept_itself : (v : ShardView ShardState Handled) → Kept v v
@@ -64,34 +64,30 @@ all_kept_itself : (vs : List (ShardView ShardState Handled)) → AllZip Kept vs 
 all_kept_itself [] = tt
 all_kept_itself (v ∷ vs) = (kept_itself v, all_kept_itself vs)
 
-pub stands_itself : (d : Desk) → Stands (view_of d.shards d.holders d.tallies) d
+pub stands_itself : (d : Desk) → Stands (view_of d.shards d.pool d.tallies) d
 stands_itself d = record { shards = all_kept_itself (views_of d.shards); held = refl; tallies = refl }
 
 left_kept : (vs : List (ShardView ShardState Handled)) → AllZip Kept vs (views_of (map left_by vs))
 left_kept [] = tt
 left_kept (v ∷ vs) = (record { number = refl; state = refl; rows = refl; books = refl }, left_kept vs)
 
--- the desk as the engine sees it once a round is settled
-abbrev view_settled : Desk → Round → DeskView ShardState Handled
-view_settled d round = view_after (holders_after (stops_of round) d.holders) round
-
-round_turns : (v : DeskView ShardState Handled) (d : Desk) (round : Round) → Stands v d → IsOf d (Some round) → TurnBy pppoe v (map turn_in round.shards) (view_settled d round)
+round_turns : (v : DeskView ShardState Handled) (d : Desk) (round : Round) → Stands v d → IsOf d (Some round) → TurnBy pppoe v (map turn_in round.shards) (view_after round)
 round_turns v d round stands is = record {
-  turn = turn_from pppoe v (view_of d.shards d.holders d.tallies) (view_settled d round) stands.shards stands.held stands.tallies is.2.turn;
+  turn = turn_from pppoe v (view_of d.shards d.pool d.tallies) (view_after round) stands.shards stands.held stands.tallies is.2.turn;
   parts = refl;
 }
 
-round_stands : (d d' : Desk) (round : Round) → Follows d (Some round) d' → Stands (view_settled d round) d'
+round_stands : (d d' : Desk) (round : Round) → Follows d (Some round) d' → Stands (view_after round) d'
 round_stands d d' round follows = record {
   shards = subst (λ (vs : List (ShardView ShardState Entry)). AllZip Kept round.shards (views_of vs)) (sym follows.shards) (left_kept round.shards);
-  held = ap held_by follows.holders;
+  held = ap held_by follows.pool;
   tallies = follows.tallies;
 }
 
 none_stands : (v : DeskView ShardState Handled) (d d' : Desk) → Stands v d → Follows d None d' → Stands v d'
 none_stands v d d' stands follows = record {
   shards = subst (λ (vs : List (ShardView ShardState Entry)). AllZip Kept v.shards (views_of vs)) (sym follows.shards) stands.shards;
-  held = ap held_by follows.holders ∙ stands.held;
+  held = ap held_by follows.pool ∙ stands.held;
   tallies = follows.tallies ∙ stands.tallies;
 }
 
@@ -105,6 +101,6 @@ pub rounds_lead : (d d' : Desk) (rounds : List (Option Round)) → Chain Follows
 rounds_lead d d' [] run v stands = record { view = v; turns = refl; stands = subst (λ (x : Desk). Stands v x) (sym run) stands }
 rounds_lead d d' (None ∷ rounds) run v stands = rounds_lead run.0 d' rounds run.2 v (none_stands v d run.0 stands run.1)
 rounds_lead d d' (Some round ∷ rounds) run v stands =
-    let mid = view_settled d round in
+    let mid = view_after round in
     let rest = rounds_lead run.0 d' rounds run.2 mid (round_stands d run.0 round run.1) in
     record { view = rest.view; turns = (mid, round_turns v d round stands run.1.is_round, rest.turns); stands = rest.stands }

@@ -33,7 +33,7 @@ use Rattle.bng_desk.specs.declared.desk.DeskState.TheVariants.{Ended}
 use Rattle.bng_desk.specs.declared.drops.Drops.{Drops}
 use Rattle.bng_desk.specs.declared.line.Line.{Line}
 use Rattle.bng_desk.specs.Model.{Desk, carried_on, all_carried, input_of, line_after, output_of, state_of}
-use Rattle.bng_desk.specs.Opening.{billing_rules, line_of, holder_of, opened_shards}
+use Rattle.bng_desk.specs.Opening.{billing_rules, line_of, opened_shards}
 use Rattle.bng_desk.specs.Report.{report_text, by_number}
 use Rattle.bng_desk.specs.Round.{view_of}
 use Rattle.bng_gate.specs.declared.texts.Refusal.{Refusal}
@@ -73,10 +73,10 @@ module _ (text : List ℕ) (config : Config) (read : IsRead text config) (seed :
 
   -- the desk as the engine sees it, at the opening and at the end
   abbrev start : DeskView ShardState Handled
-  start = view_of course.opening.shards course.opening.holders course.opening.tallies
+  start = view_of course.opening.shards course.opening.pool course.opening.tallies
 
   abbrev end : DeskView ShardState Handled
-  end = view_of course.last.shards course.last.holders course.last.tallies
+  end = view_of course.last.shards course.last.pool course.last.tallies
 
   abbrev rounds : List (List (ShardTurn Handled))
   rounds = rounds_of course.turns course.endings
@@ -84,14 +84,17 @@ module _ (text : List ℕ) (config : Config) (read : IsRead text config) (seed :
   abbrev r : Rules
   r = course.begins.is_opened.rules
 
-  start_is : start ≡ view_of (opened_shards config r) (map holder_of config.statics) (empty_book ∷ [])
-  start_is = ap (λ (d : Desk). view_of d.shards d.holders d.tallies) course.begins.is_opened.desk
+  abbrev now : ℕ
+  now = course.begins.bound.now
+
+  start_is : start ≡ view_of (opened_shards config r now) course.begins.is_opened.pool (empty_book ∷ [])
+  start_is = ap (λ (d : Desk). view_of d.shards d.pool d.tallies) course.begins.is_opened.desk
 
   start_opens : Opens pppoe start
-  start_opens = subst (Opens pppoe) (sym start_is) (opens r config rules (first_profiles text config read))
+  start_opens = subst (Opens pppoe) (sym start_is) (opens r config now course.begins.is_opened.pool rules course.begins.is_opened.is_pool (first_profiles text config read))
 
   start_right : AllZip IsRight (nothing_yet start).shards (all_keys config)
-  start_right = subst (λ (v : DeskView ShardState Handled). AllZip IsRight (nothing_yet v).shards (all_keys config)) (sym start_is) (opened_right r config rules (range_with_len 0 config.shards))
+  start_right = subst (λ (v : DeskView ShardState Handled). AllZip IsRight (nothing_yet v).shards (all_keys config)) (sym start_is) (opened_right r course.begins.is_opened.are_rules.pools now config rules (range_with_len 0 config.shards))
 
   follows : Chain Follows course.opening (rounds_in course.turns course.endings) course.last
   follows = run_follows course.opening course.over course.last course.turns course.endings course.run course.ending
@@ -180,7 +183,7 @@ module _ (text : List ℕ) (config : Config) (read : IsRead text config) (seed :
     empty = ended_empty course.last ended
 
     no_rows : AllByRecursion HasNoRows course.last.shards
-    no_rows = rows_gone course.last.shards goes.0.shards empty accounted.tells.shards
+    no_rows = rows_gone course.last.shards goes.0.shards (all_keys config) empty accounted.tells.shards rights.right
 
     stopped_all : AllZip AreStopped goes.0.shards (all_keys config)
     stopped_all = all_stopped course.last.shards goes.0.shards (all_keys config) empty accounted.tells.shards rights.right

@@ -47,9 +47,9 @@ module _ (held : List Held) (r : Rules) where
       record { turn = w.turn; before = omega (arith, le); state = w.state; handled = w.handled; at = w.at; rules = w.rules; by = w.by; last = w.last }
 
   -- an entry asks, or leaves what was asked before
-  asked_after : (k : ℕ) (s : ShardState) (h : Handled) (i : HandledIn held k s h) → Step s.rules s.slots h.deed → IsTraced held r k i.place s
+  asked_after : (k : ℕ) (s : ShardState) (h : Handled) (i : HandledIn held k s h) → Step s.rules s.slots h.limited h.deed → IsTraced held r k i.place s
       → (n : ℕ) (a : Asking) → last_asking_at h.deed.next n ≡ Some a → WasAsked held r k n a
-  asked_after k s h i step traced n a is = elim (step_heard s.rules s.slots h.deed traced.sound step n a is) [
+  asked_after k s h i step traced n a is = elim (step_heard s.rules s.slots h.limited h.deed traced.sound step n a is) [
     | inl before ↦ traced.asked n a before
     | inr now ↦ let same : k ≤ k = omega arith in record { turn = k; before = same; state = s; handled = h; at = i; rules = traced.rules; by = now; last = is }
   ]
@@ -57,7 +57,7 @@ module _ (held : List Held) (r : Rules) where
   traced_kept : IsKept held (IsTraced held r)
   traced_kept = record {
     steps = λ k s h i step traced. record {
-      sound = step_sound s.rules s.slots h.deed step traced.sound;
+      sound = step_sound s.rules s.slots h.limited h.deed step traced.sound;
       rules = traced.rules;
       asked = asked_after k s h i step traced;
     };

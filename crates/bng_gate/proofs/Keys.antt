@@ -13,8 +13,8 @@ use Rattle.bng_engine.specs.Protocol.{HasKey, IsOwned}
 use Rattle.bng_engine.specs.Terms.{Key, keys, key_in}
 use Rattle.bng_engine.proofs.Everywhere.{all_weaker, all_filter, any_all, if_some_weaker}
 use Rattle.bng_engine.proofs.SameLists.{any_same}
-use Rattle.bng_shard.specs.Opening.{in_order}
-use Rattle.bng_shard.specs.Protocol.{terms_after, terms_of_circuits}
+use Rattle.bng_shard.specs.Opening.{in_order, tenures_after}
+use Rattle.bng_shard.specs.Protocol.{term_in, terms_of_circuits}
 use Rattle.bng_shard.specs.Reader.{IsWhole}
 use Rattle.bng_shard.proofs.InOrder.{all_in_order}
 use Rattle.bng_desk.specs.Opening.{shard_of, statics_of}
@@ -40,7 +40,7 @@ record IsThere (config : Config) (c : Static) : Type 0 where
   place : ℕ
   at : slice_get config.statics place ≡ Some c
 
-keys_there : (config : Config) (n : ℕ) (cs : List Static) → AllByRecursion (IsThere config) cs → AllByRecursion (IsKeyOf config) (keys (terms_after n cs))
+keys_there : (config : Config) (n : ℕ) (cs : List Static) → AllByRecursion (IsThere config) cs → AllByRecursion (IsKeyOf config) (keys (map term_in (tenures_after 0 n cs)))
 keys_there config n [] h = tt
 keys_there config n (c ∷ cs) h = (record { place = h.0.place; circuit = c; at = h.0.at; session = refl; on = refl; lease = refl }, keys_there config (n + 1) cs h.1)
 

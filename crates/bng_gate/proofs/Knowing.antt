@@ -76,7 +76,7 @@ module _ (held : List Held) (a : Asking) (count : HasCount held) where
   its_place : (k p : ℕ) (s : ShardState) (n : ℕ) (b : Asking) → IsSure held k p s → last_asking_at s.slots n ≡ Some b → b.number ≡ a.number → IsNumberOf p a.number.session.0
   its_place k p s n b sure is same = subst (λ (m : ℕ). IsNumberOf p m) (same_number k p s n b sure is same) (of_place held k p s n b sure is)
 
-  known_after : (k : ℕ) (s : ShardState) (h : Handled) (i : HandledIn held k s h) → Step s.rules s.slots h.deed → IsKnown held a k i.place s → IsKnown held a k i.place ((pppoe).next s h)
+  known_after : (k : ℕ) (s : ShardState) (h : Handled) (i : HandledIn held k s h) → Step s.rules s.slots h.limited h.deed → IsKnown held a k i.place s → IsKnown held a k i.place ((pppoe).next s h)
   known_after k s h i step known =
       let low = count k s h i in
       let sure = sure_after held k s h i step low known.sure in
@@ -84,7 +84,7 @@ module _ (held : List Held) (a : Asking) (count : HasCount held) where
       record {
         sure = sure;
         passed = λ of. let le = known.passed of in omega (arith, le, on);
-        one = λ n b is same. elim (step_last s.rules s.slots h.deed step low n b is) [
+        one = λ n b is same. elim (step_last s.rules s.slots h.limited h.deed step low n b is) [
           | inl before ↦ known.one n b before same
           | inr new ↦
               let le = known.passed (its_place k i.place ((pppoe).next s h) n b sure is same) in

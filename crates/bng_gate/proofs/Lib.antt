@@ -31,6 +31,8 @@ pub mod Causes
 pub mod Lists
 pub mod Follows
 pub mod Going
+pub mod Living
+pub mod Pooling
 pub mod Openings
 pub mod Keys
 pub mod Stopping

@@ -23,8 +23,8 @@ use Rattle.bng_shard.specs.Opening.{in_order, numbered_after, opened_slots}
 use Rattle.bng_shard.specs.Protocol.{ShardState, opened}
 use Rattle.bng_shard.specs.Questions.{Asking, asked_in, last_asking, last_asking_at, none_handed, open_of, questions_of}
 use Rattle.bng_shard.specs.State.{State}
-use Rattle.bng_shard.proofs.GrantLaws.{opened_sound}
 use Rattle.bng_shard.proofs.InOrder as ordered
+use Rattle.bng_shard.proofs.SoundOpening.{opened_sound}
 use Rattle.bng_shard.proofs.Values.{stands}
 use Rattle.bng_slots.specs.Listed.{values}
 use Rattle.bng_slots.specs.Sessions.{IsNumberOf, value_at}
@@ -89,12 +89,12 @@ none_read : {X Y : Type 0} (f : X → Option Y) (o : Option X) → ((x : X) → 
 none_read f None h = refl
 none_read f (Some x) h = h x refl
 
-module _ (number : ℕ) (cs : List Static) (apart : ordered.Apart cs) where
+module _ (number : ℕ) (cs : List Static) (now : ℕ) (apart : ordered.Apart cs) where
   abbrev slots : State
-  slots = opened_slots number cs
+  slots = opened_slots number cs now
 
   all_none : AllByRecursion HasNone (values slots.sessions)
-  all_none = subst (AllByRecursion HasNone) (sym (ap (λ (es : List (ℕ × Session)). map (λ e. e.1) es) (ordered.opened_entries number cs apart))) (provisioned_none 0 (in_order number cs))
+  all_none = subst (AllByRecursion HasNone) (sym (ap (λ (es : List (ℕ × Session)). map (λ e. e.1) es) (ordered.opened_entries number cs now apart))) (provisioned_none 0 (in_order number cs))
 
   none_at : (n : ℕ) (x : Session) → value_at slots.sessions n ≡ Some x → HasNone x
   none_at n x at = All-contains HasNone (values slots.sessions) x (All-from_recursion HasNone (values slots.sessions) all_none) (stands slots.sessions n x at)
@@ -110,9 +110,9 @@ module _ (number : ℕ) (cs : List Static) (apart : ordered.Apart cs) where
 
 -- All shards -------------------------------------------------------------------------------------------------------------
 
-module _ (config : Config) (kept : KeepsRules config) (r : Rules) where
+module _ (config : Config) (kept : KeepsRules config) (r : Rules) (now : ℕ) where
   abbrev shard_at : ℕ → ShardView ShardState Entry
-  shard_at n = opened n r (statics_of config n)
+  shard_at n = opened n r (statics_of config n) now
 
   fresh : (n : ℕ) → n < config.shards → IsNewShard r n (shard_at n)
   fresh n low =
@@ -122,30 +122,30 @@ module _ (config : Config) (kept : KeepsRules config) (r : Rules) where
         number = refl;
         rules = refl;
         shard = refl;
-        sound = opened_sound n cs apart (omega (arith, low, kept.few_shards)) (All-from_recursion (λ c. IsNumberOf n c.session.0) cs (shard_own config kept n));
+        sound = opened_sound n cs apart now (omega (arith, low, kept.few_shards)) (All-from_recursion (λ c. IsNumberOf n c.session.0) cs (shard_own config kept n));
         unasked = refl;
-        none_last = no_last n cs (shard_apart config kept n);
-        none_accepted = no_accepted n cs (shard_apart config kept n);
-        none_open = no_open n cs (shard_apart config kept n);
+        none_last = no_last n cs now (shard_apart config kept n);
+        none_accepted = no_accepted n cs now (shard_apart config kept n);
+        none_open = no_open n cs now (shard_apart config kept n);
       }
 
-  count_is : length (opened_shards config r) ≡ config.shards
+  count_is : length (opened_shards config r now) ≡ config.shards
   count_is = length-map (range_with_len 0 config.shards) shard_at ∙ length-range_with_len 0 config.shards
 
-  there : (k : ℕ) (v : ShardView ShardState Entry) → k < length (opened_shards config r) → IsNewShard r k (slice_index_or (opened_shards config r) k v)
+  there : (k : ℕ) (v : ShardView ShardState Entry) → k < length (opened_shards config r now) → IsNewShard r k (slice_index_or (opened_shards config r now) k v)
   there k v low =
       let within : k < config.shards = omega (arith, low, count_is) in
-      let is : slice_index_or (opened_shards config r) k v ≡ shard_at k = get_or-map-range_with_len shard_at 0 config.shards k k v within (zero-add k) in
+      let is : slice_index_or (opened_shards config r now) k v ≡ shard_at k = get_or-map-range_with_len shard_at 0 config.shards k k v within (zero-add k) in
       subst (IsNewShard r k) (sym is) (fresh k within)
 
-  standing : (p : ℕ) (v : ShardView ShardState Entry) → slice_get (opened_shards config r) p ≡ Some v → IsNewShard r p v
-  standing p v at = subst (IsNewShard r p) (get_or_from_slice_get (opened_shards config r) p v v at) (there p v (slice_get_within (opened_shards config r) p v at))
+  standing : (p : ℕ) (v : ShardView ShardState Entry) → slice_get (opened_shards config r now) p ≡ Some v → IsNewShard r p v
+  standing p v at = subst (IsNewShard r p) (get_or_from_slice_get (opened_shards config r now) p v v at) (there p v (slice_get_within (opened_shards config r now) p v at))
 
 pub opening_facts : (config : Config) → KeepsRules config → (rounds : ℕ) (seed : List ℕ) (now wall : ℕ) (opening : Desk) → IsOpened config rounds seed now wall opening → OpeningFacts config opening
 opening_facts config kept rounds seed now wall opening is =
     let r = is.rules in
-    let count = count_is config kept r in
-    let at = there config kept r in
+    let count = count_is config kept r now in
+    let at = there config kept r now in
     subst (OpeningFacts config) (sym is.desk) (record {
       count = count;
       shards = count ∙ sym is.are_rules.shards;
@@ -155,7 +155,7 @@ opening_facts config kept rounds seed now wall opening is =
       few_ports = omega (arith, ap (λ ps. length ps) is.are_rules.access, kept.few_ports);
       order = λ k v low. (at k v low).number;
       places = λ k v low. (at k v low).shard;
-      fresh = standing config kept r;
+      fresh = standing config kept r now;
       rules = λ k v low. (at k v low).rules;
       sound = λ k v low. (at k v low).sound;
       unasked = λ k v low. (at k v low).unasked;

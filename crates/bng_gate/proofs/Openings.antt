@@ -1,6 +1,7 @@
 -- A desk that was opened over a configuration: its terms are those of the circuits.
-use Rattle.std.proofs.Common.{◌≡◌, ◌||◌, ℕ, zero, suc, ◌+◌, ◌*◌, Bool, true, false, List, [], ◌∷◌, None, ◌/◌, cond, map, length, refl, sym, ap, subst, ◌∙◌, arith, eqb, zero-add}
+use Rattle.std.proofs.Common.{◌≡◌, ◌||◌, ℕ, zero, suc, ◌+◌, ◌*◌, Bool, true, false, List, [], ◌∷◌, Option, Some, None, is_some, ◌/◌, cond, map, length, refl, sym, ap, ◌∙◌, arith, eqb, zero-add}
 use Rattle.std.specs.Prelude.{filter}
+use Rattle.std.specs.Option.{option_map}
 use Rattle.std.specs.List.{All, AllByRecursion, sum_by, count_by, range_with_len}
 use Rattle.std.proofs.lemmas.Bool.{eqb-true, ne_eqb}
 use Rattle.std.proofs.lemmas.List.Elements.{recursion_from_All}
@@ -24,13 +25,14 @@ use Rattle.bng_engine.specs.Showing.{with_journal}
 use Rattle.bng_engine.specs.Terms.{Key, Term, keys, leases_at}
 use Rattle.bng_engine.specs.Views.{new_row, row_keys}
 use Rattle.bng_engine.proofs.Everywhere.{all_filter}
+use Rattle.bng_pool.specs.Plain.{PlainView}
+use Rattle.bng_pool.specs.Tables.{Table, entry}
 use Rattle.bng_shard.specs.declared.rules.Rules.{Rules}
 use Rattle.bng_slots.specs.Sessions.{IsNumberOf}
-use Rattle.bng_shard.specs.Opening.{in_order, lease_from, opened_slots, provisioned}
-use Rattle.bng_shard.specs.Protocol.{ShardState, Handled, term_of, terms_of, terms_after, terms_of_circuits, profiles_there, pppoe, opened}
+use Rattle.bng_shard.specs.Opening.{in_order, opened_slots, tenure_from, tenures_after}
+use Rattle.bng_shard.specs.Protocol.{ShardState, Handled, key_in, profiles_there, pppoe, opened, term_in, terms_of, terms_of_circuits}
 use Rattle.bng_shard.proofs.InOrder as ordered
-use Rattle.bng_shard.proofs.StepLaws.{opened_live}
-use Rattle.bng_desk.specs.Opening.{shard_of, holder_of, statics_of, opened_shards}
+use Rattle.bng_desk.specs.Opening.{IsOpenedPool, circuit_with, opened_shards, shard_of, statics_of}
 use Rattle.bng_desk.specs.Round.{views_of, view_of, held_by}
 use Rattle.bng_gate.proofs.Lists.{Apart, apart_of, IsWithin, sum_parts}
 
@@ -90,9 +92,13 @@ shard_own config rules n = own_in n config.shards config.statics (recursion_from
 
 -- The opening -----------------------------------------------------------------------------------------------------------
 
-numbered : (n m : ℕ) (cs : List Static) → m ≡ n + length cs → AreNumbered n (keys (terms_after n cs)) m
-numbered n m [] e = omega (arith, e)
-numbered n m (c ∷ cs) e = (refl, numbered (n + 1) m cs (omega (arith, e)))
+-- the terms of these circuits, numbered on after n, that began at this moment
+abbrev pub terms_from : ℕ → ℕ → List Static → List Term
+terms_from now n cs = map term_in (tenures_after now n cs)
+
+numbered : (now n m : ℕ) (cs : List Static) → m ≡ n + length cs → AreNumbered n (keys (terms_from now n cs)) m
+numbered now n m [] e = omega (arith, e)
+numbered now n m (c ∷ cs) e = (refl, numbered now (n + 1) m cs (omega (arith, e)))
 
 keys_of_new : (ks : List Key) → row_keys (map new_row ks) ≡ ks
 keys_of_new [] = refl
@@ -110,16 +116,17 @@ one_empty (suc i) lt = absurd (omega (arith, lt))
 abbrev IsFirst : Static → Type 0
 IsFirst c = c.profile ≡ 0
 
-first_profiles : (n : ℕ) (cs : List Static) → AllByRecursion IsFirst cs → HaveProfiles profiles_there (terms_after n cs)
-first_profiles n [] h = tt
-first_profiles n (c ∷ cs) h = (omega (arith, h.0), first_profiles (n + 1) cs h.1)
+first_profiles : (now n : ℕ) (cs : List Static) → AllByRecursion IsFirst cs → HaveProfiles profiles_there (terms_from now n cs)
+first_profiles now n [] h = tt
+first_profiles now n (c ∷ cs) h = (omega (arith, h.0), first_profiles now (n + 1) cs h.1)
 
 -- no term has ended
 abbrev pub IsLive : Term → Type 0
 IsLive t = t.ended ≡ false
 
-pub all_live : (number : ℕ) (cs : List Static) → AllByRecursion IsLive (terms_of_circuits number cs)
-all_live number cs = opened_live 0 (in_order number cs)
+pub all_live : (now n : ℕ) (cs : List Static) → AllByRecursion IsLive (terms_from now n cs)
+all_live now n [] = tt
+all_live now n (c ∷ cs) = (refl, all_live now (n + 1) cs)
 
 -- as many ones as there are circuits
 ones : (cs : List Static) → sum_by (λ _. 1) cs ≡ length cs
@@ -132,62 +139,60 @@ ones (c ∷ cs) =
 pub as_many : (n : ℕ) (cs : List Static) → AllByRecursion (λ c. IsNumberOf n c.session.0) cs → length cs ≡ length (in_order n cs)
 as_many n cs own = omega (arith, ones cs, ones (in_order n cs), ordered.sum_in_order (λ _. 1) n cs own)
 
-module _ (r : Rules) where
+module _ (r : Rules) (now : ℕ) where
   abbrev fresh : ℕ → List Static → ShardState
-  fresh number cs = record { rules = r; slots = opened_slots number cs }
+  fresh number cs = record { rules = r; slots = opened_slots number cs now }
 
-  new_shard : (number : ℕ) (cs : List Static) → ordered.Apart cs → AllByRecursion (λ c. IsNumberOf number c.session.0) cs → AllByRecursion IsFirst cs → IsNew pppoe (with_journal {E = Handled} (opened number r cs) [])
-  new_shard number cs apart own profiles =
+  new_shard : (number : ℕ) (cs : List Static) → AllByRecursion (λ c. IsNumberOf number c.session.0) cs → AllByRecursion IsFirst cs → IsNew pppoe (with_journal {E = Handled} (opened number r cs now) [])
+  new_shard number cs own profiles =
       let circuits = in_order number cs in
-      let terms : terms_of (fresh number cs) ≡ terms_after 0 circuits = ordered.opened_terms r number cs apart in
       record {
-        live = subst (AllByRecursion IsLive) (sym terms) (all_live number cs);
+        live = all_live now 0 circuits;
         numbered = record {
-          in_order = keys (terms_after 0 circuits);
-          same = λ f. ap (λ ts. sum_by f (keys ts)) terms;
-          numbered = numbered 0 (length cs) circuits (as_many number cs own ∙ sym (zero-add (length circuits)));
+          in_order = keys (terms_from now 0 circuits);
+          same = λ f. refl;
+          numbered = numbered now 0 (length cs) circuits (as_many number cs own ∙ sym (zero-add (length circuits)));
         };
         fit = λ f. ap (sum_by f) (keys_of_new (keys (terms_of (fresh number cs))));
         rows = new_say_nothing (keys (terms_of (fresh number cs)));
-        profiled = subst (HaveProfiles profiles_there) (sym terms) (first_profiles 0 circuits (ordered.all_in_order IsFirst number cs profiles));
+        profiled = first_profiles now 0 circuits (ordered.all_in_order IsFirst number cs profiles);
         profiles = refl;
         books = one_empty;
       }
 
-  new_shards : (config : Config) → KeepsRules config → (ns : List ℕ) → AllByRecursion IsFirst config.statics → AllByRecursion (IsNew pppoe) (views_of (map (λ n. opened n r (statics_of config n)) ns))
+  new_shards : (config : Config) → KeepsRules config → (ns : List ℕ) → AllByRecursion IsFirst config.statics → AllByRecursion (IsNew pppoe) (views_of (map (λ n. opened n r (statics_of config n) now) ns))
   new_shards config rules [] profiles = tt
   new_shards config rules (n ∷ ns) profiles = (
-    new_shard n (statics_of config n) (shard_apart config rules n) (shard_own config rules n) (all_filter IsFirst (λ c. eqb (shard_of c) n) config.statics profiles),
+    new_shard n (statics_of config n) (shard_own config rules n) (all_filter IsFirst (λ c. eqb (shard_of c) n) config.statics profiles),
     new_shards config rules ns profiles,
   )
 
   -- how many terms of a shard have an address
-  leases_are : (a n : ℕ) (cs : List Static) → leases_at a (keys (terms_after n cs)) ≡ count_by (λ c. eqb (address_in c) a) cs
+  leases_are : (a n : ℕ) (cs : List Static) → leases_at a (keys (terms_from now n cs)) ≡ count_by (λ c. eqb (address_in c) a) cs
   leases_are a n [] = refl
   leases_are a n (c ∷ cs) =
       omega (
         arith,
-        sum_by-cons (λ (k : Key). one_if (eqb k.lease.0 a)) (term_of (provisioned c (n + 1)) (lease_from c (n + 1)) None).key (keys (terms_after (n + 1) cs)),
+        sum_by-cons (λ (k : Key). one_if (eqb k.lease.0 a)) (key_in (tenure_from now c (n + 1))) (keys (terms_from now (n + 1) cs)),
         sum_by-cons (λ (x : Static). one_if (eqb (address_in x) a)) c cs,
         leases_are a (n + 1) cs,
       )
 
   -- of a shard that was opened
-  leases_opened : (a n : ℕ) (cs : List Static) → ordered.Apart cs → AllByRecursion (λ c. IsNumberOf n c.session.0) cs → leases_at a (keys (terms_of (fresh n cs))) ≡ count_by (λ c. eqb (address_in c) a) cs
-  leases_opened a n cs apart own =
-      ap (λ ts. leases_at a (keys ts)) (ordered.opened_terms r n cs apart)
-      ∙ leases_are a 0 (in_order n cs)
+  leases_opened : (a n : ℕ) (cs : List Static) → AllByRecursion (λ c. IsNumberOf n c.session.0) cs → leases_at a (keys (terms_of (fresh n cs))) ≡ count_by (λ c. eqb (address_in c) a) cs
+  leases_opened a n cs own =
+      leases_are a 0 (in_order n cs)
       ∙ ordered.sum_in_order (λ (c : Static). one_if (eqb (address_in c) a)) n cs own
 
-  holders_are : (config : Config) → KeepsRules config → (a : ℕ) (ns : List ℕ) → holders pppoe a (map nothing_yet (views_of (map (λ n. opened n r (statics_of config n)) ns))) ≡ sum_by (λ n. count_by (λ c. eqb (address_in c) a) (statics_of config n)) ns
+  holders_are : (config : Config) → KeepsRules config → (a : ℕ) (ns : List ℕ) → holders pppoe a (map nothing_yet (views_of (map (λ n. opened n r (statics_of config n) now) ns))) ≡ sum_by (λ n. count_by (λ c. eqb (address_in c) a) (statics_of config n)) ns
   holders_are config rules a [] = refl
   holders_are config rules a (n ∷ ns) =
-      let rest = views_of (map (λ (m : ℕ). opened m r (statics_of config m)) ns) in
+      let rest = views_of (map (λ (m : ℕ). opened m r (statics_of config m) now) ns) in
       omega (
         arith,
-        sum_by-cons (λ (h : ShardHistory ShardState). leases_at a (keys (terms_of h.state))) (nothing_yet (with_journal {E = Handled} (opened n r (statics_of config n)) [])) (map nothing_yet rest),
+        sum_by-cons (λ (h : ShardHistory ShardState). leases_at a (keys (terms_of h.state))) (nothing_yet (with_journal {E = Handled} (opened n r (statics_of config n) now) [])) (map nothing_yet rest),
         sum_by-cons (λ (m : ℕ). count_by (λ (c : Static). eqb (address_in c) a) (statics_of config m)) n ns,
-        leases_opened a n (statics_of config n) (shard_apart config rules n) (shard_own config rules n),
+        leases_opened a n (statics_of config n) (shard_own config rules n),
         holders_are config rules a ns,
       )
 
@@ -202,19 +207,39 @@ none_at a c (y ∷ ys) e h =
       none_at a c ys e h.1,
     )
 
-held_at : (a : ℕ) (c : Static) (cs : List Static) (b : Bool) → eqb (address_in c) a ≡ b → AllByRecursion (λ y. address_in y ≡ address_in c → ⊥) cs → count_by (λ x. eqb (address_in x) a) cs ≡ one_if (is_held a (held_by (map holder_of cs)))
-    → one_if b + count_by (λ x. eqb (address_in x) a) cs ≡ one_if (b || is_held a (held_by (map holder_of cs)))
+held_at : (a : ℕ) (c : Static) (cs : List Static) (b : Bool) → eqb (address_in c) a ≡ b → AllByRecursion (λ y. address_in y ≡ address_in c → ⊥) cs → count_by (λ x. eqb (address_in x) a) cs ≡ one_if (is_some (circuit_with cs a))
+    → one_if b + count_by (λ x. eqb (address_in x) a) cs ≡ one_if (is_some (cond b (Some c) (circuit_with cs a)))
 held_at a c cs true e h rest = omega (arith, none_at a c cs (eqb-true (address_in c) a e) h)
 held_at a c cs false e h rest = omega (arith, rest)
 
-pub held_once : (a : ℕ) (cs : List Static) → Apart address_in cs → count_by (λ c. eqb (address_in c) a) cs ≡ one_if (is_held a (held_by (map holder_of cs)))
+-- as many circuits have an address as the first that has it
+pub held_once : (a : ℕ) (cs : List Static) → Apart address_in cs → count_by (λ c. eqb (address_in c) a) cs ≡ one_if (is_some (circuit_with cs a))
 held_once a [] h = refl
 held_once a (c ∷ cs) h = sum_by-cons (λ (x : Static). one_if (eqb (address_in x) a)) c cs ∙ held_at a c cs (eqb (address_in c) a) refl h.0 (held_once a cs h.1)
 
+-- an address is held where the table has an entry for it
+one_entry : (b : Bool) (k : ℕ) (o : Option ℕ) (held : Bool) → held ≡ is_some o → (b || held) ≡ is_some (cond b (Some k) o)
+one_entry true k o held e = refl
+one_entry false k o held e = e
+
+held_entry : (a : ℕ) (table : Table) → is_held a (map (λ e. record { 0 = e.0 }) table) ≡ is_some (entry table a)
+held_entry a [] = refl
+held_entry a (e ∷ rest) = one_entry (eqb e.0 a) e.1 (entry rest a) (is_held a (map (λ (d : ℕ × ℕ). record { 0 = d.0 }) rest)) (held_entry a rest)
+
+mapped_some : (o : Option Static) → is_some (option_map shard_of o) ≡ is_some o
+mapped_some None = refl
+mapped_some (Some c) = refl
+
+-- it is held at the opening where a circuit has it
+pool_holds : (config : Config) (pool : PlainView) → IsOpenedPool config pool → (a : ℕ) → is_held a (held_by pool) ≡ is_some (circuit_with config.statics a)
+pool_holds config pool is a = held_entry a pool.table ∙ ap is_some (is.table a) ∙ mapped_some (circuit_with config.statics a)
+
 -- the desk at its opening holds each circuit's term with its address, and nothing else
-pub opens : (r : Rules) (config : Config) → KeepsRules config → All (λ c. c.profile ≡ 0) config.statics → Opens pppoe (view_of (opened_shards config r) (map holder_of config.statics) (empty_book ∷ []))
-opens r config rules profiles = record {
-  new = new_shards r config rules (range_with_len 0 config.shards) (recursion_from_All IsFirst config.statics profiles);
-  holds = λ a. holders_are r config rules a (range_with_len 0 config.shards) ∙ sum_shards config rules (λ (c : Static). one_if (eqb (address_in c) a)) ∙ held_once a config.statics (addresses_apart config rules);
+pub opens : (r : Rules) (config : Config) (now : ℕ) (pool : PlainView) → KeepsRules config → IsOpenedPool config pool → All (λ c. c.profile ≡ 0) config.statics → Opens pppoe (view_of (opened_shards config r now) pool (empty_book ∷ []))
+opens r config now pool rules is profiles = record {
+  new = new_shards r now config rules (range_with_len 0 config.shards) (recursion_from_All IsFirst config.statics profiles);
+  holds = λ a.
+      holders_are r now config rules a (range_with_len 0 config.shards) ∙ sum_shards config rules (λ (c : Static). one_if (eqb (address_in c) a)) ∙ held_once a config.statics (addresses_apart config rules)
+      ∙ sym (ap one_if (pool_holds config pool is a));
   tallies = one_empty;
 }

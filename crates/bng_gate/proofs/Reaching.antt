@@ -125,7 +125,7 @@ begun t round p w made opened there =
 module _ (held : List Held) (P : ℕ → ℕ → ShardState → Type 0) where
   -- by the number of a turn and the place of a shard
   pub record IsKept : Type 0 where
-    pub steps : (k : ℕ) (s : ShardState) (h : Handled) (i : HandledIn held k s h) → Step s.rules s.slots h.deed → P k i.place s → P k i.place ((pppoe).next s h)
+    pub steps : (k : ℕ) (s : ShardState) (h : Handled) (i : HandledIn held k s h) → Step s.rules s.slots h.limited h.deed → P k i.place s → P k i.place ((pppoe).next s h)
     pub settles : (k p : ℕ) (s : ShardState) → P k p s → P (suc k) p ((pppoe).settled s)
     pub rests : (k p : ℕ) (s : ShardState) → P k p s → P (suc k) p s
 
@@ -167,7 +167,7 @@ module _ (held : List Held) (P : ℕ → ℕ → ShardState → Type 0) where
         (ap (λ (x : ShardState). (pppoe).next x e) is ∙ sym (after_push before done e))
         (journal ∙ push_next done e (es ++ rest))
         steps.1
-        (keeps.steps k s e (here s done e (es ++ rest) is journal) steps.0 h)
+        (keeps.steps k s e (here s done e (es ++ rest) is journal) steps.0.step h)
 
   module _ (keeps : IsKept) (opening last : Desk) (run : HeldRun opening held last) where
     by_round : (k : ℕ) (t : Held) → slice_get held k ≡ Some t → IsMade t → (round : Option Round) → t.round ≡ round
@@ -204,7 +204,7 @@ module _ (held : List Held) (P : ℕ → ℕ → ShardState → Type 0) where
     from_then j k le h = let e : (k - j) + j ≡ k = omega (arith, le) in subst HoldsAt e (later j (k - j) h)
 
     -- before each entry, which is a step
-    pub reached : (j k : ℕ) → j ≤ k → HoldsAt j → (s : ShardState) (h : Handled) (i : HandledIn held k s h) → P k i.place s × Step s.rules s.slots h.deed
+    pub reached : (j k : ℕ) → j ≤ k → HoldsAt j → (s : ShardState) (h : Handled) (i : HandledIn held k s h) → P k i.place s × Step s.rules s.slots h.limited h.deed
     reached j k le from s h i =
         let w = mapped (λ (v : ShardView ShardState Handled). v.journal) (slice_get i.round.shards i.place) (i.earlier ++ h ∷ i.later) i.journal in
         let b = begun i.turn i.round i.place w.0 (turn_made opening last held k i.turn run i.at) i.opened w.1 in
@@ -213,7 +213,7 @@ module _ (held : List Held) (P : ℕ → ℕ → ShardState → Type 0) where
         let there : P k i.place i.before = subst (P k i.place) start (from_then j k le from i.turn i.at i.place b.view b.at) in
         let went = walk keeps k i.turn i.at i.round i.opened i.place i.before i.was w.0 w.1 i.before [] i.earlier (h ∷ i.later) refl w.2 steps there in (
           subst (P k i.place) (sym i.state) went.0,
-          subst (λ (x : ShardState). Step x.rules x.slots h.deed) (sym i.state) went.1.0,
+          subst (λ (x : ShardState). Step x.rules x.slots h.limited h.deed) (sym i.state) went.1.0.step,
         )
 
     -- and so of what holds before the first turn

@@ -1,8 +1,9 @@
 -- Each term of a circuit is live until it has its Stop, and what is sent is theirs.
-use Rattle.std.proofs.Common.{◌≡◌, ℕ, ◌+◌, Bool, true, false, not, cond, List, [], ◌∷◌, ◌++◌, map, filter, IfSome, eqb, refl, sym, ap, subst, ◌∙◌, arith}
+use Rattle.std.proofs.Common.{◌≡◌, inl, inr, ℕ, ◌+◌, Bool, true, false, not, cond, List, [], ◌∷◌, ◌++◌, map, filter, IfSome, eqb, refl, sym, ap, subst, ◌∙◌, arith}
 use Rattle.std.specs.List.{AllByRecursion, AllZip, sum_by, count_by}
 use Rattle.std.proofs.lemmas.Bool.{eqb-true, eq-eqb, false≢true, true≢false}
 use Rattle.std.proofs.lemmas.List.Filters.{sum_by-filter_both}
+use Rattle.std.proofs.lemmas.List.Kept.{AllPairs-filter}
 use Rattle.std.proofs.lemmas.List.Sums.{sum_by-cons, sum_by-append}
 use Rattle.bng_base.specs.declared.item.OutRecord.{OutRecord}
 use Rattle.bng_config.specs.declared.config.Config.{Config}
@@ -20,36 +21,68 @@ use Rattle.bng_engine.proofs.Journals.{run_outs, run_owned}
 use Rattle.bng_engine.proofs.Rounds.{in_shards}
 use Rattle.bng_shard.specs.declared.rules.Rules.{Rules}
 use Rattle.bng_shard.specs.Link.{nas_request}
-use Rattle.bng_shard.specs.Protocol.{ShardState, Handled, opened, pppoe, terms_of}
+use Rattle.bng_shard.specs.Opening.{in_order}
+use Rattle.bng_shard.specs.Protocol.{HasNoLogins, ShardState, StaysOrEnds, Handled, opened, pppoe, terms_of}
 use Rattle.bng_shard.specs.Reader.{IsWhole}
 use Rattle.bng_shard.proofs.InOrder.{opened_terms}
-use Rattle.bng_shard.proofs.StepLaws.{EndsByStop, pppoe_laws, step_causes, step_keys, step_whole}
-use Rattle.bng_desk.specs.Opening.{statics_of}
+use Rattle.bng_shard.proofs.Poolless.{logins_kept, logins_opened, logins_settled, terms_end, terms_stay}
+use Rattle.bng_shard.proofs.StepLaws.{pppoe_laws, step_whole}
+use Rattle.bng_desk.specs.Opening.{shard_of, statics_of}
 use Rattle.bng_desk.specs.Round.{views_of}
 use Rattle.bng_gate.specs.Headline.{HaveTerms}
 use Rattle.bng_gate.proofs.Keys.{IsOurs, keys_at, owned_known, all_ours, same_known}
+use Rattle.bng_gate.proofs.Living.{HaveCircuits, opened_have, settled_have, step_have}
 use Rattle.bng_gate.proofs.Openings.{IsLive, all_live, shard_apart}
+
+-- Where there are no pools, no session that discovery made has a term, and each live term is that of a circuit that stands.
+pub record IsPoolless (s : ShardState) : Type 0 where
+  pub pools : s.rules.pools ≡ []
+  pub logins : HasNoLogins s.slots
+  pub circuits : HaveCircuits s.slots
 
 -- each of these terms has its Stop, or it is live, and those that are there are live
 pub record IsRight (h : ShardHistory ShardState) (ks : List Key) : Type 0 where
   pub terms : HaveTerms h ks
   pub live : AllByRecursion IsLive (terms_of h.state)
+  pub poolless : IsPoolless h.state
 
 -- a Stop says that the gateway stopped, and is of a key of which this holds
 pub record IsOurStop (Q : Key → Type 0) (s : Stop) : Type 0 where
   pub cause : s.cause ≡ nas_request
   pub known : Q s.key
 
-pub opened_right : (r : Rules) (config : Config) → KeepsRules config → (ns : List ℕ) → AllZip IsRight (map nothing_yet (views_of (map (λ n. opened n r (statics_of config n)) ns))) (map (keys_at config) ns)
-opened_right r config rules [] = tt
-opened_right r config rules (n ∷ ns) =
-    let terms = opened_terms r n (statics_of config n) (shard_apart config rules n) in (
+pub opened_right : (r : Rules) → r.pools ≡ [] → (now : ℕ) (config : Config) → KeepsRules config → (ns : List ℕ) → AllZip IsRight (map nothing_yet (views_of (map (λ n. opened n r (statics_of config n) now) ns))) (map (keys_at config) ns)
+opened_right r pools now config rules [] = tt
+opened_right r pools now config rules (n ∷ ns) =
+    let circuits = statics_of config n in
+    let apart = shard_apart config rules n in (
       record {
-        terms = λ f. ap (λ (ts : List Term). sum_by f (keys ts)) terms;
-        live = subst (AllByRecursion IsLive) (sym terms) (all_live n (statics_of config n));
+        terms = λ f. ap (λ (ts : List Term). sum_by f (keys ts)) (opened_terms r n circuits now);
+        live = all_live now 0 (in_order n circuits);
+        poolless = record { pools = pools; logins = logins_opened n circuits now (AllPairs-filter (λ a b. a.session ≡ b.session → ⊥) (λ c. eqb (shard_of c) n) config.statics rules.sessions); circuits = opened_have n circuits now apart };
       },
-      opened_right r config rules ns,
+      opened_right r pools now config rules ns,
     )
+
+-- Without pools --------------------------------------------------------------------------------------------------------
+
+step_poolless : (s : ShardState) (e : Handled) → pppoe.is_step s e → IsPoolless s → IsPoolless (pppoe.next s e)
+step_poolless s e is h = record {
+  pools = h.pools;
+  logins = logins_kept s.rules s.slots e.limited e.deed is.step h.pools h.logins;
+  circuits = step_have s.rules s.slots e.limited e.deed is.step (terms_stay s.rules s.slots e.limited e.deed is.step h.pools h.logins) h.circuits;
+}
+
+run_poolless : (s : ShardState) (es : List Handled) → AreSteps pppoe s es → IsPoolless s → IsPoolless (after pppoe s es)
+run_poolless s [] is h = h
+run_poolless s (e ∷ es) is h = run_poolless (pppoe.next s e) es is.1 (step_poolless s e is.0 h)
+
+settled_poolless : (s : ShardState) → IsPoolless s → IsPoolless (pppoe.settled s)
+settled_poolless s h = record { pools = h.pools; logins = logins_settled s.slots h.logins; circuits = settled_have s.slots h.circuits }
+
+-- each term is as it was, or has ended
+one_stays : (s : ShardState) (e : Handled) → pppoe.is_step s e → IsPoolless s → AllZip StaysOrEnds (terms_of s) (terms_of (pppoe.next s e))
+one_stays s e is h = terms_end s.rules s.slots e.limited e.deed is.step h.pools h.logins
 
 -- Parts of lists -------------------------------------------------------------------------------------------------------
 
@@ -83,9 +116,23 @@ live_count (t ∷ ts) = live_where t.ended t (filter is_live ts) refl (live_coun
 
 -- Causes ---------------------------------------------------------------------------------------------------------------
 
-run_caused : (s : ShardState) (es : List Handled) → AreSteps pppoe s es → AllByRecursion EndsByStop (terms_of s) → AllByRecursion EndsByStop (terms_of (after pppoe s es))
-run_caused s [] is h = h
-run_caused s (e ∷ es) is h = run_caused (pppoe.next s e) es is.1 (step_causes s.rules s.slots e.deed is.0 h)
+-- the cause of a term that has ended is the gateway's own stop
+abbrev EndsByStop : Term → Type 0
+EndsByStop t = t.ended ≡ true → t.cause ≡ nas_request
+
+by_stop : (t u : Term) → StaysOrEnds t u → EndsByStop t → EndsByStop u
+by_stop t u (inl e) h = subst EndsByStop (sym e) h
+by_stop t u (inr (live, e)) h = λ over. ap (λ (w : Term). w.cause) e
+
+all_by_stop : (ts us : List Term) → AllZip StaysOrEnds ts us → AllByRecursion EndsByStop ts → AllByRecursion EndsByStop us
+all_by_stop [] [] h all = tt
+all_by_stop [] (u ∷ us) h all = absurd h
+all_by_stop (t ∷ ts) [] h all = absurd h
+all_by_stop (t ∷ ts) (u ∷ us) h all = (by_stop t u h.0 all.0, all_by_stop ts us h.1 all.1)
+
+run_caused : (s : ShardState) (es : List Handled) → AreSteps pppoe s es → IsPoolless s → AllByRecursion EndsByStop (terms_of s) → AllByRecursion EndsByStop (terms_of (after pppoe s es))
+run_caused s [] is plain h = h
+run_caused s (e ∷ es) is plain h = run_caused (pppoe.next s e) es is.1 (step_poolless s e is.0 plain) (all_by_stop (terms_of s) (terms_of (pppoe.next s e)) (one_stays s e is.0 plain) h)
 
 abbrev other_cause : ℕ → ℕ
 other_cause c = one_if (not (eqb c nas_request))
@@ -112,17 +159,27 @@ our_stops Q (s ∷ ss) h i = (record { cause = not_other s.cause (eqb s.cause na
 
 -- One shard ------------------------------------------------------------------------------------------------------------
 
+same_key : (t u : Term) → StaysOrEnds t u → u.key ≡ t.key
+same_key t u (inl e) = ap (λ (w : Term). w.key) e
+same_key t u (inr (live, e)) = ap (λ (w : Term). w.key) e
+
+same_keys : (ts us : List Term) → AllZip StaysOrEnds ts us → keys us ≡ keys ts
+same_keys [] [] h = refl
+same_keys [] (u ∷ us) h = absurd h
+same_keys (t ∷ ts) [] h = absurd h
+same_keys (t ∷ ts) (u ∷ us) h = ap (λ (k : Key). k ∷ keys us) (same_key t u h.0) ∙ ap (λ (ks : List Key). t.key ∷ ks) (same_keys ts us h.1)
+
 -- a journal keeps the keys
-run_keys : (s : ShardState) (es : List Handled) → AreSteps pppoe s es → keys (terms_of (after pppoe s es)) ≡ keys (terms_of s)
-run_keys s [] h = refl
-run_keys s (e ∷ es) h = run_keys (pppoe.next s e) es h.1 ∙ step_keys s.rules s.slots e.deed h.0
+run_keys : (s : ShardState) (es : List Handled) → AreSteps pppoe s es → IsPoolless s → keys (terms_of (after pppoe s es)) ≡ keys (terms_of s)
+run_keys s [] is plain = refl
+run_keys s (e ∷ es) is plain = run_keys (pppoe.next s e) es is.1 (step_poolless s e is.0 plain) ∙ same_keys (terms_of s) (terms_of (pppoe.next s e)) (one_stays s e is.0 plain)
 
 module _ (h : ShardHistory ShardState) (t : ShardTurn Handled) (h' : ShardHistory ShardState) (n : NextInShard pppoe h t h') (ks : List Key) (right : IsRight h ks) where
   abbrev mid : List Term
   mid = terms_of n.mid
 
   mid_keys : keys mid ≡ keys (terms_of h.state)
-  mid_keys = ap (λ (s : ShardState). keys (terms_of s)) n.round.state ∙ run_keys h.state t.round.journal n.round.steps
+  mid_keys = ap (λ (s : ShardState). keys (terms_of s)) n.round.state ∙ run_keys h.state t.round.journal n.round.steps right.poolless
 
   terms_next : HaveTerms h' ks
   terms_next f =
@@ -150,12 +207,16 @@ module _ (h : ShardHistory ShardState) (t : ShardTurn Handled) (h' : ShardHistor
       (ap (λ (s : ShardState). count_by is_ended (terms_of s)) n.settlement.state ∙ pppoe_laws.settles n.mid (λ (x : Term). one_if x.ended) ∙ live_count mid)
 
   right_next : IsRight h' ks
-  right_next = record { terms = terms_next; live = live_next }
+  right_next = record {
+    terms = terms_next;
+    live = live_next;
+    poolless = subst IsPoolless (sym n.settlement.state) (settled_poolless n.mid (subst IsPoolless (sym n.round.state) (run_poolless h.state t.round.journal n.round.steps right.poolless)));
+  }
 
   mid_caused : AllByRecursion EndsByStop mid
   mid_caused =
       subst (λ (s : ShardState). AllByRecursion EndsByStop (terms_of s)) (sym n.round.state)
-      (run_caused h.state t.round.journal n.round.steps (all_weaker IsLive EndsByStop (λ x live over. absurd (false≢true (sym live ∙ over))) (terms_of h.state) right.live))
+      (run_caused h.state t.round.journal n.round.steps right.poolless (all_weaker IsLive EndsByStop (λ x live over. absurd (false≢true (sym live ∙ over))) (terms_of h.state) right.live))
 
   module _ (Q : Key → Type 0) (all : AllByRecursion Q ks) where
     stops_ours : AllByRecursion (IsOurStop Q) t.settlement.stops
@@ -170,9 +231,9 @@ module _ (h : ShardHistory ShardState) (t : ShardTurn Handled) (h' : ShardHistor
     sends_ours =
         let last = keys (terms_of (after pppoe h.state t.round.journal)) in
         let there : AllByRecursion Q (keys (terms_of h.state)) = all_right Q (stopped_keys h.stops) (keys (terms_of h.state)) (same_known Q (stopped_keys h.stops ++ keys (terms_of h.state)) ks right.terms all) in
-        let known : AllByRecursion Q last = subst (AllByRecursion Q) (sym (run_keys h.state t.round.journal n.round.steps)) there in
+        let known : AllByRecursion Q last = subst (AllByRecursion Q) (sym (run_keys h.state t.round.journal n.round.steps right.poolless)) there in
         let outs = outs_of pppoe h.state t.round.journal in
-        let whole : AllByRecursion IsWhole outs = run_outs pppoe IsWhole (λ s e is. step_whole s.rules s.slots e.deed is) h.state t.round.journal n.round.steps in
+        let whole : AllByRecursion IsWhole outs = run_outs pppoe IsWhole (λ s e is. step_whole s.rules s.slots e.limited e.deed is.step) h.state t.round.journal n.round.steps in
         let owned : AllByRecursion (IsOwned last) outs = run_owned pppoe pppoe_laws h.state t.round.journal n.round.steps in
         let ours : AllByRecursion (IsOurs Q) outs = all_ours Q outs whole (all_weaker (IsOwned last) (λ o. IfSome o.charge (λ c. Q (key_in c))) (λ o is. owned_known Q last o known is) outs owned) in
         let before : AllByRecursion (IsOurs Q) (map unsent t.settlement.sends) = subst (AllByRecursion (IsOurs Q)) (sym n.settlement.outs) ours in

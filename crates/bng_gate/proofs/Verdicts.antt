@@ -78,7 +78,7 @@ module _ (turns : List Made) where
       → Caused k h.deed.entry.item
   handled_caused k d moment items None r opened is all place earlier later h journal = absurd cc
   handled_caused k d moment items (Some round) r opened is all place earlier later h journal =
-      entry_holds (Caused k) d.rules d.shards d.holders d.tallies moment items r (subst (λ (o : Option Round). RoundOf d moment items o) opened is) all place earlier later h journal
+      entry_holds (Caused k) d.rules d.shards d.pool d.tallies moment items r (subst (λ (o : Option Round). RoundOf d moment items o) opened is) all place earlier later h journal
 
   yes_item : (k : ℕ) (h : Handled) → Caused k h.deed.entry.item → (session ask : ℕ) → GivesYes h.deed.entry session ask → WasTaken turns k (question_no session ask) h.deed.entry.item.frame.payload
   yes_item k h caused session ask tells = caused session ask (record { kind = tells.kind; target = tells.target; number = tells.number; verdict = tells.verdict; says = tells.says; yes = tells.yes })

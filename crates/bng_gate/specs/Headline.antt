@@ -138,7 +138,7 @@ pub record IsSafe (config : Config) (seed : List ℕ) (old new : World) (course 
   pub terms : AllZip HaveTerms history.shards (keys_of_circuits config)
   pub causes : All (λ s. s.cause ≡ nas_request) (stops_of (rounds_of course.turns course.endings))
   pub conserved : ConservedAt pppoe history.shards
-  pub balanced : Balanced (view_of course.last.shards course.last.holders course.last.tallies) history
+  pub balanced : Balanced (view_of course.last.shards course.last.pool course.last.tallies) history
   -- Each datagram to the core was a packet from the address of a circuit, and each packet on an access port was on a circuit, to its
   -- address.
   pub addressed : All (IsAddressed config) sent

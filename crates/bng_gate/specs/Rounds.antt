@@ -47,7 +47,7 @@ rounds_of turns endings = flat_map turns_of (rounds_in turns endings)
 
 -- the shards of a desk, in which nothing has happened yet
 abbrev pub history_of : Desk → History ShardState
-history_of d = opening (view_of d.shards d.holders d.tallies)
+history_of d = opening (view_of d.shards d.pool d.tallies)
 
 -- what the turns add to what the plant tells, one after another
 abbrev pub plant_of : List Made → List MadeEnd → PlantStretch

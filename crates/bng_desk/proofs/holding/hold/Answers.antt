@@ -1,9 +1,10 @@
-use Rattle.std.proofs.Common.{◌≤◌, ◌+◌, ◌^◌, List, Vec, Global, length, ap, sym, subst, arith}
+use Rattle.std.proofs.Common.{◌≤◌, ◌+◌, ◌^◌, List, Vec, Global, length, ap, sym, subst, ◌∙◌, arith}
 use Rattle.std.proofs.lemmas.List.Sums.{count_by-le-length, length-filter}
 use Rattle.bng_base.specs.declared.item.Item.{Item}
 use Rattle.bng_engine.specs.Calls.{Kept}
 use Rattle.bng_engine.specs.Quantities.{Octets, in_book}
 use Rattle.bng_engine.specs.Terms.{Key}
+use Rattle.bng_shard.specs.Protocol.{ShardState}
 use Rattle.bng_desk.specs.Accounting.{AreBilled}
 use Rattle.bng_desk.specs.Counting.{Within}
 use Rattle.bng_desk.specs.Items.{is_from_outside}
@@ -11,7 +12,8 @@ use Rattle.bng_desk.specs.Kept.{octets_most, drops_most}
 use Rattle.bng_desk.specs.Round.{refused_of}
 use Rattle.bng_desk.proofs.Joining.{sessions_kept, low_kept, low_wider, books_kept, books_wider}
 use Rattle.bng_desk.proofs.OneMore.{low_more}
-use Rattle.bng_desk.proofs.Readying.{order_kept}
+use Rattle.bng_desk.proofs.Readying.{OwesNone, WorksBy, all_onward, order_kept}
+use Rattle.bng_desk.proofs.Returning.{held_kept}
 use Rattle.bng_desk.proofs.SameTerms.{kept_keys}
 use Rattle.bng_desk.proofs.Tallied.{lines_kept}
 use Rattle.bng_desk.proofs.holding.hold.Goals as goal
@@ -30,6 +32,18 @@ opened-requires-clause-lines g c = lines_kept (λ input. in_book Octets input c.
 
 pub opened-requires-clause-billed : goal.opened-requires-clause-billed
 opened-requires-clause-billed g c = subst (λ (ks : List Key). AreBilled ks c.args.accounts.now.billing) (sym (kept_keys c.args.shards.now c.prepare_all.new.shards c.prepare_all.ensures.kept)) c.requires.billed
+
+pub opened-requires-clause-one_rule : goal.opened-requires-clause-one_rule
+opened-requires-clause-one_rule g c = all_onward Kept (WorksBy c.args.rules.now) (λ x y k here. ap (λ (s : ShardState). s.rules) k.state ∙ here) c.args.shards.now c.prepare_all.new.shards c.prepare_all.ensures.kept c.requires.one_rule
+
+pub opened-requires-clause-no_news : goal.opened-requires-clause-no_news
+opened-requires-clause-no_news g c = all_onward Kept OwesNone (λ x y k here. ap (λ (s : ShardState). s.slots.news) k.state ∙ here) c.args.shards.now c.prepare_all.new.shards c.prepare_all.ensures.kept c.requires.no_news
+
+pub opened-requires-clause-held : goal.opened-requires-clause-held
+opened-requires-clause-held g c = held_kept c.args.pool.now.table c.args.shards.now c.prepare_all.new.shards c.prepare_all.ensures.kept c.requires.held
+
+pub returns-clause-held : goal.returns-clause-held
+returns-clause-held g c = held_kept c.args.pool.now.table c.args.shards.now c.prepare_all.new.shards c.prepare_all.ensures.kept c.requires.held
 
 pub returns-clause-billed : goal.returns-clause-billed
 returns-clause-billed g c = subst (λ (ks : List Key). AreBilled ks c.args.accounts.now.billing) (sym (kept_keys c.args.shards.now c.prepare_all.new.shards c.prepare_all.ensures.kept)) c.requires.billed

@@ -1,18 +1,23 @@
-use Rattle.std.proofs.Common.{◌+◌, ◌*◌, ◌^◌, length, sum_by, arith, ◌∙◌}
+use Rattle.std.proofs.Common.{◌≡◌, ◌+◌, ◌*◌, ◌^◌, [], length, sum_by, sym, ap, subst, arith, ◌∙◌}
+use Rattle.std.specs.List.{All}
 use Rattle.bng_base.specs.declared.item.Entry.{Entry}
 use Rattle.std.proofs.lemmas.List.Elements.{recursion_from_All}
 use Rattle.bng_engine.specs.Quantities.{Octets, in_book}
 use Rattle.bng_engine.specs.Views.{ShardView}
+use Rattle.bng_pool.specs.Plain.{PlainView}
+use Rattle.bng_shard.specs.declared.rules.Rules.{Rules}
 use Rattle.bng_shard.specs.Protocol.{ShardState}
 use Rattle.bng_desk.specs.Kept.{octets_most, drops_most}
 use Rattle.bng_desk.specs.Model.{keys_in}
-use Rattle.bng_desk.specs.Taking.{AreTallied, HasRows}
+use Rattle.bng_desk.specs.Taking.{AllTurn, AreTallied, HasRows, ReapsAll}
 use Rattle.bng_desk.proofs.DropLaws.{within_wider}
 use Rattle.bng_desk.proofs.Joining.{all_turn, all_turning, dealt_covered, round_held, told_as, books_wider}
-use Rattle.bng_desk.proofs.OneMore.{dealt_rows, dealt_books, dealt_count, low_more}
+use Rattle.bng_desk.proofs.OneMore.{dealt_news, dealt_rules, dealt_rows, dealt_books, dealt_count, low_more}
+use Rattle.bng_desk.proofs.Readying.{WorksBy}
+use Rattle.bng_desk.proofs.Returning.{HoldsOwn}
 use Rattle.bng_desk.proofs.Reaping.{all_empty as reaped_empty, all_few as reaped_few, all_low as reaped_low, all_books as reaped_books, in_order as reaped_order}
 use Rattle.bng_desk.proofs.SameTerms.{billed_same, sent_keys}
-use Rattle.bng_desk.proofs.Settling.{all_empty as sent_empty, all_low as sent_low, all_books as sent_books, in_order as sent_order}
+use Rattle.bng_desk.proofs.Settling.{all_empty as sent_empty, all_held as sent_held, all_state as sent_state, all_low as sent_low, all_books as sent_books, in_order as sent_order}
 use Rattle.bng_desk.proofs.Tallied.{lines_far, sent_tallied}
 use Rattle.bng_desk.proofs.holding.opened.Given.{Over}
 use Rattle.bng_desk.proofs.holding.opened.Goals as goal
@@ -69,8 +74,45 @@ reap_all-requires-clause-billed g c =
     billed_same (keys_in c.args.shards.now) (keys_in c.send_all.new.shards) c.args.accounts.now.billing
     (sent_keys c.args.shards.now c.deal_all.new.shards deals.seen c.send_all.new.shards sent.sends
     (all_turning c.args.rules.now c.args.pool.now c.args.named.moment c.args.lists.items.items c.args.shards.now c.deal_all.new.shards c.deal_all.new.loose.items c.args.drops.now c.deal_all.new.drops c.args.tally.now c.deal_all.new.tally deals) sent.each
+    (recursion_from_All (λ (v : ShardView ShardState Entry). v.state.rules.pools ≡ []) c.args.shards.now (λ k d lt. ap (λ (r : Rules). r.pools) (c.requires.one_rule k d lt) ∙ c.requires.no_pools))
     (recursion_from_All HasRows c.args.shards.now c.requires.rows))
     c.requires.billed
+
+-- what the shards are when they are reaped
+module _ (g : Over) (c : After-send_all g) where
+  turning : AllTurn c.deal_all.new.shards
+  turning = all_turn c.args.rules.now c.args.pool.now c.args.named.moment c.args.lists.items.items c.args.shards.now c.deal_all.new.shards c.deal_all.new.loose.items c.args.drops.now c.deal_all.new.drops c.args.tally.now c.deal_all.new.tally c.deal_all.ensures.deals
+
+  rules_sent : All (WorksBy c.args.rules.now) c.send_all.new.shards
+  rules_sent =
+      let sent = c.send_all.ensures.sends in
+      sent_state c.deal_all.new.shards c.send_all.new.shards sent.sends sent.each (λ s. s.rules ≡ c.args.rules.now) turning (dealt_rules c.args.rules.now c.args.pool.now c.args.named.moment c.args.lists.items.items c.args.shards.now c.deal_all.new.shards c.deal_all.new.loose.items c.args.drops.now c.deal_all.new.drops c.args.tally.now c.deal_all.new.tally c.deal_all.ensures.deals c.args.rules.now c.requires.one_rule)
+
+pub reap_all-requires-clause-numbers : goal.reap_all-requires-clause-numbers
+reap_all-requires-clause-numbers g c =
+    let sent = c.send_all.ensures.sends in sent_order c.deal_all.new.shards c.send_all.new.shards sent.sends sent.each c.deal_all.ensures.numbers
+
+pub reap_all-requires-clause-held : goal.reap_all-requires-clause-held
+reap_all-requires-clause-held g c =
+    let b = (goal.at.reap_all-requires-clause-held g c).After-send_all in
+    let sent = c.send_all.ensures.sends in
+    subst (λ (p : PlainView). All (HoldsOwn p.table) c.send_all.new.shards) (sym c.deal_all.ensures.pool)
+    (sent_held c.deal_all.new.shards c.send_all.new.shards sent.sends sent.each c.args.pool.now.table (turning g b) c.deal_all.ensures.held)
+
+pub reap_all-requires-clause-no_pools : goal.reap_all-requires-clause-no_pools
+reap_all-requires-clause-no_pools g c k d lt =
+    let b = (goal.at.reap_all-requires-clause-no_pools g c).After-send_all in
+    ap (λ (r : Rules). r.pools) (rules_sent g b k d lt) ∙ c.requires.no_pools
+
+pub reap_all-requires-clause-no_news : goal.reap_all-requires-clause-no_news
+reap_all-requires-clause-no_news g c =
+    let b = (goal.at.reap_all-requires-clause-no_news g c).After-send_all in
+    let sent = c.send_all.ensures.sends in
+    sent_state c.deal_all.new.shards c.send_all.new.shards sent.sends sent.each (λ s. s.slots.news ≡ []) (turning g b)
+    (dealt_news c.args.rules.now c.args.pool.now c.args.named.moment c.args.lists.items.items c.args.shards.now c.deal_all.new.shards c.deal_all.new.loose.items c.args.drops.now c.deal_all.new.drops c.args.tally.now c.deal_all.new.tally c.deal_all.ensures.deals c.requires.no_pools c.requires.one_rule c.requires.no_news)
+
+pub returns-clause-places : goal.returns-clause-places
+returns-clause-places g c = c.reap_all.ensures.reaps.returned.shards ∙ ap (λ (p : PlainView). p.shards) c.deal_all.ensures.pool
 
 pub returns-clause-round : goal.returns-clause-round
 returns-clause-round g c =
@@ -79,7 +121,8 @@ returns-clause-round g c =
     let items = c.args.lists.items.items in
     round_held r c.args.pool.now c.reap_all.new.pool c.args.accounts.now c.reap_all.new.accounts c.args.named items (told c.args.plant.now) (told c.send_all.new.plant) c.args.shards.now c.deal_all.new.shards c.send_all.new.shards c.reap_all.new.shards
     c.deal_all.new.loose.items c.send_all.new.outs.items c.send_all.new.journals.items c.args.drops.now c.deal_all.new.drops c.send_all.new.drops c.args.tally.now c.deal_all.new.tally c.send_all.new.tally c.recorded.result
-    c.deal_all.ensures.deals c.send_all.ensures.sends c.reap_all.ensures.reaps
+    c.deal_all.ensures.deals c.send_all.ensures.sends
+    (subst (λ (p : PlainView). ReapsAll c.args.named.moment c.args.named.wall c.send_all.new.shards c.reap_all.new.shards p c.reap_all.new.pool c.args.accounts.now c.reap_all.new.accounts) c.deal_all.ensures.pool c.reap_all.ensures.reaps)
     (c.recorded.ensures
     ∙ told_as c.args.named (length c.args.shards.now) c.args.lists.allowances.items c.send_all.new.journals.items c.deal_all.new.loose.items c.send_all.new.outs.items c.args.lists.refused.items c.requires.allowances c.requires.refused)
 

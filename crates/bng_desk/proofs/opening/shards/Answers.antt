@@ -47,7 +47,7 @@ pub push_reserved-requires : goal.push_reserved-requires
 push_reserved-requires c =
     let was = c.loop-circuits.invariant in
     let next = list_next (λ x. x.items) (of_shard c.args.circuits.items) c.loop-circuits.yielded c.next.new.self.rest.items c.loop-circuits.circuits-iterator.rest.items c.in-Some.circuits c.args.rules.now.shards c.loop-circuits.number was.left c.in-Some.ensures.steps.0 was.number in
-    let open_shard = λ (n : ℕ). opened n c.args.rules.now (of_shard c.args.circuits.items n) in
+    let open_shard = λ (n : ℕ). opened n c.args.rules.now (of_shard c.args.circuits.items n) c.args.now in
     omega (arith, next.0, was.room, ap (λ (vs : List (ShardView ShardState Entry)). length vs) was.opens, length-map-range_with_len open_shard 0 c.loop-circuits.number)
 
 pub loop-circuits-preserved : goal.loop-circuits-preserved
@@ -57,12 +57,12 @@ loop-circuits-preserved c =
     let left = c.next.new.self.rest.items in
     let n = c.loop-circuits.number in
     let next = list_next (λ x. x.items) (of_shard c.args.circuits.items) done left c.loop-circuits.circuits-iterator.rest.items c.in-Some.circuits c.args.rules.now.shards n was.left c.in-Some.ensures.steps.0 was.number in
-    let open_shard = λ (n : ℕ). opened n c.args.rules.now (of_shard c.args.circuits.items n) in
+    let open_shard = λ (n : ℕ). opened n c.args.rules.now (of_shard c.args.circuits.items n) c.args.now in
     record {
       left = ap (map (λ x. x.items)) (append_assoc done (c.in-Some.circuits ∷ []) left ∙ sym (ap (λ xs. done ++ xs) c.in-Some.ensures.steps.0)) ∙ was.left;
       opens = c.push_reserved.ensures.items
           ∙ ap (λ (vs : List (ShardView ShardState Entry)). vs ++ c.in-Ok-open.shard ∷ []) was.opens
-          ∙ ap (λ (v : ShardView ShardState Entry). map open_shard (range_with_len 0 n) ++ v ∷ []) (c.in-Ok-open.ensures.opened ∙ ap (λ (r : Rules). opened n r c.as_slice.result.now) c.in_ok-own.ensures ∙ ap (λ (cs : List Static). opened n c.args.rules.now cs) (c.as_slice.ensures.value ∙ next.1))
+          ∙ ap (λ (v : ShardView ShardState Entry). map open_shard (range_with_len 0 n) ++ v ∷ []) (c.in-Ok-open.ensures.opened ∙ ap (λ (r : Rules). opened n r c.as_slice.result.now c.args.now) c.in_ok-own.ensures ∙ ap (λ (cs : List Static). opened n c.args.rules.now cs c.args.now) (c.as_slice.ensures.value ∙ next.1))
           ∙ sym (map-range_with_len_more open_shard 0 n n (omega arith));
       sessions = subst (λ (vs : List (ShardView ShardState Entry)). All HasFewSessions vs) (sym c.push_reserved.ensures.items)
           (All-append HasFewSessions c.loop-circuits.opens.items (c.in-Ok-open.shard ∷ []) was.sessions (All-cons HasFewSessions c.in-Ok-open.shard [] c.in-Ok-open.ensures.few (All-nil HasFewSessions)));
@@ -75,7 +75,7 @@ returns-clause-opened c =
     let was = c.loop-circuits.invariant in
     let done = c.loop-circuits.yielded in
     let rest = c.loop-circuits.circuits-iterator.rest in
-    let open_shard = λ (n : ℕ). opened n c.args.rules.now (of_shard c.args.circuits.items n) in
+    let open_shard = λ (n : ℕ). opened n c.args.rules.now (of_shard c.args.circuits.items n) c.args.now in
     let count = list_count (λ x. x.items) (of_shard c.args.circuits.items) (done ++ rest.items) c.args.rules.now.shards was.left in
     was.opens ∙ ap (λ (n : ℕ). map open_shard (range_with_len 0 n)) (omega (arith, was.number, count, c.in-None.ensures.steps.0, rest.ok, length-append done rest.items))
 
@@ -84,3 +84,6 @@ overflow_add-number c =
     let was = c.loop-circuits.invariant in
     let next = list_next (λ x. x.items) (of_shard c.args.circuits.items) c.loop-circuits.yielded c.next.new.self.rest.items c.loop-circuits.circuits-iterator.rest.items c.in-Some.circuits c.args.rules.now.shards c.loop-circuits.number was.left c.in-Some.ensures.steps.0 was.number in
     omega (arith, next.0, c.requires.few)
+
+pub open-requires-clause-few_pools : goal.open-requires-clause-few_pools
+open-requires-clause-few_pools c = omega (arith, c.requires.few_pools, ap (λ (r : Rules). length r.pools) c.in_ok-own.ensures)

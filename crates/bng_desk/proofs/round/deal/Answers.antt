@@ -1,25 +1,49 @@
-use Rattle.std.proofs.Common.{rules, ◌≡◌, ◌<◌, length, get_or, refl, sym, subst, ◌∙◌}
+use Rattle.std.proofs.Common.{rules, ◌≡◌, ◌<◌, [], length, get_or, refl, sym, ap, subst, ◌∙◌}
 use Rattle.std.proofs.lemmas.List.{get_or_read_under}
 use Rattle.bng_base.specs.declared.item.Entry.{Entry}
 use Rattle.bng_engine.specs.Views.{ShardView}
+use Rattle.bng_pool.specs.Plain.{PlainView}
+use Rattle.bng_shard.specs.declared.rules.Rules.{Rules}
 use Rattle.bng_shard.specs.declared.whose.Whose.TheVariants.{Stands}
 use Rattle.bng_shard.specs.Protocol.{ShardState, Handles, entry_of}
 use Rattle.bng_shard.specs.Whose.{IsWhose}
+use Rattle.bng_desk.proofs.Unclaiming.{pool_kept}
 use Rattle.bng_desk.proofs.round.deal.Goals as goal
+
+pub returns-in-Stands-clause-pool : goal.returns-in-Stands-clause-pool
+returns-in-Stands-clause-pool c =
+    let n = c.from.result in
+    let within : n < length c.args.shards.now = search rules in
+    let v = c.index-shards-from.result in
+    let here : v.state.rules ≡ c.args.rules.now = subst (λ (x : ShardView ShardState Entry). x.state.rules ≡ c.args.rules.now) (sym c.index-shards-from.is) (c.requires.one_rule n v within) in
+    pool_kept v c.step.new.self c.args.pool.now c.step.new.pool (entry_of 0 c.args.place c.args.now c.args.item) c.step.result c.args.tally.now c.step.new.ledger c.step.ensures (ap (λ (r : Rules). r.pools) here ∙ c.requires.no_pools)
 
 pub returns-in-Stands-clause-deals : goal.returns-in-Stands-clause-deals
 returns-in-Stands-clause-deals c =
     let n = c.from.result in
     let e = entry_of 0 c.args.place c.args.now c.args.item in
-    let whose : IsWhose c.args.rules.now c.args.pool.now c.args.item (Stands n) = search rules in
+    let whose : IsWhose c.args.rules.now c.args.pool.now.table c.args.item (Stands n) = search rules in
     let within : n < length c.args.shards.now = search rules in
-    let same : get_or c.args.shards.now n c.index-shards-from.result ≡ get_or c.args.shards.now n c.step.new.self = sym c.index-shards-from.is ∙ get_or_read_under c.args.shards.now n (length c.args.shards.now) c.index-shards-from.result c.step.new.self c.index-shards-from.is within refl in
+    let v = c.index-shards-from.result in
+    let w = c.step.new.self in
+    let same : get_or c.args.shards.now n v ≡ get_or c.args.shards.now n w = sym c.index-shards-from.is ∙ get_or_read_under c.args.shards.now n (length c.args.shards.now) v w c.index-shards-from.is within refl in
     let k = c.step.ensures in
-    let here : Handles (get_or c.args.shards.now n c.index-shards-from.result) c.step.new.self e c.step.result c.args.tally.now c.step.new.ledger = record { shown = k.shown; fate_is = k.fate_is; light = k.light; few = k.few; tallied = k.tallied } in
-    let handles : Handles (get_or c.args.shards.now n c.step.new.self) c.step.new.self e c.step.result c.args.tally.now c.step.new.ledger =
-    subst (λ (v : ShardView ShardState Entry). Handles v c.step.new.self e c.step.result c.args.tally.now c.step.new.ledger) same here in
+    let works : v.state.rules ≡ c.args.rules.now = subst (λ (x : ShardView ShardState Entry). x.state.rules ≡ c.args.rules.now) (sym c.index-shards-from.is) (c.requires.one_rule n v within) in
+    let kept = pool_kept v w c.args.pool.now c.step.new.pool e c.step.result c.args.tally.now c.step.new.ledger k (ap (λ (r : Rules). r.pools) works ∙ c.requires.no_pools) in
+    let here : Handles v w c.args.pool.now c.args.pool.now e c.step.result c.args.tally.now c.step.new.ledger = subst (λ (p : PlainView). Handles v w c.args.pool.now p e c.step.result c.args.tally.now c.step.new.ledger) kept k in
+    let handles : Handles (get_or c.args.shards.now n w) w c.args.pool.now c.args.pool.now e c.step.result c.args.tally.now c.step.new.ledger =
+    subst (λ (x : ShardView ShardState Entry). Handles x w c.args.pool.now c.args.pool.now e c.step.result c.args.tally.now c.step.new.ledger) (c.index-shards-from.is ∙ same) here in
     record {
       whose = Stands n;
       is_whose = whose;
-      deals = (record { within = within; shard = c.step.new.self; handles = handles; others = refl }, refl);
+      deals = (record { within = within; shard = w; handles = handles; others = refl }, refl);
     }
+
+pub step-requires-clause-pools : goal.step-requires-clause-pools
+step-requires-clause-pools c = ?
+
+pub step-requires-clause-shards : goal.step-requires-clause-shards
+step-requires-clause-shards c = ?
+
+pub step-requires-clause-held : goal.step-requires-clause-held
+step-requires-clause-held c = ?

@@ -2,10 +2,14 @@ use Rattle.std.proofs.Common.{◌≡◌, ◌+◌, ◌*◌, ◌≤◌, ◌^◌, �
 use Rattle.std.specs.List.{All}
 use Rattle.bng_base.specs.declared.item.Item.{Item}
 use Rattle.bng_base.specs.declared.item.Loose.{Loose}
+use Rattle.bng_pool.specs.Plain.{PlainView}
+use Rattle.bng_shard.specs.declared.whose.Whose.TheVariants.{Stands}
+use Rattle.bng_shard.specs.Whose.{IsWhose}
 use Rattle.bng_desk.specs.Taking.{AreOnce, DealsOne}
 use Rattle.bng_desk.proofs.Admitting.{admits_next}
 use Rattle.bng_desk.proofs.DropLaws.{within_wider, within_more}
-use Rattle.bng_desk.proofs.OneMore.{deals_none, deals_more, journal_in, room_more, loose_more, tally_more, numbers_dealt, dealt_books, low_more}
+use Rattle.bng_desk.proofs.OneMore.{dealt_rules, held_more, deals_none, deals_more, journal_in, room_more, loose_more, tally_more, numbers_dealt, dealt_books, low_more}
+use Rattle.bng_desk.proofs.Returning.{HoldsOwn}
 use Rattle.bng_desk.proofs.round.deal_all.Goals as goal
 
 pub loop-item-init : goal.loop-item-init
@@ -14,6 +18,8 @@ loop-item-init c =
     let n = length c.args.items.items in
     record {
       deals = deals_none c.args.rules.now c.args.pool.now c.args.now n shards c.args.loose.now.items c.args.drops.now c.args.tally.now c.requires.ready c.requires.rows c.requires.loose;
+      pool = refl;
+      held = c.requires.held;
       whole = sym c.into_iter-item-iterator.ensures.into_iter_gives.0;
       place = refl;
       room = λ k d lt. omega (arith, (c.requires.ready k d lt).room);
@@ -24,15 +30,16 @@ loop-item-init c =
     }
 
 pub deal-fate-requires-clause-once : goal.deal-fate-requires-clause-once
-deal-fate-requires-clause-once c n d lt is =
+deal-fate-requires-clause-once c n d lt before =
     let was = c.loop-item.invariant in
     let done = c.loop-item.yielded in
     let r = c.args.rules.now in
-    let holders = c.args.pool.now in
+    let pool = c.args.pool.now in
+    let is = subst (λ (p : PlainView). IsWhose r p.table c.in-Some.item (Stands n)) was.pool before in
     let whole : c.args.items.items ≡ done ++ c.in-Some.item ∷ c.next.new.self.rest.items = was.whole ∙ ap (λ (is : List Item). done ++ is) c.in-Some.ensures.steps.0 in
-    admits_next r holders c.args.now done was.deals.whose c.in-Some.item c.next.new.self.rest.items n (get_or c.loop-item.shards n d)
+    admits_next r pool.table c.args.now done was.deals.whose c.in-Some.item c.next.new.self.rest.items n (get_or c.loop-item.shards n d)
     (subst (λ (is : List Item). AreOnce is) whole c.requires.items.once) was.deals.is_whose is
-    (journal_in r holders c.args.now done c.args.shards.now c.loop-item.shards c.loop-item.loose.items c.args.drops.now c.loop-item.drops c.args.tally.now c.loop-item.tally was.deals n d lt)
+    (journal_in r pool c.args.now done c.args.shards.now c.loop-item.shards c.loop-item.loose.items c.args.drops.now c.loop-item.drops c.args.tally.now c.loop-item.tally was.deals n d lt)
 
 pub deal-fate-requires-clause-low_books : goal.deal-fate-requires-clause-low_books
 deal-fate-requires-clause-low_books c k d lt i within q input =
@@ -65,7 +72,7 @@ loop-item-preserved c =
     let item = c.in-Some.item in
     let left = c.next.new.self.rest.items in
     let r = c.args.rules.now in
-    let holders = c.args.pool.now in
+    let pool = c.args.pool.now in
     let now = c.args.now in
     let olds = c.args.shards.now in
     let shards = c.loop-item.shards in
@@ -79,20 +86,24 @@ loop-item-preserved c =
     let longer = length-append done (item ∷ []) in
     let number = ap (λ (is : List Item). length is) whole in
     let within = length-append done (item ∷ left) in
-    let one : DealsOne r holders (length done) now item shards shards' loose loose' tally tally' c.deal-fate.result =
-    subst (λ (place : ℕ). DealsOne r holders place now item shards shards' loose loose' tally tally' c.deal-fate.result) (sym was.place) c.deal-fate.ensures.deals in
+    let one : DealsOne r pool (length done) now item shards shards' loose loose' tally tally' c.deal-fate.result =
+    subst (λ (place : ℕ). DealsOne r pool place now item shards shards' loose loose' tally tally' c.deal-fate.result) (sym was.place)
+    (subst (λ (p : PlainView). DealsOne r p c.loop-item.place now item shards shards' loose loose' tally tally' c.deal-fate.result) was.pool c.deal-fate.ensures.deals) in
+    let rules = dealt_rules r pool now done olds shards loose c.args.drops.now c.loop-item.drops start tally was.deals r c.requires.one_rule in
     let more : length done + 1 ≡ length (done ++ item ∷ []) = omega (arith, longer) in
     record {
-      deals = deals_more r holders now done item olds shards shards' loose loose' c.args.drops.now c.loop-item.drops c.count.new.drops start tally tally' c.deal-fate.result was.deals c.count.ensures one;
+      deals = deals_more r pool now c.requires.no_pools done item olds shards shards' loose loose' c.args.drops.now c.loop-item.drops c.count.new.drops start tally tally' c.deal-fate.result was.deals c.count.ensures rules one;
+      pool = c.deal-fate.ensures.pool ∙ was.pool;
+      held = held_more r pool now done olds shards loose c.args.drops.now c.loop-item.drops start tally was.deals (length done) item shards' loose' tally' c.deal-fate.result one was.held;
       whole = whole ∙ sym (append_assoc done (item ∷ []) left);
       place = omega (arith, longer, was.place);
       room = subst (λ (n : ℕ). All (λ v. length c.args.items.items ≤ v.room + n) shards') more
-          (room_more r holders now done olds shards loose c.args.drops.now c.loop-item.drops start tally was.deals (length done) item shards' loose' tally' c.deal-fate.result one (length c.args.items.items) (length done) (omega (arith, number, within)) was.room);
-      loose = omega (arith, longer, was.loose, loose_more r holders now done olds shards loose c.args.drops.now c.loop-item.drops start tally was.deals (length done) item shards' loose' tally' c.deal-fate.result one);
+          (room_more r pool now done olds shards loose c.args.drops.now c.loop-item.drops start tally was.deals (length done) item shards' loose' tally' c.deal-fate.result one (length c.args.items.items) (length done) (omega (arith, number, within)) was.room);
+      loose = omega (arith, longer, was.loose, loose_more r pool now done olds shards loose c.args.drops.now c.loop-item.drops start tally was.deals (length done) item shards' loose' tally' c.deal-fate.result one);
       loose_room = c.deal-fate.ensures.capacity ∙ was.loose_room;
       drops = λ most within. within_more (most + length done) (most + length (done ++ item ∷ [])) c.loop-item.drops c.count.new.drops c.deal-fate.result (omega (arith, longer)) (was.drops most within) c.count.ensures;
       tally = λ most low. low_more (most + 4160 * length done + 4160) (most + 4160 * length (done ++ item ∷ [])) tally' (omega (arith, longer))
-          (tally_more r holders now done olds shards loose c.args.drops.now c.loop-item.drops start tally was.deals (length done) item shards' loose' tally' c.deal-fate.result one (most + 4160 * length done) (was.tally most low));
+          (tally_more r pool now done olds shards loose c.args.drops.now c.loop-item.drops start tally was.deals (length done) item shards' loose' tally' c.deal-fate.result one (most + 4160 * length done) (was.tally most low));
     }
 
 pub returns-clause-numbers : goal.returns-clause-numbers
@@ -110,3 +121,21 @@ returns-clause-tally c most low =
     let number = ap (λ (is : List Item). length is) c.loop-item.invariant.whole in
     low_more (most + 4160 * length c.loop-item.yielded) (most + 4160 * length c.args.items.items) c.loop-item.tally
     (omega (arith, number, length-append c.loop-item.yielded c.loop-item.item-iterator.rest.items)) (c.loop-item.invariant.tally most low)
+
+pub deal-fate-requires-clause-numbers : goal.deal-fate-requires-clause-numbers
+deal-fate-requires-clause-numbers c = numbers_dealt c.args.rules.now c.args.pool.now c.args.now c.loop-item.yielded c.args.shards.now c.loop-item.shards c.loop-item.loose.items c.args.drops.now c.loop-item.drops c.args.tally.now c.loop-item.tally c.loop-item.invariant.deals c.requires.numbers
+
+pub deal-fate-requires-clause-one_rule : goal.deal-fate-requires-clause-one_rule
+deal-fate-requires-clause-one_rule c = dealt_rules c.args.rules.now c.args.pool.now c.args.now c.loop-item.yielded c.args.shards.now c.loop-item.shards c.loop-item.loose.items c.args.drops.now c.loop-item.drops c.args.tally.now c.loop-item.tally c.loop-item.invariant.deals c.args.rules.now c.requires.one_rule
+
+pub deal-fate-requires-clause-places : goal.deal-fate-requires-clause-places
+deal-fate-requires-clause-places c = ap (λ (p : PlainView). p.shards) c.loop-item.invariant.pool ∙ c.requires.places
+
+pub deal-fate-requires-clause-held : goal.deal-fate-requires-clause-held
+deal-fate-requires-clause-held c = subst (λ (p : PlainView). All (HoldsOwn p.table) c.loop-item.shards) (sym c.loop-item.invariant.pool) c.loop-item.invariant.held
+
+pub returns-clause-pool : goal.returns-clause-pool
+returns-clause-pool c = c.loop-item.invariant.pool
+
+pub returns-clause-held : goal.returns-clause-held
+returns-clause-held c = c.loop-item.invariant.held

@@ -1,5 +1,6 @@
 use Rattle.std.proofs.Common.{◌≡◌, ℕ, ◌+◌, ◌*◌, ◌≤◌, ◌++◌, length, vec_capacity}
 use Rattle.std.specs.List.{All}
+use Rattle.bng_shard.specs.Protocol.{AreHeld, terms_of}
 use Rattle.bng_shard.specs.Sums.{IsLow}
 use Rattle.bng_desk.specs.Counting.{Within}
 use Rattle.bng_desk.specs.Taking.{Deals}
@@ -7,7 +8,9 @@ use Rattle.bng_desk.proofs.round.deal_all.Given as goal
 
 abbrev pub invariant-loop-item : goal.invariant-loop-item
 invariant-loop-item l = record {
-  deals : Deals l.rules l.pool l.now l.yielded l.fn.shards l.shards l.loose.items l.fn.drops l.drops l.fn.tally l.tally;
+  deals : Deals l.rules l.fn.pool l.now l.yielded l.fn.shards l.shards l.loose.items l.fn.drops l.drops l.fn.tally l.tally;
+  pool : l.pool ≡ l.fn.pool;
+  held : All (λ v. AreHeld v.number (terms_of v.state) l.fn.pool.table) l.shards;
   whole : l.fn.items.items ≡ l.yielded ++ l.item-iterator.rest.items;
   place : length l.yielded ≡ l.place;
   room : All (λ v. length l.fn.items.items ≤ v.room + length l.yielded) l.shards;

@@ -1,5 +1,12 @@
 use Rattle.bng_gate.proofs.Binding.{is_bound}
+use Rattle.bng_gate.proofs.Pooling.{pool_ranges, pooled}
 use Rattle.bng_gate.proofs.top.open_desk.Goals as goal
+
+pub open-requires-clause-pools : goal.open-requires-clause-pools
+open-requires-clause-pools g c = pool_ranges c.args.config c.requires.rules
+
+pub open-requires-clause-within : goal.open-requires-clause-within
+open-requires-clause-within g c = pooled c.args.config c.requires.rules
 
 pub returns-in-Ok-clause-opened : goal.returns-in-Ok-clause-opened
 returns-in-Ok-clause-opened g c =

@@ -27,7 +27,7 @@ module _ (g : Over) (c : After-wait_if g) where
     turns = c.self.inside.turns;
     stopped = c.self.inside.stopped;
     shards = works.shards.items;
-    holders = works.pool;
+    pool = works.pool;
     tallies = works.tally ∷ [];
     seed = works.draws.seed;
     drawn = works.draws.drawn;

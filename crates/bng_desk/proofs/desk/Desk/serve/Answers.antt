@@ -41,7 +41,7 @@ module _ (g : Over) (c : After-gather-quiet g) where
     turns = c.self.inside.turns;
     stopped = c.self.inside.stopped;
     shards = works.shards.items;
-    holders = works.pool;
+    pool = works.pool;
     tallies = works.tally ∷ [];
     seed = works.draws.seed;
     drawn = works.draws.drawn;
@@ -162,7 +162,10 @@ invariant_of-self g c =
         rules = was.rules;
         empty = was.empty;
         sessions = was.sessions;
-        holders = was.holders;
+        no_pools = was.no_pools;
+        places = was.places;
+        held = was.held;
+        plain = was.plain;
         most = was.most;
         made = omega (arith, left);
         serving = λ _. record { endings = u.endings; unopened = u.unopened; closed = u.closed; graces = u.graces };
