@@ -1,5 +1,5 @@
 -- What the reading of a table says of the text.
-use Rattle.std.proofs.Common.{◌≡◌, ℕ, ◌≤◌, List, length, Some, Result, Ok, Err, IfOk, IfErr, IsErrAnd, BTreeMap, String, Global, inl, inr, refl, ap}
+use Rattle.std.proofs.Common.{◌≡◌, ℕ, ◌≤◌, List, length, Some, Result, Ok, Err, IfOk, IfErr, IsErrAnd, BTreeMap, String, Global, inl, inr, refl, ap, subst}
 use Rattle.std.specs.Prelude.{IsUtf8}
 use Rattle.toml.specs.Parse.{parse_document}
 use Rattle.toml.specs.View.{view, table_view}
@@ -39,6 +39,18 @@ module _ (text : List ℕ) (t : BTreeMap (String Global) Value) (short : length 
   told_or_memory (Refused TooLong) told fault has = absurd told
   told_or_memory (Refused NotToml) told fault has = absurd told
   told_or_memory OutOfMemory told fault has = inr refl
+
+  told_fault : (e : ConfigError) → IsKeyOrMemory (IsFirstFault (view (Table t))) e → (fault : Fault) → e ≡ Refused fault → HasFault text fault
+  told_fault (Refused (OutsideForm key)) told fault e =
+      let same : OutsideForm key ≡ fault = cc in
+      subst (HasFault text) same (fault_of text t short is key told)
+  told_fault (Refused TooLong) told fault e = absurd told
+  told_fault (Refused NotToml) told fault e = absurd told
+  told_fault OutOfMemory told fault e = cc
+
+  pub answer_refused : (r : Result Config ConfigError) → IfErr r (IsKeyOrMemory (IsFirstFault (view (Table t)))) → IfErr r (λ e. (fault : Fault) → e ≡ Refused fault → HasFault text fault)
+  answer_refused (Ok c) told = tt
+  answer_refused (Err e) told = told_fault e told
 
   pub answer_faulty : (r : Result Config ConfigError) → IfOk r (λ c. Configures (view (Table t)) c) → IfErr r (IsKeyOrMemory (IsFirstFault (view (Table t))))
       → (fault : Fault) → HasFault text fault → IsErrAnd r (IsFaultOrMemory fault)

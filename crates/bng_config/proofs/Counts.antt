@@ -5,9 +5,9 @@ use Rattle.toml.specs.Data.{Data, Items, string, integer, float, boolean, dateti
 use Rattle.toml.specs.View.{view, items_view, array_view}
 use Rattle.toml.specs.declared.value.Value.{Value}
 use Rattle.bng_config.specs.declared.fault.Key.{Key}
-use Rattle.bng_config.specs.declared.fault.Key.TheVariants.{Access, Statics, StaticPort}
+use Rattle.bng_config.specs.declared.fault.Key.TheVariants.{Access, Pools, Statics, StaticPort}
 use Rattle.bng_config.specs.Keys.{path_of}
-use Rattle.bng_config.specs.Configuration.{StandsAt, IsFit, IsSound, IsList, IsPortNumber, value_at, item_count, entries, terms_of, most_ports, most_circuits}
+use Rattle.bng_config.specs.Configuration.{StandsAt, IsFit, IsSound, IsList, IsPortNumber, value_at, item_count, entries, terms_of, most_ports, most_pools, most_circuits}
 use Rattle.bng_config.specs.Find.{HasCount}
 use Rattle.bng_config.proofs.Faults.{fit_of, unfit_of}
 
@@ -58,6 +58,10 @@ pub ports_sound : (document : Data) (n : ℕ) → HasCount document Access n →
 ports_sound document n h some few =
     record { value = array h.items; found = h.found; is = record { form = in_range 1 most_ports document Access n h some few; new = tt } }
 
+pub pools_sound : (document : Data) (n : ℕ) → HasCount document Pools n → 1 ≤ n → n ≤ 16 → IsSound document Pools
+pools_sound document n h some few =
+    record { value = array h.items; found = h.found; is = record { form = in_range 1 most_pools document Pools n h some few; new = tt } }
+
 pub circuits_sound : (document : Data) (terms n : ℕ) → terms ≡ terms_of document → HasCount document Statics n → n ≤ 1024 → n ≤ terms → IsSound document Statics
 circuits_sound document terms n all h few room =
     let list = in_range 0 most_circuits document Statics n h (omega arith) few in
@@ -81,6 +85,17 @@ ports_outside document n h bad sound =
 
 pub ports_missing : (document : Data) → ((n : ℕ) → ¬ HasCount document Access n) → ¬ IsSound document Access
 ports_missing document none sound = none (item_count sound.is.form.items) (count_of_list document Access sound.value sound.found sound.is.form)
+
+pub pools_outside : (document : Data) (n : ℕ) → HasCount document Pools n → (n ≡ 0) ⊎ (16 < n) → ¬ IsSound document Pools
+pools_outside document n h bad sound =
+    let form = sound.is.form in
+    let same = one_count document Pools n (item_count form.items) h (count_of_list document Pools sound.value sound.found form) in
+    let few = form.few in
+    let some = form.some in
+    grind arith
+
+pub pools_missing : (document : Data) → ((n : ℕ) → ¬ HasCount document Pools n) → ¬ IsSound document Pools
+pools_missing document none sound = none (item_count sound.is.form.items) (count_of_list document Pools sound.value sound.found sound.is.form)
 
 -- a list of circuits where there is one
 there : (document : Data) (P : Data → Type 0) (n : ℕ) → HasCount document Statics n → (value_at (path_of Statics) document ≡ None) ⊎ StandsAt document Statics P → StandsAt document Statics P

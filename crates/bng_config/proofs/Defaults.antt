@@ -3,13 +3,14 @@ use Rattle.std.proofs.Common.{◌≡◌, ◌≢◌, ℕ, zero, suc, ◌≤◌, [
 use Rattle.std.specs.List.{AllPairs, All}
 use Rattle.arrayvec.specs.ArrayVec.{ArrayVec}
 use Rattle.toml.specs.Data.{Data, as_integer}
+use Rattle.bng_base.specs.declared.address.Ip4.{Ip4}
 use Rattle.bng_base.specs.declared.settings.AuthKind.{AuthKind}
 use Rattle.bng_base.specs.declared.settings.AuthKind.TheVariants.{Chap, Pap}
 use Rattle.bng_config.specs.declared.fault.Key.{Key}
-use Rattle.bng_config.specs.declared.fault.Key.TheVariants.{GatewayName, GatewayShards, GatewayTerms, GatewayServices, GatewayAuth, GatewayEcho, RadiusTries}
+use Rattle.bng_config.specs.declared.fault.Key.TheVariants.{GatewayName, GatewayAddress, GatewayShards, GatewayTerms, GatewayServices, GatewayDns, GatewayAuth, GatewayEcho, RadiusTries}
 use Rattle.bng_config.specs.Keys.{path_of}
 use Rattle.bng_config.specs.Rules.{IsServiceName}
-use Rattle.bng_config.specs.Configuration.{StandsAt, StandsOr, HasForm, IsNew, IsFitOrAbsent, IsSound, IsName, IsNumber, AreServices, AreKinds, natural_or, value_at, shards_of, terms_of, most_shards, fewest_terms, most_terms, longest_echo, most_tries}
+use Rattle.bng_config.specs.Configuration.{StandsAt, StandsOr, HasForm, IsNew, IsFitOrAbsent, IsSound, IsName, IsAddress, IsNumber, AreServices, AreServers, AreKinds, natural_or, value_at, shards_of, terms_of, most_shards, fewest_terms, most_terms, longest_echo, most_tries}
 use Rattle.bng_config.proofs.Faults.{fit_of, unfit_of}
 
 -- a value of this form stands at the key, or nothing does
@@ -29,6 +30,9 @@ module _ (document : Data) where
   pub name_sound : (n : ArrayVec ℕ) → StandsAt document GatewayName (λ d. IsName d n) → IsSound document GatewayName
   name_sound n h = fit_of IsName n h (λ d is. (n, is)) tt
 
+  pub own_sound : (a : Ip4) → StandsAt document GatewayAddress (λ d. IsAddress d a) → IsSound document GatewayAddress
+  own_sound a h = fit_of IsAddress a h (λ d is. (a, is)) tt
+
   pub shards_sound : (n : ℕ) → StandsOr document GatewayShards (λ d. IsNumber 1 most_shards d n) (n ≡ 4) → IsSound document GatewayShards
   shards_sound n h = fit_or_of (IsNumber 1 most_shards) (λ x. x ≡ 4) n h (λ d is. (n, is)) (λ d. tt)
 
@@ -46,6 +50,12 @@ module _ (document : Data) where
 
   pub services_faulty : ((s : ArrayVec (ArrayVec ℕ)) → ¬ StandsOr document GatewayServices (λ d. AreServices d s) (s.items ≡ [])) → ¬ IsSound document GatewayServices
   services_faulty none = unfit_or_of AreServices (λ x. x.items ≡ []) record { items = [] } refl none (λ d h. h)
+
+  pub dns_sound : (s : ArrayVec Ip4) → StandsOr document GatewayDns (λ d. AreServers d s) (s.items ≡ []) → IsSound document GatewayDns
+  dns_sound s h = fit_or_of AreServers (λ x. x.items ≡ []) s h (λ d is. (s, is)) (λ d. tt)
+
+  pub dns_faulty : ((s : ArrayVec Ip4) → ¬ StandsOr document GatewayDns (λ d. AreServers d s) (s.items ≡ [])) → ¬ IsSound document GatewayDns
+  dns_faulty none = unfit_or_of AreServers (λ x. x.items ≡ []) record { items = [] } refl none (λ d h. h)
 
   pub auth_sound : (k : ArrayVec AuthKind) → StandsOr document GatewayAuth (λ d. AreKinds d k) (k.items ≡ Chap ∷ Pap ∷ []) → IsSound document GatewayAuth
   auth_sound k h = fit_or_of AreKinds (λ x. x.items ≡ Chap ∷ Pap ∷ []) k h (λ d is. (k, is)) (λ d. tt)
@@ -87,6 +97,10 @@ pub services_kept : {document : Data} {key : Key} (s : ArrayVec (ArrayVec ℕ)) 
     → (length s.items ≤ 8) × All (λ x. IsServiceName x.items) s.items
 services_kept s (inl h) = (rw h.1 (omega arith), rw h.1 (λ i d less. absurd (omega arith)))
 services_kept s (inr h) = (h.is.few, h.is.are)
+
+pub servers_kept : {document : Data} {key : Key} (s : ArrayVec Ip4) → StandsOr document key (λ d. AreServers d s) (s.items ≡ []) → length s.items ≤ 2
+servers_kept s (inl h) = rw h.1 (omega arith)
+servers_kept s (inr h) = h.is.few
 
 both_differ : AllPairs (λ a b. a ≢ b) (Chap ∷ Pap ∷ [])
 both_differ zero zero d less long = absurd (omega arith)

@@ -1,18 +1,23 @@
 -- A configuration that is read keeps the rules.
-use Rattle.std.proofs.Common.{◌≡◌, ◌≢◌, ℕ, zero, suc, ◌<◌, ◌≤◌, List, [], ◌∷◌, ◌++◌, length, map, Some, get_or, sym, subst, ◌∙◌, arith, inl, inr}
+use Rattle.std.proofs.Common.{◌≡◌, ◌≢◌, ℕ, zero, suc, ◌-◌, ◌<◌, ◌≤◌, List, [], ◌∷◌, ◌++◌, length, map, Some, get_or, sym, subst, ◌∙◌, arith, inl, inr}
 use Rattle.std.specs.List.{AllPairs, All}
 use Rattle.std.proofs.lemmas.List.{length-map, get_or-map}
+use Rattle.std.proofs.lemmas.Option.{same_Some}
 use Rattle.toml.specs.Data.{Data, Items, array, table}
 use Rattle.bng_base.specs.declared.address.Peer.{Peer}
 use Rattle.bng_base.specs.declared.settings.AccessPort.{AccessPort}
+use Rattle.bng_base.specs.declared.settings.Static.{Static}
 use Rattle.bng_config.specs.declared.config.Config.{Config}
 use Rattle.bng_config.specs.declared.fault.Key.{Key}
-use Rattle.bng_config.specs.declared.fault.Key.TheVariants.{Access, Statics, RadiusAuthLocal, RadiusAcctLocal}
-use Rattle.bng_config.specs.Keys.{path_of, gateway_keys, end_keys, access_keys, static_keys, radius_keys}
-use Rattle.bng_config.specs.Configuration.{StandsAt, IsFit, IsSound, AreSound, value_at, entries, item_count, port_keys, circuit_keys, shards_of, terms_of, most_shards, fewest_terms, most_terms, longest_echo, most_tries, Configures, IsRead}
-use Rattle.bng_config.specs.Rules.{IsGatewayName, IsServiceName, IsSharedSecret, IsUserName, IsSessionOf, IsPlaced, KeepsRules, ends_of}
-use Rattle.bng_config.proofs.New.{other_end, other_session, other_address}
-use Rattle.bng_config.proofs.Defaults.{known_shards, known_terms, range_or, services_kept, kinds_kept}
+use Rattle.bng_config.specs.declared.fault.Key.TheVariants.{Access, Pools, Statics, RadiusAuthLocal, RadiusAcctLocal}
+use Rattle.bng_config.specs.Keys.{path_of, gateway_keys, end_keys, access_keys, pool_keys, static_keys, radius_keys}
+use Rattle.bng_config.specs.Pools.{HasAddress, ArePoolsBeside, ranges_of}
+use Rattle.bng_config.specs.Configuration.{StandsAt, IsFit, IsAddress, IsSound, AreSound, value_at, entries, item_count, port_keys, range_keys, circuit_keys, shards_of, terms_of, most_shards, fewest_terms, most_terms, longest_echo, most_tries, Configures, IsRead}
+use Rattle.bng_config.specs.Rules.{IsGatewayName, IsServiceName, IsPoolName, IsSharedSecret, IsUserName, IsSessionOf, IsPlaced, KeepsRules, ends_of}
+use Rattle.bng_config.proofs.Spellings.{same_items}
+use Rattle.bng_config.proofs.New.{other_end, other_label, other_session, other_address}
+use Rattle.bng_config.proofs.Defaults.{known_shards, known_terms, range_or, services_kept, servers_kept, kinds_kept}
+use Rattle.bng_config.proofs.Parts.{addressed_keys, entry_keys, behind}
 use Rattle.bng_config.proofs.Faults.{sound_front, sound_back, sound_entry}
 
 -- an element and later ones that differ from it, before a list whose elements differ
@@ -55,26 +60,32 @@ few_of document (inr h) =
     (rw (entries_of document Statics h.value list.items h.found list.list) list.few, rw (entries_of document Statics h.value fits.items h.found fits.list) fits.few)
 
 module _ (document : Data) (c : Config) (h : Configures document c) where
-  sound_rest : AreSound document (end_keys ++ port_keys document ++ circuit_keys document ++ radius_keys)
-  sound_rest = sound_back document gateway_keys (end_keys ++ port_keys document ++ circuit_keys document ++ radius_keys) h.sound
+  sound_rest : AreSound document (end_keys ++ behind document)
+  sound_rest = sound_back document gateway_keys (end_keys ++ behind document) h.sound
 
   sound_ends : AreSound document end_keys
-  sound_ends = sound_front document end_keys (port_keys document ++ circuit_keys document ++ radius_keys) sound_rest
+  sound_ends = sound_front document end_keys (behind document) sound_rest
 
-  sound_behind : AreSound document (port_keys document ++ circuit_keys document ++ radius_keys)
-  sound_behind = sound_back document end_keys (port_keys document ++ circuit_keys document ++ radius_keys) sound_rest
+  sound_behind : AreSound document (behind document)
+  sound_behind = sound_back document end_keys (behind document) sound_rest
 
-  sound_lists : AreSound document (port_keys document ++ circuit_keys document)
-  sound_lists = sound_front document (port_keys document ++ circuit_keys document) radius_keys sound_behind
+  sound_lists : AreSound document (entry_keys document)
+  sound_lists = sound_front document (entry_keys document) radius_keys sound_behind
+
+  sound_addressed : AreSound document (addressed_keys document)
+  sound_addressed = sound_front document (addressed_keys document) (circuit_keys document) sound_lists
 
   sound_ports : AreSound document (port_keys document)
-  sound_ports = sound_front document (port_keys document) (circuit_keys document) sound_lists
+  sound_ports = sound_front document (port_keys document) (range_keys document) sound_addressed
+
+  sound_pools : AreSound document (range_keys document)
+  sound_pools = sound_back document (port_keys document) (range_keys document) sound_addressed
 
   sound_circuits : AreSound document (circuit_keys document)
-  sound_circuits = sound_back document (port_keys document) (circuit_keys document) sound_lists
+  sound_circuits = sound_back document (addressed_keys document) (circuit_keys document) sound_lists
 
   sound_radius : AreSound document radius_keys
-  sound_radius = sound_back document (port_keys document ++ circuit_keys document) radius_keys sound_behind
+  sound_radius = sound_back document (entry_keys document) radius_keys sound_behind
 
   port_count : length c.access ≡ item_count sound_ports.0.is.form.items
   port_count = h.all_ports ∙ entries_of document Access sound_ports.0.value sound_ports.0.is.form.items sound_ports.0.found sound_ports.0.is.form.list
@@ -84,6 +95,41 @@ module _ (document : Data) (c : Config) (h : Configures document c) where
 
   sound_circuit : (i : ℕ) → i < length c.statics → AreSound document (static_keys i)
   sound_circuit i less = sound_entry document static_keys i (entries document Statics) (subst (λ n. i < n) h.all_circuits less) sound_circuits.1
+
+  pool_count : length c.pools ≡ item_count sound_pools.0.is.form.items
+  pool_count = h.pools.all ∙ entries_of document Pools sound_pools.0.value sound_pools.0.is.form.items sound_pools.0.found sound_pools.0.is.form.list
+
+  some_pool : 1 ≤ length c.pools
+  some_pool =
+      let count = pool_count in
+      let some = sound_pools.0.is.form.some in
+      omega arith
+
+  sound_pool : (i : ℕ) → i < length c.pools → AreSound document (pool_keys i)
+  sound_pool i less = sound_entry document pool_keys i (entries document Pools) (subst (λ n. i < n) h.pools.all less) sound_pools.1
+
+  -- the last pool is apart from all the others
+  apart_pools : (n : ℕ) → length c.pools ≡ suc n → ArePoolsBeside c.address.0 (ranges_of c.pools)
+  apart_pools n long = (sound_pool n (omega arith)).1.1.0.is.new c.address c.pools h.address record { all = long; are = h.pools.are }
+
+  pools : ArePoolsBeside c.address.0 (ranges_of c.pools)
+  pools =
+      let some = some_pool in
+      apart_pools (length c.pools - 1) (omega arith)
+
+  pool_names : All (λ p. IsPoolName p.name.items) c.pools
+  pool_names i d less = (h.pools.are i d less).name.is.is
+
+  different_pools : AllPairs (λ a b. a.name.items ≢ b.name.items) c.pools
+  different_pools i j d less long e =
+      let fit = (sound_pool j long).0 in
+      other_label (get_or c.pools j d).name (get_or c.pools i d).name fit.value fit.found (h.pools.are j d long).name (h.pools.are i d (omega arith)).name (fit.is.new i less) (same_items _ _ e)
+
+  address_at : (i : ℕ) (d : Static) → i < length c.statics → HasAddress (ranges_of c.pools) (get_or c.statics i d).address.0
+  address_at i d less =
+      let fit = (sound_circuit i less).1.1.1.0 in
+      let here = (h.statics i d less).address in
+      fit.is.new.1 (get_or c.statics i d).address c.pools (subst (λ v. IsAddress v (get_or c.statics i d).address) (same_Some _ _ (sym here.found ∙ fit.found)) here.is) h.pools
 
   new_ports : AllPairs (λ a b. a.local ≢ b.local) c.access
   new_ports i j d less long =
@@ -161,7 +207,7 @@ module _ (document : Data) (c : Config) (h : Configures document c) where
   addresses : AllPairs (λ a b. a.address ≢ b.address) c.statics
   addresses i j d less long =
       let fit = (sound_circuit j long).1.1.1.0 in
-      other_address (get_or c.statics j d).address (get_or c.statics i d).address fit.value fit.found (h.statics j d long).address (h.statics i d (omega arith)).address (fit.is.new i less)
+      other_address (get_or c.statics j d).address (get_or c.statics i d).address fit.value fit.found (h.statics j d long).address (h.statics i d (omega arith)).address (fit.is.new.0 i less)
 
   shards : (1 ≤ c.shards) × (c.shards ≤ 64)
   shards = range_or 1 most_shards 4 c.shards (omega arith) (omega arith) h.shards
@@ -226,16 +272,23 @@ module _ (document : Data) (c : Config) (h : Configures document c) where
         few_terms = terms.1;
         few_services = services.0;
         services = services.1;
+        few_dns = servers_kept c.dns h.dns;
         some_auth = auth.0;
         few_auth = auth.1;
         auth = auth.2;
         echo = echo.1;
         some_port = omega arith;
         few_ports = omega arith;
+        some_pool = some_pool;
+        pools = pools.pools;
+        address = pools.free;
+        pool_names = pool_names;
+        different_pools = different_pools;
         few_statics = omega arith;
         enough_terms = omega arith;
         placed = placed;
         sharded = sharded;
+        pooled = address_at;
         users = users;
         secret = secret;
         some_tries = tries.0;

@@ -7,7 +7,9 @@ pub mod Spellings
 pub mod Listing
 pub mod OneReading
 pub mod Parts
+pub mod Apart
 pub mod New
+pub mod Ranges
 pub mod Defaults
 pub mod Kept
 pub mod Answered

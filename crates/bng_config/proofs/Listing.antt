@@ -5,8 +5,10 @@ use Rattle.arrayvec.specs.ArrayVec.{ArrayVec}
 use Rattle.toml.specs.Data.{string, array}
 use Rattle.toml.specs.View.{view, items_of, items_view}
 use Rattle.toml.specs.declared.value.Value.{Value}
+use Rattle.bng_base.specs.declared.address.Ip4.{Ip4}
 use Rattle.bng_base.specs.declared.settings.AuthKind.{AuthKind}
-use Rattle.bng_config.specs.Configuration.{AreServices, AreKinds, list_of, kind_text}
+use Rattle.bng_config.specs.Address.{address_text}
+use Rattle.bng_config.specs.Configuration.{AreServices, AreServers, AreKinds, list_of, kind_text}
 use Rattle.bng_config.proofs.Spellings.{items_once, string_once, kind_once}
 
 module _ {X : Type 0} (text : X → List ℕ) where
@@ -37,6 +39,12 @@ module _ {X : Type 0} (text : X → List ℕ) where
 pub too_many : (vs : List Value) (s : ArrayVec (ArrayVec ℕ)) → 8 < length vs → ¬ AreServices (array (items_view vs)) s
 too_many vs s more h =
     let same = as_many (λ x. x.items) vs s.items h.list in
+    let few = h.few in
+    omega arith
+
+pub too_many_servers : (vs : List Value) (s : ArrayVec Ip4) → 2 < length vs → ¬ AreServers (array (items_view vs)) s
+too_many_servers vs s more h =
+    let same = as_many address_text vs s.items h.list in
     let few = h.few in
     omega arith
 

@@ -1,6 +1,7 @@
 -- Values that no two keys may both have.
 use Rattle.std.proofs.Common.{◌≡◌, ◌≢◌, ℕ, ◌<◌, pos, List, [], ◌∷◌, length, Some, get_or, sym, ap, subst, ◌∙◌, arith, inl, inr, ◌⊎◌}
 use Rattle.std.specs.List.{Any}
+use Rattle.arrayvec.specs.ArrayVec.{ArrayVec}
 use Rattle.std.proofs.lemmas.List.{get_or_default}
 use Rattle.std.proofs.lemmas.Option.{same_Some}
 use Rattle.toml.specs.Data.{Data, string, integer}
@@ -8,14 +9,18 @@ use Rattle.bng_base.specs.declared.address.Ip4.{Ip4}
 use Rattle.bng_base.specs.declared.address.Peer.{Peer}
 use Rattle.bng_base.specs.declared.address.SessionNo.{SessionNo}
 use Rattle.bng_base.specs.declared.settings.AccessPort.{AccessPort}
+use Rattle.bng_base.specs.declared.settings.NamedRange.{NamedRange}
 use Rattle.bng_base.specs.declared.settings.Static.{Static}
 use Rattle.bng_config.specs.declared.fault.Key.{Key}
-use Rattle.bng_config.specs.declared.fault.Key.TheVariants.{ControlLocal, CoreLocal, Access, AccessLocal, StaticSession, StaticAddress, RadiusAuthLocal, RadiusAcctLocal}
+use Rattle.bng_config.specs.declared.fault.Key.TheVariants.{ControlLocal, CoreLocal, Access, AccessLocal, Pools, PoolName, StaticSession, StaticAddress, RadiusAuthLocal, RadiusAcctLocal}
 use Rattle.bng_config.specs.Address.{peer_text, address_text}
 use Rattle.bng_config.specs.Keys.{path_of}
-use Rattle.bng_config.specs.Configuration.{StandsAt, IsSound, Differs, IsFreeEnd, IsPeer, IsSession, IsAddress, IsPort, IsCircuit, EachPlace, value_at, entries, shards_of}
+use Rattle.bng_config.specs.Pools.{InRange, HasAddress, ranges_of}
+use Rattle.bng_config.specs.Configuration.{StandsAt, IsSound, IsLabel, IsPool, ArePoolsOf, IsPooled, Differs, IsFreeEnd, IsPeer, IsSession, IsAddress, IsPort, IsCircuit, EachPlace, value_at, entries, shards_of}
 use Rattle.bng_config.proofs.Faults.{fit_of}
-use Rattle.bng_config.proofs.OneReading.{peer_once, session_once, address_at_once}
+use Rattle.bng_config.proofs.Spellings.{label_once, same_items}
+use Rattle.bng_config.proofs.OneReading.{peer_once, session_once, address_at_once, pools_once}
+use Rattle.bng_config.proofs.Apart.{pooled, in_pool}
 
 module _ {X : Type 0} (Form : Data → X → Type 0) (text : X → Data) (spells : (d : Data) (x : X) → Form d x → d ≡ text x)
     (once : (d : Data) (x y : X) → Form d x → Form d y → x ≡ y) where
@@ -44,6 +49,10 @@ pub other_address : {document : Data} {key other : Key} (x y : Ip4) (v : Data) �
     → StandsAt document key (λ d. IsAddress d x) → StandsAt document other (λ d. IsAddress d y) → Differs document other v → y ≢ x
 other_address = other_value IsAddress (λ a. string (address_text a)) (λ d a h. h.text) address_at_once
 
+pub other_label : {document : Data} {key other : Key} (x y : ArrayVec ℕ) (v : Data) → value_at (path_of key) document ≡ Some v
+    → StandsAt document key (λ d. IsLabel d x) → StandsAt document other (λ d. IsLabel d y) → Differs document other v → y ≢ x
+other_label = other_value IsLabel (λ n. string n.items) (λ d n h. h.text) label_once
+
 end_differs : {document : Data} {key other : Key} (x y : Peer) → (p : StandsAt document key (λ d. IsPeer d x)) → StandsAt document other (λ d. IsPeer d y) → x ≢ y
     → Differs document other p.value
 end_differs = other_text IsPeer (λ p. string (peer_text p)) (λ d p h. h.text) peer_once
@@ -55,6 +64,10 @@ session_differs shards = other_text (IsSession shards) (λ s. integer (pos s.0))
 address_differs : {document : Data} {key other : Key} (x y : Ip4) → (p : StandsAt document key (λ d. IsAddress d x)) → StandsAt document other (λ d. IsAddress d y) → x ≢ y
     → Differs document other p.value
 address_differs = other_text IsAddress (λ a. string (address_text a)) (λ d a h. h.text) address_at_once
+
+label_differs : {document : Data} {key other : Key} (x y : ArrayVec ℕ) → (p : StandsAt document key (λ d. IsLabel d x)) → StandsAt document other (λ d. IsLabel d y) → x ≢ y
+    → Differs document other p.value
+label_differs = other_text IsLabel (λ n. string n.items) (λ d n h. h.text) label_once
 
 -- an end to the core that is not that of Control, and one that is
 pub core_sound : (document : Data) (control local : Peer) → StandsAt document ControlLocal (λ d. IsPeer d control) → StandsAt document CoreLocal (λ d. IsPeer d local)
@@ -89,6 +102,14 @@ addresses_differ : (document : Data) (key : Key) (address : Ip4) (earlier : List
 addresses_differ document key address [] are here none i less = absurd (omega arith)
 addresses_differ document key address (x ∷ xs) are here none i less =
     address_differs address (get_or (x ∷ xs) i x).address here (are i x less).address (λ e. none_at (λ circuit. circuit.address ≡ address) (x ∷ xs) none i x less (sym e))
+
+labels_differ : (document : Data) (key : Key) (name : ArrayVec ℕ) (earlier : List NamedRange) → EachPlace (IsPool document) earlier
+    → (here : StandsAt document key (λ d. IsLabel d name)) → (Any (λ pool. pool.name.items ≡ name.items) earlier → ⊥)
+    → (i : ℕ) → i < length earlier → Differs document (PoolName i) here.value
+labels_differ document key name [] are here none i less = absurd (omega arith)
+labels_differ document key name (x ∷ xs) are here none i less =
+    label_differs name (get_or (x ∷ xs) i x).name here (are i x less).name
+    (λ e. none_at (λ pool. pool.name.items ≡ name.items) (x ∷ xs) none i x less (sym (ap (λ n. n.items) e)))
 
 -- an end that none of the sockets has, and one that some has
 module _ (document : Data) (key : Key) (place : ℕ) (control core local : Peer) (earlier : List AccessPort)
@@ -160,14 +181,40 @@ module _ (document : Data) (place : ℕ) (session : SessionNo) (earlier : List S
       let same : (get_or earlier i circuit).session ≡ session = rw at has in
       other_session (shards_of document) session (get_or earlier i circuit).session sound.value sound.found here (are i circuit less).session (sound.is.new i (omega arith)) same
 
--- an address that no earlier circuit has, and one that some has
-module _ (document : Data) (place : ℕ) (address : Ip4) (earlier : List Static)
-    (all : length earlier ≡ place) (are : EachPlace (IsCircuit document) earlier) (here : StandsAt document (StaticAddress place) (λ d. IsAddress d address)) where
-  pub address_sound : (Any (λ circuit. circuit.address ≡ address) earlier → ⊥) → IsSound document (StaticAddress place)
-  address_sound free = fit_of IsAddress address here (λ d h. (address, h))
-      (λ i less. addresses_differ document (StaticAddress place) address earlier are here free i (omega arith))
+-- a name that no earlier pool has, and one that some has
+module _ (document : Data) (place : ℕ) (name : ArrayVec ℕ) (earlier : List NamedRange) (are : ArePoolsOf document place earlier)
+    (here : StandsAt document (PoolName place) (λ d. IsLabel d name)) where
+  pub label_sound : (Any (λ pool. pool.name.items ≡ name.items) earlier → ⊥) → IsSound document (PoolName place)
+  label_sound free = fit_of IsLabel name here (λ d h. (name, h))
+      (λ i less. let all = are.all in labels_differ document (PoolName place) name earlier are.are here free i (omega arith))
+
+  pub label_taken : Any (λ pool. pool.name.items ≡ name.items) earlier → ¬ IsSound document (PoolName place)
+  label_taken (i, pool, less, at, has) sound =
+      let all = are.all in
+      let same : (get_or earlier i pool).name.items ≡ name.items = rw at has in
+      other_label name (get_or earlier i pool).name sound.value sound.found here (are.are i pool less).name (sound.is.new i (omega arith)) (same_items _ _ same)
+
+-- an address that a pool has and no earlier circuit, and one that no pool has or some circuit
+module _ (document : Data) (place : ℕ) (address : Ip4) (pools : List NamedRange) (earlier : List Static)
+    (of : ArePoolsOf document (entries document Pools) pools) (all : length earlier ≡ place) (are : EachPlace (IsCircuit document) earlier)
+    (here : StandsAt document (StaticAddress place) (λ d. IsAddress d address)) where
+  has_pool : (v : Data) → value_at (path_of (StaticAddress place)) document ≡ Some v → Any (λ pool. InRange pool.range address.0) pools → IsPooled document v
+  has_pool v at any a others is are_too =
+      let values : here.value ≡ v = same_Some _ _ (sym here.found ∙ at) in
+      let same : address ≡ a = address_at_once v address a (subst (λ d. IsAddress d address) values here.is) is in
+      let lists : pools ≡ others = pools_once document (entries document Pools) pools others of are_too in
+      subst (λ ps. HasAddress (ranges_of ps) a.0) lists (subst (λ b. HasAddress (ranges_of pools) b.0) same (pooled pools address.0 any))
+
+  pub address_sound : (Any (λ circuit. circuit.address ≡ address) earlier → ⊥) → Any (λ pool. InRange pool.range address.0) pools → IsSound document (StaticAddress place)
+  address_sound free any = fit_of IsAddress address here (λ d h. (address, h))
+      (λ i less. addresses_differ document (StaticAddress place) address earlier are here free i (omega arith), has_pool here.value here.found any)
 
   pub address_taken : Any (λ circuit. circuit.address ≡ address) earlier → ¬ IsSound document (StaticAddress place)
   address_taken (i, circuit, less, at, has) sound =
       let same : (get_or earlier i circuit).address ≡ address = rw at has in
-      other_address address (get_or earlier i circuit).address sound.value sound.found here (are i circuit less).address (sound.is.new i (omega arith)) same
+      other_address address (get_or earlier i circuit).address sound.value sound.found here (are i circuit less).address (sound.is.new.0 i (omega arith)) same
+
+  pub address_outside : (Any (λ pool. InRange pool.range address.0) pools → ⊥) → ¬ IsSound document (StaticAddress place)
+  address_outside none sound =
+      let values : here.value ≡ sound.value = same_Some _ _ (sym here.found ∙ sound.found) in
+      none (in_pool pools address.0 (sound.is.new.1 address pools (subst (λ d. IsAddress d address) values here.is) of))

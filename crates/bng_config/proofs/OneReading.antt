@@ -1,26 +1,30 @@
 -- A text stands for one configuration: each form is the spelling of one value.
-use Rattle.std.proofs.Common.{◌≡◌, ℕ, suc, ◌<◌, ◌/◌, ◌%◌, ◌^◌, false, List, [], ◌∷◌, ◌++◌, length, refl, sym, ap, subst, ◌∙◌, arith, inl, inr}
+use Rattle.std.proofs.Common.{◌≡◌, ℕ, suc, ◌<◌, ◌/◌, ◌%◌, ◌^◌, false, List, [], ◌∷◌, ◌++◌, length, map, refl, sym, ap, subst, ◌∙◌, arith, inl, inr}
 use Rattle.std.specs.Fmt.{decimal, digit_glyph}
 use Rattle.std.proofs.lemmas.Bool.Decides.{nat_tests}
 use Rattle.std.proofs.lemmas.Fmt.{decimal_injective}
 use Rattle.std.proofs.lemmas.Option.{same_Some}
-use Rattle.toml.specs.Data.{Data, table}
+use Rattle.std.specs.List.{All}
+use Rattle.arrayvec.specs.ArrayVec.{ArrayVec}
+use Rattle.toml.specs.Data.{Data, string, table}
+use Rattle.toml.specs.View.{items_of}
 use Rattle.bng_base.specs.declared.address.Ip4.{Ip4}
 use Rattle.bng_base.specs.declared.address.Mac.{Mac}
 use Rattle.bng_base.specs.declared.address.Peer.{Peer}
 use Rattle.bng_base.specs.declared.address.SessionNo.{SessionNo}
 use Rattle.bng_config.specs.declared.config.Config.{Config}
 use Rattle.bng_config.specs.declared.fault.Key.{Key}
-use Rattle.bng_config.specs.declared.fault.Key.TheVariants.{Access}
+use Rattle.bng_config.specs.declared.fault.Key.TheVariants.{Access, Pools}
 use Rattle.bng_base.specs.declared.settings.AccessPort.{AccessPort}
 use Rattle.bng_base.specs.declared.settings.AuthKind.TheVariants.{Chap, Pap}
+use Rattle.bng_base.specs.declared.settings.NamedRange.{NamedRange}
 use Rattle.bng_base.specs.declared.settings.Static.{Static}
 use Rattle.bng_config.specs.Address.{address_text, peer_text, mac_text, octet_text, dot, colon}
-use Rattle.bng_config.specs.Configuration.{StandsAt, StandsOr, IsName, IsNumber, IsSecret, IsUser, AreServices, AreKinds, IsPeer, IsAddress, IsMac, IsSession, IsPortNumber, IsPort, IsCircuit, EachPlace, entries, shards_of, most_shards, fewest_terms, most_terms, longest_echo, most_tries, Configures, IsRead}
+use Rattle.bng_config.specs.Configuration.{StandsAt, StandsOr, IsName, IsNumber, IsSecret, IsUser, AreServices, AreKinds, IsPeer, IsAddress, IsMac, IsSession, IsPortNumber, IsLabel, AreServers, IsPool, ArePoolsOf, IsPort, IsCircuit, EachPlace, entries, shards_of, most_shards, fewest_terms, most_terms, longest_echo, most_tries, Configures, IsRead}
 use Rattle.bng_config.proofs.Numbers.{decimal_without}
 use Rattle.bng_config.proofs.Addresses.{cut_once, address_parts, address_without, peer_parts, second_text, third_text, fourth_text}
 use Rattle.bng_config.proofs.Octets.{six_of, mac_parts, second_text as second_octets, third_text as third_octets, fourth_text as fourth_octets, fifth_text as fifth_octets, sixth_text as sixth_octets}
-use Rattle.bng_config.proofs.Spellings.{same_items, name_once, secret_once, user_once, number_once as range_once, services_once, kinds_once}
+use Rattle.bng_config.proofs.Spellings.{same_items, string_once, items_once, name_once, label_once, secret_once, user_once, number_once as range_once, services_once, kinds_once}
 use Rattle.bng_config.proofs.Exclusive.{one_document}
 
 pub number_once : (m n : ℕ) (x y : List ℕ) → m < 256 → n < 256 → decimal m ++ dot ∷ x ≡ decimal n ++ dot ∷ y → (m ≡ n) × (x ≡ y)
@@ -101,7 +105,7 @@ same_value : {document : Data} {key : Key} {P Q : Data → Type 0} (a : StandsAt
 same_value a b = same_Some _ _ (sym a.found ∙ b.found)
 
 -- what stands at a key is one value of its form
-one_at : {X : Type 0} {document : Data} {key : Key} (Form : Data → X → Type 0) → ((d : Data) (x y : X) → Form d x → Form d y → x ≡ y)
+pub one_at : {X : Type 0} {document : Data} {key : Key} (Form : Data → X → Type 0) → ((d : Data) (x y : X) → Form d x → Form d y → x ≡ y)
     → (x y : X) → StandsAt document key (λ d. Form d x) → StandsAt document key (λ d. Form d y) → x ≡ y
 one_at Form once x y a b = once b.value x y (subst (λ d. Form d x) (same_value a b) a.is) b.is
 
@@ -125,6 +129,31 @@ port_once document place a b p q =
     let macs : a.mac ≡ b.mac = one_at IsMac mac_once a.mac b.mac p.mac q.mac in
     λ i. record { local = locals i; peer = peers i; mac = macs i }
 
+servers_agree : (xs ys : List Ip4) → All (λ a. a.0 < 2 ^ 32) xs → All (λ a. a.0 < 2 ^ 32) ys → map (λ a. string (address_text a)) xs ≡ map (λ a. string (address_text a)) ys → xs ≡ ys
+servers_agree [] [] p q e = refl
+servers_agree [] (y ∷ ys) p q e = cc
+servers_agree (x ∷ xs) [] p q e = cc
+servers_agree (x ∷ xs) (y ∷ ys) p q e =
+    let strings : string (address_text x) ≡ string (address_text y) = cc in
+    let heads : x ≡ y = address_once x y (p 0 x (omega arith)) (q 0 y (omega arith)) (string_once _ _ strings) in
+    let rest : map (λ a. string (address_text a)) xs ≡ map (λ a. string (address_text a)) ys = cc in
+    let tails : xs ≡ ys = servers_agree xs ys (λ i d h. p (suc i) d (omega arith)) (λ i d h. q (suc i) d (omega arith)) rest in
+    cc
+
+servers_once : (d : Data) (a b : ArrayVec Ip4) → AreServers d a → AreServers d b → a ≡ b
+servers_once d a b p q =
+    let lists = sym p.list ∙ q.list in
+    let items : items_of (map (λ x. string (address_text x)) a.items) ≡ items_of (map (λ x. string (address_text x)) b.items) = cc in
+    same_items a b (servers_agree a.items b.items p.are q.are (items_once _ _ items))
+
+pub pool_once : (document : Data) (place : ℕ) (a b : NamedRange) → IsPool document place a → IsPool document place b → a ≡ b
+pool_once document place a b p q =
+    let names : a.name ≡ b.name = one_at IsLabel label_once a.name b.name p.name q.name in
+    let firsts : a.range.first ≡ b.range.first = one_at IsAddress address_at_once a.range.first b.range.first p.first q.first in
+    let lasts : a.range.last ≡ b.range.last = one_at IsAddress address_at_once a.range.last b.range.last p.last q.last in
+    let ranges : a.range ≡ b.range = λ i. record { first = firsts i; last = lasts i } in
+    λ i. record { name = names i; range = ranges i }
+
 circuit_once : (document : Data) (place : ℕ) (a b : Static) → IsCircuit document place a → IsCircuit document place b → a ≡ b
 circuit_once document place a b p q =
     let ports : a.port ≡ b.port = one_at (IsPortNumber (entries document Access)) (port_number_once (entries document Access)) a.port b.port p.port q.port in
@@ -146,18 +175,24 @@ one_list P once (x ∷ xs) (y ∷ ys) long p q =
     let tails : xs ≡ ys = one_list (λ i. P (suc i)) (λ i. once (suc i)) xs ys (omega arith) (λ i d h. p (suc i) d (omega arith)) (λ i d h. q (suc i) d (omega arith)) in
     cc
 
+pub pools_once : (document : Data) (many : ℕ) (xs ys : List NamedRange) → ArePoolsOf document many xs → ArePoolsOf document many ys → xs ≡ ys
+pools_once document many xs ys p q = one_list (IsPool document) (pool_once document) xs ys (p.all ∙ sym q.all) p.are q.are
+
 one_configuration : (document : Data) (a b : Config) → Configures document a → Configures document b → a ≡ b
 one_configuration document a b p q =
     let names : a.name ≡ b.name = one_at IsName name_once a.name b.name p.name q.name in
+    let owns : a.address ≡ b.address = one_at IsAddress address_at_once a.address b.address p.address q.address in
     let shards : a.shards ≡ b.shards = one_or (IsNumber 1 most_shards) (λ n. n ≡ 4) (range_once 1 most_shards) (λ x y e f. e ∙ sym f) a.shards b.shards p.shards q.shards in
     let terms : a.terms ≡ b.terms = one_or (IsNumber fewest_terms most_terms) (λ n. n ≡ 8192) (range_once fewest_terms most_terms) (λ x y e f. e ∙ sym f) a.terms b.terms p.terms q.terms in
     let services : a.services ≡ b.services = one_or AreServices (λ s. s.items ≡ []) services_once (λ x y e f. same_items x y (e ∙ sym f)) a.services b.services p.services q.services in
+    let servers_of_names : a.dns ≡ b.dns = one_or AreServers (λ s. s.items ≡ []) servers_once (λ x y e f. same_items x y (e ∙ sym f)) a.dns b.dns p.dns q.dns in
     let kinds : a.auth ≡ b.auth = one_or AreKinds (λ k. k.items ≡ Chap ∷ Pap ∷ []) kinds_once (λ x y e f. same_items x y (e ∙ sym f)) a.auth b.auth p.auth q.auth in
     let echos : a.echo ≡ b.echo = one_or (IsNumber 0 longest_echo) (λ n. n ≡ 30) (range_once 0 longest_echo) (λ x y e f. e ∙ sym f) a.echo b.echo p.echo q.echo in
     let controls : a.control_local ≡ b.control_local = one_at IsPeer peer_once a.control_local b.control_local p.control_local q.control_local in
     let locals : a.core_local ≡ b.core_local = one_at IsPeer peer_once a.core_local b.core_local p.core_local q.core_local in
     let peers : a.core_peer ≡ b.core_peer = one_at IsPeer peer_once a.core_peer b.core_peer p.core_peer q.core_peer in
     let ports : a.access ≡ b.access = one_list (IsPort document) (port_once document) a.access b.access (p.all_ports ∙ sym q.all_ports) p.access q.access in
+    let pools : a.pools ≡ b.pools = pools_once document (entries document Pools) a.pools b.pools p.pools q.pools in
     let circuits : a.statics ≡ b.statics = one_list (IsCircuit document) (circuit_once document) a.statics b.statics (p.all_circuits ∙ sym q.all_circuits) p.statics q.statics in
     let nas : a.nas_ip ≡ b.nas_ip = one_at IsAddress address_at_once a.nas_ip b.nas_ip p.nas_ip q.nas_ip in
     let auths : a.auth_local ≡ b.auth_local = one_at IsPeer peer_once a.auth_local b.auth_local p.auth_local q.auth_local in
@@ -185,6 +220,9 @@ one_configuration document a b p q =
       terms = terms i;
       acct_local = accounts i;
       acct_server = accountants i;
+      address = owns i;
+      dns = servers_of_names i;
+      pools = pools i;
     }
 
 -- a text says one configuration

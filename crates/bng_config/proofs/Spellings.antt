@@ -5,7 +5,7 @@ use Rattle.toml.specs.Data.{Data, string}
 use Rattle.toml.specs.View.{items_of}
 use Rattle.bng_base.specs.declared.settings.AuthKind.{AuthKind}
 use Rattle.bng_base.specs.declared.settings.AuthKind.TheVariants.{Chap, Pap}
-use Rattle.bng_config.specs.Configuration.{IsName, IsSecret, IsUser, IsNumber, AreServices, AreKinds, list_of, kind_text}
+use Rattle.bng_config.specs.Configuration.{IsName, IsLabel, IsSecret, IsUser, IsNumber, AreServices, AreKinds, list_of, kind_text}
 
 pub same_items : {X : Type 0} (a b : ArrayVec X) → a.items ≡ b.items → a ≡ b
 same_items {X} a b same =
@@ -17,6 +17,9 @@ string_once s t e = cc
 
 pub name_once : (d : Data) (m n : ArrayVec ℕ) → IsName d m → IsName d n → m ≡ n
 name_once d m n p q = same_items m n (string_once m.items n.items (sym p.text ∙ q.text))
+
+pub label_once : (d : Data) (m n : ArrayVec ℕ) → IsLabel d m → IsLabel d n → m ≡ n
+label_once d m n p q = same_items m n (string_once m.items n.items (sym p.text ∙ q.text))
 
 pub secret_once : (d : Data) (m n : ArrayVec ℕ) → IsSecret d m → IsSecret d n → m ≡ n
 secret_once d m n p q = same_items m n (string_once m.items n.items (sym p.text ∙ q.text))

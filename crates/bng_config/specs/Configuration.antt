@@ -12,17 +12,19 @@ use Rattle.bng_base.specs.declared.address.SessionNo.{SessionNo}
 use Rattle.bng_base.specs.declared.settings.AccessPort.{AccessPort}
 use Rattle.bng_base.specs.declared.settings.AuthKind.{AuthKind}
 use Rattle.bng_base.specs.declared.settings.AuthKind.TheVariants.{Chap, Pap}
+use Rattle.bng_base.specs.declared.settings.NamedRange.{NamedRange}
 use Rattle.bng_base.specs.declared.settings.Static.{Static}
 use Rattle.bng_config.specs.declared.config.Config.{Config}
 use Rattle.bng_config.specs.declared.fault.Key.{Key}
-use Rattle.bng_config.specs.declared.fault.Key.TheVariants.{GatewayName, GatewayShards, GatewayTerms, GatewayServices, GatewayAuth, GatewayEcho, ControlLocal, CoreLocal, CorePeer, Access, AccessLocal, AccessPeer, AccessMac, Statics, StaticPort, StaticMac, StaticSession, StaticAddress, StaticUser, GatewayNasIp, RadiusAuthLocal, RadiusAuthServer, RadiusAcctLocal, RadiusAcctServer, RadiusSecret, RadiusTries}
+use Rattle.bng_config.specs.declared.fault.Key.TheVariants.{GatewayName, GatewayAddress, GatewayShards, GatewayTerms, GatewayServices, GatewayDns, GatewayAuth, GatewayEcho, ControlLocal, CoreLocal, CorePeer, Access, AccessLocal, AccessPeer, AccessMac, Pools, PoolName, PoolFirst, PoolLast, Statics, StaticPort, StaticMac, StaticSession, StaticAddress, StaticUser, GatewayNasIp, RadiusAuthLocal, RadiusAuthServer, RadiusAcctLocal, RadiusAcctServer, RadiusSecret, RadiusTries}
 use Rattle.bng_config.specs.declared.fault.Fault.{Fault}
 use Rattle.bng_config.specs.declared.fault.Fault.TheVariants.{TooLong, NotToml, OutsideForm}
 use Rattle.bng_config.specs.declared.fault.ConfigError.{ConfigError}
 use Rattle.bng_config.specs.declared.fault.ConfigError.TheVariants.{Refused, OutOfMemory}
 use Rattle.bng_config.specs.Address.{address_text, peer_text, mac_text}
-use Rattle.bng_config.specs.Keys.{Step, named, placed, path_of, gateway_keys, end_keys, access_keys, static_keys, radius_keys, of_entries}
-use Rattle.bng_config.specs.Rules.{IsGatewayName, IsServiceName, IsSharedSecret, IsUserName, IsSessionOf}
+use Rattle.bng_config.specs.Keys.{Step, named, placed, path_of, gateway_keys, end_keys, access_keys, pool_keys, static_keys, radius_keys, of_entries}
+use Rattle.bng_config.specs.Pools.{HasAddress, ArePoolsBeside, ranges_of}
+use Rattle.bng_config.specs.Rules.{IsGatewayName, IsServiceName, IsPoolName, IsSharedSecret, IsUserName, IsSessionOf}
 
 -- the longest text that is read, in octets
 abbrev pub longest_text : ℕ
@@ -46,9 +48,12 @@ most_terms = 262144
 abbrev pub most_tries : ℕ
 most_tries = 10
 
--- the most access ports, and the most circuits
+-- the most access ports, the most pools, and the most circuits
 abbrev pub most_ports : ℕ
 most_ports = 16
+
+abbrev pub most_pools : ℕ
+most_pools = 16
 
 abbrev pub most_circuits : ℕ
 most_circuits = 1024
@@ -86,16 +91,19 @@ shards_of document = natural_or 4 (option_and_then as_integer (value_at (path_of
 abbrev pub terms_of : Data → ℕ
 terms_of document = natural_or 8192 (option_and_then as_integer (value_at (path_of GatewayTerms) document))
 
--- the keys of the access ports, and of the circuits, each after that of the list
+-- the keys of the access ports, of the pools, and of the circuits, each after that of the list
 abbrev pub port_keys : Data → List Key
 port_keys document = Access ∷ of_entries access_keys (entries document Access)
+
+abbrev pub range_keys : Data → List Key
+range_keys document = Pools ∷ of_entries pool_keys (entries document Pools)
 
 abbrev pub circuit_keys : Data → List Key
 circuit_keys document = Statics ∷ of_entries static_keys (entries document Statics)
 
 -- the order in which the keys of the document are looked at
 abbrev pub keys : Data → List Key
-keys document = gateway_keys ++ end_keys ++ port_keys document ++ circuit_keys document ++ radius_keys
+keys document = gateway_keys ++ end_keys ++ port_keys document ++ range_keys document ++ circuit_keys document ++ radius_keys
 
 -- a list of this many items at least and at most
 pub record IsList (low high : ℕ) (d : Data) : Type 0 where
@@ -108,6 +116,11 @@ pub record IsList (low high : ℕ) (d : Data) : Type 0 where
 pub record IsName (d : Data) (name : ArrayVec ℕ) : Type 0 where
   pub text : d ≡ string name.items
   pub is : IsGatewayName name.items
+
+-- a text that names a pool
+pub record IsLabel (d : Data) (name : ArrayVec ℕ) : Type 0 where
+  pub text : d ≡ string name.items
+  pub is : IsPoolName name.items
 
 -- a text that is a secret
 pub record IsSecret (d : Data) (secret : ArrayVec ℕ) : Type 0 where
@@ -163,6 +176,12 @@ pub record IsAddress (d : Data) (a : Ip4) : Type 0 where
   pub text : d ≡ string (address_text a)
   pub address : a.0 < 2 ^ 32
 
+-- a list of at most two texts of addresses
+pub record AreServers (d : Data) (servers : ArrayVec Ip4) : Type 0 where
+  pub list : d ≡ list_of address_text servers.items
+  pub few : length servers.items ≤ 2
+  pub are : All (λ a. a.0 < 2 ^ 32) servers.items
+
 -- a text of six octets
 pub record IsMac (d : Data) (m : Mac) : Type 0 where
   pub text : d ≡ string (mac_text m)
@@ -183,9 +202,11 @@ pub record IsPortNumber (ports : ℕ) (d : Data) (n : ℕ) : Type 0 where
 -- the form of what stands at a key
 abbrev pub HasForm : Data → Key → Data → Type 0
 HasForm document GatewayName d = (n : ArrayVec ℕ) × IsName d n
+HasForm document GatewayAddress d = (a : Ip4) × IsAddress d a
 HasForm document GatewayShards d = (n : ℕ) × IsNumber 1 most_shards d n
 HasForm document GatewayTerms d = (n : ℕ) × IsNumber fewest_terms most_terms d n
 HasForm document GatewayServices d = (s : ArrayVec (ArrayVec ℕ)) × AreServices d s
+HasForm document GatewayDns d = (s : ArrayVec Ip4) × AreServers d s
 HasForm document GatewayAuth d = (k : ArrayVec AuthKind) × AreKinds d k
 HasForm document GatewayEcho d = (n : ℕ) × IsNumber 0 longest_echo d n
 HasForm document ControlLocal d = (p : Peer) × IsPeer d p
@@ -195,6 +216,10 @@ HasForm document Access d = IsList 1 most_ports d
 HasForm document (AccessLocal place) d = (p : Peer) × IsPeer d p
 HasForm document (AccessPeer place) d = (p : Peer) × IsPeer d p
 HasForm document (AccessMac place) d = (m : Mac) × IsMac d m
+HasForm document Pools d = IsList 1 most_pools d
+HasForm document (PoolName place) d = (n : ArrayVec ℕ) × IsLabel d n
+HasForm document (PoolFirst place) d = (a : Ip4) × IsAddress d a
+HasForm document (PoolLast place) d = (a : Ip4) × IsAddress d a
 HasForm document Statics d = IsList 0 most_circuits d × IsList 0 (terms_of document) d
 HasForm document (StaticPort place) d = (n : ℕ) × IsPortNumber (entries document Access) d n
 HasForm document (StaticMac place) d = (m : Mac) × IsMac d m
@@ -209,6 +234,36 @@ HasForm document RadiusAcctServer d = (p : Peer) × IsPeer d p
 HasForm document RadiusSecret d = (s : ArrayVec ℕ) × IsSecret d s
 HasForm document RadiusTries d = (n : ℕ) × IsNumber 1 most_tries d n
 
+-- what stands at the key is such a value
+pub record StandsAt (document : Data) (key : Key) (P : Data → Type 0) : Type 0 where
+  pub value : Data
+  pub found : value_at (path_of key) document ≡ Some value
+  pub is : P value
+
+-- what is said of a place holds of each item at its place
+abbrev pub EachPlace : {X : Type 0} → (ℕ → X → Type 0) → List X → Type 0
+EachPlace {X} P xs = (i : ℕ) (d : X) → i < length xs → P i (slice_index_or xs i d)
+
+-- the pool is what stands at the entry of this place
+pub record IsPool (document : Data) (place : ℕ) (pool : NamedRange) : Type 0 where
+  pub name : StandsAt document (PoolName place) (λ d. IsLabel d pool.name)
+  pub first : StandsAt document (PoolFirst place) (λ d. IsAddress d pool.range.first)
+  pub last : StandsAt document (PoolLast place) (λ d. IsAddress d pool.range.last)
+
+-- these are the pools of the first entries, this many
+pub record ArePoolsOf (document : Data) (many : ℕ) (pools : List NamedRange) : Type 0 where
+  pub all : length pools ≡ many
+  pub are : EachPlace (IsPool document) pools
+
+-- the pools of the first entries, this many, are apart and without the gateway's own address
+abbrev pub HasApartPools : Data → ℕ → Type 0
+HasApartPools document many = (own : Ip4) (pools : List NamedRange) → StandsAt document GatewayAddress (λ d. IsAddress d own) → ArePoolsOf document many pools
+    → ArePoolsBeside own.0 (ranges_of pools)
+
+-- it is an address of a pool
+abbrev pub IsPooled : Data → Data → Type 0
+IsPooled document d = (a : Ip4) (pools : List NamedRange) → IsAddress d a → ArePoolsOf document (entries document Pools) pools → HasAddress (ranges_of pools) a.0
+
 -- another value stands at the key, or none
 abbrev pub Differs : Data → Key → Data → Type 0
 Differs document key d = value_at (path_of key) document ≢ Some d
@@ -218,21 +273,18 @@ abbrev pub IsFreeEnd : Data → ℕ → Data → Type 0
 IsFreeEnd document ports d =
     Differs document ControlLocal d × Differs document CoreLocal d × ((i : ℕ) → i < ports → Differs document (AccessLocal i) d)
 
--- no earlier socket of the gateway has this end, no earlier circuit this session, and none this address
+-- no earlier socket of the gateway has this end, no earlier pool this name, no earlier circuit this session, and none this
+-- address, which a pool has; the range that ends here is apart from the earlier ones
 abbrev pub IsNew : Data → Key → Data → Type 0
 IsNew document CoreLocal d = Differs document ControlLocal d
 IsNew document (AccessLocal place) d = IsFreeEnd document place d
 IsNew document RadiusAuthLocal d = IsFreeEnd document (entries document Access) d
 IsNew document RadiusAcctLocal d = Differs document RadiusAuthLocal d × IsFreeEnd document (entries document Access) d
+IsNew document (PoolName place) d = (i : ℕ) → i < place → Differs document (PoolName i) d
+IsNew document (PoolLast place) d = HasApartPools document (suc place)
 IsNew document (StaticSession place) d = (i : ℕ) → i < place → Differs document (StaticSession i) d
-IsNew document (StaticAddress place) d = (i : ℕ) → i < place → Differs document (StaticAddress i) d
+IsNew document (StaticAddress place) d = ((i : ℕ) → i < place → Differs document (StaticAddress i) d) × IsPooled document d
 IsNew document key d = ⊤
-
--- what stands at the key is such a value
-pub record StandsAt (document : Data) (key : Key) (P : Data → Type 0) : Type 0 where
-  pub value : Data
-  pub found : value_at (path_of key) document ≡ Some value
-  pub is : P value
 
 -- what stands at the key is such a value, or nothing stands there and the default counts
 abbrev pub StandsOr : Data → Key → (Data → Type 0) → Type 0 → Type 0
@@ -247,11 +299,12 @@ pub record IsFit (document : Data) (key : Key) (d : Data) : Type 0 where
 abbrev pub IsFitOrAbsent : Data → Key → Type 0
 IsFitOrAbsent document key = (value_at (path_of key) document ≡ None) ⊎ StandsAt document key (IsFit document key)
 
--- the key is there, and in its form; five keys of the gateway, the list of circuits and the tries may be absent
+-- the key is there, and in its form; six keys of the gateway, the list of circuits and the tries may be absent
 abbrev pub IsSound : Data → Key → Type 0
 IsSound document GatewayShards = IsFitOrAbsent document GatewayShards
 IsSound document GatewayTerms = IsFitOrAbsent document GatewayTerms
 IsSound document GatewayServices = IsFitOrAbsent document GatewayServices
+IsSound document GatewayDns = IsFitOrAbsent document GatewayDns
 IsSound document GatewayAuth = IsFitOrAbsent document GatewayAuth
 IsSound document GatewayEcho = IsFitOrAbsent document GatewayEcho
 IsSound document Statics = IsFitOrAbsent document Statics
@@ -288,17 +341,15 @@ pub record IsCircuit (document : Data) (place : ℕ) (circuit : Static) : Type 0
   pub user : StandsAt document (StaticUser place) (λ d. IsUser d circuit.user)
   pub profile : circuit.profile ≡ 0
 
--- what is said of a place holds of each item at its place
-abbrev pub EachPlace : {X : Type 0} → (ℕ → X → Type 0) → List X → Type 0
-EachPlace {X} P xs = (i : ℕ) (d : X) → i < length xs → P i (slice_index_or xs i d)
-
 -- no key is missing or outside its form, and the configuration is what stands at the keys
 pub record Configures (document : Data) (c : Config) : Type 0 where
   pub sound : AreSound document (keys document)
   pub name : StandsAt document GatewayName (λ d. IsName d c.name)
+  pub address : StandsAt document GatewayAddress (λ d. IsAddress d c.address)
   pub shards : StandsOr document GatewayShards (λ d. IsNumber 1 most_shards d c.shards) (c.shards ≡ 4)
   pub terms : StandsOr document GatewayTerms (λ d. IsNumber fewest_terms most_terms d c.terms) (c.terms ≡ 8192)
   pub services : StandsOr document GatewayServices (λ d. AreServices d c.services) (c.services.items ≡ [])
+  pub dns : StandsOr document GatewayDns (λ d. AreServers d c.dns) (c.dns.items ≡ [])
   pub auth : StandsOr document GatewayAuth (λ d. AreKinds d c.auth) (c.auth.items ≡ Chap ∷ Pap ∷ [])
   pub echo : StandsOr document GatewayEcho (λ d. IsNumber 0 longest_echo d c.echo) (c.echo ≡ 30)
   pub control_local : StandsAt document ControlLocal (λ d. IsPeer d c.control_local)
@@ -306,6 +357,7 @@ pub record Configures (document : Data) (c : Config) : Type 0 where
   pub core_peer : StandsAt document CorePeer (λ d. IsPeer d c.core_peer)
   pub all_ports : length c.access ≡ entries document Access
   pub access : EachPlace (IsPort document) c.access
+  pub pools : ArePoolsOf document (entries document Pools) c.pools
   pub all_circuits : length c.statics ≡ entries document Statics
   pub statics : EachPlace (IsCircuit document) c.statics
   pub nas_ip : StandsAt document GatewayNasIp (λ d. IsAddress d c.nas_ip)

@@ -3,7 +3,7 @@ use Rattle.std.specs.Prelude.{ℕ, zero, suc, ◌+◌, List, [], ◌∷◌, ◌+
 use Rattle.std.specs.Fmt.{decimal}
 use Rattle.std.specs.List.{join_with_byte}
 use Rattle.bng_config.specs.declared.fault.Key.{Key}
-use Rattle.bng_config.specs.declared.fault.Key.TheVariants.{GatewayName, GatewayShards, GatewayTerms, GatewayServices, GatewayAuth, GatewayEcho, ControlLocal, CoreLocal, CorePeer, Access, AccessLocal, AccessPeer, AccessMac, Statics, StaticPort, StaticMac, StaticSession, StaticAddress, StaticUser, GatewayNasIp, RadiusAuthLocal, RadiusAuthServer, RadiusAcctLocal, RadiusAcctServer, RadiusSecret, RadiusTries}
+use Rattle.bng_config.specs.declared.fault.Key.TheVariants.{GatewayName, GatewayAddress, GatewayShards, GatewayTerms, GatewayServices, GatewayDns, GatewayAuth, GatewayEcho, ControlLocal, CoreLocal, CorePeer, Access, AccessLocal, AccessPeer, AccessMac, Pools, PoolName, PoolFirst, PoolLast, Statics, StaticPort, StaticMac, StaticSession, StaticAddress, StaticUser, GatewayNasIp, RadiusAuthLocal, RadiusAuthServer, RadiusAcctLocal, RadiusAcctServer, RadiusSecret, RadiusTries}
 use Rattle.bng_config.specs.declared.fault.Fault.{Fault}
 use Rattle.bng_config.specs.declared.fault.Fault.TheVariants.{TooLong, NotToml, OutsideForm}
 
@@ -19,9 +19,11 @@ in_entry list place name = named list ∷ placed place ∷ named name ∷ []
 -- where a key stands
 abbrev pub path_of : Key → List Step
 path_of GatewayName = named (codes "gateway") ∷ named (codes "name") ∷ []
+path_of GatewayAddress = named (codes "gateway") ∷ named (codes "address") ∷ []
 path_of GatewayShards = named (codes "gateway") ∷ named (codes "shards") ∷ []
 path_of GatewayTerms = named (codes "gateway") ∷ named (codes "terms") ∷ []
 path_of GatewayServices = named (codes "gateway") ∷ named (codes "services") ∷ []
+path_of GatewayDns = named (codes "gateway") ∷ named (codes "dns") ∷ []
 path_of GatewayAuth = named (codes "gateway") ∷ named (codes "auth") ∷ []
 path_of GatewayEcho = named (codes "gateway") ∷ named (codes "echo") ∷ []
 path_of ControlLocal = named (codes "control") ∷ named (codes "local") ∷ []
@@ -31,6 +33,10 @@ path_of Access = named (codes "access") ∷ []
 path_of (AccessLocal place) = in_entry (codes "access") place (codes "local")
 path_of (AccessPeer place) = in_entry (codes "access") place (codes "peer")
 path_of (AccessMac place) = in_entry (codes "access") place (codes "mac")
+path_of Pools = named (codes "pool") ∷ []
+path_of (PoolName place) = in_entry (codes "pool") place (codes "name")
+path_of (PoolFirst place) = in_entry (codes "pool") place (codes "first")
+path_of (PoolLast place) = in_entry (codes "pool") place (codes "last")
 path_of Statics = named (codes "static") ∷ []
 path_of (StaticPort place) = in_entry (codes "static") place (codes "port")
 path_of (StaticMac place) = in_entry (codes "static") place (codes "mac")
@@ -47,15 +53,21 @@ path_of RadiusTries = named (codes "radius") ∷ named (codes "tries") ∷ []
 
 -- the keys of the gateway itself, which are looked at first
 abbrev pub gateway_keys : List Key
-gateway_keys = GatewayName ∷ GatewayShards ∷ GatewayTerms ∷ GatewayServices ∷ GatewayAuth ∷ GatewayEcho ∷ []
+gateway_keys = GatewayName ∷ GatewayAddress ∷ GatewayShards ∷ GatewayTerms ∷ GatewayServices ∷ GatewayDns ∷ GatewayAuth ∷ GatewayEcho ∷ []
 
 -- the keys of the ends that there are once
 abbrev pub end_keys : List Key
 end_keys = ControlLocal ∷ CoreLocal ∷ CorePeer ∷ []
 
--- the keys of an access port, and of a circuit
+-- the keys of an access port, of a pool, the two of its range among them, and of a circuit
 abbrev pub access_keys : ℕ → List Key
 access_keys place = AccessLocal place ∷ AccessPeer place ∷ AccessMac place ∷ []
+
+abbrev pub range_end_keys : ℕ → List Key
+range_end_keys place = PoolFirst place ∷ PoolLast place ∷ []
+
+abbrev pub pool_keys : ℕ → List Key
+pool_keys place = PoolName place ∷ range_end_keys place
 
 abbrev pub static_keys : ℕ → List Key
 static_keys place = StaticPort place ∷ StaticMac place ∷ StaticSession place ∷ StaticAddress place ∷ StaticUser place ∷ []

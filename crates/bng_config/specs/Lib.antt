@@ -1,3 +1,4 @@
+pub mod Pools
 pub mod Rules
 pub mod Address
 pub mod Keys

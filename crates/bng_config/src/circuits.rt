@@ -3,12 +3,13 @@ ghost use Rattle.std.specs.Prelude.{◌≡◌, ◌≤◌, ◌↔◌, ℕ, IsTrue
 ghost use Rattle.std.specs.List.{Any};
 ghost use Rattle.toml.specs.View.{view};
 ghost use Rattle.bng_config.specs.Keys.{static_keys};
-ghost use Rattle.bng_config.specs.Configuration.{StandsAt, IsSession, IsAddress, IsCircuit, IsSound, AreSound, IsFirstOf, EachPlace, circuit_keys, entries, shards_of, terms_of, IsKeyOrMemory};
+ghost use Rattle.bng_config.specs.Configuration.{StandsAt, IsSession, IsAddress, IsCircuit, ArePoolsOf, IsSound, AreSound, IsFirstOf, EachPlace, circuit_keys, entries, shards_of, terms_of, IsKeyOrMemory};
 
 use crate::fault::{ConfigError, Key};
 use crate::find::{count_at, value_of};
+use crate::pools::has_address as pool_has;
 use crate::values::{address_at, mac_at, port_number_at, session_at, user_at};
-use bng_base::{Ip4, SessionNo, Static};
+use bng_base::{Ip4, NamedRange, SessionNo, Static};
 use std::alloc::Global;
 use toml::Value;
 
@@ -16,19 +17,21 @@ use toml::Value;
 const MOST: usize = 1024;
 
 /// The circuits of the document, or the first of their keys that is missing or outside its form. `shards` is the number
-/// of shards, `terms` that of terms for which there is room, and `ports` that of access ports.
+/// of shards, `terms` that of terms for which there is room, `ports` that of access ports, and `pools` all pools.
 pub(crate) fn circuits_of(
     alloc: Global,
     document: &Value,
     shards: u16,
     terms: u32,
     ports: usize,
+    pools: &[NamedRange],
 ) -> Result<Vec<Static>, ConfigError>
     requires shards { shards ≡ shards_of (view document.now) }
     requires terms { terms ≡ terms_of (view document.now) }
     requires few_shards { shards ≤ 64 }
     requires all { ports ≡ entries (view document.now) Key.Access }
     requires few { ports ≤ 16 }
+    requires pools { ArePoolsOf (view document.now) (entries (view document.now) Key.Pools) pools.now }
     ensures all { IfOk result (λ circuits. length circuits.items ≡ entries (view document.now) Key.Statics) }
     ensures found { IfOk result (λ circuits. EachPlace (IsCircuit (view document.now)) circuits.items) }
     ensures sound { OnOk result (AreSound (view document.now) (circuit_keys (view document.now))) }
@@ -37,7 +40,7 @@ pub(crate) fn circuits_of(
     let count = count_of(document, terms)?;
     let mut circuits = Vec::new(alloc);
     for place in 0..count {
-        let circuit = circuit_at(document, place, shards, ports, circuits.as_slice())?;
+        let circuit = circuit_at(document, place, shards, ports, pools, circuits.as_slice())?;
         circuits.push(circuit)?;
     }
     Ok(circuits)
@@ -73,12 +76,14 @@ fn circuit_at(
     place: u16,
     shards: u16,
     ports: usize,
+    pools: &[NamedRange],
     earlier: &[Static],
 ) -> Result<Static, Key>
     requires shards { shards ≡ shards_of (view document.now) }
     requires few_shards { shards ≤ 64 }
     requires ports { ports ≡ entries (view document.now) Key.Access }
     requires few { ports ≤ 16 }
+    requires pools { ArePoolsOf (view document.now) (entries (view document.now) Key.Pools) pools.now }
     requires all { length earlier.now ≡ place }
     requires earlier { EachPlace (IsCircuit (view document.now)) earlier.now }
     ensures found { IfOk result (λ circuit. IsCircuit (view document.now) place circuit) }
@@ -88,7 +93,7 @@ fn circuit_at(
     let port = port_number_at(document, Key::StaticPort(place), ports)?;
     let mac = mac_at(document, Key::StaticMac(place))?;
     let session = new_session_at(document, place, shards, earlier)?;
-    let address = new_address_at(document, place, earlier)?;
+    let address = new_address_at(document, place, pools, earlier)?;
     let user = user_at(document, Key::StaticUser(place))?;
     Ok(Static {
         port,
@@ -128,8 +133,14 @@ fn new_session_at(
     }
 }
 
-// The address of the circuit, which no earlier one has.
-fn new_address_at(document: &Value, place: u16, earlier: &[Static]) -> Result<Ip4, Key>
+// The address of the circuit, which a pool has and no earlier circuit.
+fn new_address_at(
+    document: &Value,
+    place: u16,
+    pools: &[NamedRange],
+    earlier: &[Static],
+) -> Result<Ip4, Key>
+    requires pools { ArePoolsOf (view document.now) (entries (view document.now) Key.Pools) pools.now }
     requires all { length earlier.now ≡ place }
     requires earlier { EachPlace (IsCircuit (view document.now)) earlier.now }
     ensures found { IfOk result (λ a. StandsAt (view document.now) (Key.StaticAddress place) (λ d. IsAddress d a)) }
@@ -141,8 +152,10 @@ fn new_address_at(document: &Value, place: u16, earlier: &[Static]) -> Result<Ip
         Ok(address) => {
             if has_address(earlier, address) {
                 Err(Key::StaticAddress(place))
-            } else {
+            } else if pool_has(pools, address) {
                 Ok(address)
+            } else {
+                Err(Key::StaticAddress(place))
             }
         }
         Err(key) => Err(key),

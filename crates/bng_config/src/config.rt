@@ -1,5 +1,5 @@
 use arrayvec::ArrayVec;
-use bng_base::{AccessPort, AuthKind, Ip4, Listed, Peer, Static};
+use bng_base::{AccessPort, AuthKind, Ip4, Listed, NamedRange, Peer, Static};
 
 /// What the gateway serves: its name, of 1 to 64 printable octets of ASCII without space; the number of its shards, 1 to
 /// 64; the services that it offers beside any, at most 8 of 1 to 64 octets each; the ways to authenticate that it asks
@@ -31,4 +31,11 @@ pub struct Config {
     pub terms: u32,
     pub acct_local: Peer,
     pub acct_server: Peer,
+    /// The gateway's own IPv4 address on links (IPCP's IP-Address, RFC 1332 section 3.3). No pool has it.
+    pub address: Ip4,
+    /// The servers of names that it tells subscribers of, the primary one first (RFC 1877 sections 1.1 and 1.3).
+    pub dns: ArrayVec<Ip4, 2>,
+    /// The pools of addresses for subscribers, 1 to 16. Their names are different, 1 to 32 of `a` to `z`, `0` to `9`, `-`
+    /// and `_` each; no address is in two of them; together they have at most 262,144; each circuit's address is in one.
+    pub pools: Listed<NamedRange>,
 }

@@ -5,12 +5,16 @@ use std::alloc::AllocFailed;
 pub enum Key {
     /// `gateway.name`
     GatewayName,
+    /// `gateway.address`
+    GatewayAddress,
     /// `gateway.shards`
     GatewayShards,
     /// `gateway.terms`
     GatewayTerms,
     /// `gateway.services`
     GatewayServices,
+    /// `gateway.dns`
+    GatewayDns,
     /// `gateway.auth`
     GatewayAuth,
     /// `gateway.echo`
@@ -29,6 +33,14 @@ pub enum Key {
     AccessPeer(u16),
     /// `access.1.mac` at place 0
     AccessMac(u16),
+    /// `pool`
+    Pools,
+    /// `pool.1.name` at place 0
+    PoolName(u16),
+    /// `pool.1.first` at place 0
+    PoolFirst(u16),
+    /// `pool.1.last` at place 0
+    PoolLast(u16),
     /// `static`
     Statics,
     /// `static.1.port` at place 0

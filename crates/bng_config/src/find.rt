@@ -55,9 +55,11 @@ pub(crate) fn value_of(document: &Value, key: Key) -> Option<&Value>
 {
     match key {
         Key::GatewayName => in_table(document, "gateway", "name"),
+        Key::GatewayAddress => in_table(document, "gateway", "address"),
         Key::GatewayShards => in_table(document, "gateway", "shards"),
         Key::GatewayTerms => in_table(document, "gateway", "terms"),
         Key::GatewayServices => in_table(document, "gateway", "services"),
+        Key::GatewayDns => in_table(document, "gateway", "dns"),
         Key::GatewayAuth => in_table(document, "gateway", "auth"),
         Key::GatewayEcho => in_table(document, "gateway", "echo"),
         Key::ControlLocal => in_table(document, "control", "local"),
@@ -67,6 +69,10 @@ pub(crate) fn value_of(document: &Value, key: Key) -> Option<&Value>
         Key::AccessLocal(place) => in_list(document, "access", place, "local"),
         Key::AccessPeer(place) => in_list(document, "access", place, "peer"),
         Key::AccessMac(place) => in_list(document, "access", place, "mac"),
+        Key::Pools => document.get("pool"),
+        Key::PoolName(place) => in_list(document, "pool", place, "name"),
+        Key::PoolFirst(place) => in_list(document, "pool", place, "first"),
+        Key::PoolLast(place) => in_list(document, "pool", place, "last"),
         Key::Statics => document.get("static"),
         Key::StaticPort(place) => in_list(document, "static", place, "port"),
         Key::StaticMac(place) => in_list(document, "static", place, "mac"),

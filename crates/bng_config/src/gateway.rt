@@ -6,9 +6,11 @@ ghost use Rattle.bng_config.specs.Configuration.{AreSound, IsFirstOf};
 ghost use Rattle.bng_config.specs.Gateway.{IsGateway};
 
 use crate::fault::Key;
-use crate::values::{kinds_or_both, name_at, number_or, services_or_none};
+use crate::values::{
+    address_at, kinds_or_both, name_at, number_or, servers_or_none, services_or_none,
+};
 use arrayvec::ArrayVec;
-use bng_base::AuthKind;
+use bng_base::{AuthKind, Ip4};
 use toml::Value;
 
 /// The most shards.
@@ -24,9 +26,11 @@ const LONGEST_ECHO: u32 = 3600;
 #[derive(Drop)]
 pub(crate) struct Gateway {
     pub name: ArrayVec<u8, 64>,
+    pub address: Ip4,
     pub shards: u16,
     pub terms: u32,
     pub services: ArrayVec<ArrayVec<u8, 64>, 12>,
+    pub dns: ArrayVec<Ip4, 2>,
     pub auth: ArrayVec<AuthKind, 2>,
     pub echo: u16,
 }
@@ -38,16 +42,20 @@ pub(crate) fn gateway_of(document: &Value) -> Result<Gateway, Key>
     ensures refused { IfErr result (λ key. IsFirstOf (view document.now) gateway_keys key) }
 {
     let name = name_at(document, Key::GatewayName)?;
+    let address = address_at(document, Key::GatewayAddress)?;
     let shards = number_or(document, Key::GatewayShards, 1, MOST_SHARDS, 4)?;
     let terms = number_or(document, Key::GatewayTerms, FEWEST_TERMS, MOST_TERMS, 8192)?;
     let services = services_or_none(document, Key::GatewayServices)?;
+    let dns = servers_or_none(document, Key::GatewayDns)?;
     let auth = kinds_or_both(document, Key::GatewayAuth)?;
     let echo = number_or(document, Key::GatewayEcho, 0, LONGEST_ECHO, 30)?;
     Ok(Gateway {
         name,
+        address,
         shards: shards as u16,
         terms,
         services,
+        dns,
         auth,
         echo: echo as u16,
     })

@@ -5,6 +5,7 @@
 mod access;
 mod circuits;
 mod config;
+mod dns;
 mod ends;
 mod fault;
 mod find;
@@ -13,6 +14,7 @@ mod kinds;
 mod mac;
 mod names;
 mod peer;
+mod pools;
 mod radius;
 mod reading;
 mod session;

@@ -1,9 +1,9 @@
-//! The names of the gateway and of its services, and other texts of a few octets.
+//! The names of the gateway, of its services and of pools, and other texts of a few octets.
 ghost use Rattle.std.specs.Prelude.{◌≡◌, ◌≤◌, ◌↔◌, ℕ, All, IsTrue, IfSome, IfNone, length};
 ghost use Rattle.arrayvec.specs.ArrayVec.{ArrayVec as Few};
 ghost use Rattle.toml.specs.Data.{array};
 ghost use Rattle.toml.specs.View.{view, items_view};
-ghost use Rattle.bng_config.specs.Rules.{IsPrintable, IsGatewayName};
+ghost use Rattle.bng_config.specs.Rules.{IsPrintable, IsGatewayName, IsLabelOctet, IsPoolName};
 ghost use Rattle.bng_config.specs.Configuration.{AreServices, IsService};
 
 use arrayvec::ArrayVec;
@@ -29,6 +29,34 @@ fn is_printable(text: &[u8]) -> bool
     ensures { IsTrue result ↔ All IsPrintable text.now }
 {
     text.iter().all(|octet| b'!' <= *octet && *octet <= b'~')
+}
+
+/// The text as a name of a pool: 1 to 32 of `a` to `z`, `0` to `9`, `-` and `_`.
+pub(crate) fn label_of(text: &[u8]) -> Option<ArrayVec<u8, 32>>
+    ensures found { IfSome result (λ n. (n.items ≡ text.now) × IsPoolName text.now) }
+    ensures none { IfNone result (¬ IsPoolName text.now) }
+{
+    if is_label(text) {
+        octets_of(text)
+    } else {
+        None
+    }
+}
+
+// All octets are ones that a name of a pool may have.
+fn is_label(text: &[u8]) -> bool
+    ensures { IsTrue result ↔ All IsLabelOctet text.now }
+{
+    text.iter().all(|octet| is_label_octet(*octet))
+}
+
+fn is_label_octet(octet: u8) -> bool
+    ensures { IsTrue result ↔ IsLabelOctet octet }
+{
+    match octet {
+        b'a'..=b'z' | b'0'..=b'9' | b'-' | b'_' => true,
+        _ => false,
+    }
 }
 
 /// The services of a list of at most 8 texts of 1 to 64 octets.

@@ -12,6 +12,7 @@ use crate::config::Config;
 use crate::ends::ends_of;
 use crate::fault::{ConfigError, Fault};
 use crate::gateway::gateway_of;
+use crate::pools::pools_of;
 use crate::radius::radius_of;
 use bng_base::Listed;
 use std::alloc::Global;
@@ -58,7 +59,15 @@ fn configuration_of(alloc: Global, document: &Value) -> Result<Config, ConfigErr
     let gateway = gateway_of(document)?;
     let ends = ends_of(document)?;
     let access = ports_of(alloc, document, ends.control_local, ends.core_local)?;
-    let statics = circuits_of(alloc, document, gateway.shards, gateway.terms, access.len())?;
+    let pools = pools_of(alloc, document, gateway.address)?;
+    let statics = circuits_of(
+        alloc,
+        document,
+        gateway.shards,
+        gateway.terms,
+        access.len(),
+        pools.as_slice(),
+    )?;
     let radius = radius_of(
         document,
         ends.control_local,
@@ -84,5 +93,8 @@ fn configuration_of(alloc: Global, document: &Value) -> Result<Config, ConfigErr
         terms: gateway.terms,
         acct_local: radius.acct_local,
         acct_server: radius.acct_server,
+        address: gateway.address,
+        dns: gateway.dns,
+        pools: Listed::of(pools),
     })
 }

@@ -6,6 +6,7 @@ use std::test::Fail;
 
 mod circuits;
 mod gateway;
+mod pools;
 mod radius;
 
 const WHOLE: &str = r#"[gateway]
@@ -42,7 +43,8 @@ address = "10.0.0.2"
 user = "fixed1"
 "#;
 
-const LISTS: &str = r#"gateway = { name = "bng1", nas_ip = "192.168.1.16", shards = 64 }
+const LISTS: &str =
+    r#"gateway = { name = "bng1", address = "10.0.0.1", dns = ["192.0.2.53", "192.0.2.54"], nas_ip = "192.168.1.16", shards = 64 }
 control.local = "127.0.0.1:9002"
 core = { local = "127.0.0.1:9000", peer = "127.0.0.1:9001" }
 radius = { auth_local = "127.0.0.1:9003", auth_server = "127.0.0.1:1812", acct_local = "127.0.0.1:9004", acct_server = "127.0.0.1:1813", secret = "xyzzy5461" }
@@ -54,6 +56,14 @@ mac = "02:00:00:00:00:fe"
 local = "127.0.0.1:9020"
 peer = "127.0.0.1:9021"
 mac = "02:00:00:00:00:ff"
+[[pool]]
+name = "main"
+first = "10.0.0.2"
+last = "10.0.0.101"
+[[pool]]
+name = "top_0-9"
+first = "255.255.255.255"
+last = "255.255.255.255"
 [[static]]
 port = 1
 mac = "02:00:00:00:00:01"
@@ -74,10 +84,11 @@ address = "255.255.255.255"
 user = "fixed3"
 "#;
 
-const ENDS: &str = r#"gateway = { name = "bng1", nas_ip = "192.168.1.16" }
+const ENDS: &str = r#"gateway = { name = "bng1", address = "10.0.0.1", nas_ip = "192.168.1.16" }
 control.local = "127.0.0.1:9002"
 core = { local = "127.0.0.1:9000", peer = "127.0.0.1:9001" }
 radius = { auth_local = "127.0.0.1:9003", auth_server = "127.0.0.1:1812", acct_local = "127.0.0.1:9004", acct_server = "127.0.0.1:1813", secret = "xyzzy5461" }
+pool = [{ name = "main", first = "10.0.0.2", last = "10.0.0.101" }]
 "#;
 
 const fn loopback(port: u16) -> Peer {
@@ -130,6 +141,13 @@ fn a_whole_configuration_is_read(rt: HostRuntime) {
     assert_eq!(rt; config.terms, 8192);
     assert_eq!(rt; config.acct_local, loopback(9004));
     assert_eq!(rt; config.acct_server, loopback(1813));
+    assert_eq!(rt; config.address, Ip4(0x0a00_0001));
+    assert_eq!(rt; config.dns.len(), 0);
+    let pools = config.pools.as_slice();
+    assert_eq!(rt; pools.len(), 1);
+    assert_eq!(rt; pools[0].name.as_slice(), b"main".as_slice());
+    assert_eq!(rt; pools[0].range.first, Ip4(0x0a00_0002));
+    assert_eq!(rt; pools[0].range.last, Ip4(0x0a00_0065));
 }
 
 #[test]
@@ -143,6 +161,19 @@ fn all_entries_are_read_in_order(rt: HostRuntime) {
         assert_eq!(rt; port.peer, loopback(peer));
         assert_eq!(rt; port.mac, Mac([2, 0, 0, 0, 0, mac]));
     }
+    let ranges: [(&[u8], u32, u32); 2] = [
+        (b"main", 0x0a00_0002, 0x0a00_0065),
+        (b"top_0-9", 0xffff_ffff, 0xffff_ffff),
+    ];
+    let pools = config.pools.as_slice();
+    assert_eq!(rt; pools.len(), ranges.len());
+    for (pool, (name, first, last)) in pools.iter().zip(ranges) {
+        assert_eq!(rt; pool.name.as_slice(), name);
+        assert_eq!(rt; pool.range.first, Ip4(first));
+        assert_eq!(rt; pool.range.last, Ip4(last));
+    }
+    let servers = [Ip4(0xc000_0235), Ip4(0xc000_0236)];
+    assert_eq!(rt; config.dns.as_slice(), servers.as_slice());
     let rows: [(u8, u8, u16, u32, &[u8]); 3] = [
         (1, 1, 1025, 0x0a00_0002, b"fixed1"),
         (2, 2, 65_534, 0x0a00_0003, b"fixed2"),
@@ -214,6 +245,8 @@ fn each_rule_is_told_at_its_key(rt: HostRuntime) -> Result<(), Fail> {
         ("session = 1\n", "session = 1025\n", "C5 static.3.session"),
         ("255.255.255.255", "10.0.0.2", "C5 static.3.address"),
         ("255.255.255.255", "255.255.255.256", "C5 static.3.address"),
+        ("255.255.255.255", "10.0.0.102", "C5 static.3.address"),
+        ("255.255.255.255", "10.0.0.1", "C5 static.3.address"),
         ("user = \"fixed1\"", "", "C5 static.1.user"),
         ("\"fixed2\"", "\"\"", "C5 static.2.user"),
         ("\"fixed3\"", "3", "C5 static.3.user"),
@@ -287,6 +320,7 @@ fn want_of_memory_is_no_fault(rt: HostRuntime) {
     match read(rt.alloc(), LISTS.as_bytes()) {
         Ok(config) => {
             assert_eq!(rt; config.access.as_slice().len(), 2);
+            assert_eq!(rt; config.pools.as_slice().len(), 2);
             assert_eq!(rt; config.statics.as_slice().len(), 3);
         }
         Err(error) => assert_eq!(rt; error, ConfigError::OutOfMemory),

@@ -34,9 +34,11 @@ fn push_key(text: &mut ArrayString<32>, key: Key)
 {
     match key {
         Key::GatewayName => text.push_str("gateway.name"),
+        Key::GatewayAddress => text.push_str("gateway.address"),
         Key::GatewayShards => text.push_str("gateway.shards"),
         Key::GatewayTerms => text.push_str("gateway.terms"),
         Key::GatewayServices => text.push_str("gateway.services"),
+        Key::GatewayDns => text.push_str("gateway.dns"),
         Key::GatewayAuth => text.push_str("gateway.auth"),
         Key::GatewayEcho => text.push_str("gateway.echo"),
         Key::ControlLocal => text.push_str("control.local"),
@@ -46,6 +48,10 @@ fn push_key(text: &mut ArrayString<32>, key: Key)
         Key::AccessLocal(place) => push_entry(text, "access", place, "local"),
         Key::AccessPeer(place) => push_entry(text, "access", place, "peer"),
         Key::AccessMac(place) => push_entry(text, "access", place, "mac"),
+        Key::Pools => text.push_str("pool"),
+        Key::PoolName(place) => push_entry(text, "pool", place, "name"),
+        Key::PoolFirst(place) => push_entry(text, "pool", place, "first"),
+        Key::PoolLast(place) => push_entry(text, "pool", place, "last"),
         Key::Statics => text.push_str("static"),
         Key::StaticPort(place) => push_entry(text, "static", place, "port"),
         Key::StaticMac(place) => push_entry(text, "static", place, "mac"),

@@ -7,13 +7,14 @@ ghost use Rattle.bng_base.specs.declared.address.Mac.{Mac as Hardware};
 ghost use Rattle.bng_base.specs.declared.address.Peer.{Peer as End};
 ghost use Rattle.bng_base.specs.declared.address.SessionNo.{SessionNo as Number};
 ghost use Rattle.bng_base.specs.declared.settings.AuthKind.{AuthKind as Kind};
-ghost use Rattle.bng_config.specs.Configuration.{StandsAt, StandsOr, IsName, IsNumber, IsSecret, IsUser, AreServices, AreKinds, IsPeer, IsAddress, IsMac, IsSession, IsPortNumber};
+ghost use Rattle.bng_config.specs.Configuration.{StandsAt, StandsOr, IsName, IsLabel, AreServers, IsNumber, IsSecret, IsUser, AreServices, AreKinds, IsPeer, IsAddress, IsMac, IsSession, IsPortNumber};
 
+use crate::dns::servers_of;
 use crate::fault::Key;
 use crate::find::{integer_at, text_at, value_of};
 use crate::kinds::{kinds_of, two_kinds};
 use crate::mac::mac_of;
-use crate::names::{name_of, octets_of, services_of};
+use crate::names::{label_of, name_of, octets_of, services_of};
 use crate::peer::{address_of, peer_of};
 use crate::session::session_of;
 use arrayvec::ArrayVec;
@@ -28,6 +29,21 @@ pub(crate) fn name_at(document: &Value, key: Key) -> Result<ArrayVec<u8, 64>, Ke
 {
     match text_at(document, key) {
         Some(text) => match name_of(text.as_bytes()) {
+            Some(name) => Ok(name),
+            None => Err(key),
+        },
+        None => Err(key),
+    }
+}
+
+/// The name of a pool at the key, or the key where there is none.
+pub(crate) fn label_at(document: &Value, key: Key) -> Result<ArrayVec<u8, 32>, Key>
+    ensures found { IfOk result (λ n. StandsAt (view document.now) key (λ d. IsLabel d n)) }
+    ensures refused { IfErr result (λ k. k ≡ key) }
+    ensures none { IsErr result → (n : Few ℕ) → ¬ StandsAt (view document.now) key (λ d. IsLabel d n) }
+{
+    match text_at(document, key) {
+        Some(text) => match label_of(text.as_bytes()) {
             Some(name) => Ok(name),
             None => Err(key),
         },
@@ -68,6 +84,21 @@ pub(crate) fn services_or_none(
     match value_of(document, key) {
         Some(value) => match services_of(value) {
             Some(services) => Ok(services),
+            None => Err(key),
+        },
+        None => Ok(ArrayVec::new()),
+    }
+}
+
+/// The servers of names at the key, none where nothing stands there, or the key where another value does.
+pub(crate) fn servers_or_none(document: &Value, key: Key) -> Result<ArrayVec<Ip4, 2>, Key>
+    ensures found { IfOk result (λ s. StandsOr (view document.now) key (λ d. AreServers d s) (s.items ≡ [])) }
+    ensures refused { IfErr result (λ k. k ≡ key) }
+    ensures none { IsErr result → (s : Few Address) → ¬ StandsOr (view document.now) key (λ d. AreServers d s) (s.items ≡ []) }
+{
+    match value_of(document, key) {
+        Some(value) => match servers_of(value) {
+            Some(servers) => Ok(servers),
             None => Err(key),
         },
         None => Ok(ArrayVec::new()),

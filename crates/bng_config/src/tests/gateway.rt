@@ -10,6 +10,7 @@ control.local = "127.0.0.1:9002"
 core = { local = "127.0.0.1:9000", peer = "127.0.0.1:9001" }
 radius = { auth_local = "127.0.0.1:9003", auth_server = "127.0.0.1:1812", acct_local = "127.0.0.1:9004", acct_server = "127.0.0.1:1813", secret = "xyzzy5461" }
 access = [{ local = "127.0.0.1:9010", peer = "127.0.0.1:9011", mac = "02:00:00:00:00:fe" }]
+pool = [{ name = "main", first = "10.0.0.2", last = "10.0.0.101" }]
 "#;
 
 const LONGEST: &str = "0123456789abcdef0123456789abcdef0123456789abcdef0123456789abcdef";
@@ -31,7 +32,7 @@ fn a_gateway_needs_no_more_than_its_name(rt: HostRuntime) -> Result<(), Fail> {
     let config = gateway_of(
         &rt,
         rt.alloc(),
-        "gateway = { name = \"~!\", nas_ip = \"192.168.1.16\" }",
+        "gateway = { name = \"~!\", address = \"10.0.0.1\", nas_ip = \"192.168.1.16\" }",
     )?;
     assert_eq!(rt; config.name.as_slice(), b"~!".as_slice());
     assert_eq!(rt; config.shards, 4);
@@ -51,14 +52,14 @@ fn the_ends_of_each_range_are_in_it(rt: HostRuntime) -> Result<(), Fail> {
     let lowest = gateway_of(
         &rt,
         alloc,
-        "gateway = { name = \"n\", nas_ip = \"0.0.0.0\", shards = 1, terms = 64, echo = 0 }",
+        "gateway = { name = \"n\", address = \"10.0.0.1\", nas_ip = \"0.0.0.0\", shards = 1, terms = 64, echo = 0 }",
     )?;
     assert_eq!(rt; lowest.shards, 1);
     assert_eq!(rt; lowest.terms, 64);
     assert_eq!(rt; lowest.echo, 0);
     let line = changed(
         alloc,
-        "gateway = { name = \"LONGEST\", nas_ip = \"255.255.255.255\", shards = 64, terms = 262144, echo = 3600 }",
+        "gateway = { name = \"LONGEST\", address = \"10.0.0.1\", nas_ip = \"255.255.255.255\", shards = 64, terms = 262144, echo = 3600 }",
         "LONGEST",
         LONGEST,
     )?;
@@ -75,7 +76,7 @@ fn services_are_read_in_order(rt: HostRuntime) -> Result<(), Fail> {
     let alloc = rt.alloc();
     let line = changed(
         alloc,
-        "gateway = { name = \"n\", nas_ip = \"192.168.1.16\", services = [\"a b\", \"LONGEST\", \"c\", \"\u{e9}\", \"a b\", \"6\", \"7\", \"8\"] }",
+        "gateway = { name = \"n\", address = \"10.0.0.1\", nas_ip = \"192.168.1.16\", services = [\"a b\", \"LONGEST\", \"c\", \"\u{e9}\", \"a b\", \"6\", \"7\", \"8\"] }",
         "LONGEST",
         LONGEST,
     )?;
@@ -109,7 +110,7 @@ fn the_first_way_to_authenticate_comes_first(rt: HostRuntime) -> Result<(), Fail
     for (list, kinds) in rows {
         let line = changed(
             alloc,
-            "gateway = { name = \"n\", nas_ip = \"192.168.1.16\", auth = LIST }",
+            "gateway = { name = \"n\", address = \"10.0.0.1\", nas_ip = \"192.168.1.16\", auth = LIST }",
             "LIST",
             list,
         )?;
@@ -133,91 +134,109 @@ fn each_broken_value_is_told_at_its_key(rt: HostRuntime) -> Result<(), Fail> {
         ("gateway.name = \"bng1\\n\"", "C5 gateway.name"),
         ("gateway = { shards = 0 }", "C5 gateway.name"),
         (
-            "gateway = { name = \"n\", shards = 0 }",
+            "gateway = { name = \"n\", address = \"10.0.0.1\", shards = 0 }",
             "C5 gateway.shards",
         ),
         (
-            "gateway = { name = \"n\", shards = 65 }",
+            "gateway = { name = \"n\", address = \"10.0.0.1\", shards = 65 }",
             "C5 gateway.shards",
         ),
         (
-            "gateway = { name = \"n\", shards = -1 }",
+            "gateway = { name = \"n\", address = \"10.0.0.1\", shards = -1 }",
             "C5 gateway.shards",
         ),
         (
-            "gateway = { name = \"n\", shards = 65537 }",
+            "gateway = { name = \"n\", address = \"10.0.0.1\", shards = 65537 }",
             "C5 gateway.shards",
         ),
         (
-            "gateway = { name = \"n\", shards = \"4\" }",
+            "gateway = { name = \"n\", address = \"10.0.0.1\", shards = \"4\" }",
             "C5 gateway.shards",
         ),
         (
-            "gateway = { name = \"n\", shards = 4.0 }",
+            "gateway = { name = \"n\", address = \"10.0.0.1\", shards = 4.0 }",
             "C5 gateway.shards",
         ),
-        ("gateway = { name = \"n\", terms = 63 }", "C5 gateway.terms"),
         (
-            "gateway = { name = \"n\", terms = 262145 }",
-            "C5 gateway.terms",
-        ),
-        ("gateway = { name = \"n\", terms = -1 }", "C5 gateway.terms"),
-        (
-            "gateway = { name = \"n\", terms = 4294967360 }",
+            "gateway = { name = \"n\", address = \"10.0.0.1\", terms = 63 }",
             "C5 gateway.terms",
         ),
         (
-            "gateway = { name = \"n\", terms = \"64\" }",
+            "gateway = { name = \"n\", address = \"10.0.0.1\", terms = 262145 }",
             "C5 gateway.terms",
         ),
         (
-            "gateway = { name = \"n\", services = \"inet\" }",
+            "gateway = { name = \"n\", address = \"10.0.0.1\", terms = -1 }",
+            "C5 gateway.terms",
+        ),
+        (
+            "gateway = { name = \"n\", address = \"10.0.0.1\", terms = 4294967360 }",
+            "C5 gateway.terms",
+        ),
+        (
+            "gateway = { name = \"n\", address = \"10.0.0.1\", terms = \"64\" }",
+            "C5 gateway.terms",
+        ),
+        (
+            "gateway = { name = \"n\", address = \"10.0.0.1\", services = \"inet\" }",
             "C5 gateway.services",
         ),
         (
-            "gateway = { name = \"n\", services = [\"a\", 1] }",
+            "gateway = { name = \"n\", address = \"10.0.0.1\", services = [\"a\", 1] }",
             "C5 gateway.services",
         ),
         (
-            "gateway = { name = \"n\", services = [\"\"] }",
+            "gateway = { name = \"n\", address = \"10.0.0.1\", services = [\"\"] }",
             "C5 gateway.services",
         ),
         (
-            "gateway = { name = \"n\", services = [\"1\", \"2\", \"3\", \"4\", \"5\", \"6\", \"7\", \"8\", \"9\"] }",
+            "gateway = { name = \"n\", address = \"10.0.0.1\", services = [\"1\", \"2\", \"3\", \"4\", \"5\", \"6\", \"7\", \"8\", \"9\"] }",
             "C5 gateway.services",
         ),
         (
-            "gateway = { name = \"n\", auth = \"chap\" }",
-            "C5 gateway.auth",
-        ),
-        ("gateway = { name = \"n\", auth = [] }", "C5 gateway.auth"),
-        (
-            "gateway = { name = \"n\", auth = [\"CHAP\"] }",
+            "gateway = { name = \"n\", address = \"10.0.0.1\", auth = \"chap\" }",
             "C5 gateway.auth",
         ),
         (
-            "gateway = { name = \"n\", auth = [\"eap\"] }",
+            "gateway = { name = \"n\", address = \"10.0.0.1\", auth = [] }",
             "C5 gateway.auth",
         ),
         (
-            "gateway = { name = \"n\", auth = [\"pap\", 1] }",
+            "gateway = { name = \"n\", address = \"10.0.0.1\", auth = [\"CHAP\"] }",
             "C5 gateway.auth",
         ),
         (
-            "gateway = { name = \"n\", auth = [\"chap\", \"chap\"] }",
+            "gateway = { name = \"n\", address = \"10.0.0.1\", auth = [\"eap\"] }",
             "C5 gateway.auth",
         ),
         (
-            "gateway = { name = \"n\", auth = [\"pap\", \"pap\"] }",
+            "gateway = { name = \"n\", address = \"10.0.0.1\", auth = [\"pap\", 1] }",
             "C5 gateway.auth",
         ),
         (
-            "gateway = { name = \"n\", auth = [\"chap\", \"pap\", \"chap\"] }",
+            "gateway = { name = \"n\", address = \"10.0.0.1\", auth = [\"chap\", \"chap\"] }",
             "C5 gateway.auth",
         ),
-        ("gateway = { name = \"n\", echo = -1 }", "C5 gateway.echo"),
-        ("gateway = { name = \"n\", echo = 3601 }", "C5 gateway.echo"),
-        ("gateway = { name = \"n\", echo = true }", "C5 gateway.echo"),
+        (
+            "gateway = { name = \"n\", address = \"10.0.0.1\", auth = [\"pap\", \"pap\"] }",
+            "C5 gateway.auth",
+        ),
+        (
+            "gateway = { name = \"n\", address = \"10.0.0.1\", auth = [\"chap\", \"pap\", \"chap\"] }",
+            "C5 gateway.auth",
+        ),
+        (
+            "gateway = { name = \"n\", address = \"10.0.0.1\", echo = -1 }",
+            "C5 gateway.echo",
+        ),
+        (
+            "gateway = { name = \"n\", address = \"10.0.0.1\", echo = 3601 }",
+            "C5 gateway.echo",
+        ),
+        (
+            "gateway = { name = \"n\", address = \"10.0.0.1\", echo = true }",
+            "C5 gateway.echo",
+        ),
     ];
     let alloc = rt.alloc();
     for (line, wanted) in rows {
@@ -234,7 +253,7 @@ fn a_text_of_65_octets_is_too_long(rt: HostRuntime) -> Result<(), Fail> {
     let rows = [
         ("gateway.name = \"_LONGEST\"", "C5 gateway.name"),
         (
-            "gateway = { name = \"n\", services = [\"a\", \"_LONGEST\"] }",
+            "gateway = { name = \"n\", address = \"10.0.0.1\", services = [\"a\", \"_LONGEST\"] }",
             "C5 gateway.services",
         ),
     ];
@@ -252,28 +271,39 @@ fn the_keys_of_the_gateway_are_looked_at_first(rt: HostRuntime) -> Result<(), Fa
     let alloc = rt.alloc();
     let rows = [
         (
-            "gateway = { name = \"\", shards = 0, terms = 0, services = 0, auth = 0, echo = -1 }",
+            "gateway = { name = \"\", address = 0, shards = 0, terms = 0, services = 0, dns = 0, auth = 0, echo = -1 }",
             "C5 gateway.name",
         ),
         (
-            "gateway = { name = \"n\", shards = 0, terms = 0, services = 0, auth = 0, echo = -1 }",
+            "gateway = { name = \"n\", address = 0, shards = 0, terms = 0, services = 0, dns = 0, auth = 0, echo = -1 }",
+            "C5 gateway.address",
+        ),
+        (
+            "gateway = { name = \"n\", address = \"10.0.0.1\", shards = 0, terms = 0, services = 0, dns = 0, auth = 0, echo = -1 }",
             "C5 gateway.shards",
         ),
         (
-            "gateway = { name = \"n\", terms = 0, services = 0, auth = 0, echo = -1 }",
+            "gateway = { name = \"n\", address = \"10.0.0.1\", terms = 0, services = 0, dns = 0, auth = 0, echo = -1 }",
             "C5 gateway.terms",
         ),
         (
-            "gateway = { name = \"n\", services = 0, auth = 0, echo = -1 }",
+            "gateway = { name = \"n\", address = \"10.0.0.1\", services = 0, dns = 0, auth = 0, echo = -1 }",
             "C5 gateway.services",
         ),
         (
-            "gateway = { name = \"n\", auth = 0, echo = -1 }",
+            "gateway = { name = \"n\", address = \"10.0.0.1\", dns = 0, auth = 0, echo = -1 }",
+            "C5 gateway.dns",
+        ),
+        (
+            "gateway = { name = \"n\", address = \"10.0.0.1\", auth = 0, echo = -1 }",
             "C5 gateway.auth",
         ),
-        ("gateway = { name = \"n\", echo = -1 }", "C5 gateway.echo"),
         (
-            "gateway = { name = \"n\", workers = -1 }",
+            "gateway = { name = \"n\", address = \"10.0.0.1\", echo = -1 }",
+            "C5 gateway.echo",
+        ),
+        (
+            "gateway = { name = \"n\", address = \"10.0.0.1\", workers = -1 }",
             "C5 control.local",
         ),
     ];

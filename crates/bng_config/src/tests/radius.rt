@@ -2,7 +2,7 @@ use super::{changed, config_of, loopback, told};
 use crate::fault_text;
 use std::test::Fail;
 
-const WHOLE: &str = r#"gateway = { name = "bng1", nas_ip = "192.168.1.16" }
+const WHOLE: &str = r#"gateway = { name = "bng1", address = "10.0.0.1", nas_ip = "192.168.1.16" }
 control.local = "127.0.0.1:9002"
 core = { local = "127.0.0.1:9000", peer = "127.0.0.1:9001" }
 [[access]]
@@ -13,6 +13,10 @@ mac = "02:00:00:00:00:fe"
 local = "127.0.0.1:9020"
 peer = "127.0.0.1:9021"
 mac = "02:00:00:00:00:ff"
+[[pool]]
+name = "main"
+first = "10.0.0.2"
+last = "10.0.0.101"
 [[static]]
 port = 1
 mac = "02:00:00:00:00:01"
@@ -123,10 +127,11 @@ fn a_secret_of_65_octets_is_too_long(rt: HostRuntime) -> Result<(), Fail> {
 }
 
 /// A circuit and all that stands at the keys of authentication and accounting are broken.
-const BROKEN: &str = r#"gateway = { name = "bng1", nas_ip = "192.168.1" }
+const BROKEN: &str = r#"gateway = { name = "bng1", address = "10.0.0.1", nas_ip = "192.168.1" }
 control.local = "127.0.0.1:9002"
 core = { local = "127.0.0.1:9000", peer = "127.0.0.1:9001" }
 access = [{ local = "127.0.0.1:9010", peer = "127.0.0.1:9011", mac = "02:00:00:00:00:fe" }]
+pool = [{ name = "main", first = "10.0.0.2", last = "10.0.0.101" }]
 static = [{ port = 1, mac = "02:00:00:00:00:01", session = 1025, address = "10.0.0", user = "" }]
 radius = { auth_local = "127.0.0.1:9010", auth_server = "127.0.0.1", acct_local = "127.0.0.1:9003", acct_server = "127.0.0.2", secret = "", tries = 0 }
 "#;
