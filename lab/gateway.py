@@ -20,6 +20,7 @@ LOOPBACK = "127.0.0.1"
 CONFIGURATION = """\
 [gateway]
 name = "bng1"
+address = "10.0.0.1"
 nas_ip = "192.168.1.16"
 services = ["inet"]
 [core]
@@ -37,6 +38,10 @@ secret = "xyzzy5461"
 local = "127.0.0.1:{access}"
 peer = "127.0.0.1:{access_peer}"
 mac = "02:00:00:00:00:fe"
+[[pool]]
+name = "main"
+first = "10.0.0.2"
+last = "10.0.0.101"
 [[static]]
 port = 1
 mac = "02:00:00:00:00:01"
