@@ -20,6 +20,7 @@ mod statuses;
 
 const CONFIGURATION: &str = r#"[gateway]
 name = "bng1"
+address = "10.0.0.1"
 nas_ip = "192.168.1.16"
 [core]
 local = "127.0.0.1:9000"
@@ -36,6 +37,10 @@ secret = "xyzzy5461"
 local = "127.0.0.1:9010"
 peer = "127.0.0.1:9011"
 mac = "02:00:00:00:00:fe"
+[[pool]]
+name = "main"
+first = "10.0.0.2"
+last = "10.0.0.101"
 [[static]]
 port = 1
 mac = "02:00:00:00:00:01"
@@ -47,6 +52,7 @@ user = "fixed1"
 /// Two access ports with a circuit each.
 const TWO_PORTS: &str = r#"[gateway]
 name = "bng1"
+address = "10.0.0.1"
 nas_ip = "192.168.1.16"
 [core]
 local = "127.0.0.1:9000"
@@ -67,6 +73,10 @@ mac = "02:00:00:00:00:fe"
 local = "127.0.0.1:9020"
 peer = "127.0.0.1:9021"
 mac = "02:00:00:00:00:fd"
+[[pool]]
+name = "main"
+first = "10.0.0.2"
+last = "10.0.0.101"
 [[static]]
 port = 1
 mac = "02:00:00:00:00:01"

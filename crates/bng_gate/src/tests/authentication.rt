@@ -16,6 +16,7 @@ use std::thread::Threads;
 /// Hosts authenticate themselves by PAP, and a request is sent twice.
 const PAP: &str = r#"[gateway]
 name = "bng1"
+address = "10.0.0.1"
 nas_ip = "192.168.1.16"
 auth = ["pap"]
 [core]
@@ -34,6 +35,10 @@ tries = 2
 local = "127.0.0.1:9010"
 peer = "127.0.0.1:9011"
 mac = "02:00:00:00:00:fe"
+[[pool]]
+name = "main"
+first = "10.0.0.2"
+last = "10.0.0.101"
 "#;
 
 /// The gateway's Configure-Request for PAP, and the host's Configure-Ack.

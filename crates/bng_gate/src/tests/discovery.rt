@@ -66,6 +66,7 @@ const FULL: [u8; 36] = [
 /// One shard and no circuit.
 const ONE_SHARD: &str = r#"[gateway]
 name = "bng1"
+address = "10.0.0.1"
 nas_ip = "192.168.1.16"
 shards = 1
 [core]
@@ -83,6 +84,10 @@ secret = "xyzzy5461"
 local = "127.0.0.1:9010"
 peer = "127.0.0.1:9011"
 mac = "02:00:00:00:00:fe"
+[[pool]]
+name = "main"
+first = "10.0.0.2"
+last = "10.0.0.101"
 "#;
 
 /// A report of no circuit, with nothing dropped.

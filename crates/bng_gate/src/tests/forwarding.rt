@@ -67,6 +67,7 @@ const DOWN_THE_OTHER: [u8; 42] = [
 /// Two circuits of one shard, the one with the higher session number first.
 const FALLING_NUMBERS: &str = r#"[gateway]
 name = "bng1"
+address = "10.0.0.1"
 nas_ip = "192.168.1.16"
 [core]
 local = "127.0.0.1:9000"
@@ -87,6 +88,10 @@ mac = "02:00:00:00:00:fe"
 local = "127.0.0.1:9020"
 peer = "127.0.0.1:9021"
 mac = "02:00:00:00:00:fd"
+[[pool]]
+name = "main"
+first = "10.0.0.2"
+last = "10.0.0.101"
 [[static]]
 port = 1
 mac = "02:00:00:00:00:01"

@@ -8,6 +8,7 @@ use std::alloc::{AllocError, Global};
 /// Four shards, the service inet and no circuit.
 pub(super) const SESSIONS: &str = r#"[gateway]
 name = "bng1"
+address = "10.0.0.1"
 nas_ip = "192.168.1.16"
 shards = 4
 services = ["inet"]
@@ -26,6 +27,10 @@ secret = "xyzzy5461"
 local = "127.0.0.1:9010"
 peer = "127.0.0.1:9011"
 mac = "02:00:00:00:00:fe"
+[[pool]]
+name = "main"
+first = "10.0.0.2"
+last = "10.0.0.101"
 "#;
 
 /// The host's MAC.

@@ -8,6 +8,7 @@ use std::test::Fail;
 
 const NO_SESSION: &str = r#"[gateway]
 name = "bng1"
+address = "10.0.0.1"
 nas_ip = "192.168.1.16"
 [core]
 local = "127.0.0.1:9000"
@@ -24,6 +25,10 @@ secret = "xyzzy5461"
 local = "127.0.0.1:9010"
 peer = "127.0.0.1:9011"
 mac = "02:00:00:00:00:fe"
+[[pool]]
+name = "main"
+first = "10.0.0.2"
+last = "10.0.0.101"
 [[static]]
 port = 1
 mac = "02:00:00:00:00:01"
