@@ -1,10 +1,11 @@
 -- From one state and one entry there is one effect.
-use Rattle.std.proofs.Common.{◌≡◌, inl, inr, ℕ, zero, suc, true, false, List, [], ◌∷◌, ◌++◌, Option, Some, None, is_some, take, refl, sym, ap, subst, ◌∙◌, arith}
+use Rattle.std.proofs.Common.{◌≡◌, inl, inr, ℕ, zero, suc, Bool, true, false, List, [], ◌∷◌, ◌++◌, Option, Some, None, is_some, take, refl, sym, ap, subst, ◌∙◌, arith}
 use Rattle.std.specs.List.{slice_get}
 use Rattle.std.proofs.lemmas.Bool.{cases_lt, false≢true}
 use Rattle.std.proofs.lemmas.Option.{same_Some}
 use Rattle.bng_base.specs.declared.fate.Fate.{Fate}
 use Rattle.bng_base.specs.declared.ipv4.Ipv4.{Ipv4}
+use Rattle.bng_base.specs.declared.item.Claim.{Claim}
 use Rattle.bng_base.specs.declared.item.Entry.{Entry}
 use Rattle.bng_base.specs.declared.item.ItemKind.{ItemKind}
 use Rattle.bng_base.specs.declared.item.ItemKind.TheVariants.{Access, Core, Tunnel, Verdict, Change, Tick, End}
@@ -12,6 +13,7 @@ use Rattle.bng_base.specs.declared.item.OutRecord.{OutRecord}
 use Rattle.bng_base.specs.declared.outside.Role.TheVariants as role
 use Rattle.bng_base.specs.declared.settings.AccessPort.{AccessPort}
 use Rattle.bng_base.specs.declared.settings.AuthKind.{AuthKind}
+use Rattle.bng_base.specs.declared.settings.NamedRange.{NamedRange}
 use Rattle.bng_base.specs.declared.settings.AuthKind.TheVariants.{Chap}
 use Rattle.bng_base.specs.Lowering.{lowered}
 use Rattle.bng_base.specs.PppoeGrammar.{PppoeFrame, PppoeTag}
@@ -25,6 +27,8 @@ use Rattle.bng_forward.specs.Framed.{circuit_frame}
 use Rattle.bng_forward.specs.Packets.{IsPassedOn}
 use Rattle.bng_forward.proofs.Exclusive.{up_once, down_once}
 use Rattle.bng_forward.proofs.Readings.{one_frame, one_header}
+use Rattle.bng_grant.specs.Grants.{Gift}
+use Rattle.bng_grant.proofs.One.{one_grant}
 use Rattle.bng_lcp.specs.Ask.{Ask}
 use Rattle.bng_lcp.specs.declared.configure_request.SentRequest.{SentRequest}
 use Rattle.bng_ppp.specs.declared.whole_input.WholeInput.{WholeInput}
@@ -37,44 +41,40 @@ use Rattle.bng_pppoe_wire.proofs.TagLaws.{one_tags}
 use Rattle.bng_slots.specs.Sessions.{value_at, IsLowestVacant}
 use Rattle.bng_verdict.specs.Verdicts.{Saying, IsVerdict}
 use Rattle.bng_verdict.proofs.One.{one_verdict}
-use Rattle.bng_shard.specs.Made.{Made}
+use Rattle.bng_shard.specs.Made.{Made, Question}
 use Rattle.bng_shard.specs.declared.rules.Rules.{Rules}
 use Rattle.bng_shard.specs.declared.sending.At.{At}
 use Rattle.bng_shard.specs.declared.session.Lease.{Lease}
 use Rattle.bng_shard.specs.declared.session.Service.{Service}
 use Rattle.bng_shard.specs.declared.session.Service.TheVariants.{Provisioned, Discovered}
 use Rattle.bng_shard.specs.declared.session.Session.{Session}
-use Rattle.bng_shard.specs.State.{State, lease_of, port_at, session_of, with_session, with_driven}
+use Rattle.bng_shard.specs.State.{State, port_at, session_of, with_driven, with_ended}
 use Rattle.bng_shard.specs.Deed.{Deed, at_of, out, frame_outs, only, handled, arrival_in}
 use Rattle.bng_shard.specs.Discovery.{Answers, Discovers, IsNewLink, IsVacancy, Makes, Repeats, host_uniq_of, new_session, repeated}
-use Rattle.bng_shard.specs.Frames.{charge_of, forwarded, found_up, found_down, GoesUp, GoesDown, HearsData, HearsPpp, HearsControl, HearsIn, HearsFrame, HearsAccess, HearsPacket, HearsCore}
-use Rattle.bng_shard.specs.Link.{LinkStep, Drives, EndsWith, padt_outs, said_outs, asked_after, with_link, told, hears, settles, ended}
-use Rattle.bng_shard.specs.Protocol.{pppoe}
+use Rattle.bng_shard.specs.Frames.{charge_of, forwarded, found_up, found_down, GoesUp, GoesDown, HearsData, HearsPadt, HearsPpp, HearsControl, HearsIn, HearsFrame, HearsAccess, HearsPacket, HearsCore}
+use Rattle.bng_shard.specs.Link.{LinkStep, Drives, EndsWith, padt_outs, said_outs, asked_after, with_link, Told, told, hears, nas_request, settles, ended}
+use Rattle.bng_shard.specs.Protocol.{pppoe, refused_by}
+use Rattle.bng_shard.specs.Questions.{open_of}
 use Rattle.bng_shard.specs.Step.{Hears, Step}
 use Rattle.bng_shard.specs.Timers.{Ticks, Ends, HearsTick, HearsEnd, at_once, IsFirstDue, NoneIsDue, ComesFirst, IsLowest, NoneStays, TellsEnd}
-use Rattle.bng_shard.specs.Verdicts.{HearsVerdict, Judges}
+use Rattle.bng_shard.specs.Verdicts.{HearsVerdict, Judges, settled_by}
+use Rattle.bng_shard.specs.Wishes.{Decides, refused_with, told_of}
 use Rattle.bng_shard.proofs.LinkSteps.{frame_of, verdict_of, frame_steps, verdict_steps}
+use Rattle.bng_shard.proofs.Naming.{same_made}
+use Rattle.bng_shard.proofs.Values.{none_some}
 
 -- what two answers of one search have in common
 same_found : {X : Type 0} (o : Option X) (x y : X) → o ≡ Some x → o ≡ Some y → x ≡ y
 same_found o x y e f = same_Some x y (sym e ∙ f)
-
-made_or : Made → Service → Made
-made_or m (Provisioned l) = m
-made_or m (Discovered n) = n
-
-pub same_made : (v : Service) (m n : Made) → v ≡ Discovered m → v ≡ Discovered n → m ≡ n
-unfolding made_or
-same_made v m n e f = ap (made_or m) (sym e ∙ f)
 
 -- Links -----------------------------------------------------------------------------------------------------------------
 
 abbrev IsOne : LinkStep → Type 0
 IsOne Steps = (old new next : PppState) (says other : PppSaid) → Steps old says new → Steps old other next → (says ≡ other) × (new ≡ next)
 
-module _ (r : Rules) (a : At) (asked : ℕ) (Steps : LinkStep) (one : IsOne Steps) (x : Session) (outs outs' : List OutRecord) (x' x'' : Session) (asked' asked'' : ℕ) where
+module _ (r : Rules) (a : At) (asked : ℕ) (Steps : LinkStep) (one : IsOne Steps) (x : Session) (outs outs' : List OutRecord) (cause cause' : Option ℕ) (x' x'' : Session) (asked' asked'' : ℕ) where
   -- the session's link makes one step
-  drives_one : Drives r a asked x Steps outs x' asked' → Drives r a asked x Steps outs' x'' asked'' → (outs ≡ outs') × (x' ≡ x'') × (asked' ≡ asked'')
+  drives_one : Drives r a asked x Steps outs cause x' asked' → Drives r a asked x Steps outs' cause' x'' asked'' → (outs ≡ outs') × (x' ≡ x'') × (asked' ≡ asked'') × (cause ≡ cause')
   drives_one h k =
       let made = same_made x.service h.made k.made h.is_made k.is_made in
       let port = same_found _ h.port k.port h.at.port_is k.at.port_is in
@@ -84,6 +84,7 @@ module _ (r : Rules) (a : At) (asked : ℕ) (Steps : LinkStep) (one : IsOne Step
         h.outs_are ∙ ap (λ (q : AccessPort). said_outs a x q h.offers h.says) port ∙ ap (λ (o : PortRules). said_outs a x k.port o h.says) offers ∙ ap (λ (s : PppSaid). said_outs a x k.port k.offers s) says.0 ∙ sym k.outs_are,
         h.session ∙ ap (λ (m : Made). with_link x m asked h.says h.link) made ∙ ap (λ (l : PppState). with_link x k.made asked h.says l) says.1 ∙ ap (λ (s : PppSaid). with_link x k.made asked s k.link) says.0 ∙ sym k.session,
         h.count ∙ ap (λ (s : PppSaid). asked_after asked s.asked) says.0 ∙ sym k.count,
+        h.closes ∙ ap (λ (s : PppSaid). s.term_ended) says.0 ∙ sym k.closes,
       )
 
 told_is_one : (r : Rules) (e : Entry) (input : WholeInput) → IsOne (told r e input)
@@ -95,7 +96,7 @@ frame_is_one r e octets old new next says other h k =
     (frame_steps r.link e.moment e.item.random old says new octets h)
     (frame_steps r.link e.moment e.item.random old other next octets k)
 
-verdict_is_one : (r : Rules) (e : Entry) (v : Saying) → IsOne (settles r e v)
+verdict_is_one : (r : Rules) (e : Entry) (v : Told) → IsOne (settles r e v)
 verdict_is_one r e v old new next says other h k =
     ppp_steps_one r.link e.moment e.item.random (verdict_of v) old says other new next
     (verdict_steps r.link e.moment e.item.random old says new v h)
@@ -138,40 +139,46 @@ Alone Says = (s : State) (outs outs' : List OutRecord) (s' s'' : State) → Says
 -- one deadline, and those after it
 abbrev TicksAt : ℕ → ℕ → Rules → Entry → State → List OutRecord → State → Type 0
 TicksAt k n r e s outs s' =
-    (x x' : Session) × (value_at s.sessions n ≡ Some x) × (first : List OutRecord) × (asked' : ℕ) × Drives r (at_of s e) s.asked x (told r e Timer) first x' asked'
-    × (rest : List OutRecord) × Ticks k r e (with_driven s n x' asked') rest s' × (outs ≡ first ++ rest)
+    (x x' : Session) × (value_at s.sessions n ≡ Some x) × (first : List OutRecord) × (cause : Option ℕ) × (asked' : ℕ) × Drives r (at_of s e) s.asked x (told r e Timer) first cause x' asked'
+    × (rest : List OutRecord) × Ticks k r e (with_driven s n x.lease cause x' asked') rest s' × (outs ≡ first ++ rest)
 
 abbrev EndsAt : ℕ → ℕ → Rules → Entry → State → List OutRecord → State → Type 0
 EndsAt k n r e s outs s' =
     (x : Session) × (value_at s.sessions n ≡ Some x) × (padt rest : List OutRecord) × TellsEnd x.service r (at_of s e) x padt
-    × Ends k r e (with_session s n (ended x)) rest s' × (outs ≡ padt ++ rest)
+    × Ends k r e (with_ended s n x.lease nas_request (ended x)) rest s' × (outs ≡ padt ++ rest)
+
+driven_equal : (s : State) (n : ℕ) (lease : Option Lease) (cause cause' : Option ℕ) (x y : Session) (asked asked' : ℕ) → cause ≡ cause' → x ≡ y → asked ≡ asked'
+    → with_driven s n lease cause x asked ≡ with_driven s n lease cause' y asked'
+driven_equal s n lease cause cause' x y asked asked' causes same count =
+    ap (λ (c : Option ℕ). with_driven s n lease c x asked) causes ∙ ap (λ (z : Session). with_driven s n lease cause' z asked) same ∙ ap (λ (m : ℕ). with_driven s n lease cause' y m) count
 
 module _ (r : Rules) (e : Entry) where
   tick_one : (k n : ℕ) → Alone (Ticks k r e) → Alone (TicksAt k n r e)
-  tick_one k n alone s outs outs' s' s'' (x, x', at, first, asked', drives, rest, more, are) (y, y', at', first', asked'', drives', rest', more', are') =
+  tick_one k n alone s outs outs' s' s'' (x, x', at, first, cause, asked', drives, rest, more, are) (y, y', at', first', cause', asked'', drives', rest', more', are') =
       let same = same_found _ x y at at' in
-      let moved : Drives r (at_of s e) s.asked x (told r e Timer) first' y' asked'' = subst (λ (z : Session). Drives r (at_of s e) s.asked z (told r e Timer) first' y' asked'') (sym same) drives' in
-      let one = drives_one r (at_of s e) s.asked (told r e Timer) (told_is_one r e Timer) x first first' x' y' asked' asked'' drives moved in
-      let counted : Ticks k r e (with_driven s n y' asked') rest' s'' = subst (λ (m : ℕ). Ticks k r e (with_driven s n y' m) rest' s'') (sym one.2) more' in
-      let later : Ticks k r e (with_driven s n x' asked') rest' s'' = subst (λ (z : Session). Ticks k r e (with_driven s n z asked') rest' s'') (sym one.1) counted in
-      let last = alone (with_driven s n x' asked') rest rest' s' s'' more later in
+      let moved : Drives r (at_of s e) s.asked x (told r e Timer) first' cause' y' asked'' = subst (λ (z : Session). Drives r (at_of s e) s.asked z (told r e Timer) first' cause' y' asked'') (sym same) drives' in
+      let one = drives_one r (at_of s e) s.asked (told r e Timer) (told_is_one r e Timer) x first first' cause cause' x' y' asked' asked'' drives moved in
+      let leased : with_driven s n y.lease cause' y' asked'' ≡ with_driven s n x.lease cause x' asked' =
+      sym (ap (λ (z : Session). with_driven s n z.lease cause x' asked') same ∙ driven_equal s n y.lease cause cause' x' y' asked' asked'' one.3 one.1 one.2) in
+      let later : Ticks k r e (with_driven s n x.lease cause x' asked') rest' s'' = subst (λ (t : State). Ticks k r e t rest' s'') leased more' in
+      let last = alone (with_driven s n x.lease cause x' asked') rest rest' s' s'' more later in
       (are ∙ ap (λ (os : List OutRecord). os ++ rest) one.0 ∙ ap (λ (os : List OutRecord). first' ++ os) last.0 ∙ sym are', last.1)
 
   ticks_one : (k : ℕ) → Alone (Ticks k r e)
   ticks_one zero s outs outs' s' s'' h i = (h.0 ∙ sym i.0, h.1 ∙ sym i.1)
   ticks_one (suc k) s outs outs' s' s'' (inl h) (inl i) = (h.1 ∙ sym i.1, h.2 ∙ sym i.2)
-  ticks_one (suc k) s outs outs' s' s'' (inl h) (inr (n, due, x, x', at, first, asked', drives, rest, more, are)) = absurd (none_due s e.moment n h.0 due)
-  ticks_one (suc k) s outs outs' s' s'' (inr (n, due, x, x', at, first, asked', drives, rest, more, are)) (inl i) = absurd (none_due s e.moment n i.0 due)
-  ticks_one (suc k) s outs outs' s' s'' (inr (n, due, x, x', at, first, asked', drives, rest, more, are)) (inr (n', due', y, y', at', first', asked'', drives', rest', more', are')) =
-      let moved : TicksAt k n r e s outs' s'' = subst (λ (m : ℕ). TicksAt k m r e s outs' s'') (sym (first_due_one s e.moment n n' due due')) (y, y', at', first', asked'', drives', rest', more', are') in
-      tick_one k n (ticks_one k) s outs outs' s' s'' (x, x', at, first, asked', drives, rest, more, are) moved
+  ticks_one (suc k) s outs outs' s' s'' (inl h) (inr (n, due, x, x', at, first, cause, asked', drives, rest, more, are)) = absurd (none_due s e.moment n h.0 due)
+  ticks_one (suc k) s outs outs' s' s'' (inr (n, due, x, x', at, first, cause, asked', drives, rest, more, are)) (inl i) = absurd (none_due s e.moment n i.0 due)
+  ticks_one (suc k) s outs outs' s' s'' (inr (n, due, x, x', at, first, cause, asked', drives, rest, more, are)) (inr (n', due', y, y', at', first', cause', asked'', drives', rest', more', are')) =
+      let moved : TicksAt k n r e s outs' s'' = subst (λ (m : ℕ). TicksAt k m r e s outs' s'') (sym (first_due_one s e.moment n n' due due')) (y, y', at', first', cause', asked'', drives', rest', more', are') in
+      tick_one k n (ticks_one k) s outs outs' s' s'' (x, x', at, first, cause, asked', drives, rest, more, are) moved
 
   end_one : (k n : ℕ) → Alone (Ends k r e) → Alone (EndsAt k n r e)
   end_one k n alone s outs outs' s' s'' (x, at, padt, rest, with_padt, more, are) (y, at', padt', rest', with_padt', more', are') =
       let same = same_found _ x y at at' in
       let one = tells_one x.service r (at_of s e) x padt padt' with_padt (subst (λ (z : Session). TellsEnd z.service r (at_of s e) z padt') (sym same) with_padt') in
-      let later : Ends k r e (with_session s n (ended x)) rest' s'' = subst (λ (z : Session). Ends k r e (with_session s n (ended z)) rest' s'') (sym same) more' in
-      let last = alone (with_session s n (ended x)) rest rest' s' s'' more later in
+      let later : Ends k r e (with_ended s n x.lease nas_request (ended x)) rest' s'' = subst (λ (z : Session). Ends k r e (with_ended s n z.lease nas_request (ended z)) rest' s'') (sym same) more' in
+      let last = alone (with_ended s n x.lease nas_request (ended x)) rest rest' s' s'' more later in
       (are ∙ ap (λ (os : List OutRecord). os ++ rest) one ∙ ap (λ (os : List OutRecord). padt' ++ os) last.0 ∙ sym are', last.1)
 
   ends_one : (k : ℕ) → Alone (Ends k r e)
@@ -256,7 +263,7 @@ module _ (r : Rules) (s : State) (e : Entry) where
   unfolding sent_up
   up_one number p info d d' h k =
       let x = same_found _ h.x k.x h.found k.found in
-      let lease = same_found (lease_of k.x) h.lease k.lease (ap lease_of (sym x) ∙ h.live) k.live in
+      let lease = same_found k.x.lease h.lease k.lease (ap (λ (y : Session). y.lease) (sym x) ∙ h.live) k.live in
       let packet = passed_one h.header k.header info h.packet k.packet h.passed k.passed in
       h.done ∙ up_equal h.x k.x h.lease k.lease h.header k.header h.packet k.packet x lease packet.0 packet.1 ∙ sym k.done
 
@@ -270,10 +277,33 @@ module _ (r : Rules) (s : State) (e : Entry) where
   unfolding sent_down
   down_one v d d' h k =
       let x = same_found _ h.x k.x h.found k.found in
-      let lease = same_found (lease_of k.x) h.lease k.lease (ap lease_of (sym x) ∙ h.live) k.live in
+      let lease = same_found k.x.lease h.lease k.lease (ap (λ (y : Session). y.lease) (sym x) ∙ h.live) k.live in
       let its_port = same_found _ h.port k.port (ap (λ (y : Session). port_at r.access y.port) (sym x) ∙ h.its_port) k.its_port in
       let packet = passed_one v v e.item.frame.payload h.packet k.packet h.passed k.passed in
       h.done ∙ down_equal v h.x k.x h.lease k.lease h.port k.port h.packet k.packet x lease its_port packet.1 ∙ sym k.done
+
+-- Replies ---------------------------------------------------------------------------------------------------------------
+
+said_or_not : {X : Type 0} (octets : List ℕ) (v : Saying) → IsVerdict octets (Some v) → IsVerdict octets None → X
+said_or_not octets v is none = absurd (none_some v (one_verdict octets None (Some v) none is))
+
+yes_and_no : {X : Type 0} (octets : List ℕ) (v w : Saying) → IsVerdict octets (Some v) → v.yes ≡ false → IsVerdict octets (Some w) → w.yes ≡ true → X
+yes_and_no octets v w is refuses is' accepts = absurd (false≢true (sym refuses ∙ ap (λ (u : Saying). u.yes) (same_Some v w (one_verdict octets (Some v) (Some w) is is')) ∙ accepts))
+
+-- with one answer to what they ask, the octets of a reply come to one thing
+decides_one : (pools : List NamedRange) (limited : Bool) (octets : List ℕ) (claim : Claim) (told told' : Option Told) → Decides pools limited octets claim told → Decides pools limited octets claim told' → told ≡ told'
+decides_one pools limited octets claim told told' (inl (silent, none, e)) (inl (silent', none', e')) = e ∙ sym e'
+decides_one pools limited octets claim told told' (inl (silent, none, e)) (inr (inl (w, is', refuses', none', e'))) = said_or_not octets w is' silent
+decides_one pools limited octets claim told told' (inl (silent, none, e)) (inr (inr (w, is', accepts', g', grant', answer', e'))) = said_or_not octets w is' silent
+decides_one pools limited octets claim told told' (inr (inl (v, is, refuses, none, e))) (inl (silent', none', e')) = said_or_not octets v is silent'
+decides_one pools limited octets claim told told' (inr (inl (v, is, refuses, none, e))) (inr (inl (w, is', refuses', none', e'))) =
+    e ∙ ap (λ (u : Saying). Some (refused_with u.text)) (same_Some v w (one_verdict octets (Some v) (Some w) is is')) ∙ sym e'
+decides_one pools limited octets claim told told' (inr (inl (v, is, refuses, none, e))) (inr (inr (w, is', accepts', g', grant', answer', e'))) = yes_and_no octets v w is refuses is' accepts'
+decides_one pools limited octets claim told told' (inr (inr (v, is, accepts, g, grant, answer, e))) (inl (silent', none', e')) = said_or_not octets v is silent'
+decides_one pools limited octets claim told told' (inr (inr (v, is, accepts, g, grant, answer, e))) (inr (inl (w, is', refuses', none', e'))) = yes_and_no octets w v is' refuses' is accepts
+decides_one pools limited octets claim told told' (inr (inr (v, is, accepts, g, grant, answer, e))) (inr (inr (w, is', accepts', g', grant', answer', e'))) =
+    e ∙ ap (λ (u : Saying). Some (told_of pools limited claim u.text g)) (same_Some v w (one_verdict octets (Some v) (Some w) is is'))
+    ∙ ap (λ (i : Gift). Some (told_of pools limited claim w.text i)) (same_Some g g' (one_grant octets (Some g) (Some g') grant grant')) ∙ sym e'
 
 -- Entries ---------------------------------------------------------------------------------------------------------------
 
@@ -285,22 +315,19 @@ module _ (r : Rules) (s : State) (e : Entry) (d d' : Deed) where
   same_handled : (outs outs' : List OutRecord) (t t' : State) → (outs ≡ outs') × (t ≡ t') → d ≡ handled s e outs t → d' ≡ handled s e outs' t' → d ≡ d'
   same_handled outs outs' t t' same h k = h ∙ ap (λ (os : List OutRecord). handled s e os t) same.0 ∙ ap (λ (u : State). handled s e outs' u) same.1 ∙ sym k
 
-  driven_equal : (n : ℕ) (x y : Session) (asked asked' : ℕ) → x ≡ y → asked ≡ asked' → with_driven s n x asked ≡ with_driven s n y asked'
-  driven_equal n x y asked asked' same count = ap (λ (z : Session). with_driven s n z asked) same ∙ ap (λ (m : ℕ). with_driven s n y m) count
-
   makes_one : (number : ℕ) (port : AccessPort) (offers : PortRules) (p : PppoeFrame) (tags : List PppoeTag) → Makes r s e number port offers p tags d → Makes r s e number port offers p tags d' → d ≡ d'
   makes_one number port offers p tags h k =
       let session = vacant_one s h.session k.session h.vacant k.vacant in
       let link = link_one e.item.random h.link k.link h.new k.new in
       let fresh : new_session h.session number p.src (host_uniq_of tags) h.link ≡ new_session k.session number p.src (host_uniq_of tags) k.link =
       ap (λ (n : ℕ). new_session n number p.src (host_uniq_of tags) h.link) session ∙ ap (λ (l : PppState). new_session k.session number p.src (host_uniq_of tags) l) link in
-      let starts : Drives r (at_of s e) s.asked (new_session h.session number p.src (host_uniq_of tags) h.link) (told r e Start) k.outs k.x k.asked =
-      subst (λ (y : Session). Drives r (at_of s e) s.asked y (told r e Start) k.outs k.x k.asked) (sym fresh) k.starts in
-      let one = drives_one r (at_of s e) s.asked (told r e Start) (told_is_one r e Start) (new_session h.session number p.src (host_uniq_of tags) h.link) h.outs k.outs h.x k.x h.asked k.asked h.starts starts in
+      let starts : Drives r (at_of s e) s.asked (new_session h.session number p.src (host_uniq_of tags) h.link) (told r e Start) k.outs k.cause k.x k.asked =
+      subst (λ (y : Session). Drives r (at_of s e) s.asked y (told r e Start) k.outs k.cause k.x k.asked) (sym fresh) k.starts in
+      let one = drives_one r (at_of s e) s.asked (told r e Start) (told_is_one r e Start) (new_session h.session number p.src (host_uniq_of tags) h.link) h.outs k.outs h.cause k.cause h.x k.x h.asked k.asked h.starts starts in
       let front : ℕ → List OutRecord = λ n. frame_outs (at_of s e) number port (pads_of offers p.src n tags) in
-      same_handled (front h.session ++ h.outs) (front k.session ++ k.outs) (with_driven s h.session h.x h.asked) (with_driven s k.session k.x k.asked) (
+      same_handled (front h.session ++ h.outs) (front k.session ++ k.outs) (with_driven s h.session None h.cause h.x h.asked) (with_driven s k.session None k.cause k.x k.asked) (
         ap (λ (n : ℕ). front n ++ h.outs) session ∙ ap (λ (os : List OutRecord). front k.session ++ os) one.0,
-        ap (λ (n : ℕ). with_driven s n h.x h.asked) session ∙ driven_equal k.session h.x k.x h.asked k.asked one.1 one.2,
+        ap (λ (n : ℕ). with_driven s n None h.cause h.x h.asked) session ∙ driven_equal s k.session None h.cause k.cause h.x k.x h.asked k.asked one.3 one.1 one.2,
       )
       h.done k.done
 
@@ -345,15 +372,22 @@ module _ (r : Rules) (s : State) (e : Entry) (d d' : Deed) where
 
   ppp_one : (x : Session) (made : Made) (p : PppoeFrame) → HearsPpp r s e x made p d → HearsPpp r s e x made p d' → d ≡ d'
   ppp_one x made p (inl (over, h)) (inl (over', k)) = same_deed _ h k
-  ppp_one x made p (inl (over, h)) (inr (live', outs', x'', asked'', drives', k)) = absurd (false≢true (sym live' ∙ over))
-  ppp_one x made p (inr (live, outs, x', asked', drives, h)) (inl (over', k)) = absurd (false≢true (sym live ∙ over'))
-  ppp_one x made p (inr (live, outs, x', asked', drives, h)) (inr (live', outs', x'', asked'', drives', k)) =
-      let one = drives_one r (at_of s e) s.asked (hears r e p.payload) (frame_is_one r e p.payload) x outs outs' x' x'' asked' asked'' drives drives' in
-      same_handled outs outs' (with_driven s p.session x' asked') (with_driven s p.session x'' asked'') (one.0, driven_equal p.session x' x'' asked' asked'' one.1 one.2) h k
+  ppp_one x made p (inl (over, h)) (inr (live', outs', cause', x'', asked'', drives', k)) = absurd (false≢true (sym live' ∙ over))
+  ppp_one x made p (inr (live, outs, cause, x', asked', drives, h)) (inl (over', k)) = absurd (false≢true (sym live ∙ over'))
+  ppp_one x made p (inr (live, outs, cause, x', asked', drives, h)) (inr (live', outs', cause', x'', asked'', drives', k)) =
+      let one = drives_one r (at_of s e) s.asked (hears r e p.payload) (frame_is_one r e p.payload) x outs outs' cause cause' x' x'' asked' asked'' drives drives' in
+      same_handled outs outs' (with_driven s p.session x.lease cause x' asked') (with_driven s p.session x.lease cause' x'' asked'')
+      (one.0, driven_equal s p.session x.lease cause cause' x' x'' asked' asked'' one.3 one.1 one.2) h k
+
+  padt_one : (x : Session) (made : Made) (p : PppoeFrame) → HearsPadt s e x made p d → HearsPadt s e x made p d' → d ≡ d'
+  padt_one x made p (inl (over, h)) (inl (over', k)) = same_deed _ h k
+  padt_one x made p (inl (over, h)) (inr (live', k)) = absurd (false≢true (sym live' ∙ over))
+  padt_one x made p (inr (live, h)) (inl (over', k)) = absurd (false≢true (sym live ∙ over'))
+  padt_one x made p (inr (live, h)) (inr (live', k)) = same_deed _ h k
 
   control_one : (v : Service) (x : Session) (p : PppoeFrame) → HearsControl v r s e x p d → HearsControl v r s e x p d' → d ≡ d'
   control_one (Provisioned l) x p h k = same_deed _ h k
-  control_one (Discovered made) x p (inl (padt, h)) (inl (padt', k)) = same_deed _ h k
+  control_one (Discovered made) x p (inl (padt, h)) (inl (padt', k)) = padt_one x made p h k
   control_one (Discovered made) x p (inl (padt, h)) (inr (other', k)) = absurd (false≢true (sym other' ∙ padt))
   control_one (Discovered made) x p (inr (other, h)) (inl (padt', k)) = absurd (false≢true (sym other ∙ padt'))
   control_one (Discovered made) x p (inr (other, h)) (inr (other', k)) = ppp_one x made p h k
@@ -397,29 +431,33 @@ module _ (r : Rules) (s : State) (e : Entry) (d d' : Deed) where
       let same = one_header v v' (arrival_in e).octets is.packet is'.packet in
       packet_one v h (subst (λ (w : Ipv4). HearsPacket r s e w d') (sym same) k)
 
-  judges_one : (v : Saying) → Judges r s e v d → Judges r s e v d' → d ≡ d'
-  judges_one v h k =
+  judges_one : (t : Told) → Judges r s e t d → Judges r s e t d' → d ≡ d'
+  judges_one t h k =
+      let n = e.item.target in
       let x = same_found _ h.x k.x h.found k.found in
-      let drives : Drives r (at_of s e) s.asked h.x (settles r e v) k.outs k.after k.asked =
-      subst (λ (y : Session). Drives r (at_of s e) s.asked y (settles r e v) k.outs k.after k.asked) (sym x) k.drives in
-      let one = drives_one r (at_of s e) s.asked (settles r e v) (verdict_is_one r e v) h.x h.outs k.outs h.after k.after h.asked k.asked h.drives drives in
-      same_handled h.outs k.outs (with_driven s e.item.target h.after h.asked) (with_driven s e.item.target k.after k.asked) (one.0, driven_equal e.item.target h.after k.after h.asked k.asked one.1 one.2) h.done k.done
+      let question = same_found (open_of k.x) h.question k.question (ap open_of (sym x) ∙ h.asks) k.asks in
+      let drives : Drives r (at_of s e) s.asked h.x (settles r e t) k.outs k.cause k.after k.asked =
+      subst (λ (y : Session). Drives r (at_of s e) s.asked y (settles r e t) k.outs k.cause k.after k.asked) (sym x) k.drives in
+      let one = drives_one r (at_of s e) s.asked (settles r e t) (verdict_is_one r e t) h.x h.outs k.outs h.cause k.cause h.after k.after h.asked k.asked h.drives drives in
+      let states =
+      ap (λ (y : Session). settled_by s n y h.question t e.moment h.after h.asked t.lease) x
+      ∙ ap (λ (q : Question). settled_by s n k.x q t e.moment h.after h.asked t.lease) question
+      ∙ ap (λ (y : Session). settled_by s n k.x k.question t e.moment y h.asked t.lease) one.1
+      ∙ ap (λ (m : ℕ). settled_by s n k.x k.question t e.moment k.after m t.lease) one.2 in
+      same_handled h.outs k.outs (settled_by s n h.x h.question t e.moment h.after h.asked t.lease) (settled_by s n k.x k.question t e.moment k.after k.asked t.lease) (one.0, states) h.done k.done
 
-  said_or_not : (v : Saying) → IsVerdict e.item.frame.payload (Some v) → IsVerdict e.item.frame.payload None → ⊥
-  said_or_not v is none = false≢true (ap is_some (one_verdict e.item.frame.payload None (Some v) none is))
-
-  verdict_entry : HearsVerdict r s e d → HearsVerdict r s e d' → d ≡ d'
-  verdict_entry (inl (asks, v, is, h)) (inl (asks', w, is', k)) =
-      let same = same_Some v w (one_verdict e.item.frame.payload (Some v) (Some w) is is') in
-      judges_one v h (subst (λ (u : Saying). Judges r s e u d') (sym same) k)
-  verdict_entry (inl (asks, v, is, h)) (inr (inl (asks', none', k))) = absurd (said_or_not v is none')
-  verdict_entry (inl (asks, v, is, h)) (inr (inr (other', k))) = absurd (other' asks)
-  verdict_entry (inr (inl (asks, none, h))) (inl (asks', w, is', k)) = absurd (said_or_not w is' none)
-  verdict_entry (inr (inl (asks, none, h))) (inr (inl (asks', none', k))) = same_deed _ h k
-  verdict_entry (inr (inl (asks, none, h))) (inr (inr (other', k))) = same_deed _ h k
-  verdict_entry (inr (inr (other, h))) (inl (asks', w, is', k)) = absurd (other asks')
-  verdict_entry (inr (inr (other, h))) (inr (inl (asks', none', k))) = same_deed _ h k
-  verdict_entry (inr (inr (other, h))) (inr (inr (other', k))) = same_deed _ h k
+  verdict_entry : (limited : Bool) → HearsVerdict r s e limited d → HearsVerdict r s e limited d' → d ≡ d'
+  verdict_entry limited (inl (asks, t, decides, h)) (inl (asks', u, decides', k)) =
+      let same = same_Some t u (decides_one r.pools limited e.item.frame.payload e.claim (Some t) (Some u) decides decides') in
+      judges_one t h (subst (λ (v : Told). Judges r s e v d') (sym same) k)
+  verdict_entry limited (inl (asks, t, decides, h)) (inr (inl (asks', none', k))) = absurd (none_some t (decides_one r.pools limited e.item.frame.payload e.claim None (Some t) none' decides))
+  verdict_entry limited (inl (asks, t, decides, h)) (inr (inr (other', none', k))) = absurd (other' asks)
+  verdict_entry limited (inr (inl (asks, none, h))) (inl (asks', u, decides', k)) = absurd (none_some u (decides_one r.pools limited e.item.frame.payload e.claim None (Some u) none decides'))
+  verdict_entry limited (inr (inl (asks, none, h))) (inr (inl (asks', none', k))) = same_deed _ h k
+  verdict_entry limited (inr (inl (asks, none, h))) (inr (inr (other', none', k))) = same_deed _ h k
+  verdict_entry limited (inr (inr (other, none, h))) (inl (asks', u, decides', k)) = absurd (other asks')
+  verdict_entry limited (inr (inr (other, none, h))) (inr (inl (asks', none', k))) = same_deed _ h k
+  verdict_entry limited (inr (inr (other, none, h))) (inr (inr (other', none', k))) = same_deed _ h k
 
   tick_entry : HearsTick r s e d → HearsTick r s e d' → d ≡ d'
   tick_entry (outs, s', ticks, h) (outs', s'', ticks', k) = same_handled outs outs' s' s'' (ticks_one r e at_once s outs outs' s' s'' ticks ticks') h k
@@ -427,20 +465,23 @@ module _ (r : Rules) (s : State) (e : Entry) (d d' : Deed) where
   end_entry : HearsEnd r s e d → HearsEnd r s e d' → d ≡ d'
   end_entry (outs, s', all, h) (outs', s'', all', k) = same_handled outs outs' s' s'' (ends_one r e at_once s outs outs' s' s'' all all') h k
 
-  entry_one : (kind : ItemKind) → Hears kind r s e d → Hears kind r s e d' → d ≡ d'
-  entry_one (Access number) h k = access_one number h k
-  entry_one Core h k = core_one h k
-  entry_one Tunnel h k = same_deed _ h k
-  entry_one Verdict h k = verdict_entry h k
-  entry_one Change h k = same_deed _ h k
-  entry_one Tick h k = tick_entry h k
-  entry_one End h k = end_entry h k
+  entry_one : (limited : Bool) (kind : ItemKind) → Hears kind r s limited e d → Hears kind r s limited e d' → d ≡ d'
+  entry_one limited (Access number) h k = access_one number h k
+  entry_one limited Core h k = core_one h k
+  entry_one limited Tunnel h k = same_deed _ h k
+  entry_one limited Verdict h k = verdict_entry limited h k
+  entry_one limited Change h k = same_deed _ h k
+  entry_one limited Tick h k = tick_entry h k
+  entry_one limited End h k = end_entry h k
 
 -- a step is the only one of its state and its entry
-pub step_one : (r : Rules) (s : State) (d d' : Deed) → Step r s d → Step r s d' → d.entry ≡ d'.entry → d ≡ d'
-step_one r s d d' h k same = entry_one r s d.entry d d' d.entry.item.kind h.hears (subst (λ (e : Entry). Hears e.item.kind r s e d') (sym same) k.hears)
+pub step_one : (r : Rules) (s : State) (limited : Bool) (d d' : Deed) → Step r s limited d → Step r s limited d' → d.entry ≡ d'.entry → d ≡ d'
+step_one r s limited d d' h k same =
+    entry_one r s d.entry d d' limited d.entry.item.kind h.hears (subst (λ (e : Entry). Hears e.item.kind r s limited e d') (sym same) k.hears)
 
 pub pppoe_alike : Alike pppoe
 pppoe_alike s d e h k entries limits =
-    let deeds = step_one s.rules s.slots d.deed e.deed h k entries in
-    λ i. record { deed = deeds i; limited = limits i }
+    let again : Step s.rules s.slots d.limited e.deed = subst (λ (b : Bool). Step s.rules s.slots b e.deed) (sym limits) k.step in
+    let deeds = step_one s.rules s.slots d.limited d.deed e.deed h.step again entries in
+    let refused : d.refused ≡ e.refused = h.refused ∙ ap (λ (x : Entry). refused_by s.rules.pools x.claim) entries ∙ sym k.refused in
+    λ i. record { deed = deeds i; limited = limits i; refused = refused i }
