@@ -12,6 +12,10 @@ pub not_false : (b : Bool) → not b ≡ false → b ≡ true
 not_false true e = refl
 not_false false e = absurd (let never : ⊥ = cc in never)
 
+pub not_so : (b : Bool) → not b ≡ true → b ≡ false
+not_so true e = absurd (let never : ⊥ = cc in never)
+not_so false e = refl
+
 -- the number of a question is another one
 pub other_ask : (o : Option ℕ) (n : ℕ) → not (option_eq eqb o (Some n)) ≡ true → ¬ (o ≡ Some n)
 other_ask None n e f = let never : ⊥ = cc in never

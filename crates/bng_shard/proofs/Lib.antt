@@ -12,6 +12,7 @@ pub mod Beginning
 pub mod Walking
 pub mod Wishing
 pub mod Asking
+pub mod TermBegins
 pub mod TermLaws
 pub mod Poolless
 pub mod Reading

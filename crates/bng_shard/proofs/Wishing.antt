@@ -27,10 +27,10 @@ both b e f = cc
 
 -- a yes is said by a packet, which gives something
 pub yes_gives : (octets : List ℕ) (v : Saying) → IsVerdict octets (Some v) → v.yes ≡ true → IsGrant octets None → ⊥
-yes_gives octets v (Silent none told) yes grant = both v.yes yes (ap (λ (s : Saying). s.yes) (same v silence told))
-yes_gives octets v (Replied p reply told) yes (Given q is g gives e) = never g e
-yes_gives octets v (Replied p reply told) yes (NotGiven other e) = other p (record { packet = reply.packet; few = reply.few })
-yes_gives octets v (NoReply some other told) yes grant = never v (sym told)
+yes_gives octets v (Silent none told) accepts grant = both v.yes accepts (ap (λ (s : Saying). s.yes) (same v silence told))
+yes_gives octets v (Replied p reply told) accepts (Given q is g gives e) = never g e
+yes_gives octets v (Replied p reply told) accepts (NotGiven other e) = other p (record { packet = reply.packet; few = reply.few })
+yes_gives octets v (NoReply some other told) accepts grant = never v (sym told)
 
 -- what was asked was answered by this claim
 abbrev pub Answered : List NamedRange → Bool → List ℕ → Claim → Type 0
@@ -42,27 +42,27 @@ module _ (pools : List NamedRange) (limited : Bool) (octets : List ℕ) (claim :
 
   -- octets that say nothing, or no, asked nothing
   claims_nothing : ((v : Saying) → IsVerdict octets (Some v) → v.yes ≡ false) → Wishes pools limited octets answered.0 → claim ≡ NoClaim
-  claims_nothing no (inl none) = answered_by Nothing none.1
-  claims_nothing no (inr (inl refuses)) = answered_by Nothing refuses.3
-  claims_nothing no (inr (inr accepts)) = absurd (both accepts.0.yes accepts.2 (no accepts.0 accepts.1))
+  claims_nothing refused (inl none) = answered_by Nothing none.1
+  claims_nothing refused (inr (inl refuses)) = answered_by Nothing refuses.3
+  claims_nothing refused (inr (inr accepts)) = absurd (both accepts.0.yes accepts.2 (refused accepts.0 accepts.1))
 
   pub decides_nothing : IsVerdict octets None → Decides pools limited octets claim None
   decides_nothing is = inl (is, claims_nothing (λ v said. absurd (never v (one_verdict octets None (Some v) is said))) answered.1, refl)
 
   pub decides_no : (v : Saying) → IsVerdict octets (Some v) → v.yes ≡ false → Decides pools limited octets claim (Some (refused_with v.text))
-  decides_no v is no =
-      inr (inl (v, is, no, claims_nothing (λ u said. ap (λ (s : Saying). s.yes) (same u v (one_verdict octets (Some u) (Some v) said is)) ∙ no) answered.1, refl))
+  decides_no v is refused =
+      inr (inl (v, is, refused, claims_nothing (λ u said. ap (λ (s : Saying). s.yes) (same u v (one_verdict octets (Some u) (Some v) said is)) ∙ refused) answered.1, refl))
 
   -- and what an Accept asked was answered
   accept_answered : (v : Saying) (g : Gift) → IsVerdict octets (Some v) → v.yes ≡ true → IsGrant octets (Some g) → Wishes pools limited octets answered.0 → IsAnswerTo pools (wish_of pools limited g) claim
-  accept_answered v g is yes gives (inl none) = absurd (never v (one_verdict octets None (Some v) none.0 is))
-  accept_answered v g is yes gives (inr (inl refuses)) =
-      absurd (both v.yes yes (ap (λ (s : Saying). s.yes) (same v refuses.0 (one_verdict octets (Some v) (Some refuses.0) is refuses.1)) ∙ refuses.2))
-  accept_answered v g is yes gives (inr (inr accepts)) =
+  accept_answered v g is accepted gives (inl none) = absurd (never v (one_verdict octets None (Some v) none.0 is))
+  accept_answered v g is accepted gives (inr (inl refuses)) =
+      absurd (both v.yes accepted (ap (λ (s : Saying). s.yes) (same v refuses.0 (one_verdict octets (Some v) (Some refuses.0) is refuses.1)) ∙ refuses.2))
+  accept_answered v g is accepted gives (inr (inr accepts)) =
       subst (λ (h : Gift). IsAnswerTo pools (wish_of pools limited h) claim) (same accepts.3 g (one_grant octets (Some accepts.3) (Some g) accepts.4 gives)) (answered_by (wish_of pools limited accepts.3) accepts.5)
 
   pub decides_yes : (v : Saying) (g : Gift) → IsVerdict octets (Some v) → v.yes ≡ true → IsGrant octets (Some g) → Decides pools limited octets claim (Some (told_of pools limited claim v.text g))
-  decides_yes v g is yes gives = inr (inr (v, is, yes, g, gives, accept_answered v g is yes gives answered.1, refl))
+  decides_yes v g is accepted gives = inr (inr (v, is, accepted, g, gives, accept_answered v g is accepted gives answered.1, refl))
 
 -- An address comes of a claim alone, for a peer that is accepted.
 claimed_by : (claim : Claim) (text : List ℕ) (g : Gift) (a : Ip4) → (told_by claim text g).lease ≡ Some a → ((told_by claim text g).yes ≡ true) × (claim ≡ Claimed a)

@@ -70,7 +70,7 @@ fn refused(text: &[u8]) -> Told
 
 // What comes of the answer to what an Accept asked of the pools.
 fn told_by(claim: Claim, text: ArrayVec<u8, 253>, grant: Grant<'_>) -> Told
-    ensures { result ≡ told_by claim text.items (gift grant) }
+    ensures { result ≡ told_by claim text.items (gift grant.entry) }
 {
     match claim {
         Claim::Claimed(address) => Told {
@@ -92,7 +92,7 @@ fn told_of(
     grant: Grant<'_>,
 ) -> Told
     requires few { length pools.now ≤ 16 }
-    ensures { result ≡ told_of pools.now limited claim text.items (gift grant) }
+    ensures { result ≡ told_of pools.now limited claim text.items (gift grant.entry) }
 {
     if pools.is_empty() {
         return Told {
