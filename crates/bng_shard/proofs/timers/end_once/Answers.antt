@@ -38,11 +38,12 @@ pub returns-clause-ended : goal.returns-clause-ended
 returns-clause-ended c =
     let d = (goal.at.returns-clause-ended c).After-end in
     let x = c.take-session.result in
+    let lowest = c.in-Some.ensures.found in
     let (padt, ends, sent) = c.tell_end.ensures.told in
     let next = put_back c.args.served.now c.take-session.new.self c.in-Some.number.0 c.end.new.self.number.0 c.take-session.ensures.after (same_number d) c.put.new.self c.end.new.self c.put.ensures
     ∙ ap (λ (y : Session). with_session c.args.served.now c.in-Some.number.0 y) c.end.ensures in (
       c.in-Some.number.0,
-      c.in-Some.ensures.found,
+      record { stays = lowest.stays; lowest = lowest.lowest },
       x,
       sym c.take-session.ensures.value,
       padt,

@@ -16,7 +16,7 @@ returns-clause-ticked c =
     let first = c.in-Some.ensures.found in
     let (x, at, live) = has_deadline c.args.served.now c.in-Some.session.0 first.deadline first.is in
     let (x', cause, asked, driven, next) = c.drive_at.ensures.driven x at in
-    (c.in-Some.session.0, first, x, x', at, cause, asked, driven, next)
+    (c.in-Some.session.0, record { deadline = first.deadline; is = first.is; due = first.due; first = first.first }, x, x', at, cause, asked, driven, next)
 
 pub returns-clause-placed : goal.returns-clause-placed
 returns-clause-placed c =
