@@ -26,7 +26,7 @@ abbrev pub begun_in : List Entry → ℕ
 begun_in journal = length (flat_map (λ (e : Entry). claimed_by e.claim) journal)
 
 -- No term has a number above those that began, no two have one address, and each session's lease is that of a live term. As many terms may
--- begin still as the allowance is above those that began in the round. A way to authenticate, and what each access port offers. Where a
+-- begin still as the allowance is above those that began in the round. At most 16 pools, a way to authenticate, and what each access port offers. Where a
 -- round has room for an entry, there is room for it, for its outs, and for a term that it begins.
 pub record Fits (a : Inside) : Type 0 where
   pub numbered : All (λ (r : Running). r.term.serial ≤ a.served.begun) a.terms.rows
@@ -36,6 +36,7 @@ pub record Fits (a : Inside) : Type 0 where
   pub left : a.left + begun_in a.journal.items ≡ a.allowance
   pub numbers : 0 < a.left → a.served.begun + a.left < 2 ^ 48
   pub placed : ArePlaced a.rules a.served.sessions
+  pub few_pools : length a.rules.pools ≤ 16
   pub auth : 0 < length a.rules.link.auth.items
   pub offers : length a.rules.offers ≡ length a.rules.access
   pub journal_room : length a.journal.items + a.room ≤ vec_capacity a.journal

@@ -2,6 +2,7 @@
 use Rattle.std.specs.Prelude.{◌≡◌, ◌≢◌, ◌==◌, ◌<◌, ◌≤◌, ◌+◌, ◌^◌, ℕ, Bool, true, false, cond, List, [], ◌∷◌, ◌++◌, length, get_or, is_some, map, Option, Some, None}
 use Rattle.std.specs.List.{All, AllByRecursion}
 use Rattle.bng_base.specs.declared.address.Ip4.{Ip4}
+use Rattle.bng_engine.specs.Calls.{SayTheSame}
 use Rattle.bng_engine.specs.Lists.{AnyOf}
 use Rattle.bng_engine.specs.Terms.{Key, ComesBefore}
 use Rattle.bng_engine.specs.Views.{Row}
@@ -63,6 +64,16 @@ has_ended r = is_some r.cause
 -- each session that has a lease has its live term among these
 abbrev pub AreTied : Sessions Session → List Tenure → Type 0
 AreTied sessions terms = (n : ℕ) (x : Session) (l : Lease) → value_at sessions n ≡ Some x → x.lease ≡ Some l → AnyOf (IsTermOf x l) terms
+
+-- The sums of the terms say the same, and there is room for as many more.
+pub record KeepSums (t t' : TermsView) : Type 0 where
+  pub sums : SayTheSame (rows_in t.rows) (rows_in t'.rows)
+  pub room : t'.room ≡ t.room
+
+-- The sums say the same, and there is room for as many more, or for one less.
+pub record SumsStay (t t' : TermsView) : Type 0 where
+  pub sums : SayTheSame (rows_in t.rows) (rows_in t'.rows)
+  pub room : t.room ≤ t'.room + 1
 
 -- A term may begin that has this address: no term has it, there is room, and no number is above the count of those that began.
 pub record MayBegin (a : Ip4) (s : State) (t : TermsView) : Type 0 where

@@ -10,7 +10,7 @@ ghost use Rattle.bng_shard.specs.Frames.{HearsIn};
 ghost use Rattle.bng_shard.specs.Link.{ended, user_request};
 ghost use Rattle.bng_ppp.specs.PppRelation.{PppSteps};
 ghost use Rattle.std.specs.Prelude.{ℕ, Option as Maybe};
-ghost use Rattle.bng_shard.specs.Running.{whole};
+ghost use Rattle.bng_shard.specs.Running.{whole, KeepSums};
 ghost use Rattle.bng_shard.specs.State.{session_of, with_driven, with_ended};
 ghost use Rattle.bng_shard.specs.Timers.{lives_at};
 ghost use Rattle.bng_slots.specs.Sessions.{value_at};
@@ -30,7 +30,8 @@ const USER_REQUEST: u8 = 1;
 // A session that lives ends, by the subscriber's PADT.
 fn end_session(served: &mut Served, terms: &mut Terms, number: SessionNo)
     requires lives { lives_at served.old number.0 ≡ true }
-    ensures { (x : Seen) → value_at served.old.sessions number.0 ≡ Some x → whole served.new terms.new ≡ with_ended (whole served.old terms.old) number.0 x.lease user_request (ended x) }
+    ensures sums { KeepSums terms.old terms.new }
+    ensures ended { (x : Seen) → value_at served.old.sessions number.0 ≡ Some x → whole served.new terms.new ≡ with_ended (whole served.old terms.old) number.0 x.lease user_request (ended x) }
 {
     let mut session = served.take(number);
     terms.close(session.lease(), Some(USER_REQUEST));
@@ -57,6 +58,7 @@ pub(crate) fn drive_at(
     requires lives { lives_at served.old number.0 ≡ true }
     requires lasts { (x : Seen) → value_at served.old.sessions number.0 ≡ Some x → LastsOver input x.lease }
     requires room { length outs.old.items + 5 ≤ vec_capacity outs.old }
+    ensures sums { KeepSums terms.old terms.new }
     ensures driven { (x : Seen) → value_at served.old.sessions number.0 ≡ Some x → (x' : Seen) × (cause : Maybe ℕ) × (asked : ℕ) × Driven rules.now at (PppSteps rules.now.link input.entry now random.now) served.old.asked x cause x' asked outs.old.items outs.new.items × (whole served.new terms.new ≡ with_driven (whole served.old terms.old) number.0 x.lease cause x' asked) }
     ensures capacity { vec_capacity outs.new ≡ vec_capacity outs.old }
     ensures few { length outs.new.items ≤ length outs.old.items + 5 }
@@ -123,6 +125,7 @@ pub(crate) fn hear_control(
     requires here { at.shard ≡ served.old.sessions.shard }
     requires room { length outs.old.items + 5 ≤ vec_capacity outs.old }
     requires ppp { frame.now.discovery ≡ false → 2 ≤ length frame.now.payload.now }
+    ensures sums { KeepSums terms.old terms.new }
     ensures does { DoesWith (λ e d. HearsIn (session_of served.old number frame.now.src frame.now.session) rules.now (whole served.old terms.old) e (frame_of frame.now) d) 5 (whole served.old terms.old) (whole served.new terms.new) outs.old.items outs.new.items at now item.now result }
     ensures capacity { vec_capacity outs.new ≡ vec_capacity outs.old }
 {

@@ -9,7 +9,7 @@ ghost use Rattle.bng_shard.specs.Frames.{HearsAccess, HearsFrame};
 ghost use Rattle.bng_shard.specs.Hearing.{Does, outs_most};
 ghost use Rattle.bng_shard.specs.Protocol.{entry_with};
 ghost use Rattle.bng_base.specs.declared.address.Ip4.{Ip4 as Address};
-ghost use Rattle.bng_shard.specs.Running.{AreTied, MayBegin, tenures_in, whole};
+ghost use Rattle.bng_shard.specs.Running.{AreTied, KeepSums, MayBegin, SumsStay, tenures_in, whole};
 ghost use Rattle.bng_shard.specs.Step.{Step};
 ghost use Rattle.bng_shard.specs.Wished.{IsAnswered};
 
@@ -47,6 +47,7 @@ fn hear_frame(
     requires here { at.shard ≡ served.old.sessions.shard }
     requires room { length outs.old.items + 10 ≤ vec_capacity outs.old }
     requires came { IsFrame rules.now.access number (arrival_of item.now) (frame_of frame.now) }
+    ensures sums { KeepSums terms.old terms.new }
     ensures does { DoesWith (λ e d. HearsFrame rules.now (whole served.old terms.old) e number (frame_of frame.now) d) 10 (whole served.old terms.old) (whole served.new terms.new) outs.old.items outs.new.items at now item.now result }
     ensures capacity { vec_capacity outs.new ≡ vec_capacity outs.old }
 {
@@ -78,6 +79,7 @@ fn hear_access(
     requires whole { item.now.frame.headroom ≡ 64 }
     requires here { at.shard ≡ served.old.sessions.shard }
     requires room { length outs.old.items + 10 ≤ vec_capacity outs.old }
+    ensures sums { KeepSums terms.old terms.new }
     ensures does { DoesWith (λ e d. HearsAccess rules.now (whole served.old terms.old) e number d) 10 (whole served.old terms.old) (whole served.new terms.new) outs.old.items outs.new.items at now item.now result }
     ensures capacity { vec_capacity outs.new ≡ vec_capacity outs.old }
 {
@@ -108,6 +110,7 @@ pub(crate) fn hear(
     requires moment { now < 2 ^ 60 }
     requires auth { 0 < length rules.now.link.auth.items }
     requires offers { length rules.now.offers ≡ length rules.now.access }
+    requires few_pools { length rules.now.pools ≤ 16 }
     requires placed { ArePlaced rules.now served.old.sessions }
     requires tied { AreTied served.old.sessions (tenures_in terms.old.rows) }
     requires whole { item.now.frame.headroom ≡ 64 }
@@ -115,6 +118,7 @@ pub(crate) fn hear(
     requires asked { IsAnswered rules.now served.old item.now limited claim }
     requires begins { (a : Address) → claim ≡ Claim.Claimed a → MayBegin a served.old terms.old }
     requires room { length outs.old.items + outs_most item.now.kind ≤ vec_capacity outs.old }
+    ensures sums { SumsStay terms.old terms.new }
     ensures does { Does (Step rules.now (whole served.old terms.old) limited) (outs_most item.now.kind) (whole served.old terms.old) (whole served.new terms.new) outs.old.items outs.new.items (entry_with claim at.seat at.place now item.now) result }
     ensures capacity { vec_capacity outs.new ≡ vec_capacity outs.old }
 {

@@ -4,7 +4,7 @@ ghost use Rattle.bng_base.specs.declared.item.OutRecord.{OutRecord as Out};
 ghost use Rattle.bng_base.specs.declared.settings.AccessPort.{AccessPort as Port};
 ghost use Rattle.bng_shard.specs.Fits.{ArePlaced};
 ghost use Rattle.bng_shard.specs.Timed.{TickedOnce, EndedOnce, Ticked, Ended};
-ghost use Rattle.bng_shard.specs.Running.{whole};
+ghost use Rattle.bng_shard.specs.Running.{whole, KeepSums};
 ghost use Rattle.bng_shard.specs.State.{port_at};
 ghost use Rattle.bng_shard.specs.Timers.{TellsEnd, at_once};
 
@@ -39,6 +39,7 @@ fn tick_once(
     requires offers { length rules.now.offers ≡ length rules.now.access }
     requires placed { ArePlaced rules.now served.old.sessions }
     requires room { length outs.old.items + 5 ≤ vec_capacity outs.old }
+    ensures sums { KeepSums terms.old terms.new }
     ensures ticked { TickedOnce result rules.now at now random.now (whole served.old terms.old) (whole served.new terms.new) outs.old.items outs.new.items }
     ensures placed { ArePlaced rules.now served.new.sessions }
     ensures capacity { vec_capacity outs.new ≡ vec_capacity outs.old }
@@ -81,6 +82,7 @@ fn end_once(served: &mut Served, terms: &mut Terms, rules: &Rules, at: At, outs:
     requires offers { length rules.now.offers ≡ length rules.now.access }
     requires placed { ArePlaced rules.now served.old.sessions }
     requires room { length outs.old.items < vec_capacity outs.old }
+    ensures sums { KeepSums terms.old terms.new }
     ensures ended { EndedOnce result rules.now at (whole served.old terms.old) (whole served.new terms.new) outs.old.items outs.new.items }
     ensures placed { ArePlaced rules.now served.new.sessions }
     ensures capacity { vec_capacity outs.new ≡ vec_capacity outs.old }
@@ -113,6 +115,7 @@ pub(crate) fn tick(
     requires offers { length rules.now.offers ≡ length rules.now.access }
     requires placed { ArePlaced rules.now served.old.sessions }
     requires room { length outs.old.items + 320 ≤ vec_capacity outs.old }
+    ensures sums { KeepSums terms.old terms.new }
     ensures ticked { Ticked at_once rules.now at now random.now (whole served.old terms.old) (whole served.new terms.new) outs.old.items outs.new.items }
     ensures capacity { vec_capacity outs.new ≡ vec_capacity outs.old }
 {
@@ -128,6 +131,7 @@ pub(crate) fn end(served: &mut Served, terms: &mut Terms, rules: &Rules, at: At,
     requires offers { length rules.now.offers ≡ length rules.now.access }
     requires placed { ArePlaced rules.now served.old.sessions }
     requires room { length outs.old.items + 320 ≤ vec_capacity outs.old }
+    ensures sums { KeepSums terms.old terms.new }
     ensures ended { Ended at_once rules.now at (whole served.old terms.old) (whole served.new terms.new) outs.old.items outs.new.items }
     ensures capacity { vec_capacity outs.new ≡ vec_capacity outs.old }
 {

@@ -7,6 +7,7 @@ use Rattle.bng_shard.specs.State.{State}
 use Rattle.bng_shard.proofs.Serves.{live_stays}
 use Rattle.bng_shard.proofs.Driving.{number_of}
 use Rattle.bng_shard.proofs.Replacing.{live_there, made_of_live, number_back, put_back, shares_kept, vacant_back, whole_driven}
+use Rattle.bng_shard.proofs.SumsKept.{closed_keeps}
 use Rattle.bng_shard.proofs.Values.{same_some}
 use Rattle.bng_shard.proofs.frames.drive_at.Goals as goal
 
@@ -58,3 +59,6 @@ returns-clause-driven c x is =
           c.drive-asked.ensures.driven),
       whole_driven c.args.served.now c.count_asked.new.self c.args.number.0 x x' c.lease-lease.result c.args.terms.now c.close.new.self (c.lease-lease.ensures ∙ ap (λ (y : Session). y.lease) it) cause count next c.close.ensures,
     )
+
+pub returns-clause-sums : goal.returns-clause-sums
+returns-clause-sums c = closed_keeps c.args.terms.now c.close.new.self c.lease-lease.result c.drive-asked.result.1 c.close.ensures

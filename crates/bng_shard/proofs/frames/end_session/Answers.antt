@@ -1,4 +1,4 @@
-use Rattle.std.proofs.Common.{◌≡◌, ◌∙◌, ap, subst, sym}
+use Rattle.std.proofs.Common.{◌≡◌, ◌∙◌, Some, ap, subst, sym}
 use Rattle.bng_base.specs.declared.address.SessionNo.{SessionNo}
 use Rattle.bng_shard.specs.declared.session.Session.{Session}
 use Rattle.bng_shard.specs.Link.{ended}
@@ -8,6 +8,7 @@ use Rattle.bng_shard.specs.Indexed.{address_of}
 use Rattle.bng_shard.specs.State.{with_session}
 use Rattle.bng_shard.proofs.Replacing.{ended_keeps, number_back, put_back, vacant_back, whole_ended}
 use Rattle.bng_shard.proofs.Serves.{live_stays, nothing_shared}
+use Rattle.bng_shard.proofs.SumsKept.{closed_keeps}
 use Rattle.bng_shard.proofs.Values.{same_some}
 use Rattle.bng_shard.proofs.frames.end_session.Goals as goal
 use Rattle.bng_shard.proofs.frames.end_session.Goals.{After-end}
@@ -35,9 +36,12 @@ put-requires-clause-apart c = nothing_shared c.take-session.new.self.sessions c.
 pub put-requires-clause-leased : goal.put-requires-clause-leased
 put-requires-clause-leased c = subst (λ (y : Session). KeepsLease y.service y.lease) (sym c.end.ensures) (ended_keeps c.take-session.result.service c.take-session.result.lease c.take-session.ensures.leased)
 
-pub returns : goal.returns
-returns c x is =
-    let d = (goal.at.returns c).After-end in
+pub returns-clause-sums : goal.returns-clause-sums
+returns-clause-sums c = closed_keeps c.args.terms.now c.close.new.self c.lease.result (Some 1) c.close.ensures
+
+pub returns-clause-ended : goal.returns-clause-ended
+returns-clause-ended c x is =
+    let d = (goal.at.returns-clause-ended c).After-end in
     let it : c.take-session.result ≡ x = same_some c.take-session.result x (c.take-session.ensures.value ∙ is) in
     let next = put_back c.args.served.now c.take-session.new.self c.args.number.0 c.end.new.self.number.0 c.take-session.ensures.after (same_number d) c.put.new.self c.end.new.self c.put.ensures
     ∙ ap (λ (y : Session). with_session c.args.served.now c.args.number.0 y) c.end.ensures

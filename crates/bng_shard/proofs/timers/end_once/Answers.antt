@@ -1,4 +1,4 @@
-use Rattle.std.proofs.Common.{◌≡◌, ◌∙◌, ap, subst, sym}
+use Rattle.std.proofs.Common.{◌≡◌, ◌∙◌, Some, ap, subst, sym}
 use Rattle.bng_base.specs.declared.address.SessionNo.{SessionNo}
 use Rattle.bng_shard.specs.declared.session.Session.{Session}
 use Rattle.bng_shard.specs.Fits.{ArePlaced}
@@ -8,6 +8,7 @@ use Rattle.bng_shard.specs.Indexed.{address_of}
 use Rattle.bng_shard.specs.State.{State, with_session}
 use Rattle.bng_shard.proofs.Replacing.{ended_keeps, number_back, placed_with, put_back, vacant_back, whole_ended}
 use Rattle.bng_shard.proofs.Serves.{nothing_shared}
+use Rattle.bng_shard.proofs.SumsKept.{closed_keeps}
 use Rattle.bng_shard.proofs.timers.end_once.Goals as goal
 use Rattle.bng_shard.proofs.timers.end_once.Goals.{After-end}
 
@@ -58,3 +59,6 @@ returns-clause-placed c =
     let next = put_back c.args.served.now c.take-session.new.self c.in-Some.number.0 c.end.new.self.number.0 c.take-session.ensures.after (same_number d) c.put.new.self c.end.new.self c.put.ensures in
     subst (λ (t : State). ArePlaced c.args.rules.now t.sessions) (sym next)
     (placed_with c.args.rules.now c.args.served.now c.in-Some.number.0 c.take-session.result c.end.new.self (sym c.take-session.ensures.value) (ap (λ (y : Session). y.port) c.end.ensures) c.requires.placed)
+
+pub returns-clause-sums : goal.returns-clause-sums
+returns-clause-sums c = closed_keeps c.args.terms.now c.close.new.self c.lease.result (Some 10) c.close.ensures

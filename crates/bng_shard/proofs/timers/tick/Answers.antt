@@ -2,12 +2,14 @@ use Rattle.std.proofs.Common.{◌≡◌, ◌+◌, ◌≤◌, ℕ, length, subst,
 use Rattle.bng_shard.specs.Timed.{Ticked}
 use Rattle.bng_shard.specs.Running.{whole}
 use Rattle.bng_shard.specs.Timers.{at_once}
+use Rattle.bng_shard.proofs.SumsKept.{keeps_same, keeps_then}
 use Rattle.bng_shard.proofs.Timing.{ticks_begin, ticks_more, ticks_done, ticks_stop}
 use Rattle.bng_shard.proofs.timers.tick.Goals as goal
 
 pub loop-init : goal.loop-init
 loop-init c = record {
   on = ticks_begin c.args.rules.now c.args.at c.args.now c.args.random.now (whole c.args.served.now c.args.terms.now) c.args.outs.now.items;
+  sums = keeps_same c.args.terms.now;
   placed = c.requires.placed;
   capacity = search rules;
   few = omega arith;
@@ -16,6 +18,7 @@ loop-init c = record {
 pub loop-preserved : goal.loop-preserved
 loop-preserved c = record {
   on = ticks_more c.args.rules.now c.args.at c.args.now c.args.random.now (whole c.args.served.now c.args.terms.now) (whole c.loop.served c.loop.terms) c.args.outs.now.items c.loop.outs.items c.loop.counter (whole c.tick_once.new.served c.tick_once.new.terms) c.tick_once.new.outs.items c.loop.invariant.on c.if-not-tick_once.ensures.ticked;
+  sums = keeps_then c.args.terms.now c.loop.terms c.tick_once.new.terms c.loop.invariant.sums c.if-not-tick_once.ensures.sums;
   placed = c.if-not-tick_once.ensures.placed;
   capacity = search rules;
   few = omega arith;

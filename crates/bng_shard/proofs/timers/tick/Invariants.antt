@@ -1,12 +1,13 @@
 use Rattle.std.proofs.Common.{◌≡◌, ◌+◌, ◌*◌, ◌≤◌, length, vec_capacity}
 use Rattle.bng_shard.specs.Fits.{ArePlaced}
-use Rattle.bng_shard.specs.Running.{whole}
+use Rattle.bng_shard.specs.Running.{KeepSums, whole}
 use Rattle.bng_shard.proofs.Timing.{TicksOn}
 use Rattle.bng_shard.proofs.timers.tick.Given as goal
 
 abbrev pub invariant-loop : goal.invariant-loop
 invariant-loop l = record {
   on : TicksOn l.counter l.rules l.at l.now l.random (whole l.fn.served l.fn.terms) (whole l.served l.terms) l.fn.outs.items l.outs.items;
+  sums : KeepSums l.fn.terms l.terms;
   placed : ArePlaced l.rules l.served.sessions;
   capacity : vec_capacity l.outs ≡ vec_capacity l.fn.outs;
   few : length l.outs.items ≤ length l.fn.outs.items + 5 * l.counter;

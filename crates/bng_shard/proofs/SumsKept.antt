@@ -1,0 +1,19 @@
+-- The sums of terms say the same where terms end, and where none is touched.
+use Rattle.std.proofs.Common.{◌≡◌, ◌≤◌, ◌+◌, ℕ, Option, refl, sym, ap, subst, ◌∙◌, arith}
+use Rattle.bng_shard.specs.declared.session.Lease.{Lease}
+use Rattle.bng_shard.specs.Running.{KeepSums, SumsStay, TermsView, closed_rows}
+use Rattle.bng_shard.proofs.Beginning.{closed_same}
+
+pub keeps_same : (t : TermsView) → KeepSums t t
+keeps_same t = record { sums = λ q pick input. refl; room = refl }
+
+pub keeps_then : (t u v : TermsView) → KeepSums t u → KeepSums u v → KeepSums t v
+keeps_then t u v h k = record { sums = λ q pick input. k.sums q pick input ∙ h.sums q pick input; room = k.room ∙ h.room }
+
+pub closed_keeps : (t t' : TermsView) (lease : Option Lease) (cause : Option ℕ) → t' ≡ record t { rows = closed_rows lease cause t.rows } → KeepSums t t'
+closed_keeps t t' lease cause is = subst (λ (u : TermsView). KeepSums t u) (sym is) (record { sums = closed_same lease cause t.rows; room = refl })
+
+pub keeps_stay : (t u : TermsView) → KeepSums t u → SumsStay t u
+keeps_stay t u h =
+    let room = h.room in
+    record { sums = h.sums; room = omega (arith, room) }
