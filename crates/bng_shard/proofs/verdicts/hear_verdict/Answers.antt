@@ -1,32 +1,56 @@
-use Rattle.std.proofs.Common.{◌∙◌, ℕ, List, None, Some, subst, sym}
-use Rattle.bng_ppp.specs.declared.whole_input.WholeInput.TheVariants.{Verdict}
-use Rattle.bng_ppp.specs.PppRelation.{PppSteps}
-use Rattle.bng_verdict.specs.Verdicts.{IsVerdict, said}
-use Rattle.bng_shard.proofs.Speaking.{judged}
-use Rattle.bng_shard.proofs.Telling.{asks_lives, is_told, no_verdict, not_open, other_ask, same_ask}
+use Rattle.std.proofs.Common.{◌≡◌, ◌∙◌, ℕ, List, None, Some, subst, sym}
+use Rattle.bng_base.specs.declared.settings.NamedRange.{NamedRange}
+use Rattle.bng_shard.specs.Questions.{open_ask_at}
+use Rattle.bng_shard.specs.Running.{whole}
+use Rattle.bng_shard.specs.Wishes.{Decides}
+use Rattle.bng_shard.proofs.Telling.{answered_open, answered_other, asks_there, decided_lease, is_told, no_verdict, not_open, other_ask, same_ask}
+use Rattle.bng_shard.proofs.Wishing.{Answered}
 use Rattle.bng_shard.proofs.verdicts.hear_verdict.Goals as goal
 
 pub returns-then-ne-clause-does : goal.returns-then-ne-clause-does
 returns-then-ne-clause-does c =
+    let s = whole c.args.served.now c.args.terms.now in
     let other = other_ask c.open_ask.result c.args.item.now.ask (sym c.ne.ensures ∙ c.if-ne.true) in
-    not_open c.args.rules.now c.args.served.now c.args.at c.args.item.now c.args.outs.now.items c.requires.here (λ e. other (c.open_ask.ensures ∙ e)) c.args.now
+    let not_asked : ¬ (open_ask_at c.args.served.now c.args.item.now.target ≡ Some c.args.item.now.ask) = λ e. other (c.open_ask.ensures ∙ e) in
+    not_open c.args.rules.now s c.args.limited c.args.at c.args.now c.args.item.now c.args.claim c.args.outs.now.items not_asked
+    (answered_other c.args.rules.now c.args.served.now c.args.item.now c.args.limited c.args.claim c.requires.kind c.requires.asked not_asked)
+
+pub told_for-requires-clause-answered : goal.told_for-requires-clause-answered
+told_for-requires-clause-answered c =
+    let asked = sym c.open_ask.ensures ∙ same_ask c.open_ask.result c.args.item.now.ask (sym c.ne.ensures ∙ c.if-ne.false) in
+    subst (λ (pools : List NamedRange). Answered pools c.args.limited c.payload.result.now c.args.claim) (sym c.as_slice-pools.ensures)
+    (subst (λ (octets : List ℕ). Answered c.args.rules.now.pools c.args.limited octets c.args.claim) (sym c.payload.ensures.octets)
+    (answered_open c.args.rules.now c.args.served.now c.args.item.now c.args.limited c.args.claim c.requires.kind c.requires.asked asked))
 
 pub returns-in_default-clause-does : goal.returns-in_default-clause-does
 returns-in_default-clause-does c =
-    let asked = sym c.open_ask.ensures ∙ same_ask c.open_ask.result c.args.item.now.ask (sym c.ne.ensures ∙ c.if-ne.false) in
-    no_verdict c.args.rules.now c.args.served.now c.args.at c.args.item.now c.args.outs.now.items c.requires.here asked (subst (λ (o : List ℕ). IsVerdict o None) c.payload.ensures.octets c.in_default.ensures) c.args.now
+    let rules = c.args.rules.now in
+    let item = c.args.item.now in
+    let asked = sym c.open_ask.ensures ∙ same_ask c.open_ask.result item.ask (sym c.ne.ensures ∙ c.if-ne.false) in
+    let decides = subst (λ (octets : List ℕ). Decides rules.pools c.args.limited octets c.args.claim None) c.payload.ensures.octets
+        (subst (λ (pools : List NamedRange). Decides pools c.args.limited c.payload.result.now c.args.claim None) c.as_slice-pools.ensures c.in_default.ensures) in
+    no_verdict rules (whole c.args.served.now c.args.terms.now) c.args.limited c.args.at c.args.now item c.args.claim c.args.outs.now.items asked decides
 
-pub drive_at-requires-clause-lives : goal.drive_at-requires-clause-lives
-drive_at-requires-clause-lives c =
+pub settle_question-requires-clause-begins : goal.settle_question-requires-clause-begins
+settle_question-requires-clause-begins c a leased =
+    let rules = c.args.rules.now in
+    let item = c.args.item.now in
+    let decides = subst (λ (octets : List ℕ). Decides rules.pools c.args.limited octets c.args.claim (Some c.in-Some.told)) c.payload.ensures.octets
+        (subst (λ (pools : List NamedRange). Decides pools c.args.limited c.payload.result.now c.args.claim (Some c.in-Some.told)) c.as_slice-pools.ensures c.in-Some.ensures) in
+    let claimed = decided_lease rules.pools c.args.limited item.frame.payload c.args.claim c.in-Some.told a decides leased in
+    (claimed.0, c.requires.begins a claimed.1)
+
+pub settle_question-requires-clause-asks : goal.settle_question-requires-clause-asks
+settle_question-requires-clause-asks c =
     let asked = sym c.open_ask.ensures ∙ same_ask c.open_ask.result c.args.item.now.ask (sym c.ne.ensures ∙ c.if-ne.false) in
-    asks_lives c.args.served.now c.args.item.now.target c.args.item.now.ask asked
+    asks_there c.args.served.now c.args.item.now.target c.args.item.now.ask asked
 
 pub returns-clause-does : goal.returns-clause-does
 returns-clause-does c =
-    let asked = sym c.open_ask.ensures ∙ same_ask c.open_ask.result c.args.item.now.ask (sym c.ne.ensures ∙ c.if-ne.false) in
-    let v = said c.in-Some.verdict in
-    let link = c.args.rules.now.link in
-    let random = c.args.item.now.random in
-    is_told c.args.rules.now c.args.served.now c.args.at c.args.item.now c.args.outs.now.items c.requires.here (PppSteps link (Verdict c.in-Some.verdict.yes None c.in-Some.verdict.text) c.args.now random) v c.args.now
-    (λ old says new h. judged link v c.args.now random old says new h.turn h.cause h.goes h.said h.state) asked (subst (λ (o : List ℕ). IsVerdict o (Some v)) c.payload.ensures.octets c.in-Some.ensures) c.drive_at.new.served c.drive_at.new.outs.items
-    c.drive_at.ensures.driven c.drive_at.ensures.few
+    let rules = c.args.rules.now in
+    let item = c.args.item.now in
+    let asked = sym c.open_ask.ensures ∙ same_ask c.open_ask.result item.ask (sym c.ne.ensures ∙ c.if-ne.false) in
+    let decides = subst (λ (octets : List ℕ). Decides rules.pools c.args.limited octets c.args.claim (Some c.in-Some.told)) c.payload.ensures.octets
+        (subst (λ (pools : List NamedRange). Decides pools c.args.limited c.payload.result.now c.args.claim (Some c.in-Some.told)) c.as_slice-pools.ensures c.in-Some.ensures) in
+    is_told rules (whole c.args.served.now c.args.terms.now) c.args.limited c.args.at c.args.now item c.args.claim c.args.outs.now.items c.requires.here asked c.in-Some.told decides
+    (whole c.settle_question.new.served c.settle_question.new.terms) c.settle_question.new.outs.items c.settle_question.ensures.settled c.settle_question.ensures.few
