@@ -1,4 +1,4 @@
-use Rattle.std.proofs.Common.{ℕ, ◌≡◌, ◌≤◌, List, [], length, sym, ap, subst, arith}
+use Rattle.std.proofs.Common.{◌≡◌, ◌≤◌, List, length, sym, ap, subst, arith}
 use Rattle.std.specs.List.{All}
 use Rattle.bng_base.specs.declared.item.Entry.{Entry}
 use Rattle.bng_shard.specs.declared.terms.Running.{Running}
