@@ -124,7 +124,7 @@ pub no_length : {A : Type 0} (xs : List A) → length xs ≡ 0 → xs ≡ []
 no_length [] e = refl
 no_length (x ∷ xs) e = absurd (omega arith)
 
-ones : {A : Type 0} (xs : List A) → sum_by (λ _. 1) xs ≡ length xs
+pub ones : {A : Type 0} (xs : List A) → sum_by (λ _. 1) xs ≡ length xs
 ones [] = refl
 ones {A} (x ∷ xs) =
     let rest = ones xs in
@@ -208,7 +208,7 @@ abbrev session_of_term : Option TermId → ℕ
 session_of_term None = 0
 session_of_term (Some t) = t.session.0
 
-apart_addresses : (cs : List Static) → AllPairs (λ a b. a.address ≢ b.address) cs → (a b : Static) → Contains cs a → Contains cs b → a.session.0 ≢ b.session.0 → a.address ≢ b.address
+pub apart_addresses : (cs : List Static) → AllPairs (λ a b. a.address ≢ b.address) cs → (a b : Static) → Contains cs a → Contains cs b → a.session.0 ≢ b.session.0 → a.address ≢ b.address
 apart_addresses cs apart a b ca cb differ e =
     let at_a = at_from_Contains cs a ca in
     let at_b = at_from_Contains cs b cb in

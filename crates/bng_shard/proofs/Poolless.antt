@@ -69,12 +69,12 @@ module _ (C : ℕ → Type 0) where
     stays_walk = record {
       same = λ s s' e h. subst (λ (t : State). HasNoLogins t × AllZip (Lasts C) s.terms t.terms) (sym e) (h, each_lasts C s.terms);
       then = λ s s' s'' f g h.
-      let first = f h in
-      let second = g first.0 in
-      (second.0, zip_then C s.terms s'.terms s''.terms first.1 second.1);
+          let first = f h in
+          let second = g first.0 in
+          (second.0, zip_then C s.terms s'.terms s''.terms first.1 second.1);
       driven = λ Steps e s n x x' outs cause asked' at drives h.
-      let none = h n x at (ap made_one drives.is_made) in
-      (logins_with s n x' (λ made. drives_none r (at_of s e) s.asked x x' outs cause asked' Steps drives none) h, none_closed x.lease cause s.terms none);
+          let none = h n x at (ap made_one drives.is_made) in
+          (logins_with s n x' (λ made. drives_none r (at_of s e) s.asked x x' outs cause asked' Steps drives none) h, none_closed x.lease cause s.terms none);
       made = λ Steps e s n x x' outs cause asked' none drives h. (logins_with s n x' (λ made. drives_none r (at_of s e) s.asked x x' outs cause asked' Steps drives none) h, each_lasts C s.terms);
       padt = λ s n x m at is h. (logins_with s n (ended x) (λ made. refl) h, none_closed x.lease (Some _) s.terms (h n x at (ap made_one is)));
     }

@@ -1,32 +1,40 @@
-use Rattle.std.proofs.Common.{◌∙◌, ap, arith, length}
-use Rattle.bng_engine.specs.Terms.{keys}
-use Rattle.bng_engine.specs.Views.{row_keys}
-use Rattle.bng_shard.specs.Opening.{in_order}
-use Rattle.bng_shard.specs.Protocol.{terms_of}
-use Rattle.bng_shard.specs.Running.{rows_in}
-use Rattle.bng_shard.proofs.Opened.{opened_keys, opened_placed, opened_view}
-use Rattle.bng_shard.proofs.RowLaws.{new_keys}
-use Rattle.bng_shard.proofs.RowSums.{opened_rising}
+use Rattle.std.proofs.Common.{◌≡◌, ◌≤◌, List, length, sym, ap, subst, arith}
+use Rattle.std.specs.List.{All}
+use Rattle.bng_base.specs.declared.item.Entry.{Entry}
+use Rattle.bng_shard.specs.declared.terms.Running.{Running}
+use Rattle.bng_shard.specs.Fits.{begun_in}
+use Rattle.bng_shard.specs.Opening.{opened_slots}
+use Rattle.bng_shard.specs.Running.{rows_in, whole}
+use Rattle.bng_shard.specs.State.{State}
+use Rattle.bng_shard.proofs.Opened.{opened_numbered, opened_placed, opened_rows_apart, opened_tied, opened_view, opened_whole}
 use Rattle.bng_shard.proofs.shard.Shard.open.Goals as goal
 
 pub invariant_of-result : goal.invariant_of-result
 invariant_of-result c =
-    let r = c.args.rules in
     let cs = c.args.circuits.now in
+    let rows = c.in-Ok-open.terms.rows in
     let served = c.in-Ok.served in
-    let opened = c.in-Ok.ensures.opened in
-    let rows = ap row_keys (c.in-Ok-rows_of.ensures r) ∙ new_keys (keys (terms_of (record { rules = r; slots = served }))) in
+    let sessions : served.sessions ≡ (opened_slots c.args.number cs 0).sessions = ap (λ (s : State). s.sessions) c.in-Ok.ensures.opened in
+    let begun : served.begun ≡ length cs = ap (λ (s : State). s.begun) c.in-Ok.ensures.opened in
+    let none : begun_in c.new.result.items ≡ 0 = ap (λ (es : List Entry). begun_in es) c.new.ensures.items in
     record {
-      rows = rows;
-      rising = opened_rising (in_order c.args.number cs) c.in-Ok-rows_of.rows.items (rows ∙ opened_keys r c.args.number cs served opened c.requires.sessions);
-      placed = opened_placed r c.args.number cs served opened c.requires.sessions c.requires.ports;
+      numbered = opened_numbered c.args.number c.args.now served.begun cs rows c.requires.own begun c.in-Ok-open.ensures.terms;
+      numbered_news = subst (All (λ (r : Running). r.term.serial ≤ served.begun)) (sym c.in-Ok-open.ensures.none.0) (λ i d lt. absurd (omega (arith, lt)));
+      apart = opened_rows_apart c.args.number c.args.now cs rows c.requires.sessions c.requires.addresses c.in-Ok-open.ensures.terms;
+      tied = opened_tied c.args.number cs served.sessions sessions c.requires.sessions c.args.now _ c.in-Ok-open.ensures.terms;
+      left = omega (arith, none);
+      numbers = λ some. absurd (omega (arith, some));
+      placed = opened_placed c.args.number cs served.sessions sessions c.requires.sessions c.args.rules c.requires.ports;
       auth = c.requires.auth;
       offers = c.requires.offers;
       journal_room = omega (arith, ap length c.new.ensures.items);
       outs_room = λ some. omega (arith, some);
+      terms_room = omega arith;
     }
 
 pub returns-clause-opened : goal.returns-clause-opened
 returns-clause-opened c =
-    opened_view c.args.rules c.args.number c.args.circuits.now c.in-Ok.served (rows_in c.in-Ok-rows_of.rows.items) c.empty.result c.new.result.items c.new-2.result.items c.in-Ok.ensures.opened (c.in-Ok-rows_of.ensures c.args.rules)
+    let cs = c.args.circuits.now in
+    let opened = opened_whole c.args.number c.args.now cs c.in-Ok.served c.in-Ok-open.terms c.in-Ok.ensures.opened c.in-Ok-open.ensures.terms c.in-Ok-open.ensures.none.0 in
+    opened_view c.args.rules c.args.number cs c.args.now (whole c.in-Ok.served c.in-Ok-open.terms) (rows_in c.in-Ok-open.terms.rows) c.empty.result c.new.result.items c.new-2.result.items opened c.in-Ok-open.ensures.rows
     c.empty.ensures c.new.ensures.items c.new-2.ensures.items
