@@ -1,11 +1,11 @@
 -- Pools, one after the other.
-use Rattle.std.proofs.Common.{◌≡◌, ◌≢◌, ℕ, zero, suc, ◌+◌, ◌<◌, ◌≤◌, List, [], ◌∷◌, ◌++◌, length, length-append, map, slice_get, Option, Some, None, option_map, refl, sym, ap, subst, ◌∙◌, arith, inl, inr, ◌⊎◌}
+use Rattle.std.proofs.Common.{◌≡◌, ◌≢◌, ℕ, zero, suc, ◌+◌, ◌≤◌, List, [], ◌∷◌, ◌++◌, length, length-append, slice_get, Option, Some, None, option_map, refl, sym, ap, subst, ◌∙◌, arith, inl, inr, ◌⊎◌}
 use Rattle.std.specs.List.{Any}
 use Rattle.std.proofs.lemmas.List.{length-map, map-append}
 use Rattle.std.proofs.lemmas.Option.{same_Some, slice_get-map, slice_get_read, slice_get_within, get_or_from_slice_get}
 use Rattle.bng_base.specs.declared.book.Range.{Range}
 use Rattle.bng_base.specs.declared.settings.NamedRange.{NamedRange}
-use Rattle.bng_config.specs.Pools.{InRange, Meets, HasAddress, Fits, ArePools, ArePoolsBeside, size_of, address_count, ranges_of}
+use Rattle.bng_config.specs.Pools.{InRange, Meets, HasAddress, Fits, ArePoolsBeside, size_of, address_count, ranges_of}
 
 -- one range more at the end
 at_last : (rs : List Range) (r : Range) → slice_get (rs ++ r ∷ []) (length rs) ≡ Some r

@@ -17,7 +17,6 @@ use Rattle.bng_config.specs.declared.fault.Key.{Key}
 use Rattle.bng_config.specs.declared.fault.Key.TheVariants.{Access, Pools}
 use Rattle.bng_base.specs.declared.settings.AccessPort.{AccessPort}
 use Rattle.bng_base.specs.declared.settings.AuthKind.TheVariants.{Chap, Pap}
-use Rattle.bng_base.specs.declared.book.Range.{Range}
 use Rattle.bng_base.specs.declared.settings.NamedRange.{NamedRange}
 use Rattle.bng_base.specs.declared.settings.Static.{Static}
 use Rattle.bng_config.specs.Address.{address_text, peer_text, mac_text, octet_text, dot, colon}

@@ -1,16 +1,16 @@
 -- The range of a pool, behind those of the earlier ones.
-use Rattle.std.proofs.Common.{◌≡◌, ℕ, suc, ◌+◌, ◌≤◌, List, [], ◌∷◌, ◌++◌, length, length-append, sym, subst, ◌∙◌, arith}
+use Rattle.std.proofs.Common.{◌≡◌, ℕ, suc, List, [], ◌∷◌, ◌++◌, length-append, sym, subst, arith}
 use Rattle.toml.specs.Data.{Data}
 use Rattle.bng_base.specs.declared.address.Ip4.{Ip4}
 use Rattle.bng_base.specs.declared.book.Range.{Range}
 use Rattle.bng_base.specs.declared.settings.NamedRange.{NamedRange}
 use Rattle.bng_config.specs.declared.fault.Key.TheVariants.{GatewayAddress, PoolName, PoolFirst, PoolLast}
 use Rattle.bng_config.specs.Pools.{Fits, ArePoolsBeside, ranges_of}
-use Rattle.bng_config.specs.Configuration.{StandsAt, IsAddress, IsLabel, IsPool, ArePoolsOf, HasApartPools, IsSound, EachPlace}
+use Rattle.bng_config.specs.Configuration.{StandsAt, IsAddress, IsPool, ArePoolsOf, HasApartPools, IsSound}
 use Rattle.bng_config.proofs.Faults.{fit_of}
 use Rattle.bng_config.proofs.Places.{each_push}
 use Rattle.bng_config.proofs.OneReading.{address_at_once, one_at, pools_once}
-use Rattle.bng_config.proofs.Apart.{joined, parted, ranges_push}
+use Rattle.bng_config.proofs.Apart.{parted, ranges_push}
 
 -- one pool more
 pub pools_push : (document : Data) (place : ℕ) (earlier : List NamedRange) (pool : NamedRange) → ArePoolsOf document place earlier → IsPool document place pool

@@ -168,8 +168,13 @@ fn contains(range: Range, address: Ip4) -> bool
 fn meets_one(pools: &[NamedRange], range: Range) -> bool
     ensures { IsTrue result ↔ Any (λ pool. Meets pool.range range) pools.now }
 {
-    pools.iter().any(|pool| pool.range.first.0 <= range.last.0
-        && range.first.0 <= pool.range.last.0)
+    pools.iter().any(|pool| meet(pool.range, range))
+}
+
+fn meet(one: Range, other: Range) -> bool
+    ensures { IsTrue result ↔ Meets one other }
+{
+    one.first <= other.last && other.first <= one.last
 }
 
 // One of the pools has this name.

@@ -1,6 +1,7 @@
 use super::{changed, config_of, told};
 use crate::fault_text;
 use bng_base::Ip4;
+use itoa::Buffer;
 use std::alloc::{AllocError, Global};
 use std::test::Fail;
 
@@ -114,17 +115,17 @@ fn each_broken_list_of_servers_is_told(rt: HostRuntime) -> Result<(), Fail> {
 }
 
 /// A text with this many pools of one address each, and no circuit.
-fn with_pools(alloc: Global, count: usize) -> Result<String, AllocError> {
-    let names = "abcdefghijklmnopq";
+fn with_pools(alloc: Global, count: u8) -> Result<String, AllocError> {
     let mut pools = String::from_str(alloc, "pool = [")?;
     for place in 0..count {
-        let name = names.get(place..place + 1).unwrap_or("");
+        let mut buffer = Buffer::new();
+        let number = buffer.format(place);
         pools.push_str("{ name = \"")?;
-        pools.push_str(name)?;
+        pools.push_str(number)?;
         pools.push_str("\", first = \"10.0.1.")?;
-        pools.push_str(itoa::Buffer::new().format(place as u32))?;
+        pools.push_str(number)?;
         pools.push_str("\", last = \"10.0.1.")?;
-        pools.push_str(itoa::Buffer::new().format(place as u32))?;
+        pools.push_str(number)?;
         pools.push_str("\" }, ")?;
     }
     pools.push_str("] # [")?;

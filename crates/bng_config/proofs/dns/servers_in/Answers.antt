@@ -1,4 +1,4 @@
-use Rattle.std.proofs.Common.{ℕ, get_or, [], arith}
+use Rattle.std.proofs.Common.{get_or, arith}
 use Rattle.bng_base.specs.declared.address.Ip4.{Ip4}
 use Rattle.bng_config.specs.Address.{address_text}
 use Rattle.bng_config.proofs.Listing.{as_many, spells, too_many_servers}

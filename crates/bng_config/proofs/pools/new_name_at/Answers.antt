@@ -1,4 +1,4 @@
-use Rattle.std.proofs.Common.{◌≡◌, rules, refl, sym, subst}
+use Rattle.std.proofs.Common.{◌≡◌, rules, refl, subst}
 use Rattle.std.specs.List.{Any}
 use Rattle.toml.specs.View.{view}
 use Rattle.bng_config.specs.Configuration.{IsLabel}
