@@ -11,7 +11,6 @@ pub mod LeavingFirst
 pub mod Beginning
 pub mod Walking
 pub mod Wishing
-pub mod Asking
 pub mod TermBegins
 pub mod TermLaws
 pub mod Poolless

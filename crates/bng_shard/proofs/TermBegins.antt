@@ -1,6 +1,6 @@
 -- A verdict on the open question of a session, and the term that begins by it.
 use Rattle.std.proofs.Common.{◌≡◌, ℕ, ◌+◌, Bool, true, false, not, List, [], ◌∷◌, ◌++◌, Option, Some, None, inl, inr, refl, sym, ap, subst, ◌∙◌, suc, arith}
-use Rattle.std.specs.Prelude.{◌≢◌, ◌&&◌, IsSome, if◌then◌else◌}
+use Rattle.std.specs.Prelude.{◌≢◌, ◌&&◌, if◌then◌else◌}
 use Rattle.std.specs.Option.{option_and_then, option_map}
 use Rattle.std.proofs.lemmas.Bool.{cases_eq}
 use Rattle.std.specs.List.{All}
@@ -9,15 +9,13 @@ use Rattle.bng_base.specs.declared.address.Ip4.{Ip4}
 use Rattle.bng_base.specs.declared.item.OutRecord.{OutRecord}
 use Rattle.bng_engine.specs.Lists.{AnyOf}
 use Rattle.bng_ppp.specs.declared.rules.LinkRules.{LinkRules}
-use Rattle.bng_ppp.specs.declared.whole_input.WholeInput.{WholeInput}
-use Rattle.bng_ppp.specs.declared.whole_input.WholeInput.TheVariants.{Verdict}
 use Rattle.bng_ppp.specs.Layers.{Turn}
-use Rattle.bng_ppp.specs.PppRelation.{PppSaid, PppSteps, after_turn, said_of}
+use Rattle.bng_ppp.specs.PppRelation.{PppSaid, after_turn, said_of}
 use Rattle.bng_ppp.specs.PppState.{PppState, is_open}
 use Rattle.bng_ppp.specs.Verdict.{Settles}
 use Rattle.bng_ppp.proofs.TermLaws.{settled_live}
 use Rattle.bng_ppp.proofs.WholePhases.{open_unsettled}
-use Rattle.bng_slots.specs.Sessions.{Sessions, NoneShares, value_at, with_value, without, read_at}
+use Rattle.bng_slots.specs.Sessions.{Sessions, NoneShares, value_at, without, read_at}
 use Rattle.bng_slots.proofs.SessionLaws.{value_at-without, value_at-without_other, with_value-without}
 use Rattle.bng_shard.specs.Made.{Made, Question}
 use Rattle.bng_shard.specs.declared.rules.Rules.{Rules}
@@ -29,13 +27,13 @@ use Rattle.bng_shard.specs.declared.session.Session.{Session}
 use Rattle.bng_shard.specs.declared.terms.Running.{Running}
 use Rattle.bng_shard.specs.Driven.{Driven}
 use Rattle.bng_shard.specs.Indexed.{address_of}
-use Rattle.bng_shard.specs.Link.{Drives, IsToldVerdict, LinkStep, Told, with_link}
+use Rattle.bng_shard.specs.Link.{IsToldVerdict, LinkStep, Told}
 use Rattle.bng_shard.specs.Questions.{open_in, open_of}
-use Rattle.bng_shard.specs.Running.{AreTied, TermsView, tenure_in, tenures_in, whole}
+use Rattle.bng_shard.specs.Running.{AreTied, TermsView, tenures_in, whole}
 use Rattle.bng_shard.specs.Serving.{KeepsLease}
-use Rattle.bng_shard.specs.State.{IsTermOf, State, with_driven, with_session}
+use Rattle.bng_shard.specs.State.{IsTermOf, State, with_session}
 use Rattle.bng_shard.specs.Tenures.{Tenure}
-use Rattle.bng_shard.specs.Verdicts.{next_lease, next_term, settled_by, with_term}
+use Rattle.bng_shard.specs.Verdicts.{next_lease, next_term, settled_by}
 
 pub same : {A : Type 0} (a b : A) → Some a ≡ Some b → a ≡ b
 same a b e = cc

@@ -1,5 +1,5 @@
 -- What the octets of a reply ask of the pools of addresses, and what they come to.
-use Rattle.std.proofs.Common.{◌≡◌, ℕ, Bool, true, false, List, Option, Some, None, inl, inr, refl, sym, ap, subst, ◌∙◌}
+use Rattle.std.proofs.Common.{◌≡◌, ℕ, Bool, true, false, not, List, Option, Some, None, inl, inr, refl, sym, ap, subst, ◌∙◌}
 use Rattle.std.specs.Prelude.{if◌then◌else◌}
 use Rattle.bng_base.specs.declared.address.Ip4.{Ip4}
 use Rattle.bng_base.specs.declared.item.Claim.{Claim}
@@ -24,6 +24,14 @@ never a e = cc
 
 both : (b : Bool) → b ≡ true → b ≡ false → ⊥
 both b e f = cc
+
+pub not_false : (b : Bool) → not b ≡ false → b ≡ true
+not_false true e = refl
+not_false false e = absurd (let absent : ⊥ = cc in absent)
+
+pub not_so : (b : Bool) → not b ≡ true → b ≡ false
+not_so true e = absurd (let absent : ⊥ = cc in absent)
+not_so false e = refl
 
 -- a yes is said by a packet, which gives something
 pub yes_gives : (octets : List ℕ) (v : Saying) → IsVerdict octets (Some v) → v.yes ≡ true → IsGrant octets None → ⊥
@@ -63,32 +71,3 @@ module _ (pools : List NamedRange) (limited : Bool) (octets : List ℕ) (claim :
 
   pub decides_yes : (v : Saying) (g : Gift) → IsVerdict octets (Some v) → v.yes ≡ true → IsGrant octets (Some g) → Decides pools limited octets claim (Some (told_of pools limited claim v.text g))
   decides_yes v g is accepted gives = inr (inr (v, is, accepted, g, gives, accept_answered v g is accepted gives answered.1, refl))
-
--- An address comes of a claim alone, for a peer that is accepted.
-claimed_by : (claim : Claim) (text : List ℕ) (g : Gift) (a : Ip4) → (told_by claim text g).lease ≡ Some a → ((told_by claim text g).yes ≡ true) × (claim ≡ Claimed a)
-claimed_by NoClaim text g a e = absurd (never a e)
-claimed_by (Claimed b) text g a e = (refl, ap (λ (x : Ip4). Claimed x) (same b a e))
-claimed_by (Held b) text g a e = absurd (never a e)
-claimed_by (Exhausted k) text g a e = absurd (never a e)
-
-claimed_at : (limited : Bool) (place : Option ℕ) (claim : Claim) (text : List ℕ) (g : Gift) (a : Ip4) → (told_at limited place claim text g).lease ≡ Some a → ((told_at limited place claim text g).yes ≡ true) × (claim ≡ Claimed a)
-claimed_at limited None claim text g a e = absurd (never a e)
-claimed_at true (Some k) claim text g a e = absurd (never a e)
-claimed_at false (Some k) claim text g a e = claimed_by claim text g a e
-
-claimed_of : (pools : List NamedRange) (limited : Bool) (claim : Claim) (text : List ℕ) (g : Gift) (a : Ip4) → (told_of pools limited claim text g).lease ≡ Some a → ((told_of pools limited claim text g).yes ≡ true) × (claim ≡ Claimed a)
-claimed_of pools limited claim text g a =
-    elim (has_none pools) as (λ b. (if b then accepted_with None text g else told_at limited (pool_for pools g.pool) claim text g).lease ≡ Some a → ((if b then accepted_with None text g else told_at limited (pool_for pools g.pool) claim text g).yes ≡ true) × (claim ≡ Claimed a)) [
-      | true ↦ λ e. absurd (never a e)
-      | false ↦ claimed_at limited (pool_for pools g.pool) claim text g a
-    ]
-
-pub claimed : (pools : List NamedRange) (limited : Bool) (octets : List ℕ) (claim : Claim) (t : Told) (a : Ip4) → Decides pools limited octets claim (Some t) → t.lease ≡ Some a → (t.yes ≡ true) × (claim ≡ Claimed a)
-claimed pools limited octets claim t a (inl none) e = absurd (never t (sym none.2))
-claimed pools limited octets claim t a (inr (inl refuses)) e =
-    let is = same t (refused_with refuses.0.text) refuses.4 in absurd (never a (ap (λ (u : Told). u.lease) (sym is) ∙ e))
-claimed pools limited octets claim t a (inr (inr accepts)) e =
-    let told = told_of pools limited claim accepts.0.text accepts.3 in
-    let is : t ≡ told = same t told accepts.6 in
-    let so = claimed_of pools limited claim accepts.0.text accepts.3 a (ap (λ (u : Told). u.lease) (sym is) ∙ e) in
-    (ap (λ (u : Told). u.yes) is ∙ so.0, so.1)

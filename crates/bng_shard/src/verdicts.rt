@@ -11,7 +11,7 @@ ghost use Rattle.bng_shard.specs.Link.{IsToldVerdict};
 ghost use Rattle.bng_shard.specs.Made.{Question as Asked};
 ghost use Rattle.bng_shard.specs.Protocol.{entry_with};
 ghost use Rattle.bng_shard.specs.Questions.{open_of};
-ghost use Rattle.bng_shard.specs.Running.{tenures_in, whole, MayBegin};
+ghost use Rattle.bng_shard.specs.Running.{tenures_in, whole, MayBegin, SumsStay};
 ghost use Rattle.bng_shard.specs.Verdicts.{next_lease, next_term, settled_by, HearsVerdict};
 ghost use Rattle.bng_shard.specs.Wished.{IsAnswered};
 ghost use Rattle.bng_shard.specs.Wishes.{refused_with, told_by, told_of, Decides, IsAnswerTo, Wishes};
@@ -160,6 +160,7 @@ fn begin_term(
     ensures session { session.new ≡ record session.old { lease = Some (next_lease served.old address) } }
     ensures served { served.new ≡ record served.old { begun = served.old.begun + 1 } }
     ensures terms { (q : Asked) → q.claim.name ≡ user.items → tenures_in terms.new.rows ≡ tenures_in terms.old.rows ++ next_term served.old session.old q class.items now address ∷ [] }
+    ensures sums { SumsStay terms.old terms.new }
     ensures news { (q : Asked) → q.claim.name ≡ user.items → tenures_in terms.new.news ≡ tenures_in terms.old.news ++ next_term served.old session.old q class.items now address ∷ [] }
 {
     let serial = served.count_begun();
@@ -206,6 +207,7 @@ fn settle_question(
     ensures settled { (x : Seen) (q : Asked) → value_at served.old.sessions number.0 ≡ Some x → open_of x ≡ Some q → (x' : Seen) × (cause : Maybe ℕ) × (asked : ℕ)
         × Driven rules.now at (IsToldVerdict rules.now.link told now random.now) served.old.asked x cause x' asked outs.old.items outs.new.items
         × (x.lease ≡ Nothing) × (whole served.new terms.new ≡ settled_by (whole served.old terms.old) number.0 x q told now x' asked told.lease) }
+    ensures sums { SumsStay terms.old terms.new }
     ensures capacity { vec_capacity outs.new ≡ vec_capacity outs.old }
     ensures few { length outs.new.items ≤ length outs.old.items + 5 }
 {
@@ -261,6 +263,7 @@ pub(crate) fn hear_verdict(
     requires begins { (a : Address) → claim ≡ Claim.Claimed a → MayBegin a served.old terms.old }
     requires room { length outs.old.items + 5 ≤ vec_capacity outs.old }
     ensures does { Does (HearsVerdict rules.now (whole served.old terms.old) (entry_with claim at.seat at.place now item.now) limited) 5 (whole served.old terms.old) (whole served.new terms.new) outs.old.items outs.new.items (entry_with claim at.seat at.place now item.now) result }
+    ensures sums { SumsStay terms.old terms.new }
     ensures capacity { vec_capacity outs.new ≡ vec_capacity outs.old }
 {
     let number = SessionNo(item.target);

@@ -28,7 +28,7 @@ returns-in_default-clause-does c =
     let item = c.args.item.now in
     let asked = sym c.open_ask.ensures ∙ same_ask c.open_ask.result item.ask (sym c.ne.ensures ∙ c.if-ne.false) in
     let decides = subst (λ (octets : List ℕ). Decides rules.pools c.args.limited octets c.args.claim None) c.payload.ensures.octets
-        (subst (λ (pools : List NamedRange). Decides pools c.args.limited c.payload.result.now c.args.claim None) c.as_slice-pools.ensures c.in_default.ensures) in
+    (subst (λ (pools : List NamedRange). Decides pools c.args.limited c.payload.result.now c.args.claim None) c.as_slice-pools.ensures c.in_default.ensures) in
     no_verdict rules (whole c.args.served.now c.args.terms.now) c.args.limited c.args.at c.args.now item c.args.claim c.args.outs.now.items asked decides
 
 pub settle_question-requires-clause-begins : goal.settle_question-requires-clause-begins
@@ -36,7 +36,7 @@ settle_question-requires-clause-begins c a leased =
     let rules = c.args.rules.now in
     let item = c.args.item.now in
     let decides = subst (λ (octets : List ℕ). Decides rules.pools c.args.limited octets c.args.claim (Some c.in-Some.told)) c.payload.ensures.octets
-        (subst (λ (pools : List NamedRange). Decides pools c.args.limited c.payload.result.now c.args.claim (Some c.in-Some.told)) c.as_slice-pools.ensures c.in-Some.ensures) in
+    (subst (λ (pools : List NamedRange). Decides pools c.args.limited c.payload.result.now c.args.claim (Some c.in-Some.told)) c.as_slice-pools.ensures c.in-Some.ensures) in
     let claimed = decided_lease rules.pools c.args.limited item.frame.payload c.args.claim c.in-Some.told a decides leased in
     (claimed.0, c.requires.begins a claimed.1)
 
@@ -51,6 +51,6 @@ returns-clause-does c =
     let item = c.args.item.now in
     let asked = sym c.open_ask.ensures ∙ same_ask c.open_ask.result item.ask (sym c.ne.ensures ∙ c.if-ne.false) in
     let decides = subst (λ (octets : List ℕ). Decides rules.pools c.args.limited octets c.args.claim (Some c.in-Some.told)) c.payload.ensures.octets
-        (subst (λ (pools : List NamedRange). Decides pools c.args.limited c.payload.result.now c.args.claim (Some c.in-Some.told)) c.as_slice-pools.ensures c.in-Some.ensures) in
+    (subst (λ (pools : List NamedRange). Decides pools c.args.limited c.payload.result.now c.args.claim (Some c.in-Some.told)) c.as_slice-pools.ensures c.in-Some.ensures) in
     is_told rules (whole c.args.served.now c.args.terms.now) c.args.limited c.args.at c.args.now item c.args.claim c.args.outs.now.items c.requires.here asked c.in-Some.told decides
     (whole c.settle_question.new.served c.settle_question.new.terms) c.settle_question.new.outs.items c.settle_question.ensures.settled c.settle_question.ensures.few

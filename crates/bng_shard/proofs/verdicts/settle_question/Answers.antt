@@ -37,7 +37,7 @@ returns-in_default-clause-settled c x q found asks =
     let number = ap (λ n. n.0) (c.drive-asked.ensures.number ∙ c.take-session.ensures.number) in
     let Told_ = IsToldVerdict r.link t c.args.now c.args.random.now in
     let driven = driven_so r c.args.at (PppSteps r.link (Verdict inside.yes inside.lease inside.text) c.args.now c.args.random.now) Told_ c.asked.result c.take-session.result cause x' asked outs outs'
-        (λ old says new h. judged r.link t h.turn h.cause c.args.now c.args.random.now old says new h.goes h.said h.state) c.drive-asked.ensures.driven in
+    (λ old says new h. judged r.link t h.turn h.cause c.args.now c.args.random.now old says new h.goes h.said h.state) c.drive-asked.ensures.driven in
     let its = subst (λ (n : ℕ). Driven r c.args.at Told_ n x cause x' asked outs outs') before (subst (λ (y : Session). Driven r c.args.at Told_ c.asked.result y cause x' asked outs outs') it driven) in
     let next = back s c.take-session.new.self c.count_asked.new.self c.put.new.self c.args.number.0 x'.number.0 asked x' c.take-session.ensures.after c.count_asked.ensures number c.put.ensures in
     subst (λ (u : Told). SettledFor r c.args.at s c.args.terms.now c.put.new.self c.args.terms.now c.args.number.0 x q u c.args.now c.args.random.now outs outs') c.told.view_is (
@@ -79,7 +79,7 @@ put-requires-2-clause-leased c =
     let (x, q, found, asks) = c.requires.asks in
     let it : c.take-session.result ≡ x = same c.take-session.result x (c.take-session.ensures.value ∙ found) in
     let driven = driven_so r c.args.at (PppSteps r.link (Verdict inside.yes inside.lease inside.text) c.args.now c.args.random.now) (IsToldVerdict r.link t c.args.now c.args.random.now) c.asked.result
-        c.take-session.result cause x' asked outs outs' (λ old says new h. judged r.link t h.turn h.cause c.args.now c.args.random.now old says new h.goes h.said h.state) c.drive-asked.ensures.driven in
+    c.take-session.result cause x' asked outs outs' (λ old says new h. judged r.link t h.turn h.cause c.args.now c.args.random.now old says new h.goes h.said h.state) c.drive-asked.ensures.driven in
     subst (λ (y : Session). KeepsLease y.service y.lease) (sym c.begin_term.ensures.session)
     (begun_keeps r c.args.at t c.args.now c.args.random.now c.asked.result c.take-session.result cause x' asked outs outs' driven q c.in-Some.address (ap open_of it ∙ asks) accepted c.in-Some.is c.drive-asked.ensures.leased
     (next_lease c.count_asked.new.self c.in-Some.address))
@@ -101,7 +101,7 @@ returns-clause-settled c x q found asks =
     let number = ap (λ n. n.0) (c.drive-asked.ensures.number ∙ c.take-session.ensures.number) in
     let Told_ = IsToldVerdict r.link t c.args.now c.args.random.now in
     let driven = driven_so r c.args.at (PppSteps r.link (Verdict inside.yes inside.lease inside.text) c.args.now c.args.random.now) Told_ c.asked.result c.take-session.result cause x' asked outs outs'
-        (λ old says new h. judged r.link t h.turn h.cause c.args.now c.args.random.now old says new h.goes h.said h.state) c.drive-asked.ensures.driven in
+    (λ old says new h. judged r.link t h.turn h.cause c.args.now c.args.random.now old says new h.goes h.said h.state) c.drive-asked.ensures.driven in
     let its = subst (λ (n : ℕ). Driven r c.args.at Told_ n x cause x' asked outs outs') before (subst (λ (y : Session). Driven r c.args.at Told_ c.asked.result y cause x' asked outs outs') it driven) in
     let counted = c.count_asked.ensures ∙ ap (λ (u : State). let v : State = record u { asked = asked } in v) c.take-session.ensures.after in
     let begun = c.begin_term.ensures.served ∙ ap (λ (u : State). let v : State = record u { begun = u.begun + 1 } in v) counted in

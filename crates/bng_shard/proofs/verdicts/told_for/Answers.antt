@@ -1,10 +1,9 @@
-use Rattle.std.proofs.Common.{◌≡◌, ◌∙◌, false, List, ℕ, Option, None, Some, ap, subst, sym}
+use Rattle.std.proofs.Common.{false, List, ℕ, None, Some, subst, sym}
 use Rattle.bng_grant.specs.Grants.{gift}
 use Rattle.bng_verdict.specs.Verdicts.{said}
 use Rattle.bng_shard.specs.Link.{Told}
 use Rattle.bng_shard.specs.Wishes.{Decides}
-use Rattle.bng_shard.proofs.Asking.{not_false, not_so}
-use Rattle.bng_shard.proofs.Wishing.{decides_no, decides_nothing, decides_yes}
+use Rattle.bng_shard.proofs.Wishing.{decides_no, decides_nothing, decides_yes, not_false, not_so}
 use Rattle.bng_shard.proofs.verdicts.told_for.Goals as goal
 
 pub returns-in_err-verdict : goal.returns-in_err-verdict

@@ -1,7 +1,7 @@
 use Rattle.std.proofs.Common.{inl, inr, refl}
 use Rattle.bng_grant.specs.Grants.{gift}
 use Rattle.bng_verdict.specs.Verdicts.{said}
-use Rattle.bng_shard.proofs.Asking.{not_false}
+use Rattle.bng_shard.proofs.Wishing.{not_false}
 use Rattle.bng_shard.proofs.wish.octets_wish.Goals as goal
 
 pub returns-in_default : goal.returns-in_default
