@@ -1,5 +1,5 @@
 -- The sessions of a shard's provisioned circuits come one after another, by rising number.
-use Rattle.std.proofs.Common.{◌≡◌, ◌≢◌, ℕ, zero, suc, ◌+◌, ◌-◌, ◌*◌, ◌<◌, ◌≤◌, ◌==◌, Bool, true, false, cond, List, [], ◌∷◌, ◌++◌, length, get_or, Option, Some, None, is_some, IfSome, IfNone, length-append, Contains, All, AllPairs, filter, find, flat_map, sum_by, slice_get, option_map, inl, inr, refl, sym, ap, subst, ◌∙◌, arith}
+use Rattle.std.proofs.Common.{◌≡◌, ◌≢◌, ℕ, zero, suc, ◌+◌, ◌-◌, ◌*◌, ◌<◌, ◌≤◌, ◌==◌, Bool, true, false, cond, List, [], ◌∷◌, ◌++◌, length, Option, Some, None, is_some, IfSome, IfNone, length-append, Contains, All, AllPairs, filter, find, flat_map, sum_by, slice_get, option_map, inl, inr, refl, sym, ap, subst, ◌∙◌, arith}
 use Rattle.std.specs.List.{range_with_len}
 use Rattle.std.specs.Ordering.{nat_cmp, eq_by_cmp}
 use Rattle.std.specs.declared.cmp.Ordering.{Ordering}
@@ -8,10 +8,10 @@ use Rattle.std.specs.Cmp.{nat_cmp_is, nat_cmp_total}
 use Rattle.std.specs.FinMap.{empty, entries, put, get-entries, entries-insert, len-entries, len-empty}
 use Rattle.std.specs.FinMap.{find as find_at}
 use Rattle.std.specs.FinMap.Entries.{by_order}
-use Rattle.std.proofs.lemmas.Bool.{cases_eq, cases_lt, eqb-true, false≢true}
+use Rattle.std.proofs.lemmas.Bool.{cases_eq, eqb-true, false≢true}
 use Rattle.std.proofs.lemmas.List.{append-nil}
 use Rattle.std.proofs.lemmas.List.Concat.{flat_map-append}
-use Rattle.std.proofs.lemmas.List.Elements.{All-contains, All-contains_itself, All-filter, Contains-append_cases, at_from_Contains, filter_passes, recursion_from_All}
+use Rattle.std.proofs.lemmas.List.Elements.{All-contains, All-contains_itself, All-filter, Contains-append_cases, filter_passes, recursion_from_All}
 use Rattle.std.proofs.lemmas.List.Sums.{sum_by-cons}
 use Rattle.bng_base.specs.declared.circuit.Circuit.{Circuit}
 use Rattle.bng_base.specs.declared.circuit.Circuit.TheVariants.{Pppoe, L2tp}
@@ -26,7 +26,7 @@ use Rattle.bng_shard.specs.Opening.{circuit_at, in_order, numbered_after, opened
 use Rattle.bng_shard.specs.Serving.{AreLeased, KeepsLease, AreApart, AreOwn, AreOfShard}
 use Rattle.bng_shard.specs.State.{State, circuit_of}
 use Rattle.bng_shard.proofs.Earliest.{read_there}
-use Rattle.bng_shard.proofs.InOrder.{Apart, AtMostOne, apart_of, at_most_one, sum_in_order}
+use Rattle.bng_shard.proofs.InOrder.{Apart, AtMostOne, apart_addresses, apart_of, at_most_one, sum_in_order}
 use Rattle.bng_shard.proofs.Values.{from_entries_of, none_some, number_same, numbered, same_some, sum_nothing}
 
 -- Lists ----------------------------------------------------------------------------------------------------------------
@@ -207,20 +207,6 @@ circuit_session (L2tp peer tunnel session) = session.0
 abbrev session_of_term : Option TermId → ℕ
 session_of_term None = 0
 session_of_term (Some t) = t.session.0
-
-pub apart_addresses : (cs : List Static) → AllPairs (λ a b. a.address ≢ b.address) cs → (a b : Static) → Contains cs a → Contains cs b → a.session.0 ≢ b.session.0 → a.address ≢ b.address
-apart_addresses cs apart a b ca cb differ e =
-    let at_a = at_from_Contains cs a ca in
-    let at_b = at_from_Contains cs b cb in
-    elim (cases_lt at_a.0 at_b.0) [
-      | inl l ↦ apart at_a.0 at_b.0 a l at_b.1 (ap (λ (c : Static). c.address) (at_a.2 a) ∙ e ∙ sym (ap (λ (c : Static). c.address) (at_b.2 a)))
-      | inr over ↦ elim (cases_lt at_b.0 at_a.0) [
-        | inl l ↦ apart at_b.0 at_a.0 a l at_a.1 (ap (λ (c : Static). c.address) (at_b.2 a) ∙ sym e ∙ sym (ap (λ (c : Static). c.address) (at_a.2 a)))
-        | inr under ↦
-            let same : at_a.0 ≡ at_b.0 = omega (arith, over, under) in
-            differ (ap (λ (c : Static). c.session.0) (sym (at_a.2 a) ∙ ap (λ (i : ℕ). get_or cs i a) same ∙ at_b.2 a))
-      ]
-    ]
 
 module _ (number : ℕ) (circuits : List Static) (k : ℕ) (sessions : Sessions Session) (begun : ℕ) (h : Opens number circuits k sessions begun) where
   pub stands_for : (m : ℕ) (x : Session) → value_at sessions m ≡ Some x → Stands number circuits k m x

@@ -1,22 +1,21 @@
 -- The circuits of a shard by rising session number: each is there once, and their terms are those of the opening.
-use Rattle.std.proofs.Common.{◌≡◌, ◌⊎◌, inl, inr, ℕ, zero, suc, ◌+◌, ◌*◌, ◌<◌, ◌≤◌, Bool, true, false, ◌&&◌, cond, T, List, [], ◌∷◌, ◌++◌, None, map, refl, sym, ap, subst, ◌∙◌, arith, eqb}
+use Rattle.std.proofs.Common.{◌≡◌, ◌≢◌, ◌⊎◌, inl, inr, ℕ, zero, suc, ◌+◌, ◌*◌, ◌<◌, ◌≤◌, Bool, true, false, ◌&&◌, cond, T, List, [], ◌∷◌, ◌++◌, Contains, get_or, map, refl, sym, ap, subst, ◌∙◌, arith, eqb}
 use Rattle.std.specs.List.{AllPairs, AllByRecursion, flat_map, sum_by, range_with_len}
 use Rattle.std.specs.declared.cmp.Ordering.TheVariants.{Less}
 use Rattle.std.specs.Ordering.{nat_cmp, is_lt}
 use Rattle.std.specs.Cmp.{nat_cmp_is}
 use Rattle.std.specs.FinMap.{entries, entries-from_sorted, is_sorted}
 use Rattle.std.specs.FinMap.Entries.{below_all}
-use Rattle.std.proofs.lemmas.Bool.{cases_eq, eq-eqb, ne_eqb}
+use Rattle.std.proofs.lemmas.Bool.{cases_eq, cases_lt, eq-eqb, ne_eqb}
 use Rattle.std.proofs.lemmas.List.Concat.{flat_map-cons}
-use Rattle.std.proofs.lemmas.List.Elements.{recursion_from_All}
+use Rattle.std.proofs.lemmas.List.Elements.{at_from_Contains, recursion_from_All}
 use Rattle.std.proofs.lemmas.List.Sums.{sum_by-cons, sum_by-append}
 use Rattle.bng_base.specs.declared.address.SessionNo.{SessionNo}
 use Rattle.bng_base.specs.declared.settings.Static.{Static}
 use Rattle.bng_engine.specs.Terms.{Term}
 use Rattle.bng_slots.specs.Sessions.{IsNumberOf}
 use Rattle.bng_shard.specs.declared.rules.Rules.{Rules}
-use Rattle.bng_shard.specs.declared.session.Session.{Session}
-use Rattle.bng_shard.specs.Opening.{circuit_at, in_order, numbered_after, opened_slots, provisioned, tenure_from, tenures_after}
+use Rattle.bng_shard.specs.Opening.{circuit_at, in_order, numbered_after, opened_slots, tenure_from, tenures_after}
 use Rattle.bng_shard.specs.Protocol.{term_in, terms_of, terms_of_circuits}
 
 abbrev pub number : Static → ℕ
@@ -36,6 +35,21 @@ apart_of (c ∷ cs) h = (
   recursion_from_All (λ d. number d ≡ number c → ⊥) cs (λ k d lt e. h zero (suc k) d (omega arith) (omega (arith, lt)) (sym (same_number _ _ e))),
   apart_of cs (λ i j d lt within. h (suc i) (suc j) d (omega (arith, lt)) (omega (arith, within))),
 )
+
+-- two circuits of different sessions have different addresses
+pub apart_addresses : (cs : List Static) → AllPairs (λ a b. a.address ≢ b.address) cs → (a b : Static) → Contains cs a → Contains cs b → a.session.0 ≢ b.session.0 → a.address ≢ b.address
+apart_addresses cs apart a b ca cb differ e =
+    let at_a = at_from_Contains cs a ca in
+    let at_b = at_from_Contains cs b cb in
+    elim (cases_lt at_a.0 at_b.0) [
+      | inl l ↦ apart at_a.0 at_b.0 a l at_b.1 (ap (λ (c : Static). c.address) (at_a.2 a) ∙ e ∙ sym (ap (λ (c : Static). c.address) (at_b.2 a)))
+      | inr over ↦ elim (cases_lt at_b.0 at_a.0) [
+        | inl l ↦ apart at_b.0 at_a.0 a l at_a.1 (ap (λ (c : Static). c.address) (at_b.2 a) ∙ sym e ∙ sym (ap (λ (c : Static). c.address) (at_a.2 a)))
+        | inr under ↦
+            let same : at_a.0 ≡ at_b.0 = omega (arith, over, under) in
+            differ (ap (λ (c : Static). c.session.0) (sym (at_a.2 a) ∙ ap (λ (i : ℕ). get_or cs i a) same ∙ at_b.2 a))
+      ]
+    ]
 
 -- Sums ------------------------------------------------------------------------------------------------------------------
 

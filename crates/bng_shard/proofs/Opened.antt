@@ -30,9 +30,9 @@ use Rattle.bng_shard.specs.Protocol.{ShardState, opened as opened_shard, term_in
 use Rattle.bng_shard.specs.Running.{AreTied, TermsView, tenure_in, tenures_in, whole}
 use Rattle.bng_shard.specs.State.{IsTermOf, State, port_at}
 use Rattle.bng_shard.specs.Tenures.{Tenure}
-use Rattle.bng_shard.proofs.Circuits.{apart_addresses, ones}
+use Rattle.bng_shard.proofs.Circuits.{ones}
 use Rattle.bng_shard.proofs.Driving.{there}
-use Rattle.bng_shard.proofs.InOrder.{Rising, all_in_order, apart_of, number, opened_entries, rising_in_order, sum_in_order}
+use Rattle.bng_shard.proofs.InOrder.{Rising, all_in_order, apart_addresses, apart_of, number, opened_entries, rising_in_order, sum_in_order}
 use Rattle.bng_shard.proofs.Values.{same_some, stands}
 
 -- Ports ------------------------------------------------------------------------------------------------------------------

@@ -27,6 +27,7 @@ invariant_of-result c =
       placed = opened_placed c.args.number cs served.sessions sessions c.requires.sessions c.args.rules c.requires.ports;
       auth = c.requires.auth;
       offers = c.requires.offers;
+      few_pools = c.requires.few_pools;
       journal_room = omega (arith, ap length c.new.ensures.items);
       outs_room = λ some. omega (arith, some);
       terms_room = omega arith;
