@@ -126,11 +126,17 @@ struct Ended {
     err: MemorySink,
 }
 
-/// The frame with an 84-octet packet that begins with these octets, and then `stop`.
-fn frame_and_stop(alloc: Global, packet: &[u8; 20]) -> Result<Vec<Arrival>, AllocError> {
+/// The frame with an 84-octet packet that begins with these octets.
+fn frame_of(alloc: Global, packet: &[u8; 20]) -> Result<Vec<u8>, AllocError> {
     let mut frame = Vec::from_slice(alloc, &HEADER)?;
     frame.extend_from_slice(packet)?;
     frame.extend_from_slice(&[7; 64])?;
+    Ok(frame)
+}
+
+/// That frame, and then `stop`.
+fn frame_and_stop(alloc: Global, packet: &[u8; 20]) -> Result<Vec<Arrival>, AllocError> {
+    let frame = frame_of(alloc, packet)?;
     let mut script = Vec::new(alloc);
     script.push(Arrival::new(Role::Access(1), loopback(9011), frame.as_slice()))?;
     script.push(Arrival::new(Role::Control, loopback(5), b"stop\n"))?;

@@ -1,6 +1,7 @@
 //! Records of a circuit at the RADIUS server. The octets were made from the tables of RFC 2865 and RFC 2866 by a script over Python's
 //! hashlib.
-use super::{CONFIGURATION, Ended, SERVE, loopback, run_at, seed};
+use super::forwarding::FROM_CORE;
+use super::{CONFIGURATION, Ended, PACKET, SERVE, frame_of, loopback, run_at, seed};
 use bng_base::Role;
 use bng_plant::{Arrival, MemoryClock, MemoryPlant, NoTrace};
 use std::alloc::{AllocError, Global};
@@ -14,11 +15,11 @@ const START: &str =
 
 const STARTED: &str = "050000144d56a0dbea86317cb3381ffbc3860e3f";
 
-/// The Stop of the term, formed 6 s later, and the Accounting-Response to it.
+/// The Stop of the term, formed 6 s later, with a packet of 84 octets in and one of 20 out, and the Accounting-Response to it.
 const STOP: &str =
-    "040100c58af5158367299958c1974952171595e601086669786564310406c0a8011005060000040106060000000207060000000108060a0000021f1330323a30303a30303a30303a30303a30312006626e67312806000000022a06000000002b06000000002c1a3635353366313031303430313030303030303030303030312e06000000062f060000000030060000000031060000000a34060000000035060000000037066553f1073d0600000005571670312f3032303030303030303030312f31303235";
+    "040100c5f478785412c149874f4db77419e7a85801086669786564310406c0a8011005060000040106060000000207060000000108060a0000021f1330323a30303a30303a30303a30303a30312006626e67312806000000022a06000000542b06000000142c1a3635353366313031303430313030303030303030303030312e06000000062f060000000130060000000131060000000a34060000000035060000000037066553f1073d0600000005571670312f3032303030303030303030312f31303235";
 
-const STOPPED: &str = "050100146589bc6a83d001688d9fead7bf017bf4";
+const STOPPED: &str = "05010014a3211148ca7bf9c9f1f5646222f9e04b";
 
 /// `stop`, two waits later.
 fn stop() -> Arrival {
@@ -75,16 +76,20 @@ fn a_stop_is_waited_for_until_it_is_acknowledged(rt: HostRuntime) -> Result<(), 
     let alloc = rt.alloc();
     let started = hex::decode(alloc, STARTED)?;
     let stopped = hex::decode(alloc, STOPPED)?;
-    // Each reply comes 1,000 ms after its request.
+    // Each reply comes 1,000 ms after its request. With the first one come a packet of the circuit and one to it.
     let mut script = Vec::new(alloc);
     let reply = Arrival::new(Role::Acct, loopback(1813), started.as_slice());
     script.push(reply.after(1))?;
+    let frame = frame_of(alloc, &PACKET)?;
+    script.push(Arrival::new(Role::Access(1), loopback(9011), frame.as_slice()))?;
+    script.push(Arrival::new(Role::Core, loopback(9001), &FROM_CORE))?;
     script.push(stop())?;
     let last = Arrival::new(Role::Acct, loopback(1813), stopped.as_slice());
     script.push(last.after(1))?;
     let ended = run_slow(&rt, alloc, script)?;
     assert_eq!(rt; ended.status, 0);
     assert!(rt; ended.err.text().is_empty());
+    assert!(rt; ended.out.text().starts_with(b"total in=84 out=20\n"));
     let requests: [&str; 2] = [START, STOP];
     let sent = ended.plant.sent().iter();
     let mut records = sent.filter(|datagram| datagram.role == Role::Acct);

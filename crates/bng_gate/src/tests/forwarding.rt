@@ -43,7 +43,7 @@ const UP: [u8; 20] = [
 ];
 
 /// A packet of the core to 10.0.0.2 with TTL 2.
-const FROM_CORE: [u8; 20] = [
+pub(super) const FROM_CORE: [u8; 20] = [
     0x45, 0, 0, 0x14, 0, 2, 0, 0, 2, 0x11, 0xec, 0xd4, 0xc0, 0, 2, 1, 10, 0, 0, 2,
 ];
 
