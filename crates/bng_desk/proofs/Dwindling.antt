@@ -41,7 +41,7 @@ use Rattle.bng_desk.specs.Round.{AreParts, entries_of, views_of}
 use Rattle.bng_desk.specs.Taking.{Accounts, IsLeftBy, IsPlainly, IsHeld, Holds}
 use Rattle.bng_desk.proofs.Dealing.{Seens}
 use Rattle.bng_desk.proofs.Joining.{OfSeat, all_kept}
-use Rattle.bng_desk.proofs.PlainLaws.{logins_settled}
+use Rattle.bng_shard.proofs.Poolless.{logins_settled}
 use Rattle.bng_desk.proofs.Readying.{Shards, WorksBy, all_onward}
 use Rattle.bng_desk.proofs.Resting.{kept_rested, sessions_rested}
 use Rattle.bng_desk.proofs.Staying.{AreEnds}

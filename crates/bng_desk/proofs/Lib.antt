@@ -6,7 +6,6 @@ pub mod TakeLaws
 pub mod ItemLaws
 pub mod Zips
 pub mod Readying
-pub mod PlainLaws
 pub mod Unclaiming
 pub mod Returning
 pub mod Sending

@@ -44,7 +44,7 @@ use Rattle.bng_desk.specs.Items.{entries_in, loose_item, loose_in}
 use Rattle.bng_desk.specs.Round.{StandsWithin, views_of, held_by, entries_of}
 use Rattle.bng_desk.specs.Taking.{AreDealt, AreInOrder, Deals, DealsOne, DealsTo, HasRows, IsLight, IsPlain}
 use Rattle.bng_desk.proofs.DropLaws.{drops_none}
-use Rattle.bng_desk.proofs.PlainLaws.{no_claim}
+use Rattle.bng_shard.proofs.Poolless.{none_claimed as no_claim}
 use Rattle.bng_desk.proofs.Readying.{Shards, WorksBy}
 use Rattle.bng_desk.proofs.Returning.{HoldsOwn}
 use Rattle.bng_desk.proofs.Unclaiming.{after_rules, asks_nothing, news_stay}

@@ -122,7 +122,7 @@ module _ (r : Rules) (circuits : List Static) (now : ℕ) (served : AreServed r 
   few_terms = omega (arith, keys_count 0 r.shards, few_numbered shard_of 0 r.shards circuits)
 
   of_this : (n : ℕ) → n < 64 → All (λ (k : Key). k.term.session.0 / 1024 ≡ n) (opens n)
-  of_this n low = rows_of_shard n r (of_shard circuits n) now (are_of r circuits n served).sessions (are_of r circuits n served).own
+  of_this n low = rows_of_shard n r (of_shard circuits n) now (are_of r circuits n served).own
 
   from_this : (a k : ℕ) → a + k ≤ 64 → All (λ (x : Key). a ≤ x.term.session.0 / 1024) (keys_in (map (λ n. opened n r (of_shard circuits n) now) (range_with_len a k)))
   from_this a zero low = λ i d lt. absurd (omega (arith, lt))

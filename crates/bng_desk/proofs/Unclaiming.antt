@@ -18,7 +18,7 @@ use Rattle.bng_engine.proofs.Journals.{run_begins}
 use Rattle.bng_pool.specs.Plain.{PlainView}
 use Rattle.bng_shard.specs.Protocol.{ShardState, AnswersClaim, Handled, Handles, entry_with, HasNoLogins, pppoe, claimed_by, refused_by, terms_of}
 use Rattle.bng_shard.proofs.StepLaws.{pppoe_laws}
-use Rattle.bng_desk.proofs.PlainLaws.{no_claim, begins_none, logins_kept}
+use Rattle.bng_shard.proofs.Poolless.{none_claimed as no_claim, none_begun as begins_none, logins_kept}
 
 none_claimed : (s : ShardState) (h : Handled) → pppoe.is_step s h → s.rules.pools ≡ [] → pppoe.claimed h ≡ []
 none_claimed s h is none = ap claimed_by (no_claim s.rules s.slots h.limited h.deed is.step none)

@@ -1,13 +1,14 @@
 //! What a desk is opened with.
-ghost use Rattle.std.specs.Prelude.{◌≡◌, ◌≤◌, ◌<◌, ◌==◌, ◌/◌, [], ◌∷◌, ℕ, false, IfOk, length, map, filter};
+ghost use Rattle.std.specs.Prelude.{◌≡◌, ◌≤◌, ◌<◌, ◌==◌, ◌/◌, [], ◌∷◌, ℕ, false, IfOk, length, map, filter, option_map};
 ghost use Rattle.std.specs.List.{All, AllPairs, range_with_len};
 ghost use Rattle.bng_acct.specs.Roster.{same};
 ghost use Rattle.bng_base.specs.declared.settings.NamedRange.{NamedRange};
 ghost use Rattle.bng_pool.specs.Ranges.{ArePoolRanges, HasAddress};
+ghost use Rattle.bng_pool.specs.Tables.{entry};
 ghost use Rattle.bng_shard.specs.Protocol.{opened};
 ghost use Rattle.bng_lane.specs.State.{IsNewLane};
 ghost use Rattle.bng_shard.specs.Questions.{none_handed};
-ghost use Rattle.bng_desk.specs.Opening.{line_of, shard_of, dns_of, lane_rules, billing_rules, AreOffersOf, AreServed, IsOpenedPool, OpensAccounts};
+ghost use Rattle.bng_desk.specs.Opening.{line_of, shard_of, circuit_with, dns_of, lane_rules, billing_rules, AreOffersOf, AreServed, IsOpenedPool, OpensAccounts};
 ghost use Rattle.bng_desk.specs.Model.{keys_in};
 ghost use Rattle.bng_desk.specs.Taking.{HasFewSessions};
 
@@ -317,6 +318,19 @@ fn ranges(alloc: Global, pools: &[NamedRange]) -> Result<Vec<Range>, DeskError>
     }
 }
 
+// Each circuit's address is held by the circuit's shard from then on.
+fn claim_all(pool: &mut PlainPool, circuits: &[Static])
+    requires none { pool.old.table ≡ [] }
+    requires inside { All (λ c. shard_of c < pool.old.shards) circuits.now }
+    requires within { All (λ c. HasAddress pool.old.ranges c.address.0) circuits.now }
+    ensures claimed { (a : ℕ) → entry pool.new.table a ≡ option_map shard_of (circuit_with circuits.now a) }
+    ensures rest { (pool.new.ranges ≡ pool.old.ranges) × (pool.new.shards ≡ pool.old.shards) }
+{
+    for circuit in circuits {
+        pool.claim(circuit.session.0 / 1024, circuit.address);
+    }
+}
+
 /// Who holds each address of the pools: a circuit's is held by the circuit's shard, and no other is held.
 pub(crate) fn pool(alloc: Global, config: &Config) -> Result<PlainPool, DeskError>
     requires shards { (1 ≤ config.now.shards) × (config.now.shards ≤ 64) }
@@ -329,9 +343,7 @@ pub(crate) fn pool(alloc: Global, config: &Config) -> Result<PlainPool, DeskErro
     let Ok(mut pool) = PlainPool::open(alloc, ranges.as_slice(), config.shards) else {
         return Err(DeskError::OutOfMemory);
     };
-    for circuit in config.statics.as_slice() {
-        pool.claim(circuit.session.0 / 1024, circuit.address);
-    }
+    claim_all(&mut pool, config.statics.as_slice());
     Ok(pool)
 }
 

@@ -1,12 +1,14 @@
-use Rattle.std.proofs.Common.{rules, ◌≡◌, ◌<◌, [], length, get_or, refl, sym, ap, subst, ◌∙◌}
+use Rattle.std.proofs.Common.{rules, ◌≡◌, ◌<◌, ℕ, List, [], Some, slice_get, length, get_or, refl, sym, ap, subst, ◌∙◌, arith}
 use Rattle.std.proofs.lemmas.List.{get_or_read_under}
 use Rattle.bng_base.specs.declared.item.Entry.{Entry}
+use Rattle.bng_base.specs.declared.settings.NamedRange.{NamedRange}
 use Rattle.bng_engine.specs.Views.{ShardView}
 use Rattle.bng_pool.specs.Plain.{PlainView}
 use Rattle.bng_shard.specs.declared.rules.Rules.{Rules}
 use Rattle.bng_shard.specs.declared.whose.Whose.TheVariants.{Stands}
 use Rattle.bng_shard.specs.Protocol.{ShardState, Handles, entry_of}
 use Rattle.bng_shard.specs.Whose.{IsWhose}
+use Rattle.bng_desk.proofs.Returning.{HoldsOwn}
 use Rattle.bng_desk.proofs.Unclaiming.{pool_kept}
 use Rattle.bng_desk.proofs.round.deal.Goals as goal
 
@@ -39,11 +41,29 @@ returns-in-Stands-clause-deals c =
       deals = (record { within = within; shard = w; handles = handles; others = refl }, refl);
     }
 
+-- there is no pool at any place
+none_there : (k : ℕ) (p : NamedRange) → slice_get [] k ≡ Some p → ⊥
+none_there k p e = cc
+
 pub step-requires-clause-pools : goal.step-requires-clause-pools
-step-requires-clause-pools c = ?
+step-requires-clause-pools c k p at =
+    let n = c.from.result in
+    let within : n < length c.args.shards.now = search rules in
+    let v = c.index-shards-from.result in
+    let works : v.state.rules ≡ c.args.rules.now = subst (λ (x : ShardView ShardState Entry). x.state.rules ≡ c.args.rules.now) (sym c.index-shards-from.is) (c.requires.one_rule n v within) in
+    absurd (none_there k p (sym (ap (λ (r : Rules). slice_get r.pools k) works ∙ ap (λ (ps : List NamedRange). slice_get ps k) c.requires.no_pools) ∙ at))
 
 pub step-requires-clause-shards : goal.step-requires-clause-shards
-step-requires-clause-shards c = ?
+step-requires-clause-shards c =
+    let n = c.from.result in
+    let within : n < length c.args.shards.now = search rules in
+    let v = c.index-shards-from.result in
+    let number : v.number ≡ n = ap (λ (x : ShardView ShardState Entry). x.number) c.index-shards-from.is ∙ c.requires.numbers n v within in
+    omega (arith, number, within, c.requires.count, c.requires.places)
 
 pub step-requires-clause-held : goal.step-requires-clause-held
-step-requires-clause-held c = ?
+step-requires-clause-held c =
+    let n = c.from.result in
+    let within : n < length c.args.shards.now = search rules in
+    let v = c.index-shards-from.result in
+    subst (λ (x : ShardView ShardState Entry). HoldsOwn c.args.pool.now.table x) (sym c.index-shards-from.is) (c.requires.held n v within)
