@@ -62,6 +62,7 @@ pub mod Listing
 pub mod Waiting
 pub mod Telling
 pub mod SumsKept
+pub mod Tying
 pub mod ClaimLaws
 pub mod Splitting
 pub mod OpenedKeys

@@ -16,7 +16,7 @@ returns-in-Ignored-clause-does c =
 
 pub returns-then-frame-clause-does : goal.returns-then-frame-clause-does
 returns-then-frame-clause-does c =
-    ends_it c.args.rules.now (whole c.args.served.now c.args.terms.now) c.args.at c.args.item.now c.args.outs.now.items c.requires.here c.args.number (frame_of c.args.frame.now) c.in-Heard.ensures c.if-frame.true (whole c.end_session.new.served c.end_session.new.terms) c.end_session.ensures c.args.now
+    ends_it c.args.rules.now (whole c.args.served.now c.args.terms.now) c.args.at c.args.item.now c.args.outs.now.items c.requires.here c.args.number (frame_of c.args.frame.now) c.in-Heard.ensures c.if-frame.true (whole c.end_session.new.served c.end_session.new.terms) c.end_session.ensures.ended c.args.now
 
 pub returns-else-frame-clause-does : goal.returns-else-frame-clause-does
 returns-else-frame-clause-does c =

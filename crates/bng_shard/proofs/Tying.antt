@@ -1,0 +1,259 @@
+-- Each session's lease stays that of a live term over a step, as no two terms have one number.
+use Rattle.std.proofs.Common.{◌≡◌, ◌≢◌, ◌⊎◌, ⊎_elim, inl, inr, ℕ, zero, suc, ◌+◌, ◌<◌, ◌≤◌, Bool, true, false, cond, not, ◌&&◌, ◌==◌, List, [], ◌∷◌, ◌++◌, length, Option, Some, None, map, refl, sym, ap, subst, ◌∙◌, arith}
+use Rattle.std.specs.List.{All, AllByRecursion, AllPairs, AllZip}
+use Rattle.std.proofs.lemmas.Bool.{cases_eq}
+use Rattle.bng_base.specs.declared.address.Ip4.{Ip4}
+use Rattle.bng_base.specs.declared.address.SessionNo.{SessionNo}
+use Rattle.bng_base.specs.declared.circuit.Circuit.TheVariants.{Pppoe}
+use Rattle.bng_base.specs.declared.circuit.TermId.{TermId}
+use Rattle.bng_base.specs.declared.item.ItemKind.{ItemKind}
+use Rattle.bng_base.specs.declared.item.ItemKind.TheVariants.{Verdict, End}
+use Rattle.bng_base.specs.declared.item.OutRecord.{OutRecord}
+use Rattle.bng_engine.specs.Lists.{AnyOf}
+use Rattle.bng_slots.specs.Sessions.{Sessions, value_at, with_value}
+use Rattle.bng_slots.proofs.SessionLaws.{value_at-with_value, value_at-with_other}
+use Rattle.bng_shard.specs.Made.{Question}
+use Rattle.bng_shard.specs.Serving.{AreOwn}
+use Rattle.bng_shard.specs.declared.sending.At.{At}
+use Rattle.bng_shard.specs.declared.rules.Rules.{Rules}
+use Rattle.bng_shard.specs.declared.session.Lease.{Lease}
+use Rattle.bng_shard.specs.declared.session.Session.{Session}
+use Rattle.bng_shard.specs.State.{State, IsTermOf, with_driven, with_ended}
+use Rattle.bng_shard.specs.Deed.{Deed, at_of, handled, ignored}
+use Rattle.bng_shard.specs.Link.{Drives, LinkStep, Told, ended, nas_request, user_request}
+use Rattle.bng_shard.specs.Running.{AreTied}
+use Rattle.bng_shard.specs.Step.{Hears, Step}
+use Rattle.bng_shard.specs.Tenures.{Tenure, closed, is_over, kept_lease, over_by}
+use Rattle.bng_shard.specs.Verdicts.{HearsVerdict, Judges, next_lease, next_term, settled_by, with_term}
+use Rattle.bng_shard.proofs.Beginning.{any_closed}
+use Rattle.bng_shard.proofs.ListParts.{any_last, any_more}
+use Rattle.bng_shard.proofs.Naming.{next_of}
+use Rattle.bng_shard.proofs.Serves.{none_kept}
+use Rattle.bng_shard.proofs.Values.{none_some, same_some}
+use Rattle.bng_shard.proofs.Walking.{Walks, end_walks, hears_walks}
+
+-- no two terms have one number
+abbrev pub HaveOwn : List Tenure → Type 0
+HaveOwn [] = Unit {0}
+HaveOwn (t ∷ ts) = AllByRecursion (λ (u : Tenure). t.term.serial ≢ u.term.serial) ts × HaveOwn ts
+
+-- A session that has a lease stands under its own number, its lease is that of a live term, and no two terms have one number.
+pub record Holds (s : State) : Type 0 where
+  pub own : (n : ℕ) (x : Session) (l : Lease) → value_at s.sessions n ≡ Some x → x.lease ≡ Some l → x.number.0 ≡ n
+  pub tied : AreTied s.sessions s.terms
+  pub apart : HaveOwn s.terms
+  pub numbered : AllByRecursion (λ (t : Tenure). t.term.serial ≤ s.begun) s.terms
+
+-- Two of the terms with one number are one -----------------------------------------------------------------------------------
+
+other_serial : (ts : List Tenure) (m : ℕ) (n : ℕ) (y : Session) (l : Lease) → AllByRecursion (λ (u : Tenure). m ≢ u.term.serial) ts → AnyOf (IsTermOf y l) ts → l.serial ≡ m → ⊥
+other_serial [] m n y l all any e = absurd any
+other_serial (t ∷ ts) m n y l all (inl is) e = all.0 (sym e ∙ sym (ap (λ (k : TermId). k.serial) is.term))
+other_serial (t ∷ ts) m n y l all (inr any) e = other_serial ts m n y l all.1 any e
+
+same_holder : (ts : List Tenure) (x y : Session) (k l : Lease) → HaveOwn ts → AnyOf (IsTermOf x k) ts → AnyOf (IsTermOf y l) ts → k.serial ≡ l.serial → x.number ≡ y.number
+same_holder [] x y k l own any other e = absurd any
+same_holder (t ∷ ts) x y k l own (inl is) (inl js) e = sym (ap (λ (i : TermId). i.session) is.term) ∙ ap (λ (i : TermId). i.session) js.term
+same_holder (t ∷ ts) x y k l own (inl is) (inr any) e = absurd (other_serial ts t.term.serial 0 y l own.0 any (sym e ∙ sym (ap (λ (i : TermId). i.serial) is.term)))
+same_holder (t ∷ ts) x y k l own (inr any) (inl js) e = absurd (other_serial ts t.term.serial 0 x k own.0 any (e ∙ sym (ap (λ (i : TermId). i.serial) js.term)))
+same_holder (t ∷ ts) x y k l own (inr any) (inr other) e = same_holder ts x y k l own.1 any other e
+
+-- the numbers stay where terms end
+serial_over : (serial cause : ℕ) (t : Tenure) → (over_by serial cause t).term.serial ≡ t.term.serial
+serial_over serial cause t =
+    elim ((t.term.serial == serial) && not (is_over t)) as (λ b. (cond b (record t { cause = Some cause }) t).term.serial ≡ t.term.serial) [ true ↦ refl | false ↦ refl ]
+
+over_all : (P : ℕ → Type 0) (serial cause : ℕ) (ts : List Tenure) → AllByRecursion (λ (u : Tenure). P u.term.serial) ts → AllByRecursion (λ (u : Tenure). P u.term.serial) (map (over_by serial cause) ts)
+over_all P serial cause [] h = tt
+over_all P serial cause (t ∷ ts) h = (subst P (sym (serial_over serial cause t)) h.0, over_all P serial cause ts h.1)
+
+over_own : (serial cause : ℕ) (ts : List Tenure) → HaveOwn ts → HaveOwn (map (over_by serial cause) ts)
+over_own serial cause [] h = tt
+over_own serial cause (t ∷ ts) h = (
+  subst (λ (m : ℕ). AllByRecursion (λ (u : Tenure). m ≢ u.term.serial) (map (over_by serial cause) ts)) (sym (serial_over serial cause t)) (over_all (λ (k : ℕ). t.term.serial ≢ k) serial cause ts h.0),
+  over_own serial cause ts h.1,
+)
+
+closed_own : (lease : Option Lease) (cause : Option ℕ) (ts : List Tenure) → HaveOwn ts → HaveOwn (closed lease cause ts)
+closed_own None cause ts h = h
+closed_own (Some l) None ts h = h
+closed_own (Some l) (Some cause) ts h = over_own l.serial cause ts h
+
+closed_all : (P : ℕ → Type 0) (lease : Option Lease) (cause : Option ℕ) (ts : List Tenure) → AllByRecursion (λ (u : Tenure). P u.term.serial) ts → AllByRecursion (λ (u : Tenure). P u.term.serial) (closed lease cause ts)
+closed_all P None cause ts h = h
+closed_all P (Some l) None ts h = h
+closed_all P (Some l) (Some cause) ts h = over_all P l.serial cause ts h
+
+-- one more, with a number above all
+all_last : (P : Tenure → Type 0) (ts : List Tenure) (t : Tenure) → AllByRecursion P ts → P t → AllByRecursion P (ts ++ t ∷ [])
+all_last P [] t h is = (is, tt)
+all_last P (u ∷ ts) t h is = (h.0, all_last P ts t h.1 is)
+
+all_above : (m n : ℕ) (ts : List Tenure) → m ≤ n → AllByRecursion (λ (u : Tenure). u.term.serial ≤ m) ts → AllByRecursion (λ (u : Tenure). u.term.serial ≤ n) ts
+all_above m n [] le h = tt
+all_above m n (t ∷ ts) le h = (omega (arith, le, h.0), all_above m n ts le h.1)
+
+own_last : (n : ℕ) (ts : List Tenure) (t : Tenure) → HaveOwn ts → AllByRecursion (λ (u : Tenure). u.term.serial ≤ n) ts → n < t.term.serial → HaveOwn (ts ++ t ∷ [])
+own_last n [] t own h above = (tt, tt)
+own_last n (u ∷ ts) t own h above = (all_last (λ (v : Tenure). u.term.serial ≢ v.term.serial) ts t own.0 (λ e. omega (arith, e, h.0, above)), own_last n ts t own.1 h.1 above)
+
+-- A session is another one -----------------------------------------------------------------------------------------------------
+
+same_term : (x y : Session) (l : Lease) (t : Tenure) → y.number ≡ x.number → y.port ≡ x.port → y.mac ≡ x.mac → IsTermOf x l t → IsTermOf y l t
+same_term x y l t number port mac is =
+    let n = sym number in
+    let p = sym port in
+    let m = sym mac in
+    record {
+  term = is.term ∙ ap (λ (n : SessionNo). let k : TermId = record { session = n; serial = l.serial } in k) (sym number);
+  circuit = is.circuit ∙ (λ i. Pppoe (p i) (m i) (n i));
+  address = is.address;
+  profile = is.profile;
+  live = is.live;
+}
+
+any_of : (P Q : Tenure → Type 0) (ts : List Tenure) → ((t : Tenure) → P t → Q t) → AnyOf P ts → AnyOf Q ts
+any_of P Q [] f any = any
+any_of P Q (t ∷ ts) f (inl is) = inl (f t is)
+any_of P Q (t ∷ ts) f (inr any) = inr (any_of P Q ts f any)
+
+-- the lease that is left after a step
+left_lease : (cause : Option ℕ) (lease : Option Lease) (l : Lease) → kept_lease cause lease ≡ Some l → (cause ≡ None) × (lease ≡ Some l)
+left_lease None lease l e = (refl, e)
+left_lease (Some cause) lease l e = absurd (none_some l e)
+
+unclosed : (lease : Option Lease) (ts : List Tenure) → closed lease None ts ≡ ts
+unclosed None ts = refl
+unclosed (Some l) ts = refl
+
+module _ (s : State) (h : Holds s) where
+  -- the leases of two sessions have two numbers
+  apart_serials : (m n : ℕ) (x y : Session) (k l : Lease) → m ≢ n → value_at s.sessions m ≡ Some x → x.lease ≡ Some k → value_at s.sessions n ≡ Some y → y.lease ≡ Some l → k.serial ≢ l.serial
+  apart_serials m n x y k l differ at_x its_k at_y its_l e =
+      differ (sym (h.own m x k at_x its_k) ∙ ap (λ (i : SessionNo). i.0) (same_holder s.terms x y k l h.apart (h.tied m x k at_x its_k) (h.tied n y l at_y its_l) e) ∙ h.own n y l at_y its_l)
+
+  -- the sessions of other numbers keep their terms, where that of a lease of this one's ends
+  module _ (n : ℕ) (x : Session) (lease : Option Lease) (of : (k : Lease) → lease ≡ Some k → (value_at s.sessions n ≡ Some x) × (x.lease ≡ Some k)) where
+    others_tied : (cause : Option ℕ) (m : ℕ) (y : Session) (l : Lease) → m ≢ n → value_at s.sessions m ≡ Some y → y.lease ≡ Some l → AnyOf (IsTermOf y l) (closed lease cause s.terms)
+    others_tied cause m y l differ at its =
+        any_closed (IsTermOf y l) lease cause s.terms
+        (λ k is t term same. apart_serials m n y x l k differ at its (of k is).0 (of k is).1 (sym (ap (λ (i : TermId). i.serial) term.term) ∙ same)) (h.tied m y l at its)
+
+    -- and all do, where this one's is tied anew
+    holds_with : (cause : Option ℕ) (x' : Session) (asked : ℕ) → ((l : Lease) → x'.lease ≡ Some l → (x'.number.0 ≡ n) × AnyOf (IsTermOf x' l) (closed lease cause s.terms)) → Holds (with_driven s n lease cause x' asked)
+    holds_with cause x' asked here = record {
+      own = λ m y l at its. elim (cases_eq m n) [
+        | inl e ↦ let it = stands m y e at in ap (λ (z : Session). z.number.0) it ∙ (here l (ap (λ (z : Session). z.lease) (sym it) ∙ its)).0 ∙ sym e
+        | inr d ↦ h.own m y l (sym (value_at-with_other s.sessions n x' m d) ∙ at) its
+      ];
+      tied = λ m y l at its. elim (cases_eq m n) [
+        | inl e ↦ let it = stands m y e at in subst (λ (z : Session). AnyOf (IsTermOf z l) (closed lease cause s.terms)) (sym it) (here l (ap (λ (z : Session). z.lease) (sym it) ∙ its)).1
+        | inr d ↦ others_tied cause m y l d (sym (value_at-with_other s.sessions n x' m d) ∙ at) its
+      ];
+      apart = closed_own lease cause s.terms h.apart;
+      numbered = closed_all (λ (k : ℕ). k ≤ s.begun) lease cause s.terms h.numbered;
+    }
+      where
+        stands : (m : ℕ) (y : Session) → m ≡ n → value_at (with_value s.sessions n x') m ≡ Some y → y ≡ x'
+        stands m y e at = same_some y x' (sym at ∙ ap (λ (k : ℕ). value_at (with_value s.sessions n x') k) e ∙ value_at-with_value s.sessions n x')
+
+  -- after a step of the link of one of them
+  driven_ties : (r : Rules) (a : At) (Steps : LinkStep) (n : ℕ) (x x' : Session) (outs : List OutRecord) (cause : Option ℕ) (asked' : ℕ) → value_at s.sessions n ≡ Some x
+      → Drives r a s.asked x Steps outs cause x' asked' → Holds (with_driven s n x.lease cause x' asked')
+  driven_ties r a Steps n x x' outs cause asked' at d =
+      holds_with n x x.lease (λ k is. (at, is)) cause x' asked'
+      (λ l its.
+      let left = left_lease cause x.lease l (ap (λ (q : Option ℕ). kept_lease q x.lease) d.closes ∙ sym (ap (λ (y : Session). y.lease) d.session) ∙ its) in
+      let number = ap (λ (y : Session). y.number) d.session in
+      let same : AnyOf (IsTermOf x' l) s.terms =
+      any_of (IsTermOf x l) (IsTermOf x' l) s.terms (λ t. same_term x x' l t number (ap (λ (y : Session). y.port) d.session) (ap (λ (y : Session). y.mac) d.session)) (h.tied n x l at left.1) in (
+        ap (λ (k : SessionNo). k.0) number ∙ h.own n x l at left.1,
+        subst (λ (q : Option ℕ). AnyOf (IsTermOf x' l) (closed x.lease q s.terms)) (sym left.0) (subst (AnyOf (IsTermOf x' l)) (sym (unclosed x.lease s.terms)) same),
+      ))
+
+  -- after one of a session that has no lease
+  bare_ties : (n : ℕ) (x x' : Session) (cause : Option ℕ) (asked' : ℕ) → x'.lease ≡ None → Holds (with_driven s n None cause x' asked')
+  bare_ties n x x' cause asked' none = holds_with n x None (λ k is. absurd (none_some k is)) cause x' asked' (λ l its. absurd (none_some l (sym none ∙ its)))
+
+  -- once it has ended
+  ended_ties : (n : ℕ) (x : Session) (cause : ℕ) → value_at s.sessions n ≡ Some x → Holds (with_ended s n x.lease cause (ended x))
+  ended_ties n x cause at = holds_with n x x.lease (λ k is. (at, is)) (Some cause) (ended x) s.asked (λ l its. absurd (none_some l its))
+
+  -- once a term of it has begun
+  term_ties : (n : ℕ) (x x' : Session) (asked : ℕ) (a : Ip4) (q : Question) (class : List ℕ) (moment : ℕ) → x.number.0 ≡ n → x'.number ≡ x.number → x'.port ≡ x.port → x'.mac ≡ x.mac
+      → Holds (with_term s n x' asked a (next_term s x q class moment a))
+  term_ties n x x' asked a q class moment its number port mac =
+      let t = next_term s x q class moment a in
+      let y : Session = record x' { lease = Some (next_lease s a) } in
+      let k = sym number in
+      let p = sym port in
+      let c = sym mac in
+      let is : IsTermOf y (next_lease s a) t = record {
+        term = λ i. record { session = k i; serial = s.begun + 1 };
+        circuit = λ i. Pppoe (p i) (c i) (k i);
+        address = refl;
+        profile = refl;
+        live = refl;
+      } in
+      let stands : (m : ℕ) (z : Session) → m ≡ n → value_at (with_value s.sessions n y) m ≡ Some z → z ≡ y = λ m z e at.
+      same_some z y (sym at ∙ ap (λ (k : ℕ). value_at (with_value s.sessions n y) k) e ∙ value_at-with_value s.sessions n y) in
+      record {
+        own = λ m z l at leased. elim (cases_eq m n) [
+          | inl e ↦ ap (λ (w : Session). w.number.0) (stands m z e at) ∙ ap (λ (k : SessionNo). k.0) number ∙ its ∙ sym e
+          | inr d ↦ h.own m z l (sym (value_at-with_other s.sessions n y m d) ∙ at) leased
+        ];
+        tied = λ m z l at leased. elim (cases_eq m n) [
+          | inl e ↦
+              let it = stands m z e at in
+              let same : next_lease s a ≡ l = same_some (next_lease s a) l (ap (λ (w : Session). w.lease) (sym it) ∙ leased) in
+              any_last (IsTermOf z l) s.terms t (subst (λ (w : Session). IsTermOf w l t) (sym it) (subst (λ (k : Lease). IsTermOf y k t) same is))
+          | inr d ↦ any_more (IsTermOf z l) s.terms (t ∷ []) (h.tied m z l (sym (value_at-with_other s.sessions n y m d) ∙ at) leased)
+        ];
+        apart = own_last s.begun s.terms t h.apart h.numbered (omega arith);
+        numbered = all_last (λ (u : Tenure). u.term.serial ≤ s.begun + 1) s.terms t (all_above s.begun (s.begun + 1) s.terms (omega arith) h.numbered) (omega arith);
+      }
+
+-- Steps --------------------------------------------------------------------------------------------------------------------------
+
+abbrev Ties : State → State → Type 0
+Ties s s' = Holds s → Holds s'
+
+ties_walk : (r : Rules) → Walks r Ties
+ties_walk r = record {
+  same = λ s s' e h. subst Holds (sym e) h;
+  then = λ s s' s'' g k h. k (g h);
+  driven = λ Steps e s n x x' outs cause asked' at d h. driven_ties s h r (at_of s e) Steps n x x' outs cause asked' at d;
+  made = λ Steps e s n x x' outs cause asked' none d h.
+      bare_ties s h n x x' cause asked' (ap (λ (y : Session). y.lease) d.session ∙ ap (kept_lease d.says.term_ended) none ∙ none_kept d.says.term_ended);
+  padt = λ s n x m at is h. ended_ties s h n x user_request at;
+}
+
+module _ (r : Rules) (s : State) (limited : Bool) (d : Deed) (own : AreOwn s.sessions) (h : Holds s) where
+  judged_ties : (t : Told) → Judges r s d.entry t d → Holds d.next
+  judged_ties t j =
+      let n = d.entry.item.target in
+      let x' = j.after in
+      let session = j.drives.session in
+      let says = j.drives.says in
+      let bare : x'.lease ≡ None = ap (λ (y : Session). y.lease) session ∙ ap (kept_lease says.term_ended) j.no_term ∙ none_kept says.term_ended in
+      let settled : (lease : Option Ip4) → Holds (settled_by s n j.x j.question t d.entry.moment x' j.asked lease) = λ lease. settles_ties t j bare lease in
+      subst Holds (sym (ap (λ (f : Deed). f.next) j.done)) (settled t.lease)
+    where
+      settles_ties : (t : Told) (j : Judges r s d.entry t d) → j.after.lease ≡ None → (lease : Option Ip4) → Holds (settled_by s d.entry.item.target j.x j.question t d.entry.moment j.after j.asked lease)
+      settles_ties t j bare None = bare_ties s h d.entry.item.target j.x j.after None j.asked bare
+      settles_ties t j bare (Some a) =
+          let session = j.drives.session in
+          term_ties s h d.entry.item.target j.x j.after j.asked a j.question t.class d.entry.moment (own d.entry.item.target j.x j.found) (ap (λ (y : Session). y.number) session) (ap (λ (y : Session). y.port) session) (ap (λ (y : Session). y.mac) session)
+
+  verdict_ties : HearsVerdict r s d.entry limited d → Holds d.next
+  verdict_ties (inl (asks, t, decides, judges)) = judged_ties t judges
+  verdict_ties (inr (inl (asks, decides, e))) = subst Holds (sym (next_of d (ignored s d.entry) e)) h
+  verdict_ties (inr (inr (other, none, e))) = subst Holds (sym (next_of d (ignored s d.entry) e)) h
+
+  -- so it is after a step
+  pub step_ties : Step r s limited d → Holds d.next
+  step_ties step =
+      let judge : d.entry.item.kind ≡ Verdict → Holds d.next = λ is. verdict_ties (subst (λ (kind : ItemKind). Hears kind r s limited d.entry d) is step.hears) in
+      let stop : d.entry.item.kind ≡ End → Holds d.next = λ is.
+      end_walks r Ties (ties_walk r) s limited d.entry d (λ s' n x at k. ended_ties s' k n x nas_request at) (subst (λ (kind : ItemKind). Hears kind r s limited d.entry d) is step.hears) h in
+      ⊎_elim judge (λ (rest : (d.entry.item.kind ≡ End) ⊎ Ties s d.next). ⊎_elim stop (λ (k : Ties s d.next). k h) rest) (hears_walks r Ties (ties_walk r) s limited d.entry d d.entry.item.kind step.hears)
