@@ -63,6 +63,7 @@ pub mod Waiting
 pub mod Telling
 pub mod SumsKept
 pub mod Tying
+pub mod AskedPool
 pub mod ClaimLaws
 pub mod Splitting
 pub mod OpenedKeys

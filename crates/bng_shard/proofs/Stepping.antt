@@ -24,7 +24,9 @@ use Rattle.bng_shard.specs.Fits.{ArePlaced, owed}
 use Rattle.bng_shard.specs.State.{State}
 use Rattle.bng_shard.specs.Step.{Step}
 use Rattle.bng_shard.specs.Sums.{Rises}
-use Rattle.bng_shard.proofs.TermLaws.{Remains, step_remains, terms_there, zip_keys}
+use Rattle.bng_shard.proofs.TermLaws.{AnyCause, Begins, Moves, Remains, step_moves, terms_there, zip_keys}
+use Rattle.bng_shard.proofs.Tying.{HaveOwn, Holds, step_ties}
+use Rattle.bng_shard.proofs.Values.{none_some}
 use Rattle.bng_shard.proofs.StepLaws.{light}
 
 -- the outs that a round may still have -------------------------------------------------------------------------------------
@@ -71,6 +73,144 @@ owed_more journal e tick end =
     let n : cost (has_end (journal ++ e ∷ [])) ≡ cost (has_end journal || is_end e.item.kind) = ap cost (has_more (λ (x : Entry). is_end x.item.kind) journal e) in
     omega (arith, t, n, spends e.item.kind (has_tick journal) (has_end journal) tick end)
 
+-- what is kept of terms' keys -----------------------------------------------------------------------------------------------
+
+abbrev keys_there : List Tenure → List Key
+keys_there ts = keys (map term_in ts)
+
+-- no number is above so many, no two have one address, and each holds its address
+abbrev AreNumbered : ℕ → List Key → Type 0
+AreNumbered n ks = AllByRecursion (λ (k : Key). k.term.serial ≤ n) ks
+
+abbrev HaveOwnLeases : List Key → Type 0
+HaveOwnLeases [] = Unit {0}
+HaveOwnLeases (k ∷ ks) = AllByRecursion (λ (j : Key). k.lease ≢ j.lease) ks × HaveOwnLeases ks
+
+abbrev HoldTheirs : Table → ℕ → List Key → Type 0
+HoldTheirs table shard ks = AllByRecursion (λ (k : Key). entry table k.lease.0 ≡ Some shard) ks
+
+all_last : (P : Key → Type 0) (ks : List Key) (k : Key) → AllByRecursion P ks → P k → AllByRecursion P (ks ++ k ∷ [])
+all_last P [] k h is = (is, tt)
+all_last P (j ∷ ks) k h is = (h.0, all_last P ks k h.1 is)
+
+all_so : (P Q : Key → Type 0) (ks : List Key) → ((k : Key) → P k → Q k) → AllByRecursion P ks → AllByRecursion Q ks
+all_so P Q [] f h = tt
+all_so P Q (k ∷ ks) f h = (f k h.0, all_so P Q ks f h.1)
+
+all_both : (P Q R : Key → Type 0) (ks : List Key) → ((k : Key) → P k → Q k → R k) → AllByRecursion P ks → AllByRecursion Q ks → AllByRecursion R ks
+all_both P Q R [] f h g = tt
+all_both P Q R (k ∷ ks) f h g = (f k h.0 g.0, all_both P Q R ks f h.1 g.1)
+
+same_address : (a b : Ip4) → a.0 ≡ b.0 → a ≡ b
+same_address a b e = λ i. record { 0 = e i }
+
+own_last : (ks : List Key) (k : Key) → HaveOwnLeases ks → AllByRecursion (λ (j : Key). j.lease ≢ k.lease) ks → HaveOwnLeases (ks ++ k ∷ [])
+own_last [] k h free = (tt, tt)
+own_last (j ∷ ks) k h free = (all_last (λ (i : Key). j.lease ≢ i.lease) ks k h.0 free.0, own_last ks k h.1 free.1)
+
+keys_more : (ts : List Tenure) (t : Tenure) → keys_there (ts ++ t ∷ []) ≡ keys_there ts ++ key_in t ∷ []
+keys_more [] t = refl
+keys_more (u ∷ ts) t = ap (λ (ks : List Key). key_in u ∷ ks) (keys_more ts t)
+
+-- of rows, and back
+pub keys_of_rows : (rows : List Running) → row_keys (rows_in rows) ≡ keys_there (tenures_in rows)
+keys_of_rows [] = refl
+keys_of_rows (r ∷ rows) = ap (λ (ks : List Key). (row_from r).key ∷ ks) (keys_of_rows rows)
+
+numbered_keys : (n : ℕ) (rows : List Running) → AllByRecursion (λ (r : Running). r.term.serial ≤ n) rows → AreNumbered n (keys_there (tenures_in rows))
+numbered_keys n [] h = tt
+numbered_keys n (r ∷ rows) h = (h.0, numbered_keys n rows h.1)
+
+numbered_rows : (n : ℕ) (rows : List Running) → AreNumbered n (keys_there (tenures_in rows)) → AllByRecursion (λ (r : Running). r.term.serial ≤ n) rows
+numbered_rows n [] h = tt
+numbered_rows n (r ∷ rows) h = (h.0, numbered_rows n rows h.1)
+
+other_keys : (a : Ip4) (rows : List Running) → AllByRecursion (λ (r : Running). a ≢ r.lease) rows → AllByRecursion (λ (k : Key). a ≢ k.lease) (keys_there (tenures_in rows))
+other_keys a [] h = tt
+other_keys a (r ∷ rows) h = (h.0, other_keys a rows h.1)
+
+other_rows : (a : Ip4) (rows : List Running) → AllByRecursion (λ (k : Key). a ≢ k.lease) (keys_there (tenures_in rows)) → AllByRecursion (λ (r : Running). a ≢ r.lease) rows
+other_rows a [] h = tt
+other_rows a (r ∷ rows) h = (h.0, other_rows a rows h.1)
+
+own_keys : (rows : List Running) → AllPairs (λ (b c : Running). b.lease ≢ c.lease) rows → HaveOwnLeases (keys_there (tenures_in rows))
+own_keys [] h = tt
+own_keys (r ∷ rows) h = (
+  other_keys r.lease rows (recursion_from_All (λ (c : Running). r.lease ≢ c.lease) rows (λ k d lt. h zero (suc k) d (omega arith) (omega (arith, lt)))),
+  own_keys rows (λ i j d lt within. h (suc i) (suc j) d (omega (arith, lt)) (omega (arith, within))),
+)
+
+own_rows : (rows : List Running) → HaveOwnLeases (keys_there (tenures_in rows)) → AllPairs (λ (b c : Running). b.lease ≢ c.lease) rows
+own_rows [] h i j d lt within = absurd (omega (arith, within))
+own_rows (r ∷ rows) h zero zero d lt within = absurd (omega (arith, lt))
+own_rows (r ∷ rows) h zero (suc j) d lt within = All-from_recursion (λ (c : Running). r.lease ≢ c.lease) rows (other_rows r.lease rows h.0) j d (omega (arith, within))
+own_rows (r ∷ rows) h (suc i) zero d lt within = absurd (omega (arith, lt))
+own_rows (r ∷ rows) h (suc i) (suc j) d lt within = own_rows rows h.1 i j d (omega (arith, lt)) (omega (arith, within))
+
+held_keys : (table : Table) (shard : ℕ) (ts : List Term) → AllByRecursion (λ (t : Term). entry table t.key.lease.0 ≡ Some shard) ts → HoldTheirs table shard (keys ts)
+held_keys table shard [] h = tt
+held_keys table shard (t ∷ ts) h = (h.0, held_keys table shard ts h.1)
+
+held_terms : (table : Table) (shard : ℕ) (ts : List Term) → HoldTheirs table shard (keys ts) → AllByRecursion (λ (t : Term). entry table t.key.lease.0 ≡ Some shard) ts
+held_terms table shard [] h = tt
+held_terms table shard (t ∷ ts) h = (h.0, held_terms table shard ts h.1)
+
+pub all_held : (table : Table) (shard : ℕ) (ts : List Term) → AreHeld shard ts table → HoldTheirs table shard (keys ts)
+all_held table shard ts h = held_keys table shard ts (recursion_from_All (λ (t : Term). entry table t.key.lease.0 ≡ Some shard) ts h)
+
+pub are_held : (table : Table) (shard : ℕ) (ts : List Term) → HoldTheirs table shard (keys ts) → AreHeld shard ts table
+are_held table shard ts h = All-from_recursion (λ (t : Term). entry table t.key.lease.0 ≡ Some shard) ts (held_terms table shard ts h)
+
+-- an address that was free is that of no term that holds its own
+not_theirs : (table : Table) (shard : ℕ) (a : Ip4) (k : Key) → entry table a.0 ≡ None → entry table k.lease.0 ≡ Some shard → k.lease ≢ a
+not_theirs table shard a k free holds e = none_some shard (sym free ∙ ap (λ (b : Ip4). entry table b.0) (sym e) ∙ holds)
+
+pub free_of : (table : Table) (shard : ℕ) (a : Ip4) (ks : List Key) → entry table a.0 ≡ None → HoldTheirs table shard ks → AllByRecursion (λ (k : Key). k.lease ≢ a) ks
+free_of table shard a ks free h = all_so (λ (k : Key). entry table k.lease.0 ≡ Some shard) (λ (k : Key). k.lease ≢ a) ks (λ k holds. not_theirs table shard a k free holds) h
+
+free_rows : (a : Ip4) (rows : List Running) → AllByRecursion (λ (k : Key). k.lease ≢ a) (keys_there (tenures_in rows)) → AllByRecursion (λ (r : Running). r.lease ≢ a) rows
+free_rows a [] h = tt
+free_rows a (r ∷ rows) h = (h.0, free_rows a rows h.1)
+
+-- no row has an address that was free
+pub rows_free : (table : Table) (shard : ℕ) (a : Ip4) (rows : List Running) → entry table a.0 ≡ None → AreHeld shard (map term_in (tenures_in rows)) table → All (λ (r : Running). r.lease ≢ a) rows
+rows_free table shard a rows free h =
+    All-from_recursion (λ (r : Running). r.lease ≢ a) rows (free_rows a rows (free_of table shard a (keys_there (tenures_in rows)) free (all_held table shard (map term_in (tenures_in rows)) h)))
+
+-- what is kept of a state's terms
+record KeysFit (s : State) : Type 0 where
+  numbered : AreNumbered s.begun (keys_there s.terms)
+  news : AreNumbered s.begun (keys_there s.news)
+  apart : HaveOwnLeases (keys_there s.terms)
+
+more_numbered : (m n : ℕ) (ks : List Key) → m ≤ n → AreNumbered m ks → AreNumbered n ks
+more_numbered m n ks le h = all_so (λ (k : Key). k.term.serial ≤ m) (λ (k : Key). k.term.serial ≤ n) ks (λ k at. omega (arith, le, at)) h
+
+module _ (r : Rules) (s s' : State) (h : KeysFit s) where
+  remain_fit : Remains AnyCause r s s' → KeysFit s'
+  remain_fit m =
+      let same : keys_there s'.terms ≡ keys_there s.terms = zip_keys AnyCause s.terms s'.terms m.terms in
+      record {
+        numbered = subst (λ (n : ℕ). AreNumbered n (keys_there s'.terms)) (sym m.begun) (subst (AreNumbered s.begun) (sym same) h.numbered);
+        news = subst (λ (n : ℕ). AreNumbered n (keys_there s'.news)) (sym m.begun) (subst (λ (ts : List Tenure). AreNumbered s.begun (keys_there ts)) (sym m.news) h.news);
+        apart = subst HaveOwnLeases (sym same) h.apart;
+      }
+
+  begin_fit : (a : Ip4) → Begins r s s' a → AllByRecursion (λ (k : Key). k.lease ≢ a) (keys_there s.terms) → KeysFit s'
+  begin_fit a m free =
+      let k = key_in m.one in
+      let one : k.term.serial ≤ s.begun + 1 = omega (arith, m.serial) in
+      let rows : keys_there s'.terms ≡ keys_there s.terms ++ k ∷ [] = ap keys_there m.terms ∙ keys_more s.terms m.one in
+      let news : keys_there s'.news ≡ keys_there s.news ++ k ∷ [] = ap keys_there m.news ∙ keys_more s.news m.one in
+      let up : (ks : List Key) → AreNumbered s.begun ks → AreNumbered (s.begun + 1) (ks ++ k ∷ []) = λ ks is.
+      all_last (λ (j : Key). j.term.serial ≤ s.begun + 1) ks k (more_numbered s.begun (s.begun + 1) ks (omega arith) is) one in
+      let free_k = subst (λ (b : Ip4). AllByRecursion (λ (j : Key). j.lease ≢ b) (keys_there s.terms)) (sym m.address) free in
+      record {
+        numbered = subst (λ (n : ℕ). AreNumbered n (keys_there s'.terms)) (sym m.begun) (subst (AreNumbered (s.begun + 1)) (sym rows) (up (keys_there s.terms) h.numbered));
+        news = subst (λ (n : ℕ). AreNumbered n (keys_there s'.news)) (sym m.begun) (subst (AreNumbered (s.begun + 1)) (sym news) (up (keys_there s.news) h.news));
+        apart = subst HaveOwnLeases (sym rows) (own_last (keys_there s.terms) k h.apart free_k);
+      }
+
 -- a step as a caller sees it -----------------------------------------------------------------------------------------------
 
 -- the fields of a shard that is in a round
@@ -89,57 +229,178 @@ view r s rows passed allowance journal outs room = record {
   room = room;
 }
 
--- how many terms a journal's entries began
-abbrev begun_in : List Entry → ℕ
-begun_in journal = length (flat_map (λ (e : Entry). claimed_by e.claim) journal)
-
 claims_same : (es : List Handled) → flat_map (λ (e : Entry). claimed_by e.claim) (map (λ (h : Handled). h.deed.entry) es) ≡ claims_of pppoe es
 claims_same [] = refl
 claims_same (h ∷ es) = ap (λ (xs : List ℕ). claimed_by h.deed.entry.claim ++ xs) (claims_same es)
 
-module _ (r : Rules) (s s' : State) (rows : List Row) (passed passed' : Book) (allowance : ℕ) (journal journal' : List Entry) (outs outs' : List OutRecord) (room : ℕ) (e : Entry) (fate : Fate)
-    (does : Does (Step r s) (outs_most e.item.kind) s s' outs outs' e fate) (fit : row_keys rows ≡ keys (terms_of (record { rules = r; slots = s }))) where
-  remains : Remains r s s'
-  remains = subst (λ (t : State). Remains r s t) does.next (step_remains r s does.deed does.says)
+-- how many terms a journal's entries began, with one entry more
+pub begun_more : (journal : List Entry) (e : Entry) → begun_in (journal ++ e ∷ []) ≡ begun_in journal + length (claimed_by e.claim)
+begun_more [] e = ap length (append-nil (claimed_by e.claim))
+begun_more (x ∷ journal) e =
+    let claims : List Entry → List ℕ = λ es. flat_map (λ (y : Entry). claimed_by y.claim) es in
+    omega (arith, length-append (claimed_by x.claim) (claims (journal ++ e ∷ [])), length-append (claimed_by x.claim) (claims journal), begun_more journal e)
 
-  -- the rows fit as before
-  pub still_fit : row_keys rows ≡ keys (terms_of (record { rules = r; slots = s' }))
-  still_fit = fit ∙ sym (zip_keys (terms_there s) (terms_there s') remains.terms)
+-- none may begin exactly where as many began as the allowance is
+limit_is : (left begun all : ℕ) → left + begun ≡ all → (left == 0) ≡ nat_le all begun
+limit_is left begun all e =
+    elim (nat_le all begun) as (λ b. nat_le all begun ≡ b → (left == 0) ≡ b) [
+      | true ↦ λ is. eq-eqb left 0 (grind (arith, nat_tests, is, e))
+      | false ↦ λ is. ne_eqb left 0 (λ z. grind (arith, nat_tests, is, e, z))
+    ] refl
 
-  pub still_placed : ArePlaced r s.sessions → ArePlaced r s'.sessions
-  still_placed = remains.placed
+module _ (r : Rules) (s s' : State) (outs outs' : List OutRecord) (e : Entry) (limited : Bool) (fate : Fate) (does : Does (Step r s limited) (outs_most e.item.kind) s s' outs outs' e fate) where
+  -- how the terms of the state went
+  moves : Moves r s limited does.deed
+  moves = step_moves r s limited does.deed does.says
 
-  abbrev effect : Handled
-  effect = record { deed = does.deed; limited = leb allowance (begun_in journal) }
+  claim_is : does.deed.entry.claim ≡ e.claim
+  claim_is = ap (λ (x : Entry). x.claim) does.entry
 
-  one_handled : BooksRise (passed ∷ []) does.deed.outs (passed' ∷ []) → (es : List Handled) → map (λ (h : Handled). h.deed.entry) es ≡ journal
-      → EngineHandles pppoe (with_journal (view r s rows passed allowance journal outs room) es) effect (with_journal (view r s' rows passed' allowance journal' outs' (room - 1)) (es ++ effect ∷ []))
-  one_handled books es same = record {
-    is_step = does.says;
-    limited = ap (λ (xs : List ℕ). leb allowance (length xs)) (ap (flat_map (λ (e : Entry). claimed_by e.claim)) (sym same) ∙ claims_same es);
-    number = remains.shard;
-    allowance = refl;
-    state = ap (λ (t : State). let x : ShardState = record { rules = r; slots = t } in x) (sym does.next);
-    fit = same_equal (row_keys rows) (keys (terms_of (record { rules = r; slots = s' }))) still_fit;
-    rows = λ q pick input. refl;
-    books = books;
-    journal = refl;
-    outs = does.outs_are;
-    sends = refl;
-    stops = refl;
-    starts = refl;
-    room = refl;
-  }
+  -- no term began and none was claimed, or one began with the address that was
+  pub moved : ((claimed_by e.claim ≡ []) × Remains AnyCause r s s') ⊎ ((a : Ip4) × (e.claim ≡ Claimed a) × Begins r s s' a)
+  moved =
+      ⊎_elim
+      (λ (m : (claimed_by does.deed.entry.claim ≡ []) × Remains AnyCause r s does.deed.next). inl (ap claimed_by (sym claim_is) ∙ m.0, subst (Remains AnyCause r s) does.next m.1))
+      (λ (m : (a : Ip4) × (does.deed.entry.claim ≡ Claimed a) × (limited ≡ false) × Begins r s does.deed.next a). inr (m.0, sym claim_is ∙ m.1, subst (λ (t : State). Begins r s t m.0) does.next m.3))
+      moves
 
-  pub handles : (tally tally' : Book) → journal' ≡ journal ++ e ∷ [] → length e.item.frame.payload ≤ 4096 → BooksRise (passed ∷ []) does.deed.outs (passed' ∷ []) → Rises tally does.deed.outs tally'
-      → Handles (view r s rows passed allowance journal outs room) (view r s' rows passed' allowance journal' outs' (room - 1)) e fate tally tally'
-  handles tally tally' is short books rises = record {
-    shown = record { effect = effect; entry = does.entry; journal = is; handles = one_handled books };
-    fate_is = does.fate_is;
-    light = light r s does.deed does.says (subst (λ (x : Entry). length x.item.frame.payload ≤ 4096) (sym does.entry) short);
-    few = does.few;
-    tallied = rises;
-  }
+  pub moved_shard : s'.sessions.shard ≡ s.sessions.shard
+  moved_shard = elim moved [ inl m ↦ m.1.shard | inr m ↦ m.2.shard ]
+
+  pub moved_placed : ArePlaced r s.sessions → ArePlaced r s'.sessions
+  moved_placed = elim moved [ inl m ↦ m.1.placed | inr m ↦ m.2.placed ]
+
+  -- as many began as were claimed
+  pub moved_begun : s'.begun ≡ s.begun + length (claimed_by e.claim)
+  moved_begun = elim moved [
+    | inl m ↦ let begun = m.1.begun in omega (arith, begun, ap length m.0)
+    | inr m ↦ let begun = m.2.begun in omega (arith, begun, ap length (ap claimed_by m.1))
+  ]
+
+  pub moved_holds : AreOwn s.sessions → Holds s → Holds s'
+  moved_holds own h = subst Holds does.next (step_ties r s limited does.deed own h does.says)
+
+  fit_after : KeysFit s → ((a : Ip4) → e.claim ≡ Claimed a → AllByRecursion (λ (k : Key). k.lease ≢ a) (keys_there s.terms)) → KeysFit s'
+  fit_after h free = elim moved [
+    | inl m ↦ remain_fit r s s' h m.1
+    | inr m ↦ begin_fit r s s' h m.0 m.2 (free m.0 m.1)
+  ]
+
+  -- the terms hold their addresses, by the table that answered
+  module _ (shard : ℕ) (pool pool' : PlainView) (answers : AnswersClaim shard e.claim pool pool') (held : AreHeld shard (terms_there s) pool.table) where
+    ks : List Key
+    ks = keys_there s.terms
+
+    theirs : HoldTheirs pool.table shard ks
+    theirs = all_held pool.table shard (terms_there s) held
+
+    puts : (a : Ip4) → e.claim ≡ Claimed a → Puts pool.table a.0 shard pool'.table
+    puts a is = (subst (λ (c : Claim). AnswersClaim shard c pool pool') is answers).0
+
+    pub claimed_free : (a : Ip4) → e.claim ≡ Claimed a → AllByRecursion (λ (k : Key). k.lease ≢ a) ks
+    claimed_free a is = free_of pool.table shard a ks (puts a is).free theirs
+
+    same_table : (c : Claim) → e.claim ≡ c → claimed_by c ≡ [] → pool'.table ≡ pool.table
+    same_table NoClaim is none = ap (λ (p : PlainView). p.table) (subst (λ (c : Claim). AnswersClaim shard c pool pool') is answers)
+    same_table (Claimed a) is none = absurd (let never : ⊥ = cc in never)
+    same_table (Held a) is none = ap (λ (p : PlainView). p.table) (subst (λ (c : Claim). AnswersClaim shard c pool pool') is answers).1
+    same_table (Exhausted k) is none = ap (λ (p : PlainView). p.table) (subst (λ (c : Claim). AnswersClaim shard c pool pool') is answers).1
+
+    pub held_after : AreHeld shard (terms_there s') pool'.table
+    held_after = are_held pool'.table shard (terms_there s') (elim moved [
+      | inl m ↦
+          subst (HoldTheirs pool'.table shard) (sym (zip_keys AnyCause s.terms s'.terms m.1.terms))
+          (subst (λ (table : Table). HoldTheirs table shard ks) (sym (same_table e.claim refl m.0)) theirs)
+      | inr m ↦
+          let a = m.0 in
+          let put = puts a m.1 in
+          let begins = m.2 in
+          let k = key_in begins.one in
+          let stay : HoldTheirs pool'.table shard ks =
+          all_both (λ (j : Key). entry pool.table j.lease.0 ≡ Some shard) (λ (j : Key). j.lease ≢ a) (λ (j : Key). entry pool'.table j.lease.0 ≡ Some shard) ks
+          (λ j holds other. put.elsewhere j.lease.0 (λ same. other (same_address j.lease a same)) ∙ holds) theirs (claimed_free a m.1) in
+          subst (HoldTheirs pool'.table shard) (sym (ap keys_there begins.terms ∙ keys_more s.terms begins.one))
+          (all_last (λ (j : Key). entry pool'.table j.lease.0 ≡ Some shard) ks k stay (ap (λ (b : Ip4). entry pool'.table b.0) begins.address ∙ put.put))
+    ])
+
+  module _ (rows rows' : List Row) (passed passed' : Book) (allowance left room : ℕ) (journal journal' : List Entry) (counted : left + begun_in journal ≡ allowance) (is_limited : limited ≡ (left == 0))
+      (fit : row_keys rows' ≡ keys (terms_there s')) (sums : SayTheSame rows rows') where
+    abbrev effect : Handled
+    effect = record { deed = does.deed; limited = limited; refused = refused_by r.pools e.claim }
+
+    one_handled : BooksRise (passed ∷ []) does.deed.outs (passed' ∷ []) → (es : List Handled) → map (λ (h : Handled). h.deed.entry) es ≡ journal
+        → EngineHandles pppoe (with_journal (view r s rows passed allowance journal outs room) es) effect (with_journal (view r s' rows' passed' allowance journal' outs' (room - 1)) (es ++ effect ∷ []))
+    one_handled books es same = record {
+      is_step = record { step = does.says; refused = ap (refused_by r.pools) (sym claim_is) };
+      limited = is_limited ∙ limit_is left (begun_in journal) allowance counted
+          ∙ ap (λ (xs : List ℕ). nat_le allowance (length xs)) (ap (flat_map (λ (x : Entry). claimed_by x.claim)) (sym same) ∙ claims_same es);
+      number = moved_shard;
+      allowance = refl;
+      state = ap (λ (t : State). let x : ShardState = record { rules = r; slots = t } in x) (sym does.next);
+      fit = same_equal (row_keys rows') (keys (terms_there s')) fit;
+      rows = sums;
+      books = books;
+      journal = refl;
+      outs = does.outs_are;
+      sends = refl;
+      stops = refl;
+      starts = refl;
+      room = refl;
+    }
+
+    pub handles : (e0 : Entry) (claim : Claim) → e ≡ record e0 { claim = claim } → (pool pool' : PlainView) → AnswersClaim s.sessions.shard claim pool pool' → AreHeld s'.sessions.shard (terms_there s') pool'.table
+        → (tally tally' : Book) → journal' ≡ journal ++ e ∷ [] → length e.item.frame.payload ≤ 4096 → BooksRise (passed ∷ []) does.deed.outs (passed' ∷ []) → Rises tally does.deed.outs tally' → length does.deed.outs ≤ outs_most e0.item.kind
+        → Handles (view r s rows passed allowance journal outs room) (view r s' rows' passed' allowance journal' outs' (room - 1)) pool pool' e0 fate tally tally'
+    handles e0 claim with_claim pool pool' answers held tally tally' is short books rises few = record {
+      claim = claim;
+      shown = record { effect = effect; entry = does.entry ∙ with_claim; journal = is ∙ ap (λ (x : Entry). journal ++ x ∷ []) with_claim; handles = one_handled books };
+      answers = answers;
+      held = held;
+      fate_is = does.fate_is;
+      light = light r s limited does.deed does.says (subst (λ (x : Entry). length x.item.frame.payload ≤ 4096) (sym does.entry) short);
+      few = few;
+      tallied = rises;
+    }
+
+-- of the shard's fields ------------------------------------------------------------------------------------------------------
+
+pub fit_rows : (s : State) (t : TermsView) → All (λ (r : Running). r.term.serial ≤ s.begun) t.rows → All (λ (r : Running). r.term.serial ≤ s.begun) t.news → AllPairs (λ (b c : Running). b.lease ≢ c.lease) t.rows → KeysFit (whole s t)
+fit_rows s t numbered news apart = record {
+  numbered = numbered_keys s.begun t.rows (recursion_from_All (λ (r : Running). r.term.serial ≤ s.begun) t.rows numbered);
+  news = numbered_keys s.begun t.news (recursion_from_All (λ (r : Running). r.term.serial ≤ s.begun) t.news news);
+  apart = own_keys t.rows apart;
+}
+
+module _ (s : State) (t : TermsView) (h : KeysFit (whole s t)) where
+  pub rows_numbered : All (λ (r : Running). r.term.serial ≤ s.begun) t.rows
+  rows_numbered = All-from_recursion (λ (r : Running). r.term.serial ≤ s.begun) t.rows (numbered_rows s.begun t.rows h.numbered)
+
+  pub news_numbered : All (λ (r : Running). r.term.serial ≤ s.begun) t.news
+  news_numbered = All-from_recursion (λ (r : Running). r.term.serial ≤ s.begun) t.news (numbered_rows s.begun t.news h.news)
+
+  pub rows_apart : AllPairs (λ (b c : Running). b.lease ≢ c.lease) t.rows
+  rows_apart = own_rows t.rows h.apart
+
+own_terms : (rows : List Running) → AreRising rows → HaveOwn (tenures_in rows)
+own_terms [] h = tt
+own_terms (r ∷ rows) h = (other_numbers r.term.serial rows h.0, own_terms rows h.1)
+  where
+    other_numbers : (n : ℕ) (rows : List Running) → AllByRecursion (λ (p : Running). n < p.term.serial) rows → AllByRecursion (λ (u : Tenure). n ≢ u.term.serial) (tenures_in rows)
+    other_numbers n [] h = tt
+    other_numbers n (r ∷ rows) h = ((λ e. omega (arith, e, h.0)), other_numbers n rows h.1)
+
+numbered_terms : (n : ℕ) (rows : List Running) → AllByRecursion (λ (r : Running). r.term.serial ≤ n) rows → AllByRecursion (λ (u : Tenure). u.term.serial ≤ n) (tenures_in rows)
+numbered_terms n [] h = tt
+numbered_terms n (r ∷ rows) h = (h.0, numbered_terms n rows h.1)
+
+-- leases are tied to terms
+pub are_tied : (s : State) (t : TermsView) → AreOwn s.sessions → AreRising t.rows → All (λ (r : Running). r.term.serial ≤ s.begun) t.rows → AreTied s.sessions (tenures_in t.rows) → Holds (whole s t)
+are_tied s t own rising numbered tied = record {
+  own = λ n x l at leased. own n x at;
+  tied = tied;
+  apart = own_terms t.rows rising;
+  numbered = numbered_terms s.begun t.rows (recursion_from_All (λ (r : Running). r.term.serial ≤ s.begun) t.rows numbered);
+}
 
 -- what stands after some outs
 drop_front : (xs ys : List OutRecord) → drop (length xs) (xs ++ ys) ≡ ys

@@ -1,15 +1,17 @@
 -- What an item asks of the pools of addresses.
-use Rattle.std.specs.Prelude.{◌≡◌, ◌⊎◌, ℕ, Bool, Some}
+use Rattle.std.specs.Prelude.{◌≡◌, ◌⊎◌, ℕ, Bool, true, List, Some, slice_get}
+use Rattle.std.specs.List.{list_any}
 use Rattle.bng_base.specs.declared.item.Claim.{Claim}
 use Rattle.bng_base.specs.declared.item.Item.{Item}
 use Rattle.bng_base.specs.declared.item.ItemKind.{ItemKind}
 use Rattle.bng_base.specs.declared.item.ItemKind.TheVariants.{Access, Core, Tunnel, Verdict, Change, Tick, End}
+use Rattle.bng_base.specs.declared.settings.NamedRange.{NamedRange}
 use Rattle.bng_shard.specs.declared.rules.Rules.{Rules}
 use Rattle.bng_shard.specs.declared.wish.Wish.{Wish}
-use Rattle.bng_shard.specs.declared.wish.Wish.TheVariants.{Nothing}
+use Rattle.bng_shard.specs.declared.wish.Wish.TheVariants.{Nothing, Address, Pool}
 use Rattle.bng_shard.specs.Questions.{open_ask_at}
 use Rattle.bng_shard.specs.State.{State}
-use Rattle.bng_shard.specs.Wishes.{IsAnswerTo, Wishes}
+use Rattle.bng_shard.specs.Wishes.{IsAnswerTo, Wishes, is_within}
 
 -- a verdict asks as its octets say, where the question that it names is open, and else nothing
 abbrev pub WishesVerdict : Rules → State → Item → Bool → Wish → Type 0
@@ -36,3 +38,9 @@ pub record IsAnswered (r : Rules) (s : State) (item : Item) (limited : Bool) (cl
   pub wish : Wish
   pub is_wished : IsWished r s item limited wish
   pub answers : IsAnswerTo r.pools wish claim
+
+-- what may be wished for: an address that a pool has, or a pool that is there
+abbrev pub MayWish : List NamedRange → Wish → Type 0
+MayWish pools Nothing = Unit {0}
+MayWish pools (Address a) = list_any (is_within a.0) pools ≡ true
+MayWish pools (Pool k) = (p : NamedRange) × (slice_get pools k ≡ Some p)

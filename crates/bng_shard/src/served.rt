@@ -10,7 +10,7 @@ ghost use Rattle.std.specs.Prelude.{drop, slice_get};
 ghost use Rattle.bng_shard.specs.Questions.{asking_from, handed_after, open_ask_at, place_of, waiting};
 ghost use Rattle.bng_shard.specs.Indexed.{address_of};
 ghost use Rattle.bng_slots.specs.Sessions.{NoneShares};
-ghost use Rattle.bng_shard.specs.Serving.{KeepsLease};
+ghost use Rattle.bng_shard.specs.Serving.{AreOwn, KeepsLease};
 ghost use Rattle.bng_shard.specs.State.{count_in, holder_of, reaped, session_of, with_session};
 ghost use Rattle.bng_shard.specs.Timers.{IsFirstDue, IsLowest, NoneIsDue, NoneStays, stays_at};
 
@@ -120,6 +120,7 @@ impl Served {
 
     pub(crate) fn shard(&self) -> u16
         ensures number { result ≡ self.now.sessions.shard }
+        ensures numbers { AreOwn self.now.sessions }
         ensures range { result < 64 }
         ensures own { (n : ℕ) → IsSome (value_at self.now.sessions n) → IsNumberOf self.now.sessions.shard n }
     {

@@ -6,7 +6,7 @@ ghost use Rattle.bng_engine.specs.Protocol.{IsOwned};
 ghost use Rattle.bng_engine.specs.Showing.{ChargesShown};
 ghost use Rattle.bng_engine.specs.Terms.{keys};
 ghost use Rattle.bng_engine.specs.Views.{row_keys};
-ghost use Rattle.bng_shard.specs.Protocol.{AreHeld, Handles, HasPools, Leaves, SaysOf, TellsNew, deadline_of, ended_terms, entry_of, key_of, opened, pppoe, profiles_there, row_at, sessions_of, stop_of, terms_of};
+ghost use Rattle.bng_shard.specs.Protocol.{AnswersClaim, AreHeld, Handles, HasPools, Leaves, SaysOf, TellsNew, claimed_by, deadline_of, ended_terms, entry_of, key_of, opened, pppoe, profiles_there, row_at, sessions_of, stop_of, terms_of};
 ghost use Rattle.bng_shard.specs.Questions.{asking_from, handed_after, waiting};
 ghost use Rattle.bng_shard.specs.Room.{Admits};
 ghost use Rattle.bng_slots.specs.Sessions.{IsNumberOf};
@@ -15,6 +15,9 @@ ghost use Rattle.bng_engine.specs.Lists.{AnyOf};
 ghost use Rattle.bng_pool.specs.Tables.{TableFrees};
 ghost use Rattle.bng_shard.specs.State.{reaped};
 ghost use Rattle.bng_shard.specs.Tenures.{Tenure};
+ghost use Rattle.bng_base.specs.declared.address.Ip4.{Ip4 as Address};
+ghost use Rattle.bng_shard.specs.Wished.{MayWish};
+ghost use Rattle.bng_shard.specs.Wishes.{IsAnswerTo};
 ghost use Rattle.bng_shard.specs.Sums.{charged_as, traffic_in, AreCovered, AreLow, IsLow, RowsAreLow};
 
 use crate::hear::hear;
@@ -114,11 +117,28 @@ fn reserve_amply(journal: &mut Vec<Entry>, outs: &mut Vec<OutRecord>, items: usi
 }
 
 // What the pool answers to a wish of the shard with this number.
-fn ask(pool: &mut PlainPool, shard: u16, wish: Wish) -> Claim {
+fn ask(pool: &mut PlainPool, _rules: &Rules, shard: u16, wish: Wish) -> Claim
+    requires shard { shard < pool.old.shards }
+    requires pools { HasPools _rules.now.pools pool.old.ranges }
+    requires may { MayWish _rules.now.pools wish }
+    ensures answer { IsAnswerTo _rules.now.pools wish result }
+    ensures table { AnswersClaim shard result pool.old pool.new }
+{
     match wish {
         Wish::Nothing => Claim::NoClaim,
         Wish::Address(address) => pool.claim(shard, address),
         Wish::Pool(place) => pool.scan(shard, place),
+    }
+}
+
+// How many terms may still begin, once this was claimed.
+fn left_after(left: u32, claim: Claim) -> u32
+    requires left { (a : Address) → claim ≡ Claim.Claimed a → 0 < left }
+    ensures { result + length (claimed_by claim) ≡ left }
+{
+    match claim {
+        Claim::Claimed(_) => left - 1,
+        Claim::NoClaim | Claim::Held(_) | Claim::Exhausted(_) => left,
     }
 }
 
@@ -240,7 +260,8 @@ impl Shard {
         let before = self.outs.as_slice().len();
         let limited = self.left == 0;
         let wish = wish_for(&self.served, &self.rules, &item, limited);
-        let claim = ask(pool, at.shard, wish);
+        let claim = ask(pool, &self.rules, at.shard, wish);
+        self.terms.are_rising();
         let fate = hear(
             &mut self.served,
             &mut self.terms,
@@ -252,9 +273,7 @@ impl Shard {
             limited,
             &mut self.outs,
         );
-        if let Claim::Claimed(_) = claim {
-            self.left -= 1;
-        }
+        self.left = left_after(self.left, claim);
         let sends = &self.outs.as_slice()[before..];
         book(&mut self.passed, sends);
         tally(ledger, sends);

@@ -10,7 +10,7 @@ ghost use Rattle.bng_engine.specs.Views.{new_row, row_keys};
 ghost use Rattle.bng_engine.specs.Quantities.{empty_book};
 ghost use Rattle.bng_shard.specs.Opening.{in_order, tenure_from, tenures_after};
 ghost use Rattle.bng_shard.specs.Protocol.{key_of, row_at, term_in, SaysOf};
-ghost use Rattle.bng_shard.specs.Running.{closed_rows, has_ended, rows_in, tenure_in, tenures_in, TakesFirst};
+ghost use Rattle.bng_shard.specs.Running.{closed_rows, has_ended, rows_in, tenure_in, tenures_in, AreRising, TakesFirst};
 ghost use Rattle.bng_shard.specs.Sums.{traffic_in, AreCovered, RowsAreLow};
 ghost use Rattle.bng_shard.specs.Tenures.{has_kept};
 
@@ -179,6 +179,13 @@ impl Terms {
         if close(&mut self.rows, lease.serial, cause) {
             self.over += 1;
         }
+    }
+
+    /// Each has a number above those before it.
+    pub(crate) fn are_rising(&self)
+        ensures { AreRising self.now.rows }
+    {
+        let _room = self.room;
     }
 
     /// Whether a term that has ended still has this address.
