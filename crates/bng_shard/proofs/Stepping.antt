@@ -1,33 +1,46 @@
 -- What is kept of a shard's fields, and what a caller sees of a step.
-use Rattle.std.proofs.Common.{◌≡◌, ℕ, ◌+◌, ◌-◌, ◌≤◌, Bool, true, false, ◌||◌, cond, List, [], ◌∷◌, ◌++◌, map, length, length-append, take, drop, leb, refl, sym, ap, subst, ◌∙◌, arith}
-use Rattle.std.specs.List.{flat_map, list_any}
+use Rattle.std.proofs.Common.{◌≡◌, ◌≢◌, ◌⊎◌, ⊎_elim, inl, inr, ℕ, zero, suc, ◌+◌, ◌-◌, ◌<◌, ◌≤◌, ◌==◌, Bool, true, false, ◌||◌, cond, List, [], ◌∷◌, ◌++◌, map, length, length-append, append-nil, Some, None, take, drop, refl, sym, ap, subst, ◌∙◌, arith}
+use Rattle.std.specs.Prelude.{nat_le}
+use Rattle.std.specs.List.{All, AllByRecursion, AllPairs, flat_map, list_any}
+use Rattle.std.proofs.lemmas.Bool.{eq-eqb, ne_eqb}
+use Rattle.std.proofs.lemmas.Bool.Decides.{nat_tests}
 use Rattle.std.proofs.lemmas.List.{take_all}
+use Rattle.std.proofs.lemmas.List.Elements.{All-from_recursion, recursion_from_All}
 use Rattle.std.proofs.lemmas.List.Folds.{list_any-append}
+use Rattle.bng_base.specs.declared.address.Ip4.{Ip4}
 use Rattle.bng_base.specs.declared.book.Book.{Book}
 use Rattle.bng_base.specs.declared.fate.Fate.{Fate}
+use Rattle.bng_base.specs.declared.item.Claim.{Claim}
+use Rattle.bng_base.specs.declared.item.Claim.TheVariants.{NoClaim, Claimed, Held, Exhausted}
 use Rattle.bng_base.specs.declared.item.Entry.{Entry}
 use Rattle.bng_base.specs.declared.item.ItemKind.{ItemKind}
 use Rattle.bng_base.specs.declared.item.ItemKind.TheVariants.{Access, Core, Tunnel, Verdict, Change, Tick, End}
 use Rattle.bng_base.specs.declared.item.OutRecord.{OutRecord}
 use Rattle.bng_engine.specs.Books.{BooksRise}
-use Rattle.bng_engine.specs.Calls.{Handles as EngineHandles}
+use Rattle.bng_engine.specs.Calls.{Handles as EngineHandles, SayTheSame}
 use Rattle.bng_engine.specs.Journals.{claims_of}
 use Rattle.bng_engine.specs.Showing.{with_journal}
-use Rattle.bng_engine.specs.Terms.{keys}
+use Rattle.bng_engine.specs.Terms.{Key, Term, keys}
 use Rattle.bng_engine.specs.Views.{Row, ShardView, row_keys}
 use Rattle.bng_engine.proofs.SameLists.{same_equal}
+use Rattle.bng_pool.specs.Plain.{PlainView}
+use Rattle.bng_pool.specs.Tables.{Puts, Table, entry}
 use Rattle.bng_shard.specs.declared.rules.Rules.{Rules}
+use Rattle.bng_shard.specs.declared.terms.Running.{Running}
 use Rattle.bng_shard.specs.Hearing.{Does, outs_most}
-use Rattle.bng_shard.specs.Protocol.{Handles, ShardState, Handled, pppoe, claimed_by, terms_of}
+use Rattle.bng_shard.specs.Protocol.{AnswersClaim, AreHeld, Handles, ShardState, Handled, claimed_by, key_in, pppoe, refused_by, term_in}
 use Rattle.bng_shard.specs.Room.{is_tick, is_end, has_tick, has_end}
-use Rattle.bng_shard.specs.Fits.{ArePlaced, owed}
+use Rattle.bng_shard.specs.Running.{AreRising, AreTied, TermsView, row_from, rows_in, tenures_in, whole}
+use Rattle.bng_shard.specs.Fits.{ArePlaced, begun_in, owed}
+use Rattle.bng_shard.specs.Serving.{AreOwn}
 use Rattle.bng_shard.specs.State.{State}
 use Rattle.bng_shard.specs.Step.{Step}
 use Rattle.bng_shard.specs.Sums.{Rises}
+use Rattle.bng_shard.specs.Tenures.{Tenure}
+use Rattle.bng_shard.proofs.StepLaws.{light}
 use Rattle.bng_shard.proofs.TermLaws.{AnyCause, Begins, Moves, Remains, step_moves, terms_there, zip_keys}
 use Rattle.bng_shard.proofs.Tying.{HaveOwn, Holds, step_ties}
 use Rattle.bng_shard.proofs.Values.{none_some}
-use Rattle.bng_shard.proofs.StepLaws.{light}
 
 -- the outs that a round may still have -------------------------------------------------------------------------------------
 
@@ -75,18 +88,18 @@ owed_more journal e tick end =
 
 -- what is kept of terms' keys -----------------------------------------------------------------------------------------------
 
-abbrev keys_there : List Tenure → List Key
+abbrev pub keys_there : List Tenure → List Key
 keys_there ts = keys (map term_in ts)
 
 -- no number is above so many, no two have one address, and each holds its address
-abbrev AreNumbered : ℕ → List Key → Type 0
+abbrev pub AreNumbered : ℕ → List Key → Type 0
 AreNumbered n ks = AllByRecursion (λ (k : Key). k.term.serial ≤ n) ks
 
-abbrev HaveOwnLeases : List Key → Type 0
+abbrev pub HaveOwnLeases : List Key → Type 0
 HaveOwnLeases [] = Unit {0}
 HaveOwnLeases (k ∷ ks) = AllByRecursion (λ (j : Key). k.lease ≢ j.lease) ks × HaveOwnLeases ks
 
-abbrev HoldTheirs : Table → ℕ → List Key → Type 0
+abbrev pub HoldTheirs : Table → ℕ → List Key → Type 0
 HoldTheirs table shard ks = AllByRecursion (λ (k : Key). entry table k.lease.0 ≡ Some shard) ks
 
 all_last : (P : Key → Type 0) (ks : List Key) (k : Key) → AllByRecursion P ks → P k → AllByRecursion P (ks ++ k ∷ [])
@@ -178,10 +191,10 @@ rows_free table shard a rows free h =
     All-from_recursion (λ (r : Running). r.lease ≢ a) rows (free_rows a rows (free_of table shard a (keys_there (tenures_in rows)) free (all_held table shard (map term_in (tenures_in rows)) h)))
 
 -- what is kept of a state's terms
-record KeysFit (s : State) : Type 0 where
-  numbered : AreNumbered s.begun (keys_there s.terms)
-  news : AreNumbered s.begun (keys_there s.news)
-  apart : HaveOwnLeases (keys_there s.terms)
+pub record KeysFit (s : State) : Type 0 where
+  pub numbered : AreNumbered s.begun (keys_there s.terms)
+  pub news : AreNumbered s.begun (keys_there s.news)
+  pub apart : HaveOwnLeases (keys_there s.terms)
 
 more_numbered : (m n : ℕ) (ks : List Key) → m ≤ n → AreNumbered m ks → AreNumbered n ks
 more_numbered m n ks le h = all_so (λ (k : Key). k.term.serial ≤ m) (λ (k : Key). k.term.serial ≤ n) ks (λ k at. omega (arith, le, at)) h
@@ -235,7 +248,7 @@ claims_same (h ∷ es) = ap (λ (xs : List ℕ). claimed_by h.deed.entry.claim +
 
 -- how many terms a journal's entries began, with one entry more
 pub begun_more : (journal : List Entry) (e : Entry) → begun_in (journal ++ e ∷ []) ≡ begun_in journal + length (claimed_by e.claim)
-begun_more [] e = ap length (append-nil (claimed_by e.claim))
+begun_more [] e = omega (arith, ap length (append-nil (claimed_by e.claim)))
 begun_more (x ∷ journal) e =
     let claims : List Entry → List ℕ = λ es. flat_map (λ (y : Entry). claimed_by y.claim) es in
     omega (arith, length-append (claimed_by x.claim) (claims (journal ++ e ∷ [])), length-append (claimed_by x.claim) (claims journal), begun_more journal e)
@@ -280,7 +293,7 @@ module _ (r : Rules) (s s' : State) (outs outs' : List OutRecord) (e : Entry) (l
   pub moved_holds : AreOwn s.sessions → Holds s → Holds s'
   moved_holds own h = subst Holds does.next (step_ties r s limited does.deed own h does.says)
 
-  fit_after : KeysFit s → ((a : Ip4) → e.claim ≡ Claimed a → AllByRecursion (λ (k : Key). k.lease ≢ a) (keys_there s.terms)) → KeysFit s'
+  pub fit_after : KeysFit s → ((a : Ip4) → e.claim ≡ Claimed a → AllByRecursion (λ (k : Key). k.lease ≢ a) (keys_there s.terms)) → KeysFit s'
   fit_after h free = elim moved [
     | inl m ↦ remain_fit r s s' h m.1
     | inr m ↦ begin_fit r s s' h m.0 m.2 (free m.0 m.1)
@@ -288,7 +301,7 @@ module _ (r : Rules) (s s' : State) (outs outs' : List OutRecord) (e : Entry) (l
 
   -- the terms hold their addresses, by the table that answered
   module _ (shard : ℕ) (pool pool' : PlainView) (answers : AnswersClaim shard e.claim pool pool') (held : AreHeld shard (terms_there s) pool.table) where
-    ks : List Key
+    abbrev pub ks : List Key
     ks = keys_there s.terms
 
     theirs : HoldTheirs pool.table shard ks
@@ -307,7 +320,7 @@ module _ (r : Rules) (s s' : State) (outs outs' : List OutRecord) (e : Entry) (l
     same_table (Exhausted k) is none = ap (λ (p : PlainView). p.table) (subst (λ (c : Claim). AnswersClaim shard c pool pool') is answers).1
 
     pub held_after : AreHeld shard (terms_there s') pool'.table
-    held_after = are_held pool'.table shard (terms_there s') (elim moved [
+    held_after = are_held pool'.table shard (terms_there s') (elim moved as (λ _. HoldTheirs pool'.table shard (keys_there s'.terms)) [
       | inl m ↦
           subst (HoldTheirs pool'.table shard) (sym (zip_keys AnyCause s.terms s'.terms m.1.terms))
           (subst (λ (table : Table). HoldTheirs table shard ks) (sym (same_table e.claim refl m.0)) theirs)
