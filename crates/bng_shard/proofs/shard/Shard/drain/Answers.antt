@@ -6,11 +6,17 @@ pub invariant_of-self : goal.invariant_of-self
 invariant_of-self c =
     let was = c.self.invariant in
     record {
-      rows = was.rows;
-      rising = was.rising;
+      numbered = was.numbered;
+      numbered_news = was.numbered_news;
+      apart = was.apart;
+      tied = was.tied;
+      left = λ some. absurd (omega (arith, some));
+      numbers = was.numbers;
       placed = was.placed;
+      few_pools = was.few_pools;
       auth = was.auth;
       offers = was.offers;
       journal_room = omega (arith, ap (λ (v : Vec Entry Global). length v.items) c.replace-journal.ensures.after, ap length c.new.ensures.items);
-      outs_room = λ some. omega (arith, some);
+      outs_room = λ some. absurd (omega (arith, some));
+      terms_room = omega arith;
     }
