@@ -1,6 +1,6 @@
 ghost use Rattle.std.specs.Prelude.{◌<◌, ◌^◌};
 
-use super::{Bench, NOTHING, ONE, PADI, bench, item, octets, open_bench, padi, request, rules};
+use super::{Bench, NOTHING, ONE, PADI, item, octets, open_bench, padi, request, rules};
 use bng_base::ItemKind;
 use std::alloc::Global;
 use std::process::Abort;
