@@ -82,7 +82,7 @@ Decides pools limited octets claim told =
     (IsVerdict octets None × (claim ≡ NoClaim) × (told ≡ None))
     ⊎ (((v : Saying) × IsVerdict octets (Some v) × IsFalse v.yes × (claim ≡ NoClaim) × (told ≡ Some (refused_with v.text)))
     ⊎ ((v : Saying) × IsVerdict octets (Some v) × IsTrue v.yes × (g : Gift) × IsGrant octets (Some g)
-        × IsAnswerTo pools (wish_of pools limited g) claim × (told ≡ Some (told_of pools limited claim v.text g))))
+    × IsAnswerTo pools (wish_of pools limited g) claim × (told ≡ Some (told_of pools limited claim v.text g))))
 
 -- what the octets of a reply ask of the pools
 abbrev pub Wishes : List NamedRange → Bool → List ℕ → Wish → Type 0

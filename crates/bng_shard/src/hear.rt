@@ -55,7 +55,17 @@ fn hear_frame(
         return hear_discovery(served, rules, at, now, number, frame, item, outs);
     }
     match carried(frame) {
-        Some(info) => hear_data(served, terms, rules, at, number, frame, info.len(), item, outs),
+        Some(info) => hear_data(
+            served,
+            terms,
+            rules,
+            at,
+            number,
+            frame,
+            info.len(),
+            item,
+            outs,
+        ),
         None => hear_control(served, terms, rules, at, now, number, frame, item, outs),
     }
 }

@@ -135,6 +135,13 @@ impl Served {
         self.sessions.count()
     }
 
+    /// How many terms began.
+    pub(crate) fn begun(&self) -> u64
+        ensures { result ≡ self.now.begun }
+    {
+        self.begun
+    }
+
     /// How many questions were asked.
     pub(crate) fn asked(&self) -> u64
         ensures { result ≡ self.now.asked }

@@ -395,6 +395,13 @@ impl Shard {
         Some(ask)
     }
 
+    /// How many terms began, from the opening on.
+    pub fn begun(&self) -> u64
+        ensures { result ≡ self.now.state.slots.begun }
+    {
+        self.served.begun()
+    }
+
     /// How many sessions there are, provisioned circuits among them.
     pub fn sessions(&self) -> u32
         ensures { result ≡ sessions_of self.now.state }

@@ -2,17 +2,22 @@
 ghost use Rattle.std.specs.Prelude.{◌≡◌, ◌<◌, ◌≤◌, ◌^◌, IfOk, length, true};
 ghost use Rattle.bng_shard.specs.Sums.{AreLow, IsLow};
 
-use crate::{PlainPool, Rules, Shard};
+use crate::{EndedTerm, Rules, Shard};
 use arrayvec::ArrayVec;
 use bng_base::{
-    AccessPort, AuthKind, Book, Fate, Frame, Ip4, Item, ItemKind, Listed, Mac, OutRecord, Peer,
+    AccessPort, AuthKind, Book, Fate, Frame, Ip4, Item, ItemKind, Listed, Mac, NamedRange,
+    OutRecord, Peer, Range, Static,
 };
 use bng_discovery::PortRules;
+use bng_pool::PlainPool;
 use bng_ppp::LinkRules;
 use std::alloc::{AllocError, Global};
+use std::marker::Model;
 use std::process::Abort;
+use std::test::Fail;
 
 mod discovery;
+mod logins;
 mod terms;
 mod verdicts;
 
@@ -72,7 +77,19 @@ fn links() -> LinkRules
     }
 }
 
-// One shard, and the port 1.
+// The addresses 10.0.0.2 and 10.0.0.3.
+const TWO: Range = Range {
+    first: Ip4(0x0a000002),
+    last: Ip4(0x0a000003),
+};
+
+// The address 10.0.0.2.
+const ONE: Range = Range {
+    first: Ip4(0x0a000002),
+    last: Ip4(0x0a000002),
+};
+
+// One shard, the port 1, and no pool.
 fn rules(alloc: Global) -> Result<Rules, AllocError>
     ensures auth { IfOk result (λ r. 0 < length r.link.auth.items) }
     ensures access { IfOk result (λ r. length r.access ≡ 1) }
@@ -90,8 +107,58 @@ fn rules(alloc: Global) -> Result<Rules, AllocError>
         core_peer: peer(9001),
         access: Listed::of(access),
         offers: Listed::of(offers),
+        pools: Listed::of(Vec::new(alloc)),
         link: links(),
     })
+}
+
+// The same with this pool.
+fn rules_with(alloc: Global, range: Range) -> Result<Rules, AllocError>
+    ensures auth { IfOk result (λ r. 0 < length r.link.auth.items) }
+    ensures access { IfOk result (λ r. length r.access ≡ 1) }
+    ensures offers { IfOk result (λ r. length r.offers ≡ 1) }
+    ensures pools { IfOk result (λ r. map (λ p. p.range) r.pools ≡ range ∷ []) }
+{
+    let mut name = ArrayVec::new();
+    name.push(b'a');
+    let pools = Vec::from_array(alloc, [NamedRange { name, range }])?;
+    let mut rules = rules(alloc)?;
+    rules.pools = Listed::of(pools);
+    Ok(rules)
+}
+
+/// A shard, and who holds an address.
+#[derive(Drop)]
+struct Bench {
+    shard: Shard,
+    pool: PlainPool,
+}
+
+impl Model for Bench {
+    ghost use Rattle.std.specs.Prelude.{◌<◌};
+    ghost use Rattle.bng_base.specs.declared.item.Entry.{Entry};
+    ghost use Rattle.bng_engine.specs.Views.{ShardView};
+    ghost use Rattle.bng_pool.specs.Plain.{PlainView};
+    ghost use Rattle.bng_shard.specs.Protocol.{ShardState, AreHeld, HasPools, terms_of};
+
+    ghost Value = { ShardView ShardState Entry × PlainView };
+
+    ghost view = { λ b. (b.shard, b.pool) };
+
+    ghost invariant = { λ b. HasPools b.shard.state.rules.pools b.pool.ranges × (b.shard.number < b.pool.shards)
+        × AreHeld b.shard.number (terms_of b.shard.state) b.pool.table };
+}
+
+// The shard 0 by these rules, of which no term holds an address of this range.
+fn open_bench(alloc: Global, rules: Rules, range: Range) -> Result<Bench, Fail>
+    requires auth { 0 < length rules.link.auth.items }
+    requires offers { length rules.offers ≡ length rules.access }
+    requires range { (range.first.0 ≤ range.last.0) × (range.last.0 < range.first.0 + 262144) }
+    requires pools { (rules.pools ≡ []) ⊎ (map (λ p. p.range) rules.pools ≡ range ∷ []) }
+{
+    let pool = PlainPool::open(alloc, &[range], 1)?;
+    let shard = Shard::open(alloc, 0, rules, &[], 0)?;
+    Ok(Bench { shard, pool })
 }
 
 fn item(kind: ItemKind, octets: &[u8]) -> Item
@@ -137,45 +204,53 @@ fn has_low_book(shard: &Shard) -> bool
     is_low(&passed)
 }
 
-// The fate and the outs of one item at this moment, with its packets in a seat's tally. The round is not settled.
-fn handled(
-    rt: &impl Abort,
-    alloc: Global,
-    shard: &mut Shard,
-    tally: &mut Book,
-    now: u64,
-    item: Item,
-) -> (Fate, Vec<OutRecord>)
-    requires moment { now < 2 ^ 60 }
-    requires whole { item.frame.headroom ≡ 64 }
-{
-    // No round is going on now, which `prepare` asks.
-    let _none = shard.drain();
-    assert!(rt; shard.prepare(alloc, 1, 0).is_ok());
-    assert!(rt; has_low_book(shard));
-    assert!(rt; is_low(tally));
-    let fate = shard.step(0, 0, now, item, tally);
-    let (journal, outs) = shard.drain();
-    assert_eq!(rt; journal.len(), 1);
-    (fate, outs)
-}
+impl Bench {
+    // The fate and the outs of one item at this moment, with its packets in a seat's tally. The round is not settled; one term may
+    // begin in it.
+    fn handled(
+        &mut self,
+        rt: &impl Abort,
+        alloc: Global,
+        tally: &mut Book,
+        now: u64,
+        item: Item,
+    ) -> (Fate, Vec<OutRecord>)
+        requires moment { now < 2 ^ 60 }
+        requires whole { item.frame.headroom ≡ 64 }
+    {
+        // No round is going on now, which `prepare` asks.
+        let _none = self.shard.drain();
+        assert!(rt; self.shard.begun() < 1 << 40);
+        assert!(rt; self.shard.prepare(alloc, 1, 1).is_ok());
+        assert!(rt; has_low_book(&self.shard));
+        assert!(rt; is_low(tally));
+        let fate = self.shard.step(&mut self.pool, 0, 0, now, item, tally);
+        let (journal, outs) = self.shard.drain();
+        assert_eq!(rt; journal.len(), 1);
+        (fate, outs)
+    }
 
-// The outs of a round of one item at this moment, in which no term ends.
-fn round(
-    rt: &impl Abort,
-    alloc: Global,
-    shard: &mut Shard,
-    tally: &mut Book,
-    now: u64,
-    item: Item,
-) -> Vec<OutRecord>
-    requires moment { now < 2 ^ 60 }
-    requires whole { item.frame.headroom ≡ 64 }
-{
-    let (_fate, outs) = handled(rt, alloc, shard, tally, now, item);
-    let mut pool = PlainPool::of(Vec::new(alloc));
-    assert_eq!(rt; shard.reap(&mut pool), None);
-    outs
+    // The next term that ended leaves, if one has.
+    fn reap(&mut self) -> Option<EndedTerm> {
+        self.shard.reap(&mut self.pool)
+    }
+
+    // The outs of a round of one item at this moment, in which no term ends.
+    fn round(
+        &mut self,
+        rt: &impl Abort,
+        alloc: Global,
+        tally: &mut Book,
+        now: u64,
+        item: Item,
+    ) -> Vec<OutRecord>
+        requires moment { now < 2 ^ 60 }
+        requires whole { item.frame.headroom ≡ 64 }
+    {
+        let (_fate, outs) = self.handled(rt, alloc, tally, now, item);
+        assert!(rt; self.reap().is_none());
+        outs
+    }
 }
 
 // The octets of the out at this place.
@@ -216,10 +291,10 @@ fn padr(host: u16, offer: &[u8]) -> [u8; 52] {
 }
 
 // The outs of a round with the PADR of a host, after one with its PADI, at moment 0.
-fn request(rt: &impl Abort, alloc: Global, shard: &mut Shard, host: u16) -> Vec<OutRecord> {
+fn request(rt: &impl Abort, alloc: Global, bench: &mut Bench, host: u16) -> Vec<OutRecord> {
     let mut tally = NOTHING;
     let access = ItemKind::Access(1);
-    let offered = round(rt, alloc, shard, &mut tally, 0, item(access, &padi(host)));
+    let offered = bench.round(rt, alloc, &mut tally, 0, item(access, &padi(host)));
     let asked = padr(host, octets(&offered, 0));
-    round(rt, alloc, shard, &mut tally, 0, item(access, &asked))
+    bench.round(rt, alloc, &mut tally, 0, item(access, &asked))
 }

@@ -78,7 +78,13 @@ fn tell_end(rules: &Rules, at: At, session: &Session, outs: &mut Vec<OutRecord>)
 }
 
 // Ends the session with the lowest number, and says whether one has not ended.
-fn end_once(served: &mut Served, terms: &mut Terms, rules: &Rules, at: At, outs: &mut Vec<OutRecord>) -> bool
+fn end_once(
+    served: &mut Served,
+    terms: &mut Terms,
+    rules: &Rules,
+    at: At,
+    outs: &mut Vec<OutRecord>,
+) -> bool
     requires offers { length rules.now.offers ≡ length rules.now.access }
     requires placed { ArePlaced rules.now served.old.sessions }
     requires room { length outs.old.items < vec_capacity outs.old }
@@ -127,7 +133,13 @@ pub(crate) fn tick(
 }
 
 /// Ends the sessions with the lowest numbers, by rising number: at most 64. Those that discovery made are told so by a PADT.
-pub(crate) fn end(served: &mut Served, terms: &mut Terms, rules: &Rules, at: At, outs: &mut Vec<OutRecord>)
+pub(crate) fn end(
+    served: &mut Served,
+    terms: &mut Terms,
+    rules: &Rules,
+    at: At,
+    outs: &mut Vec<OutRecord>,
+)
     requires offers { length rules.now.offers ≡ length rules.now.access }
     requires placed { ArePlaced rules.now served.old.sessions }
     requires room { length outs.old.items + 320 ≤ vec_capacity outs.old }

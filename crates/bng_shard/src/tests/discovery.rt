@@ -1,7 +1,6 @@
 ghost use Rattle.std.specs.Prelude.{◌<◌, ◌^◌};
 
-use super::{NOTHING, PADI, item, octets, padi, request, round, rules};
-use crate::Shard;
+use super::{Bench, NOTHING, ONE, PADI, item, octets, open_bench, padi, request, rules};
 use bng_base::ItemKind;
 use std::alloc::Global;
 use std::process::Abort;
@@ -26,12 +25,12 @@ const FULL: [u8; 36] = [
 ];
 
 // So many Ticks at this moment.
-fn ticks(rt: &impl Abort, alloc: Global, shard: &mut Shard, now: u64, count: u32)
+fn ticks(rt: &impl Abort, alloc: Global, bench: &mut Bench, now: u64, count: u32)
     requires moment { now < 2 ^ 60 }
 {
     let mut tally = NOTHING;
     for _ in 0..count {
-        let _outs = round(rt, alloc, shard, &mut tally, now, item(ItemKind::Tick, &[]));
+        let _outs = bench.round(rt, alloc, &mut tally, now, item(ItemKind::Tick, &[]));
     }
 }
 
@@ -40,35 +39,35 @@ fn a_host_is_offered_a_session_and_its_request_sent_twice_makes_one(
     rt: HostRuntime,
 ) -> Result<(), Fail> {
     let alloc = rt.alloc();
-    let mut shard = Shard::open(alloc, 0, rules(alloc)?, &[])?;
+    let mut bench = open_bench(alloc, rules(alloc)?, ONE)?;
     let access = ItemKind::Access(1);
     let mut tally = NOTHING;
-    let outs = round(&rt, alloc, &mut shard, &mut tally, 0, item(access, &PADI));
+    let outs = bench.round(&rt, alloc, &mut tally, 0, item(access, &PADI));
     assert_eq!(rt; octets(&outs, 0), PADO.as_slice());
-    assert_eq!(rt; shard.sessions(), 0);
-    let first = request(&rt, alloc, &mut shard, 1);
+    assert_eq!(rt; bench.shard.sessions(), 0);
+    let first = request(&rt, alloc, &mut bench, 1);
     assert_eq!(rt; first.len(), 2);
     assert_eq!(rt; octets(&first, 0), PADS.as_slice());
-    let again = request(&rt, alloc, &mut shard, 1);
+    let again = request(&rt, alloc, &mut bench, 1);
     assert_eq!(rt; again.len(), 1);
     assert_eq!(rt; octets(&again, 0), PADS.as_slice());
-    assert_eq!(rt; shard.sessions(), 1);
-    assert_eq!(rt; shard.due(), Some(3000));
+    assert_eq!(rt; bench.shard.sessions(), 1);
+    assert_eq!(rt; bench.shard.due(), Some(3000));
     Ok(())
 }
 
 #[test]
 fn ten_thousand_calls_make_no_session(rt: HostRuntime) -> Result<(), Fail> {
     let alloc = rt.alloc();
-    let mut shard = Shard::open(alloc, 0, rules(alloc)?, &[])?;
+    let mut bench = open_bench(alloc, rules(alloc)?, ONE)?;
     let mut tally = NOTHING;
     for host in 0..10_000 {
         let call = item(ItemKind::Access(1), &padi(host));
-        let outs = round(&rt, alloc, &mut shard, &mut tally, 0, call);
+        let outs = bench.round(&rt, alloc, &mut tally, 0, call);
         assert_eq!(rt; outs.len(), 1);
     }
-    assert_eq!(rt; shard.sessions(), 0);
-    assert_eq!(rt; shard.due(), None);
+    assert_eq!(rt; bench.shard.sessions(), 0);
+    assert_eq!(rt; bench.shard.due(), None);
     Ok(())
 }
 
@@ -77,21 +76,21 @@ fn a_full_shard_refuses_and_is_free_again_where_no_host_goes_on(
     rt: HostRuntime,
 ) -> Result<(), Fail> {
     let alloc = rt.alloc();
-    let mut shard = Shard::open(alloc, 0, rules(alloc)?, &[])?;
+    let mut bench = open_bench(alloc, rules(alloc)?, ONE)?;
     for host in 1..1023 {
-        let outs = request(&rt, alloc, &mut shard, host);
+        let outs = request(&rt, alloc, &mut bench, host);
         assert_eq!(rt;
             octets(&outs, 0).get(16..18),
             Some(host.to_be_bytes().as_slice())
         );
     }
-    assert_eq!(rt; shard.sessions(), 1022);
-    let outs = request(&rt, alloc, &mut shard, 1024);
+    assert_eq!(rt; bench.shard.sessions(), 1022);
+    let outs = request(&rt, alloc, &mut bench, 1024);
     assert_eq!(rt; octets(&outs, 0), FULL.as_slice());
     for count in 1..11 {
-        assert_eq!(rt; shard.sessions(), 1022);
-        ticks(&rt, alloc, &mut shard, 3000 * count, 16);
+        assert_eq!(rt; bench.shard.sessions(), 1022);
+        ticks(&rt, alloc, &mut bench, 3000 * count, 16);
     }
-    assert_eq!(rt; shard.sessions(), 0);
+    assert_eq!(rt; bench.shard.sessions(), 0);
     Ok(())
 }

@@ -2,17 +2,18 @@ ghost use Rattle.std.specs.Prelude.{◌≡◌, [], ◌∷◌, Some, ℕ, IfOk, t
 ghost use Rattle.bng_shard.specs.declared.rules.Rules.{Rules as Ways};
 ghost use Rattle.bng_shard.specs.Frames.{charge_of};
 ghost use Rattle.bng_shard.specs.Opening.{lease_from, provisioned};
-ghost use Rattle.bng_shard.specs.Protocol.{opened};
+ghost use Rattle.bng_shard.specs.Protocol.{AreHeld, opened, terms_of};
 ghost use Rattle.bng_slots.specs.Sessions.{IsNumberOf};
 
-use super::{NOTHING, handled, item, peer, request, rules, span};
-use crate::{Charged, EndedTerm, Holder, LiveTerm, PlainPool, Shard, Traffic};
+use super::{Bench, NOTHING, TWO, item, peer, request, rules, span};
+use crate::{Charged, EndedTerm, LiveTerm, Shard, Traffic};
 use arrayvec::ArrayVec;
 use bng_base::{
     Charge, Circuit, DropCause, Fate, Frame, Ip4, ItemKind, Mac, Octets, OutRecord, Role,
     SessionNo, Static, TermId,
 };
-use std::alloc::{AllocError, Global};
+use bng_pool::PlainPool;
+use std::alloc::Global;
 use std::process::Abort;
 use std::test::Fail;
 
@@ -38,11 +39,11 @@ fn open_with(alloc: Global, circuit: &Static) -> Result<Shard, Fail>
     requires number { IsNumberOf 1 circuit.now.session.0 }
     requires port { circuit.now.port ≡ 1 }
     requires profile { circuit.now.profile ≡ 0 }
-    ensures { IfOk result (λ s. (rules : Ways) × (s ≡ opened 1 rules (circuit.now ∷ []))) }
+    ensures { IfOk result (λ s. (rules : Ways) × (s ≡ opened 1 rules (circuit.now ∷ []) 0)) }
 {
     let rules = rules(alloc)?;
     let circuits = std::slice::from_ref(circuit);
-    let shard = Shard::open(alloc, 1, rules, circuits)?;
+    let shard = Shard::open(alloc, 1, rules, circuits, 0)?;
     Ok(shard)
 }
 
@@ -80,7 +81,7 @@ fn sent(circuit: &Static, octets: u16) -> OutRecord
 // Charges the first packet of a shard that has one circuit.
 fn charge_first(shard: &mut Shard, circuit: &Static, out: &OutRecord) -> Charged
     requires number { IsNumberOf 1 circuit.now.session.0 }
-    requires opened { (rules : Ways) × (shard.old ≡ opened 1 rules (circuit.now ∷ [])) }
+    requires opened { (rules : Ways) × (shard.old ≡ opened 1 rules (circuit.now ∷ []) 0) }
     requires charged { (octets : ℕ) × (out.now.charge ≡ Some (charge_of (provisioned circuit.now 1) (lease_from circuit.now 1) true octets)) }
     requires sent { out.now.sent ≡ true }
 {
@@ -126,40 +127,63 @@ fn circuit_of(host: u8, session: u16, address: u32) -> Static
     }
 }
 
-// The shard 1 with two circuits, the one with the higher session number first.
-fn open_two(alloc: Global) -> Result<Shard, Fail> {
+// Whether each term of a shard holds its address in the table.
+fn holds(shard: &Shard, pool: &PlainPool, number: u16) -> bool
+    requires number { shard.now.number ≡ number }
+    ensures { result ≡ true → AreHeld number (terms_of shard.now.state) pool.now.table }
+{
+    let mut place = 0;
+    while let Some(term) = shard.term(place) {
+        if pool.look(term.address) != Some(number) {
+            return false;
+        }
+        place += 1;
+    }
+    true
+}
+
+// The shard 1 with two circuits, the one with the higher session number first, whose addresses it holds.
+fn open_two(rt: &impl Abort, alloc: Global) -> Result<Bench, Fail> {
     let rules = rules(alloc)?;
     let circuits = [
         circuit_of(2, 1026, 0x0a000003),
         circuit_of(1, 1025, 0x0a000002),
     ];
-    let shard = Shard::open(alloc, 1, rules, circuits.as_slice())?;
-    Ok(shard)
+    let shard = Shard::open(alloc, 1, rules, circuits.as_slice(), 0)?;
+    let mut pool = PlainPool::open(alloc, &[TWO], 2)?;
+    let _first = pool.scan(1, 0);
+    let _second = pool.scan(1, 0);
+    assert!(rt; holds(&shard, &pool, 1));
+    Ok(Bench { shard, pool })
 }
 
-// The term of the circuit of this host.
-fn term(host: u8, session: u16, serial: u64, address: u32) -> LiveTerm {
+// Which term is the circuit's of this host.
+fn term(host: u8, session: u16, serial: u64, address: u32) -> (TermId, Circuit, Ip4) {
     let session = SessionNo(session);
-    LiveTerm {
-        term: TermId { session, serial },
-        circuit: Circuit::Pppoe {
-            port: 1,
-            mac: Mac([2, 0, 0, 0, 0, host]),
-            session,
-        },
-        address: Ip4(address),
-    }
+    let term = TermId { session, serial };
+    let circuit = Circuit::Pppoe {
+        port: 1,
+        mac: Mac([2, 0, 0, 0, 0, host]),
+        session,
+    };
+    (term, circuit, Ip4(address))
 }
 
-// What is reported of a term that ended without a packet.
-fn ended(term: LiveTerm) -> EndedTerm {
-    EndedTerm {
-        term: term.term,
-        circuit: term.circuit,
-        address: term.address,
-        cause: 10,
-        carried: NOTHING,
-    }
+// The term that is shown is this one, of the circuit's user, from the opening on.
+fn is_term(shown: &LiveTerm, term: (TermId, Circuit, Ip4)) -> bool {
+    (shown.term, shown.circuit, shown.address) == term
+        && shown.user.as_slice() == b"f".as_slice()
+        && shown.class.is_empty()
+        && shown.began == 0
+}
+
+// The term that ended is this one, and it carried nothing.
+fn is_end(ended: &EndedTerm, term: (TermId, Circuit, Ip4)) -> bool {
+    (ended.term, ended.circuit, ended.address) == term
+        && ended.user.as_slice() == b"f".as_slice()
+        && ended.began == 0
+        && ended.cause == 10
+        && ended.carried == NOTHING
 }
 
 // A packet of the first circuit, in a frame of its session, and one towards it.
@@ -175,96 +199,77 @@ const TO_IT: [u8; 28] = [
 ];
 
 // A packet of the first circuit and one towards it have this fate.
-fn assert_fate(rt: &impl Abort, alloc: Global, shard: &mut Shard, fate: Fate) {
+fn assert_fate(rt: &impl Abort, alloc: Global, bench: &mut Bench, fate: Fate) {
     let mut tally = NOTHING;
     let access = item(ItemKind::Access(1), &FROM_IT);
-    let (up, _sent_up) = handled(rt, alloc, shard, &mut tally, 0, access);
+    let (up, _sent_up) = bench.handled(rt, alloc, &mut tally, 0, access);
     assert!(rt; up == fate);
     let mut core = item(ItemKind::Core, &TO_IT);
     core.from = peer(9001);
-    let (down, _sent_down) = handled(rt, alloc, shard, &mut tally, 0, core);
+    let (down, _sent_down) = bench.handled(rt, alloc, &mut tally, 0, core);
     assert!(rt; down == fate);
 }
 
 // The outs of an End of the shard 1.
-fn end(rt: &impl Abort, alloc: Global, shard: &mut Shard) -> Vec<OutRecord> {
+fn end(rt: &impl Abort, alloc: Global, bench: &mut Bench) -> Vec<OutRecord> {
     let mut tally = NOTHING;
     let mut end = item(ItemKind::End, &[]);
     end.target = 1;
-    let (_consumed, outs) = handled(rt, alloc, shard, &mut tally, 0, end);
+    let (_consumed, outs) = bench.handled(rt, alloc, &mut tally, 0, end);
     outs
 }
 
 // This term leaves next, and its address becomes free.
-fn assert_reaps(rt: &impl Abort, shard: &mut Shard, pool: &mut PlainPool, stop: EndedTerm) {
-    assert!(rt; pool.look(stop.address).is_some());
-    let reaped = shard.reap(pool);
-    assert!(rt; reaped == Some(stop));
-    assert!(rt; pool.look(stop.address).is_none());
+fn assert_reaps(rt: &impl Abort, bench: &mut Bench, term: (TermId, Circuit, Ip4)) {
+    assert!(rt; bench.pool.look(term.2).is_some());
+    let reaped = bench.reap();
+    assert!(rt; reaped.as_ref().is_some_and(|ended| is_end(ended, term)));
+    assert!(rt; bench.pool.look(term.2).is_none());
 }
 
 // No term is left that ended, and no session.
-fn assert_all_left(rt: &impl Abort, shard: &mut Shard, pool: &mut PlainPool) {
-    let reaped = shard.reap(pool);
-    assert!(rt; reaped.is_none());
-    assert!(rt; shard.sessions() == 0);
+fn assert_all_left(rt: &impl Abort, bench: &mut Bench) {
+    assert!(rt; bench.reap().is_none());
+    assert!(rt; bench.shard.sessions() == 0);
 }
 
-// At this place this term is there, or none.
-fn assert_term(rt: &impl Abort, shard: &Shard, place: usize, term: Option<LiveTerm>) {
-    let shown = shard.term(place);
-    assert!(rt; shown == term);
-}
-
-// The addresses of both circuits are held.
-fn pool_of_two(alloc: Global) -> Result<PlainPool, AllocError> {
-    let first = Holder {
-        address: Ip4(0x0a000002),
-        shard: 1,
-    };
-    let second = Holder {
-        address: Ip4(0x0a000003),
-        shard: 1,
-    };
-    let holders = Vec::from_array(alloc, [first, second])?;
-    Ok(PlainPool::of(holders))
+// At this place this term is there.
+fn assert_term(rt: &impl Abort, bench: &Bench, place: usize, term: (TermId, Circuit, Ip4)) {
+    let shown = bench.shard.term(place);
+    assert!(rt; shown.as_ref().is_some_and(|shown| is_term(shown, term)));
 }
 
 #[test]
 fn an_end_ends_circuits_too_and_each_leaves_by_a_stop(rt: HostRuntime) -> Result<(), Fail> {
     let alloc = rt.alloc();
-    let mut shard = open_two(alloc)?;
-    let _made = request(&rt, alloc, &mut shard, 3);
-    assert_fate(&rt, alloc, &mut shard, Fate::Forwarded);
-    let outs = end(&rt, alloc, &mut shard);
+    let mut bench = open_two(&rt, alloc)?;
+    let _made = request(&rt, alloc, &mut bench, 3);
+    assert_fate(&rt, alloc, &mut bench, Fate::Forwarded);
+    let outs = end(&rt, alloc, &mut bench);
     // the session that discovery made is told by a PADT, and the circuits are not
     assert!(rt; outs.len() == 1);
     assert!(rt; span(&outs, 0, 15, 18) == b"\xa7\x04\x03".as_slice());
-    assert_fate(&rt, alloc, &mut shard, Fate::Dropped(DropCause::NotOpen));
-    assert!(rt; shard.sessions() == 3);
-    let mut pool = pool_of_two(alloc)?;
-    let first = ended(term(1, 1025, 1, 0x0a000002));
-    let second = ended(term(2, 1026, 2, 0x0a000003));
-    assert_reaps(&rt, &mut shard, &mut pool, first);
-    assert_reaps(&rt, &mut shard, &mut pool, second);
-    assert_all_left(&rt, &mut shard, &mut pool);
+    assert_fate(&rt, alloc, &mut bench, Fate::Dropped(DropCause::NotOpen));
+    assert!(rt; bench.shard.sessions() == 3);
+    assert_reaps(&rt, &mut bench, term(1, 1025, 1, 0x0a000002));
+    assert_reaps(&rt, &mut bench, term(2, 1026, 2, 0x0a000003));
+    assert_all_left(&rt, &mut bench);
     Ok(())
 }
 
 #[test]
 fn terms_are_shown_by_their_numbers_until_they_leave(rt: HostRuntime) -> Result<(), Fail> {
     let alloc = rt.alloc();
-    let mut shard = open_two(alloc)?;
+    let mut bench = open_two(&rt, alloc)?;
     let first = term(1, 1025, 1, 0x0a000002);
     let second = term(2, 1026, 2, 0x0a000003);
-    let _outs = end(&rt, alloc, &mut shard);
-    assert_term(&rt, &shard, 0, Some(first));
-    assert_term(&rt, &shard, 1, Some(second));
-    assert_term(&rt, &shard, 2, None);
-    let mut pool = pool_of_two(alloc)?;
-    assert_reaps(&rt, &mut shard, &mut pool, ended(first));
-    assert_term(&rt, &shard, 0, Some(second));
-    assert_term(&rt, &shard, 1, None);
+    let _outs = end(&rt, alloc, &mut bench);
+    assert_term(&rt, &bench, 0, first);
+    assert_term(&rt, &bench, 1, second);
+    assert!(rt; bench.shard.term(2).is_none());
+    assert_reaps(&rt, &mut bench, first);
+    assert_term(&rt, &bench, 0, second);
+    assert!(rt; bench.shard.term(1).is_none());
     Ok(())
 }
 
@@ -275,12 +280,20 @@ fn a_stop_says_what_its_term_carried(rt: HostRuntime) -> Result<(), Fail> {
     let packet = sent(&circuit, 84);
     let mut shard = open_with(alloc, &circuit)?;
     let _charged = charge_first(&mut shard, &circuit, &packet);
-    let _outs = end(&rt, alloc, &mut shard);
-    let mut stop = ended(term(1, 1025, 1, 0x0a000002));
-    stop.carried.input = 84;
-    stop.carried.input_packets = 1;
-    let mut pool = PlainPool::of(Vec::new(alloc));
-    assert_eq!(rt; shard.reap(&mut pool), Some(stop));
-    assert_eq!(rt; shard.carried(SessionNo(1025)), None);
+    let mut pool = PlainPool::open(alloc, &[TWO], 2)?;
+    let _held = pool.scan(1, 0);
+    assert!(rt; holds(&shard, &pool, 1));
+    let mut bench = Bench { shard, pool };
+    let _outs = end(&rt, alloc, &mut bench);
+    let mut carried = NOTHING;
+    carried.input = 84;
+    carried.input_packets = 1;
+    let reaped = bench.reap();
+    assert!(rt;
+        reaped
+            .as_ref()
+            .is_some_and(|ended| ended.carried == carried)
+    );
+    assert_eq!(rt; bench.shard.carried(SessionNo(1025)), None);
     Ok(())
 }

@@ -1,7 +1,7 @@
 ghost use Rattle.std.specs.Prelude.{◌≡◌, ◌≤◌, length};
 
-use super::{NOTHING, item, octets, request, round, rules, span, text};
-use crate::{Handed, Shard};
+use super::{Bench, NOTHING, ONE, item, octets, open_bench, request, rules, span, text};
+use crate::Handed;
 use bng_base::{Item, ItemKind, OutRecord, SessionNo};
 use bng_verdict::QuestionNo;
 use std::alloc::Global;
@@ -10,18 +10,19 @@ use std::test::Fail;
 
 // The first host asks for its Maximum-Receive-Unit and a magic number, and takes what the gateway asks for: 1,492 octets, PAP and the
 // magic number 00010203 (RFC 1661 section 6).
-const REQUEST: &[u8; 16] = b"\xc0\x21\x01\x02\x00\x0e\x01\x04\x05\xd4\x05\x06\x11\x22\x33\x44";
+pub(super) const REQUEST: &[u8; 16] =
+    b"\xc0\x21\x01\x02\x00\x0e\x01\x04\x05\xd4\x05\x06\x11\x22\x33\x44";
 
-const ACK: &[u8; 20] =
+pub(super) const ACK: &[u8; 20] =
     b"\xc0\x21\x02\x01\x00\x12\x01\x04\x05\xd4\x03\x04\xc0\x23\x05\x06\x00\x01\x02\x03";
 
 // its password twice, under two identifiers (RFC 1334 section 2.2.1)
-const PASSWORD: &[u8; 14] = b"\xc0\x23\x01\x07\x00\x0c\x02u0\x04pass";
+pub(super) const PASSWORD: &[u8; 14] = b"\xc0\x23\x01\x07\x00\x0c\x02u0\x04pass";
 
 const AGAIN: &[u8; 14] = b"\xc0\x23\x01\x08\x00\x0c\x02u0\x04pass";
 
 // an Access-Accept and an Access-Reject, each with a Reply-Message (RFC 2865 sections 4.2, 4.3 and 5.18), and what PAP makes of them
-const ACCEPT: &[u8; 24] = b"\x02\x00\x00\x18\0\0\0\0\0\0\0\0\0\0\0\0\0\0\0\0\x12\x04hi";
+pub(super) const ACCEPT: &[u8; 24] = b"\x02\x00\x00\x18\0\0\0\0\0\0\0\0\0\0\0\0\0\0\0\0\x12\x04hi";
 
 const ACCEPTED: &[u8; 9] = b"\xc0\x23\x02\x07\x00\x07\x02hi";
 
@@ -29,14 +30,14 @@ const REJECT: &[u8; 24] = b"\x03\x00\x00\x18\0\0\0\0\0\0\0\0\0\0\0\0\0\0\0\0\x12
 
 const REJECTED: &[u8; 9] = b"\xc0\x23\x03\x07\x00\x07\x02no";
 
-// A frame of the first host's session with this PPP frame.
-fn in_session(ppp: &[u8]) -> Item
+// A frame of this host's session, which has the same number, with this PPP frame.
+pub(super) fn in_session_of(host: u8, ppp: &[u8]) -> Item
     requires { length ppp.now ≤ 44 }
     ensures { result.frame.headroom ≡ 64 }
 {
     let length = ppp.len() as u8;
     let mut octets = text(&[
-        2, 0, 0, 0, 0, 0xfe, 2, 0, 0, 0, 0, 1, 0x88, 0x64, 0x11, 0, 0, 1, 0, length,
+        2, 0, 0, 0, 0, 0xfe, 2, 0, 0, 0, 0, host, 0x88, 0x64, 0x11, 0, 0, host, 0, length,
     ]);
     for octet in ppp {
         if !octets.is_full() {
@@ -46,8 +47,16 @@ fn in_session(ppp: &[u8]) -> Item
     item(ItemKind::Access(1), octets.as_slice())
 }
 
+// A frame of the first host's session with this PPP frame.
+fn in_session(ppp: &[u8]) -> Item
+    requires { length ppp.now ≤ 44 }
+    ensures { result.frame.headroom ≡ 64 }
+{
+    in_session_of(1, ppp)
+}
+
 // A RADIUS server's reply to this question of this session.
-fn verdict(session: u16, ask: u64, reply: &[u8; 24]) -> Item
+pub(super) fn verdict(session: u16, ask: u64, reply: &[u8; 24]) -> Item
     ensures { result.frame.headroom ≡ 64 }
 {
     let mut told = item(ItemKind::Verdict, reply);
@@ -57,45 +66,45 @@ fn verdict(session: u16, ask: u64, reply: &[u8; 24]) -> Item
 }
 
 // The outs of a round of one item at moment 0.
-fn hear(rt: &impl Abort, alloc: Global, shard: &mut Shard, item: Item) -> Vec<OutRecord>
+pub(super) fn hear(rt: &impl Abort, alloc: Global, bench: &mut Bench, item: Item) -> Vec<OutRecord>
     requires whole { item.frame.headroom ≡ 64 }
 {
     let mut tally = NOTHING;
-    round(rt, alloc, shard, &mut tally, 0, item)
+    bench.round(rt, alloc, &mut tally, 0, item)
 }
 
 // A shard whose first host sent its password.
-fn asking(rt: &impl Abort, alloc: Global) -> Result<Shard, Fail> {
-    let mut shard = Shard::open(alloc, 0, rules(alloc)?, &[])?;
-    let _made = request(rt, alloc, &mut shard, 1);
-    let _answered = hear(rt, alloc, &mut shard, in_session(REQUEST));
-    let _opened = hear(rt, alloc, &mut shard, in_session(ACK));
-    let _asked = hear(rt, alloc, &mut shard, in_session(PASSWORD));
-    Ok(shard)
+fn asking(rt: &impl Abort, alloc: Global) -> Result<Bench, Fail> {
+    let mut bench = open_bench(alloc, rules(alloc)?, ONE)?;
+    let _made = request(rt, alloc, &mut bench, 1);
+    let _answered = hear(rt, alloc, &mut bench, in_session(REQUEST));
+    let _opened = hear(rt, alloc, &mut bench, in_session(ACK));
+    let _asked = hear(rt, alloc, &mut bench, in_session(PASSWORD));
+    Ok(bench)
 }
 
 // The outs of a verdict on a peer's password that was asked about once. A verdict on another question, or of another session, does
 // nothing, and neither does a second one.
 fn judged(rt: &impl Abort, alloc: Global, reply: &[u8; 24]) -> Result<Vec<OutRecord>, Fail> {
-    let mut shard = asking(rt, alloc)?;
+    let mut bench = asking(rt, alloc)?;
     let mut handed = Handed::open(alloc)?;
-    let asked = shard.asked(&mut handed).map(|ask| ask.number);
+    let asked = bench.shard.asked(&mut handed).map(|ask| ask.number);
     let number = QuestionNo {
         session: SessionNo(1),
         ask: 1,
     };
     assert_eq!(rt; asked, Some(number));
-    let again = hear(rt, alloc, &mut shard, in_session(AGAIN));
+    let again = hear(rt, alloc, &mut bench, in_session(AGAIN));
     assert_eq!(rt; again.len(), 0);
-    assert!(rt; shard.asked(&mut handed).is_none());
-    let other_question = hear(rt, alloc, &mut shard, verdict(1, 2, reply));
+    assert!(rt; bench.shard.asked(&mut handed).is_none());
+    let other_question = hear(rt, alloc, &mut bench, verdict(1, 2, reply));
     assert_eq!(rt; other_question.len(), 0);
-    let other_session = hear(rt, alloc, &mut shard, verdict(2, 1, reply));
+    let other_session = hear(rt, alloc, &mut bench, verdict(2, 1, reply));
     assert_eq!(rt; other_session.len(), 0);
-    let outs = hear(rt, alloc, &mut shard, verdict(1, 1, reply));
+    let outs = hear(rt, alloc, &mut bench, verdict(1, 1, reply));
     let mut none = Handed::open(alloc)?;
-    assert!(rt; shard.asked(&mut none).is_none());
-    let late = hear(rt, alloc, &mut shard, verdict(1, 1, reply));
+    assert!(rt; bench.shard.asked(&mut none).is_none());
+    let late = hear(rt, alloc, &mut bench, verdict(1, 1, reply));
     assert_eq!(rt; late.len(), 0);
     Ok(outs)
 }

@@ -50,7 +50,7 @@ returns-clause-driven c x is =
     let counted : ℕ → State → State = λ n t. record t { asked = n } in
     let it : c.take-session.result ≡ x = same_some c.take-session.result x (c.take-session.ensures.value ∙ is) in
     let next = c.count_asked.ensures
-        ∙ ap (counted count) (put_back c.args.served.now c.take-session.new.self c.args.number.0 x'.number.0 c.take-session.ensures.after same c.put.new.self x' c.put.ensures) in (
+    ∙ ap (counted count) (put_back c.args.served.now c.take-session.new.self c.args.number.0 x'.number.0 c.take-session.ensures.after same c.put.new.self x' c.put.ensures) in (
       x',
       cause,
       count,
