@@ -61,7 +61,7 @@ round_done d heard named items p p' vs ws pool' accounts' drops' tally tally' to
       is = subst (λ (bs : List Book). IsRound d.rules d.shards d.pool bs named.moment lists h.held.round) (sym tallies)
           (subst (λ (xs : Shards). IsRound d.rules xs d.pool (tally ∷ []) named.moment lists h.held.round) same (round_rested d.rules h.ready d.pool (tally ∷ []) named.moment lists h.held.round h.held.is));
       shards_are = left_rested ws h.held.round.shards h.held.shards_are;
-      pool_is = h.held.pool_are;
+      pool_is = sym h.held.pool_is;
       lines_are = h.held.booked.lines_are;
       formed = h.held.booked.formed;
       forms = h.held.booked.forms;

@@ -1,9 +1,10 @@
 -- A round leaves the shards' rules as they are, and a round of Ends leaves fewer sessions, or none.
-use Rattle.std.proofs.Common.{◌≡◌, ◌≢◌, ◌⊎◌, inl, inr, ⊎_elim, ℕ, zero, suc, ◌+◌, ◌-◌, ◌*◌, ◌<◌, ◌≤◌, Bool, true, false, ◌||◌, cond, List, [], ◌∷◌, ◌++◌, map, length, if◌then◌else◌, eqb, refl, sym, ap, subst, ◌∙◌, arith}
+use Rattle.std.proofs.Common.{◌≡◌, ◌≢◌, ◌⊎◌, inl, inr, ⊎_elim, ℕ, zero, suc, ◌+◌, ◌-◌, ◌*◌, ◌<◌, ◌≤◌, Bool, true, false, ◌||◌, cond, List, [], Option, Some, None, ◌∷◌, ◌++◌, map, length, if◌then◌else◌, eqb, refl, sym, ap, subst, ◌∙◌, arith}
 use Rattle.std.specs.List.{All, AllByRecursion, AllZip, range_with_len, sum_by}
 use Rattle.std.proofs.lemmas.Bool.Decides.{nat_tests}
 use Rattle.std.proofs.lemmas.List.Elements.{All-nil, All-cons, All-head, All-tail, All-map, All-from_recursion, recursion_from_All}
 use Rattle.std.proofs.lemmas.List.Sums.{sum_by-cons}
+use Rattle.bng_base.specs.declared.address.Ip4.{Ip4}
 use Rattle.bng_base.specs.declared.book.Book.{Book}
 use Rattle.bng_base.specs.declared.item.Entry.{Entry}
 use Rattle.bng_base.specs.declared.item.Item.{Item}
@@ -18,20 +19,21 @@ use Rattle.bng_engine.proofs.Everywhere.{all_weaker}
 use Rattle.bng_pool.specs.Plain.{PlainView}
 use Rattle.bng_pool.specs.Tables.{Table}
 use Rattle.bng_slots.specs.Listed.{values}
-use Rattle.bng_slots.specs.Sessions.{with_value}
+use Rattle.bng_slots.specs.Sessions.{value_at, with_value}
 use Rattle.bng_shard.specs.declared.rules.Rules.{Rules}
 use Rattle.bng_shard.specs.declared.whose.Whose.{Whose}
 use Rattle.bng_shard.specs.declared.whose.Whose.TheVariants.{Stands}
 use Rattle.bng_shard.specs.declared.session.Session.{Session}
 use Rattle.bng_shard.specs.Deed.{Deed}
+use Rattle.bng_shard.specs.Link.{Told}
+use Rattle.bng_shard.specs.Made.{Question}
 use Rattle.bng_shard.specs.Protocol.{ShardState, HasNoLogins, Handled, pppoe, entry_of, sessions_of}
 use Rattle.bng_shard.specs.State.{State, count_in}
 use Rattle.bng_shard.specs.Step.{Hears}
-use Rattle.bng_shard.specs.Verdicts.{HearsVerdict, Judges}
+use Rattle.bng_shard.specs.Verdicts.{HearsVerdict, Judges, next_lease, settled_by}
 use Rattle.bng_shard.specs.Whose.{IsWhose, IsForKind, IsForTarget}
 use Rattle.bng_shard.proofs.Fewer.{end_leaves_fewer}
 use Rattle.bng_shard.proofs.Values.{sum_by-replaced}
-use Rattle.bng_verdict.specs.Verdicts.{Saying}
 use Rattle.bng_desk.specs.declared.drops.Drops.{Drops}
 use Rattle.bng_desk.specs.declared.holding.Named.{Named}
 use Rattle.bng_desk.specs.Items.{entries_in, for_shard, stands_in}
@@ -210,18 +212,26 @@ ones : (xs : List Session) → sum_by (λ (x : Session). 1) xs ≡ length xs
 ones [] = refl
 ones (x ∷ xs) = omega (arith, sum_by-cons (λ (x : Session). 1) x xs, ones xs)
 
+-- another session in the place of one
+replaced_count : (s : State) (n : ℕ) (x y : Session) → value_at s.sessions n ≡ Some x → length (values (with_value s.sessions n y)) ≡ length (values s.sessions)
+replaced_count s n x y found =
+    omega (arith, sum_by-replaced (λ (z : Session). 1) s.sessions n x y found, ones (values s.sessions), ones (values (with_value s.sessions n y)))
+
 -- a verdict leaves as many
-judged : (s : State) (e : Entry) (d : Deed) (r : Rules) (v : Saying) → Judges r s e v d → count_in d.next ≡ count_in s
-judged s e d r v j =
-    let both = sum_by-replaced (λ (x : Session). 1) s.sessions e.item.target j.x j.after j.found in
-    omega (arith, both, ones (values s.sessions), ones (values (with_value s.sessions e.item.target j.after)), ap (λ (x : Deed). count_in x.next) j.done)
+settled_count : (s : State) (n : ℕ) (x : Session) (q : Question) (t : Told) (moment : ℕ) (y : Session) (asked : ℕ) (address : Option Ip4) → value_at s.sessions n ≡ Some x
+    → count_in (settled_by s n x q t moment y asked address) ≡ count_in s
+settled_count s n x q t moment y asked None found = replaced_count s n x y found
+settled_count s n x q t moment y asked (Some a) found = replaced_count s n x (record y { lease = Some (next_lease s a) }) found
+
+judged : (s : State) (e : Entry) (d : Deed) (r : Rules) (t : Told) → Judges r s e t d → count_in d.next ≡ count_in s
+judged s e d r t j = ap (λ (x : Deed). count_in x.next) j.done ∙ settled_count s e.item.target j.x j.question t e.moment j.after j.asked t.lease j.found
 
 verdict_leaves_all : (s : ShardState) (h : Handled) → pppoe.is_step s h → h.deed.entry.item.kind ≡ Verdict → sessions_of (pppoe.next s h) ≡ sessions_of s
 verdict_leaves_all s h is kind =
     let d = h.deed in
     let hears : HearsVerdict s.rules s.slots d.entry h.limited d = subst (λ (k : ItemKind). Hears k s.rules s.slots h.limited d.entry d) kind is.step.hears in
     ⊎_elim (λ told. judged s.slots d.entry d s.rules told.1 told.3)
-    (λ none. ⊎_elim (λ silent. ap (λ (x : Deed). count_in x.next) silent.2) (λ other. ap (λ (x : Deed). count_in x.next) other.1) none) hears
+    (λ none. ⊎_elim (λ silent. ap (λ (x : Deed). count_in x.next) silent.2) (λ other. ap (λ (x : Deed). count_in x.next) other.2) none) hears
 
 last_step : (front : List Entry) (s : ShardState) (es : List Handled) (e : Entry) → map (λ (h : Handled). h.deed.entry) es ≡ front ++ e ∷ [] → All IsVerdict front → e.item.kind ≡ End → AreSteps pppoe s es → Less (sessions_of s) (sessions_of (pppoe.settled (after pppoe s es)))
 last_step [] s es e is all kind steps = one_step s es e is kind steps

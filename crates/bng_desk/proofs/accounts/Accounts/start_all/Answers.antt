@@ -23,26 +23,26 @@ pub start-requires-clause-fresh : goal.start-requires-clause-fresh
 start-requires-clause-fresh c =
     let keys = row_keys c.args.shard.now.rows in
     let k = key_of c.in-Some.term in
-    let may = next_may c.args.wall c.loop-term.place keys k c.args.self.now c.loop-term.self (there keys c.loop-term.place c.term.result c.in-Some.term c.term.ensures c.in-Some.is)
+    let may = next_may c.args.wall c.loop-term.place keys k c.args.self.now c.loop-term.self (there keys c.loop-term.place c.term.result c.in-Some.term c.term.ensures.keys c.in-Some.is)
     (record { room = c.requires.room; new = c.requires.fresh; apart = c.requires.apart }) c.loop-term.invariant.booked in
     All-head (IsNew c.loop-term.self.billing.spool.held) k [] may.new
 
 pub start-requires-clause-room : goal.start-requires-clause-room
 start-requires-clause-room c =
     let keys = row_keys c.args.shard.now.rows in
-    let may = next_may c.args.wall c.loop-term.place keys (key_of c.in-Some.term) c.args.self.now c.loop-term.self (there keys c.loop-term.place c.term.result c.in-Some.term c.term.ensures c.in-Some.is)
+    let may = next_may c.args.wall c.loop-term.place keys (key_of c.in-Some.term) c.args.self.now c.loop-term.self (there keys c.loop-term.place c.term.result c.in-Some.term c.term.ensures.keys c.in-Some.is)
     (record { room = c.requires.room; new = c.requires.fresh; apart = c.requires.apart }) c.loop-term.invariant.booked in
     omega (arith, may.room)
 
 pub loop-term-smaller : goal.loop-term-smaller
-loop-term-smaller c = omega (arith, (there (row_keys c.args.shard.now.rows) c.loop-term.place c.term.result c.in-Some.term c.term.ensures c.in-Some.is).within)
+loop-term-smaller c = omega (arith, (there (row_keys c.args.shard.now.rows) c.loop-term.place c.term.result c.in-Some.term c.term.ensures.keys c.in-Some.is).within)
 
 pub loop-term-preserved : goal.loop-term-preserved
 loop-term-preserved c =
     let keys = row_keys c.args.shard.now.rows in
     let i = c.loop-term.place in
     let k = key_of c.in-Some.term in
-    let at = there keys i c.term.result c.in-Some.term c.term.ensures c.in-Some.is in
+    let at = there keys i c.term.result c.in-Some.term c.term.ensures.keys c.in-Some.is in
     record {
       booked = subst (λ (ks : List Key). BooksStarts c.args.wall ks c.args.self.now c.start.new.self) (sym at.next) (starts_more c.args.wall (take i keys) (k ∷ []) c.args.self.now c.loop-term.self c.start.new.self c.loop-term.invariant.booked c.start.ensures);
       within = omega (arith, at.within);
@@ -51,5 +51,5 @@ loop-term-preserved c =
 pub returns : goal.returns
 returns c =
     let keys = row_keys c.args.shard.now.rows in
-    let past = found_none keys c.loop-term.place (sym c.term.ensures ∙ ap (option_map key_of) c.in_default.is) in
+    let past = found_none keys c.loop-term.place (sym c.term.ensures.keys ∙ ap (option_map key_of) c.in_default.is) in
     subst (λ (ks : List Key). BooksStarts c.args.wall ks c.args.self.now c.loop-term.self) (take_all c.loop-term.place keys past) c.loop-term.invariant.booked

@@ -122,8 +122,9 @@ invariant_of-result c =
 
 pub returns : goal.returns
 returns c =
+    let b = (goal.at.returns c).After-new-2 in
     let config = c.args.config in
-    let r = made c in
+    let r = made b in
     let desk = λ (tallies : List Book) (lines : List Line) (shards : List (ShardView ShardState Entry)) (draws : Drawn) (handed : List (List ℕ)) (kept : List Item) (began : ℕ). let x : Desk = record {
       rules = r;
       lines = lines;
@@ -151,30 +152,30 @@ returns c =
     } in x in
     let first : Drawn = record { seed = c.args.seed; drawn = 1 } in
     let opens = opened_shards config r c.args.now in
-    let accounts = opens_accounts c in
-    let all_there = ap (λ (n : ℕ). map (λ k. opened k r (statics c k) c.args.now) (range_with_len 0 n)) (are_rules c).shards in
-    let opened_all : c.in_ok-opens.opens.items ≡ opens = shards_are c ∙ all_there in
-    let shards : map rested c.in_ok-opens.opens.items ≡ opens = ap (λ (xs : List (ShardView ShardState Entry)). map rested xs) (shards_are c) ∙ fresh_rested r (statics c) c.args.now (range_with_len 0 r.shards) ∙ all_there in
+    let accounts = opens_accounts b in
+    let all_there = ap (λ (n : ℕ). map (λ k. opened k r (statics b k) c.args.now) (range_with_len 0 n)) (are_rules b).shards in
+    let opened_all : c.in_ok-opens.opens.items ≡ opens = shards_are b ∙ all_there in
+    let shards : map rested c.in_ok-opens.opens.items ≡ opens = ap (λ (xs : List (ShardView ShardState Entry)). map rested xs) (shards_are b) ∙ fresh_rested r (statics b) c.args.now (range_with_len 0 r.shards) ∙ all_there in
     record {
       rules = r;
-      are_rules = are_rules c;
+      are_rules = are_rules b;
       lane = c.in_ok-lane.lane;
       new_lane = c.in_ok-lane.ensures;
       pool = c.in_ok-pool.pool;
-      is_pool = is_pool c;
+      is_pool = is_pool b;
       new_billing = accounts.new_billing;
       is_new = subst (λ (rules : BillingRules). IsNewBilling rules accounts.new_billing) c.billing_rules-billing.ensures accounts.is_new;
       starts = accounts.booked.formed;
-      are_starts = subst (λ (ls : List Line). AllZip (IsStartOf ls c.args.now c.args.wall) (keys_in opens) accounts.booked.formed) (circuits_named c)
-          (subst (λ (ks : List Key). AllZip (IsStartOf c.in_ok-lines.lines.items c.args.now c.args.wall) ks accounts.booked.formed) (keys_are c ∙ ap keys_in opened_all)
+      are_starts = subst (λ (ls : List Line). AllZip (IsStartOf ls c.args.now c.args.wall) (keys_in opens) accounts.booked.formed) (circuits_named b)
+          (subst (λ (ks : List Key). AllZip (IsStartOf c.in_ok-lines.lines.items c.args.now c.args.wall) ks accounts.booked.formed) (keys_are b ∙ ap keys_in opened_all)
           (subst (λ (wall : ℕ). AllZip (IsStartOf c.in_ok-lines.lines.items c.args.now wall) (keys_in c.as_slice-2.result.now) accounts.booked.formed) (ap (λ (rules : BillingRules). rules.acct.wall) c.billing_rules-billing.ensures) accounts.booked.are_starts));
       billing = c.in_ok-accounts.accounts.billing;
       forms = accounts.booked.forms;
       desk =
-          ap (λ (bs : List Book). desk bs c.in_ok-accounts.accounts.lines (map rested c.in_ok-opens.opens.items) c.sixteen-key.new.self c.in_ok-handed.handed.items c.in_ok-kept.kept.items c.in_ok-accounts.accounts.began) (tallies_are c)
-          ∙ ap (λ (ls : List Line). desk (empty_book ∷ []) ls (map rested c.in_ok-opens.opens.items) c.sixteen-key.new.self c.in_ok-handed.handed.items c.in_ok-kept.kept.items c.in_ok-accounts.accounts.began) (lines_are c)
+          ap (λ (bs : List Book). desk bs c.in_ok-accounts.accounts.lines (map rested c.in_ok-opens.opens.items) c.sixteen-key.new.self c.in_ok-handed.handed.items c.in_ok-kept.kept.items c.in_ok-accounts.accounts.began) (tallies_are b)
+          ∙ ap (λ (ls : List Line). desk (empty_book ∷ []) ls (map rested c.in_ok-opens.opens.items) c.sixteen-key.new.self c.in_ok-handed.handed.items c.in_ok-kept.kept.items c.in_ok-accounts.accounts.began) (lines_are b)
           ∙ ap (λ (xs : List (ShardView ShardState Entry)). desk (empty_book ∷ []) (map line_of config.statics) xs c.sixteen-key.new.self c.in_ok-handed.handed.items c.in_ok-kept.kept.items c.in_ok-accounts.accounts.began) shards
-          ∙ ap (λ (x : Drawn). desk (empty_book ∷ []) (map line_of config.statics) opens x c.in_ok-handed.handed.items c.in_ok-kept.kept.items c.in_ok-accounts.accounts.began) (draws_are c)
+          ∙ ap (λ (x : Drawn). desk (empty_book ∷ []) (map line_of config.statics) opens x c.in_ok-handed.handed.items c.in_ok-kept.kept.items c.in_ok-accounts.accounts.began) (draws_are b)
           ∙ ap (λ (ls : List (List ℕ)). desk (empty_book ∷ []) (map line_of config.statics) opens first ls c.in_ok-kept.kept.items c.in_ok-accounts.accounts.began) c.in_ok-handed.ensures
           ∙ ap (λ (is : List Item). desk (empty_book ∷ []) (map line_of config.statics) opens first (map (λ n. none_handed) (range_with_len 0 config.shards)) is c.in_ok-accounts.accounts.began) c.in_ok-kept.ensures.0
           ∙ ap (λ (n : ℕ). desk (empty_book ∷ []) (map line_of config.statics) opens first (map (λ n. none_handed) (range_with_len 0 config.shards)) [] n) accounts.booked.began;
