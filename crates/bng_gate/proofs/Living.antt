@@ -1,5 +1,5 @@
 -- In a gateway without pools each live term is that of a circuit's session that stands and has not ended.
-use Rattle.std.proofs.Common.{◌≡◌, ◌⊎◌, inl, inr, ℕ, zero, suc, ◌+◌, Bool, true, false, not, ◌&&◌, cond, T, List, [], ◌∷◌, ◌++◌, map, filter, length, Option, Some, None, is_some, eqb, refl, sym, ap, subst, ◌∙◌, arith}
+use Rattle.std.proofs.Common.{◌≡◌, ◌⊎◌, inl, inr, ℕ, zero, suc, ◌+◌, Bool, true, false, not, ◌&&◌, cond, T, List, [], ◌∷◌, map, filter, length, Option, Some, None, is_some, eqb, refl, sym, ap, subst, ◌∙◌, arith}
 use Rattle.std.specs.List.{AllByRecursion}
 use Rattle.std.specs.FinMap.{get-from_sorted, is_sorted}
 use Rattle.std.specs.FinMap.{find as find_at}
@@ -21,7 +21,7 @@ use Rattle.bng_discovery.specs.declared.answers.Answer.TheVariants.{Offer, Make,
 use Rattle.bng_discovery.specs.declared.port.PortRules.{PortRules}
 use Rattle.bng_slots.specs.Listed.{values}
 use Rattle.bng_slots.specs.Sessions.{Sessions, value_at, with_value}
-use Rattle.bng_slots.proofs.SessionLaws.{value_at-with_value, value_at-with_other}
+use Rattle.bng_slots.proofs.SessionLaws.{value_at-with_other}
 use Rattle.bng_shard.specs.Made.{Made, Question}
 use Rattle.bng_shard.specs.declared.rules.Rules.{Rules}
 use Rattle.bng_shard.specs.declared.session.Lease.{Lease}
@@ -32,7 +32,7 @@ use Rattle.bng_shard.specs.Deed.{Deed}
 use Rattle.bng_shard.specs.Discovery.{Answers}
 use Rattle.bng_shard.specs.Frames.{HearsAccess, HearsControl, HearsCore, HearsData, HearsFrame, HearsIn, HearsPpp}
 use Rattle.bng_shard.specs.Link.{Told, ended, nas_request}
-use Rattle.bng_shard.specs.Opening.{in_order, lease_from, numbered_after, opened_slots, provisioned, tenure_from, tenures_after}
+use Rattle.bng_shard.specs.Opening.{in_order, lease_from, numbered_after, opened_slots, provisioned, tenures_after}
 use Rattle.bng_shard.specs.State.{State, leaves, session_of, settled, with_driven, with_ended}
 use Rattle.bng_shard.specs.Step.{Hears, Step}
 use Rattle.bng_shard.specs.Tenures.{Tenure, closed, is_over, over_by}

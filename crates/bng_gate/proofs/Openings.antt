@@ -30,7 +30,7 @@ use Rattle.bng_pool.specs.Tables.{Table, entry}
 use Rattle.bng_shard.specs.declared.rules.Rules.{Rules}
 use Rattle.bng_slots.specs.Sessions.{IsNumberOf}
 use Rattle.bng_shard.specs.Opening.{in_order, opened_slots, tenure_from, tenures_after}
-use Rattle.bng_shard.specs.Protocol.{ShardState, Handled, key_in, profiles_there, pppoe, opened, term_in, terms_of, terms_of_circuits}
+use Rattle.bng_shard.specs.Protocol.{ShardState, Handled, key_in, profiles_there, pppoe, opened, term_in, terms_of}
 use Rattle.bng_shard.proofs.InOrder as ordered
 use Rattle.bng_desk.specs.Opening.{IsOpenedPool, circuit_with, opened_shards, shard_of, statics_of}
 use Rattle.bng_desk.specs.Round.{views_of, view_of, held_by}
