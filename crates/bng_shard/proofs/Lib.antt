@@ -44,8 +44,6 @@ pub mod InOrder
 pub mod OneEffect
 pub mod Serves
 pub mod Settling
-pub mod Done
-pub mod OfSession
 pub mod Reaping
 pub mod Earliest
 pub mod Opened
@@ -65,5 +63,4 @@ pub mod SumsKept
 pub mod Tying
 pub mod AskedPool
 pub mod ClaimLaws
-pub mod Splitting
 pub mod OpenedKeys

@@ -1,310 +1,179 @@
--- The term that has ended and has the lowest session number leaves, and its row with it.
-use Rattle.std.proofs.Common.{◌≡◌, inl, inr, ℕ, suc, ◌+◌, ◌<◌, ◌≤◌, ◌==◌, Bool, true, false, not, cond, List, [], ◌∷◌, ◌++◌, length, filter, find, flat_map, sum_by, Option, Some, None, is_some, Contains, refl, sym, ap, subst, ◌∙◌, arith}
-use Rattle.std.specs.List.{AllByRecursion}
-use Rattle.std.proofs.lemmas.Bool.{cases_eq, eq-eqb, ne_eqb}
-use Rattle.std.proofs.lemmas.Bool.Decides.{nat_tests}
-use Rattle.std.proofs.lemmas.List.Elements.{filter-append}
-use Rattle.std.proofs.lemmas.List.Sums.{length-filter, sum_by-append, sum_by-cons}
+-- A term that has ended leaves a shard, and gives its address back, and one that began is told. Once none that ended is left, the sessions
+-- that ended leave.
+use Rattle.std.proofs.Common.{◌≡◌, ◌≢◌, ℕ, zero, suc, ◌+◌, true, false, not, List, [], ◌∷◌, ◌++◌, map, filter, sum_by, Option, Some, None, refl, sym, ap, subst, ◌∙◌, arith}
+use Rattle.std.specs.Option.{IfSome}
+use Rattle.std.specs.List.{All, AllByRecursion, AllPairs}
+use Rattle.std.proofs.Math.ListN.{get_or}
+use Rattle.arrayvec.specs.ArrayVec.{ArrayVec}
+use Rattle.bng_base.specs.declared.address.Ip4.{Ip4}
 use Rattle.bng_base.specs.declared.book.Book.{Book}
-use Rattle.bng_base.specs.declared.circuit.Circuit.{Circuit}
 use Rattle.bng_base.specs.declared.item.Entry.{Entry}
 use Rattle.bng_base.specs.declared.item.OutRecord.{OutRecord}
 use Rattle.bng_engine.specs.Lists.{AnyOf}
-use Rattle.bng_engine.specs.Quantities.{Quantity, in_book}
-use Rattle.bng_engine.specs.Sums.{stopped_where}
-use Rattle.bng_engine.specs.Terms.{Key, Stop, Term, ComesBefore, is_ended, keys}
-use Rattle.bng_engine.specs.Views.{row_keys, rows_where}
-use Rattle.bng_engine.proofs.Everywhere.{all_append}
-use Rattle.bng_slots.specs.Sessions.{Sessions, value_at, without}
-use Rattle.bng_slots.specs.Listed.{values}
-use Rattle.bng_slots.proofs.SessionLaws.{sum-without, value_at-without, value_at-without_other}
+use Rattle.bng_engine.specs.Terms.{ComesBefore, Key, Stop, Term}
+use Rattle.bng_engine.specs.Views.{ShardView, row_keys}
+use Rattle.bng_pool.specs.Tables.{Table, TableFrees, entry}
+use Rattle.bng_slots.specs.Sessions.{Sessions}
 use Rattle.bng_shard.specs.declared.rules.Rules.{Rules}
-use Rattle.bng_shard.specs.declared.terms.Running.{Running}
-use Rattle.bng_shard.specs.declared.session.Done.{Done}
-use Rattle.bng_shard.specs.declared.session.Service.{Service}
-use Rattle.bng_shard.specs.declared.session.Service.TheVariants.{Provisioned, Discovered}
 use Rattle.bng_shard.specs.declared.session.Session.{Session}
-use Rattle.bng_shard.specs.Ending.{IsFirstDone, NoneIsDone, done_from, done_in, done_of}
+use Rattle.bng_shard.specs.declared.term.EndedTerm.{EndedTerm}
+use Rattle.bng_shard.specs.declared.terms.Running.{Running}
 use Rattle.bng_shard.specs.Fits.{ArePlaced}
-use Rattle.bng_shard.specs.Protocol.{Leaves, stop_of, term_of, terms_at, terms_in}
-use Rattle.bng_shard.specs.Running.{row_from, rows_in}
-use Rattle.bng_shard.specs.Serving.{AreOwn}
-use Rattle.bng_shard.specs.State.{State, circuit_of, leaves, settled}
-use Rattle.bng_shard.proofs.Done.{done_leaves}
-use Rattle.bng_shard.proofs.OfSession.{is_of, key_of, others, keys_of_kept, rows_kept, option_carried, found_one, only_one, any_passing, key_among, hits_in, hits_sum, no_hits}
-use Rattle.bng_shard.proofs.Splitting.{SplitsAt, one_splits}
-use Rattle.bng_shard.proofs.Stepping.{view}
-use Rattle.bng_shard.proofs.TermLaws.{all_live, settled_terms, terms_there}
-use Rattle.bng_shard.proofs.Values.{kept, none_kept, none_some, numbered, same_sessions, same_some, stands, sum_nothing, value_at-kept, values-kept}
+use Rattle.bng_shard.specs.Protocol.{AreHeld, Leaves, SaysOf, ShardState, TellsNew, stop_of, term_in}
+use Rattle.bng_shard.specs.Running.{AreTied, TakesFirst, TermsView, has_ended, key_from, rows_in, tenure_in, tenures_in, whole}
+use Rattle.bng_shard.specs.State.{IsTermOf, State, leaves, reaped}
+use Rattle.bng_shard.specs.Tenures.{Tenure}
+use Rattle.bng_shard.proofs.LeavingFirst.{all_are_live, ended_from, left_are, left_least, left_live, left_lives, left_one, left_sums, left_says, left_were, rows_fit, told_least, told_one}
+use Rattle.bng_shard.proofs.ListParts.{all_left}
+use Rattle.bng_shard.proofs.Values.{kept, kept_from}
 
--- the term of a session whose term has ended
-abbrev pub done_term : Session → Done → Term
-done_term x d = term_of x d.lease (Some d.cause)
+-- The addresses of those that stay ----------------------------------------------------------------------------------------
 
-terms_done : (v : Service) (x : Session) (d : Done) → done_in v ≡ Some d → terms_in x v ≡ done_term x d ∷ []
-terms_done (Provisioned p) x d e =
-    elim p.cause as (λ o. done_from p.lease o ≡ Some d → term_of x p.lease o ∷ [] ≡ done_term x d ∷ []) [
-      | None ↦ λ f. absurd (none_some d f)
-      | Some c ↦ λ f. ap (λ (k : Done). done_term x k ∷ []) (same_some (record { lease = p.lease; cause = c }) d f)
-    ] e
-terms_done (Discovered m) x d e = absurd (none_some d e)
+module _ {X : Type 0} where
+  all_within : (P : X → Type 0) (before after : List X) (x : X) → All P (before ++ x ∷ after) → P x
+  all_within P [] after x h = h zero x (omega arith)
+  all_within P (b ∷ before) after x h = all_within P before after x (λ k d lt. h (suc k) d (omega (arith, lt)))
 
--- Terms that have ended --------------------------------------------------------------------------------------------------
+  -- what differs pairwise differs from the one that leaves
+  pairs_within : (R : X → X → Type 0) (before after : List X) (x : X) → ((a b : X) → R a b → R b a) → AllPairs R (before ++ x ∷ after) → All (R x) (before ++ after)
+  pairs_within R [] after x back h k d lt = h zero (suc k) d (omega arith) (omega (arith, lt))
+  pairs_within R (b ∷ before) after x back h zero d lt = back b x (all_within (R b) before after x (λ k e within. h zero (suc k) e (omega arith) (omega (arith, within))))
+  pairs_within R (b ∷ before) after x back h (suc k) d lt =
+      pairs_within R before after x back (λ i j e below within. h (suc i) (suc j) e (omega (arith, below)) (omega (arith, within))) k d (omega (arith, lt))
 
--- what is summed of the ended terms is summed by session
-ended_sums : (f : Term → ℕ) (xs : List Session) → sum_by f (filter is_ended (flat_map terms_at xs)) ≡ sum_by (λ (x : Session). sum_by f (filter is_ended (terms_at x))) xs
-ended_sums f [] = refl
-ended_sums f (x ∷ xs) =
-    let rest = ended_sums f xs in
-    let split = ap (sum_by f) (filter-append is_ended (terms_at x) (flat_map terms_at xs)) ∙ sum_by-append f (filter is_ended (terms_at x)) (filter is_ended (flat_map terms_at xs)) in
-    let cons = sum_by-cons (λ (y : Session). sum_by f (filter is_ended (terms_at y))) x xs in
-    omega (arith, rest, split, cons)
+-- each row has its address
+held_rows : (P : Term → Type 0) (rows : List Running) → All P (map term_in (tenures_in rows)) → All (λ (r : Running). P (term_in (tenure_in r))) rows
+held_rows P [] h k d lt = absurd (omega (arith, lt))
+held_rows P (r ∷ rows) h zero d lt = h zero (term_in (tenure_in d)) (omega arith)
+held_rows P (r ∷ rows) h (suc k) d lt = held_rows P rows (λ j e within. h (suc j) e (omega (arith, within))) k d (omega (arith, lt))
 
--- what holds of the ended terms of each session holds of all
-all_ended : (P : Term → Type 0) (xs : List Session) → ((x : Session) → Contains xs x → AllByRecursion P (filter is_ended (terms_at x))) → AllByRecursion P (filter is_ended (flat_map terms_at xs))
-all_ended P [] each = tt
-all_ended P (x ∷ xs) each =
-    subst (AllByRecursion P) (sym (filter-append is_ended (terms_at x) (flat_map terms_at xs)))
-    (all_append P (filter is_ended (terms_at x)) (filter is_ended (flat_map terms_at xs)) (each x (0, omega arith, refl))
-    (all_ended P xs (λ y c. each y (suc c.0, omega (arith, c.1), c.2))))
+rows_held : (P : Term → Type 0) (rows : List Running) → All (λ (r : Running). P (term_in (tenure_in r))) rows → All P (map term_in (tenures_in rows))
+rows_held P [] h k e lt = absurd (omega (arith, lt))
+rows_held P (r ∷ rows) h zero e lt = h zero r (omega arith)
+rows_held P (r ∷ rows) h (suc k) e lt = rows_held P rows (λ j f within. h (suc j) f (omega (arith, within))) k e (omega (arith, lt))
 
-no_ended : (xs : List Session) → ((x : Session) → Contains xs x → filter is_ended (terms_at x) ≡ []) → filter is_ended (flat_map terms_at xs) ≡ []
-no_ended [] each = refl
-no_ended (x ∷ xs) each =
-    filter-append is_ended (terms_at x) (flat_map terms_at xs)
-    ∙ ap (λ (ts : List Term). ts ++ filter is_ended (flat_map terms_at xs)) (each x (0, omega arith, refl))
-    ∙ no_ended xs (λ y c. each y (suc c.0, omega (arith, c.1), c.2))
+same_address : (a b : Ip4) → a.0 ≡ b.0 → a ≡ b
+same_address a b e = λ i. record { 0 = e i }
 
-none_ended_in : (v : Service) (x : Session) → done_in v ≡ None → filter is_ended (terms_in x v) ≡ []
-none_ended_in (Provisioned p) x e =
-    elim p.cause as (λ o. done_from p.lease o ≡ None → filter is_ended (term_of x p.lease o ∷ []) ≡ []) [
-      | None ↦ λ f. refl
-      | Some c ↦ λ f. absurd (none_some (record { lease = p.lease; cause = c }) (sym f))
-    ] e
-none_ended_in (Discovered m) x e = refl
+module _ (rows rows' : List Running) (r : Running) (shard : ℕ) (table : Table) (takes : TakesFirst true rows r rows') (held : AreHeld shard (map term_in (tenures_in rows)) table) where
+  -- it has its address until then
+  pub held_here : entry table r.lease.0 ≡ Some shard
+  held_here =
+      let P : Term → Type 0 = λ t. entry table t.key.lease.0 ≡ Some shard in
+      all_within (λ (q : Running). P (term_in (tenure_in q))) takes.before takes.after r (subst (All (λ (q : Running). P (term_in (tenure_in q)))) takes.were (held_rows P rows held))
 
--- where no session has a term that has ended, there is none
-pub none_ended : (s : State) → NoneIsDone s → filter is_ended (terms_there s) ≡ []
-none_ended s none = no_ended (values s.sessions) (λ x c. let n = numbered s.sessions x c in none_ended_in x.service x (none n.0 x n.1))
+  -- and the others keep theirs
+  pub held_still : (k : ℕ) (table' : Table) → AllPairs (λ (b c : Running). b.lease ≢ c.lease) rows → TableFrees table k r.lease.0 table' → AreHeld shard (map term_in (tenures_in rows')) table'
+  held_still k table' apart frees =
+      let differ = pairs_within (λ (b c : Running). b.lease ≢ c.lease) takes.before takes.after r (λ a b other same. other (sym same)) (subst (AllPairs (λ (b c : Running). b.lease ≢ c.lease)) takes.were apart) in
+      let P : Term → Type 0 = λ t. entry table t.key.lease.0 ≡ Some shard in
+      let were : All (λ (q : Running). P (term_in (tenure_in q))) (takes.before ++ takes.after) =
+      all_left (λ (q : Running). P (term_in (tenure_in q))) takes.before takes.after r (subst (All (λ (q : Running). P (term_in (tenure_in q)))) takes.were (held_rows P rows held)) in
+      let P' : Term → Type 0 = λ t. entry table' t.key.lease.0 ≡ Some shard in
+      let are : All (λ (q : Running). P' (term_in (tenure_in q))) (takes.before ++ takes.after) =
+      λ j d lt. frees.elsewhere (get_or (takes.before ++ takes.after) j d).lease.0 (λ same. differ j d lt (same_address r.lease (get_or (takes.before ++ takes.after) j d).lease (sym same))) ∙ were j d lt in
+      rows_held P' rows' (subst (All (λ (q : Running). P' (term_in (tenure_in q)))) (sym takes.are) are)
 
-done_first_in : (k : Key) (v : Service) (x : Session) → ((d : Done) → done_in v ≡ Some d → k.term.session.0 < x.number.0) → AllByRecursion (λ (t : Term). ComesBefore k t.key) (filter is_ended (terms_in x v))
-done_first_in k (Provisioned p) x first =
-    elim p.cause as (λ o. ((d : Done) → done_from p.lease o ≡ Some d → k.term.session.0 < x.number.0) → AllByRecursion (λ (t : Term). ComesBefore k t.key) (filter is_ended (term_of x p.lease o ∷ []))) [
-      | None ↦ λ f. tt
-      | Some c ↦ λ f. (comes_first k (term_of x p.lease (Some c)).key (f (record { lease = p.lease; cause = c }) refl), tt)
-    ] first
-  where
-    comes_first : (i j : Key) → i.term.session.0 < j.term.session.0 → ComesBefore i j
-    comes_first i j lt = grind (arith, nat_tests, lt)
-done_first_in k (Discovered m) x first = tt
+-- A term leaves -----------------------------------------------------------------------------------------------------------
 
--- The one that leaves -------------------------------------------------------------------------------------------------------
+-- the lease of a session is that of a live term, which stays
+pub tied_left : (sessions : Sessions Session) (rows rows' : List Running) (r : Running) → TakesFirst true rows r rows' → AreTied sessions (tenures_in rows) → AreTied sessions (tenures_in rows')
+tied_left sessions rows rows' r takes tied n x l at leased = left_live rows rows' r (IsTermOf x l) (λ t is. is.live) takes (tied n x l at leased)
 
-module _ (s : Sessions Session) (x : Session) (d : Done) (own : AreOwn s) (here : value_at s x.number.0 ≡ Some x) (done : done_of x ≡ Some d) where
-  abbrev left : Sessions Session
-  left = without s x.number.0
-
-  -- the others have other numbers
-  other_number : (y : Session) → Contains (values left) y → (m : ℕ) × (value_at s m ≡ Some y) × (y.number.0 ≡ m) × (m ≡ x.number.0 → ⊥)
-  other_number y c =
-      let m = numbered left y c in
-      let differ : m.0 ≡ x.number.0 → ⊥ = λ same. none_some y (sym (ap (λ (k : ℕ). value_at left k) same ∙ value_at-without s x.number.0) ∙ m.1) in
-      let was = sym (value_at-without_other s x.number.0 m.0 differ) ∙ m.1 in
-      (m.0, was, own m.0 y was, differ)
-
-  -- those are left that have another number
-  left_is : left ≡ kept (λ (y : Session). not (y.number.0 == x.number.0)) s
-  left_is =
-      let stays : Session → Bool = λ y. not (y.number.0 == x.number.0) in
-      same_sessions left (kept stays s) refl (λ m. elim (cases_eq m x.number.0) [
-        | inl same ↦
-            ap (λ (k : ℕ). value_at left k) same ∙ value_at-without s x.number.0
-            ∙ sym (none_kept stays s m (λ y is. ap not (eq-eqb y.number.0 x.number.0 (own m y is ∙ same))))
-        | inr differ ↦
-            value_at-without_other s x.number.0 m differ
-            ∙ (elim (value_at s m) as (λ o. value_at s m ≡ o → value_at s m ≡ value_at (kept stays s) m) [
-              | None ↦ λ e. e ∙ sym (none_kept stays s m (λ y is. absurd (none_some y (sym e ∙ is))))
-              | Some y ↦ λ e. e ∙ sym (value_at-kept stays s m y e (ap not (ne_eqb y.number.0 x.number.0 (λ f. differ (sym (own m y e) ∙ f)))))
-            ]) refl
-      ])
-
-  pub left_keys : keys (flat_map terms_at (values left)) ≡ filter (λ (k : Key). not (key_of x.number.0 k)) (keys (flat_map terms_at (values s)))
-  left_keys =
-      ap (λ (t : Sessions Session). keys (flat_map terms_at (values t))) left_is
-      ∙ ap (λ (ys : List Session). keys (flat_map terms_at ys)) (values-kept (λ (y : Session). not (y.number.0 == x.number.0)) s)
-      ∙ others x.number.0 (values s)
-
-  one_term : terms_at x ≡ done_term x d ∷ []
-  one_term = terms_done x.service x d done
-
-  hits_once : hits_in x.number.0 (flat_map terms_at (values s)) ≡ 1
-  hits_once =
-      let hits : Session → ℕ = λ y. hits_in x.number.0 (terms_at y) in
-      let sums = sum-without s x.number.0 hits x here in
-      let rest : sum_by hits (values left) ≡ 0 = sum_nothing hits (values left) (λ y c.
-      let m = other_number y c in
-      no_hits x.number.0 y.service y (ne_eqb y.number.0 x.number.0 (λ f. m.3 (sym m.2 ∙ f)))) in
-      let mine : hits x ≡ 1 = ap (hits_in x.number.0) one_term ∙ ap {B = ℕ} (λ (b : Bool). 0 + cond b 1 0) (eq-eqb x.number.0 x.number.0 refl) in
-      let all = hits_sum x.number.0 (values s) in
-      omega (arith, sums, rest, mine, all)
-
-  -- Rows -------------------------------------------------------------------------------------------------------------------
-
-  module _ (rs : List Running) (fit : row_keys (rows_in rs) ≡ keys (flat_map terms_at (values s))) where
-    abbrev others_left : List Running
-    others_left = filter (λ (r : Running). not (is_of x.number.0 r)) rs
-
-    -- the rows of the others fit
-    pub left_fit : row_keys (rows_in others_left) ≡ keys (flat_map terms_at (values left))
-    left_fit = keys_of_kept (λ (k : Key). not (key_of x.number.0 k)) rs ∙ ap (filter (λ (k : Key). not (key_of x.number.0 k))) fit ∙ sym left_keys
-
-    its_keys : row_keys (rows_in (filter (is_of x.number.0) rs)) ≡ filter (key_of x.number.0) (keys (flat_map terms_at (values s)))
-    its_keys = keys_of_kept (key_of x.number.0) rs ∙ ap (filter (key_of x.number.0)) fit
-
-    rows_count : (qs : List Running) → length (row_keys (rows_in qs)) ≡ length qs
-    rows_count [] = refl
-    rows_count (q ∷ qs) = ap suc (rows_count qs)
-
-    its_rows : (r : Running) × (filter (is_of x.number.0) rs ≡ r ∷ [])
-    its_rows =
-        let long = ap (λ (ks : List Key). length ks) its_keys ∙ length-filter (key_of x.number.0) (keys (flat_map terms_at (values s))) ∙ hits_once in
-        let count = rows_count (filter (is_of x.number.0) rs) in
-        only_one (filter (is_of x.number.0) rs) (omega (arith, long, count))
-
-    -- its row is there
-    pub its_row : (r : Running) × (find (is_of x.number.0) rs ≡ Some r) × ((row_from r).key ≡ (done_term x d).key) × (filter (is_of x.number.0) rs ≡ r ∷ [])
-    its_row =
-        let row = its_rows in
-        let all = key_among (values s) x (done_term x d) one_term (stands s x.number.0 x here) in
-        let passing = any_passing (key_of x.number.0) (done_term x d).key (keys (flat_map terms_at (values s))) (eq-eqb x.number.0 x.number.0 refl) all in
-        let among = subst (AnyOf (λ (k : Key). k ≡ (done_term x d).key)) (sym its_keys ∙ ap (λ (qs : List Running). row_keys (rows_in qs)) row.1) passing in
-        (row.0, found_one (is_of x.number.0) rs row.0 row.1, only (row_from row.0).key among, row.1)
-      where
-        only : (k : Key) → AnyOf (λ (j : Key). j ≡ (done_term x d).key) (k ∷ []) → k ≡ (done_term x d).key
-        only k (inl is) = is
-        only k (inr never) = absurd never
-
-    -- its key stands between those before it and those after it
-    abbrev its_place : Type 0
-    its_place = SplitsAt (key_of x.number.0) (row_keys (rows_in rs)) (done_term x d).key
-
-    pub left_place : its_place
-    left_place =
-        let row = its_row in
-        one_splits (key_of x.number.0) (row_keys (rows_in rs)) (done_term x d).key
-        (sym (keys_of_kept (key_of x.number.0) rs) ∙ ap (λ (qs : List Running). row_keys (rows_in qs)) row.3 ∙ ap (λ (k : Key). k ∷ []) row.2)
-
-    pub others_place : row_keys (rows_in others_left) ≡ left_place.before ++ left_place.after
-    others_place = keys_of_kept (λ (k : Key). not (key_of x.number.0 k)) rs ∙ left_place.are
-
-    -- its Stop says what its row said
-    pub left_rows : (stop : Stop) (carried : Book) → stop.key ≡ (done_term x d).key → stop.carried ≡ carried → Some carried ≡ option_carried (find (is_of x.number.0) rs) → (q : Quantity) (pick : Key → Bool) (input : Bool)
-        → stopped_where q pick input (stop ∷ []) + rows_where q pick input (rows_in others_left) ≡ rows_where q pick input (rows_in rs)
-    left_rows stop carried key same is q pick input =
-        let row = its_row in
-        let book : row.0.carried ≡ carried = sym (same_some carried row.0.carried (is ∙ ap option_carried row.1)) in
-        let said : Key → Book → ℕ = λ k b. cond (pick k) (in_book q input b) 0 in
-        let stopped : stopped_where q pick input (stop ∷ []) ≡ 0 + said stop.key stop.carried = refl in
-        let its : rows_where q pick input (rows_in (filter (is_of x.number.0) rs)) ≡ 0 + said (row_from row.0).key row.0.carried = ap (λ (qs : List Running). rows_where q pick input (rows_in qs)) row.3 in
-        let both = rows_kept (is_of x.number.0) q pick input rs in
-        let one : said stop.key stop.carried ≡ said (row_from row.0).key row.0.carried = ap (λ (k : Key). said k stop.carried) (key ∙ sym row.2) ∙ ap (said (row_from row.0).key) (same ∙ sym book) in
-        omega (arith, stopped, its, both, one)
-
-  -- Terms ------------------------------------------------------------------------------------------------------------------
-
-  -- it is the one that has left
-  pub left_one : (f : Key → ℕ → ℕ) → f (done_term x d).key d.cause + sum_by (λ (t : Term). f t.key t.cause) (filter is_ended (flat_map terms_at (values left))) ≡ sum_by (λ (t : Term). f t.key t.cause) (filter is_ended (flat_map terms_at (values s)))
-  left_one f =
-      let of_term : Term → ℕ = λ t. f t.key t.cause in
-      let of_session : Session → ℕ = λ y. sum_by of_term (filter is_ended (terms_at y)) in
-      let before = ended_sums of_term (values s) in
-      let after = ended_sums of_term (values left) in
-      let sums = sum-without s x.number.0 of_session x here in
-      let mine : of_session x ≡ 0 + f (done_term x d).key d.cause = ap (λ (ts : List Term). sum_by of_term (filter is_ended ts)) one_term in
-      omega (arith, before, after, sums, mine)
-
-  -- and the first in order
-  pub left_least : ((m : ℕ) (y : Session) (e : Done) → value_at s m ≡ Some y → done_of y ≡ Some e → x.number.0 ≤ m) → AllByRecursion (λ (t : Term). ComesBefore (done_term x d).key t.key) (filter is_ended (flat_map terms_at (values left)))
-  left_least first = all_ended (λ (t : Term). ComesBefore (done_term x d).key t.key) (values left) (λ y c.
-      let m = other_number y c in
-      done_first_in (done_term x d).key y.service y (λ e ends.
-      let low = first m.0 y e m.1 ends in
-      let is = m.2 in
-      lower m.0 x.number.0 y.number.0 low is m.3))
-    where
-      lower : (m n k : ℕ) → n ≤ m → k ≡ m → (m ≡ n → ⊥) → n < k
-      lower m n k low is differ = omega (arith, low, is, differ)
-
-  -- once all have left, the same are left
-  pub left_settled : kept (λ (y : Session). not (leaves y)) left ≡ kept (λ (y : Session). not (leaves y)) s
-  left_settled =
-      let stays : Session → Bool = λ y. not (leaves y) in
-      same_sessions (kept stays left) (kept stays s) refl (λ m. elim (cases_eq m x.number.0) [
-        | inl same ↦
-            none_kept stays left m (λ y is. absurd (none_some y (sym (ap (λ (k : ℕ). value_at left k) same ∙ value_at-without s x.number.0) ∙ is)))
-            ∙ sym (none_kept stays s m (λ y is. ap not (ap leaves (same_some y x (sym is ∙ ap (λ (k : ℕ). value_at s k) same ∙ here)) ∙ it_leaves)))
-        | inr differ ↦ same_kept stays left s m (value_at-without_other s x.number.0 m differ)
-      ])
-    where
-      it_leaves : leaves x ≡ true
-      it_leaves = done_leaves x (ap (λ (o : Option Done). is_some o) done)
-
-      same_kept : (p : Session → Bool) (a b : Sessions Session) (m : ℕ) → value_at a m ≡ value_at b m → value_at (kept p a) m ≡ value_at (kept p b) m
-      same_kept p a b m e =
-          elim (value_at b m) as (λ o. value_at b m ≡ o → value_at (kept p a) m ≡ value_at (kept p b) m) [
-            | None ↦ λ f.
-                none_kept p a m (λ y is. absurd (none_some y (sym (e ∙ f) ∙ is))) ∙ sym (none_kept p b m (λ y is. absurd (none_some y (sym f ∙ is))))
-            | Some y ↦ λ f.
-                elim (p y) as (λ c. p y ≡ c → value_at (kept p a) m ≡ value_at (kept p b) m) [
-                  | true ↦ λ g. value_at-kept p a m y (e ∙ f) g ∙ sym (value_at-kept p b m y f g)
-                  | false ↦ λ g.
-                      none_kept p a m (λ z is. ap p (same_some z y (sym is ∙ (e ∙ f))) ∙ g) ∙ sym (none_kept p b m (λ z is. ap p (same_some z y (sym is ∙ f)) ∙ g))
-                ] refl
-          ] refl
-
-  -- each is on a port that is there
-  pub left_placed : (r : Rules) → ArePlaced r s → ArePlaced r left
-  left_placed r placed m y is = elim (cases_eq m x.number.0) [
-    | inl same ↦ absurd (none_some y (sym (ap (λ (k : ℕ). value_at left k) same ∙ value_at-without s x.number.0) ∙ is))
-    | inr differ ↦ placed m y (sym (value_at-without_other s x.number.0 m differ) ∙ is)
-  ]
-
--- A shard of which it has left --------------------------------------------------------------------------------------------
-
-module _ (r : Rules) (s : State) (rs : List Running) (passed : Book) (allowance : ℕ) (journal : List Entry) (outs : List OutRecord) (room : ℕ) (x : Session) (d : Done) (carried : Book)
-    (own : AreOwn s.sessions) (first : IsFirstDone s x d) (fit : row_keys (rows_in rs) ≡ keys (terms_there s)) (is : Some carried ≡ option_carried (find (is_of x.number.0) rs)) where
-  abbrev stop : Circuit → Stop
-  stop circuit = stop_of (record { term = record { session = x.number; serial = d.lease.serial }; circuit = circuit; address = d.lease.address; cause = d.cause; carried = carried })
-
-  abbrev rest : State
-  rest = record s { sessions = without s.sessions x.number.0 }
-
-  leaves_alone : Leaves (view r s (rows_in rs) passed allowance journal outs room) (view r rest (rows_in (filter (λ (q : Running). not (is_of x.number.0 q)) rs)) passed allowance journal outs 0) (stop (circuit_of x))
-  leaves_alone = record {
-    one = left_one s.sessions x d own first.there first.done;
-    least = left_least s.sessions x d own first.there first.done first.first;
-    rows = left_rows s.sessions x d own first.there first.done rs fit (stop (circuit_of x)) carried refl refl is;
-    fit = left_fit s.sessions x d own first.there first.done rs fit;
-    before = (left_place s.sessions x d own first.there first.done rs fit).before;
-    after = (left_place s.sessions x d own first.there first.done rs fit).after;
-    were = (left_place s.sessions x d own first.there first.done rs fit).were;
-    are = others_place s.sessions x d own first.there first.done rs fit;
-    rules = refl;
-    slots = ap (λ (ss : Sessions Session). let t : State = record s { sessions = ss } in t) (left_settled s.sessions x d own first.there first.done);
-    number = refl;
-    books = refl;
-    allowance = refl;
-    journal = refl;
-    outs = refl;
+module _ (rules : Rules) (s : State) (passed : Book) (allowance : ℕ) (journal : List Entry) (outs : List OutRecord) where
+  abbrev pub shown : TermsView → ℕ → ShardView ShardState Entry
+  shown t room = record {
+    number = s.sessions.shard;
+    state = record { rules = rules; slots = whole s t };
+    rows = rows_in t.rows;
+    books = passed ∷ [];
+    allowance = allowance;
+    journal = journal;
+    outs = outs;
+    sends = [];
+    stops = [];
+    starts = [];
+    room = room;
   }
 
-  pub leaves_so : (s' : State) (rs' : List Running) (circuit : Circuit) → s' ≡ record s { sessions = without s.sessions x.number.0 } → rs' ≡ filter (λ (q : Running). not (is_of x.number.0 q)) rs → circuit ≡ circuit_of x
-      → Leaves (view r s (rows_in rs) passed allowance journal outs room) (view r s' (rows_in rs') passed allowance journal outs 0) (stop circuit)
-  leaves_so s' rs' circuit next rows is_circuit =
-      subst (λ (t : State). Leaves (view r s (rows_in rs) passed allowance journal outs room) (view r t (rows_in rs') passed allowance journal outs 0) (stop circuit)) (sym next)
-      (subst (λ (qs : List Running). Leaves (view r s (rows_in rs) passed allowance journal outs room) (view r rest (rows_in qs) passed allowance journal outs 0) (stop circuit)) (sym rows)
-      (subst (λ (c : Circuit). Leaves (view r s (rows_in rs) passed allowance journal outs room) (view r rest (rows_in (filter (λ (q : Running). not (is_of x.number.0 q)) rs)) passed allowance journal outs 0) (stop c)) (sym is_circuit) leaves_alone))
+  pub leaves_so : (t t' : TermsView) (room : ℕ) (r : Running) (stop : Stop) → TakesFirst true t.rows r t'.rows → t' ≡ record t { rows = t'.rows }
+      → r.cause ≡ Some stop.cause → stop.key ≡ key_from r → stop.carried ≡ r.carried → Leaves (shown t room) (shown t' 0) stop
+  leaves_so t t' room r stop takes others cause key carried =
+      let rows = t.rows in
+      let rows' = t'.rows in
+      record {
+        one = subst (λ (k : Key). (f : Key → ℕ → ℕ) → f k stop.cause + sum_by (λ (u : Term). f u.key u.cause) (ended_from rows') ≡ sum_by (λ (u : Term). f u.key u.cause) (ended_from rows)) (sym key) (left_one rows rows' r stop.cause cause takes);
+        least = subst (λ (k : Key). AllByRecursion (λ (u : Term). ComesBefore k u.key) (ended_from rows')) (sym key) (left_least rows rows' r takes);
+        rows = left_sums rows rows' r stop key carried true takes;
+        fit = rows_fit rows';
+        before = row_keys (rows_in takes.before);
+        after = row_keys (rows_in takes.after);
+        were = left_were rows rows' r true takes ∙ ap (λ (k : Key). row_keys (rows_in takes.before) ++ k ∷ row_keys (rows_in takes.after)) (sym key);
+        are = left_are rows rows' r true takes;
+        rules = refl;
+        slots = ap (λ (v : TermsView). reaped (whole s (record v { rows = rows' }))) others
+            ∙ ap (λ (ts : List Tenure). let u : State = record (reaped (whole s t)) { terms = ts } in u) (left_lives rows rows' r takes);
+        number = refl;
+        books = refl;
+        allowance = refl;
+        journal = refl;
+        outs = refl;
+      }
 
--- where none has ended, the terms stay as they are once the sessions that ended have left
-pub none_settled : (s : State) → NoneIsDone s → terms_there (settled s) ≡ terms_there s
-none_settled s none = settled_terms s ∙ all_live (terms_there s) (none_ended s none)
+  -- what is reported of it
+  pub ended_so : (t t' : TermsView) (room : ℕ) (r : Running) (o : Option EndedTerm) → TakesFirst true t.rows r t'.rows → t' ≡ record t { rows = t'.rows }
+      → IfSome o (λ e. (r.cause ≡ Some e.cause) × ((stop_of e).key ≡ key_from r) × (e.carried ≡ r.carried))
+      → (table table' : Table) → (k : ℕ) × TableFrees table k r.lease.0 table'
+      → IfSome o (λ e. Leaves (shown t room) (shown t' 0) (stop_of e) × ((k : ℕ) × TableFrees table k e.address.0 table'))
+  ended_so t t' room r None takes others says table table' frees = tt
+  ended_so t t' room r (Some e) takes others says table table' frees = (
+    leaves_so t t' room r (stop_of e) takes others says.0 says.1 says.2,
+    (frees.0, subst (λ (k : Key). TableFrees table frees.0 k.lease.0 table') (sym says.1) frees.1),
+  )
+
+  -- One is told ---------------------------------------------------------------------------------------------------------------
+
+  pub tells_so : (t t' : TermsView) (r : Running) → TakesFirst false t.news r t'.news → t' ≡ record t { news = t'.news } → TellsNew (whole s t) (whole s t') (tenure_in r)
+  tells_so t t' r takes others = record {
+    one = told_one t.news t'.news r takes;
+    least = told_least t.news t'.news r takes;
+    others = ap (λ (v : TermsView). let u : State = record s { terms = tenures_in v.rows; news = tenures_in t'.news } in u) others;
+  }
+
+  pub told_shown : (t t' : TermsView) (room : ℕ) → t' ≡ record t { news = t'.news } → shown t' room ≡ record (shown t room) { state = record { rules = rules; slots = whole s t' } }
+  told_shown t t' room others = ap (λ (v : TermsView). let w : ShardView ShardState Entry = record (shown t' room) { rows = rows_in v.rows } in w) others
+
+-- None is left --------------------------------------------------------------------------------------------------------------
+
+pub reaped_whole : (s s' : State) (t : TermsView) → s' ≡ record s { sessions = (reaped s).sessions } → filter has_ended t.rows ≡ [] → whole s' t ≡ reaped (whole s t)
+reaped_whole s s' t next none =
+    ap (λ (u : State). whole u t) next
+    ∙ ap (λ (ts : List Tenure). let u : State = record (whole s t) { sessions = (reaped s).sessions; terms = ts } in u) (sym (all_are_live t.rows none))
+
+pub reaped_shown : (rules : Rules) (s : State) (passed : Book) (allowance : ℕ) (journal : List Entry) (outs : List OutRecord) (t t' : TermsView) (s' : State) (room : ℕ)
+    → filter has_ended t.rows ≡ [] → t' ≡ t → s' ≡ record s { sessions = (reaped s).sessions }
+    → shown rules s' passed allowance journal outs t' 0 ≡ record (shown rules s passed allowance journal outs t room) { state = record { rules = rules; slots = reaped (whole s t) }; room = 0 }
+reaped_shown rules s passed allowance journal outs t t' s' room none same next =
+    let view : State → TermsView → State → ShardView ShardState Entry = λ u v w. record (shown rules u passed allowance journal outs v 0) { state = record { rules = rules; slots = w } } in
+    ap (λ (v : TermsView). view s' v (whole s' v)) same
+    ∙ ap (λ (w : State). view s' t w) (reaped_whole s s' t next none)
+    ∙ ap (λ (u : State). view u t (reaped (whole s t))) next
+
+pub ended_said : (rows rows' : List Running) (r : Running) (o : Option EndedTerm) → TakesFirst true rows r rows'
+    → IfSome o (λ e. (r.cause ≡ Some e.cause) × ((stop_of e).key ≡ key_from r) × (e.carried ≡ r.carried)) → IfSome o (λ e. (e.user ≡ r.user) × (e.class ≡ r.class) × (e.began ≡ r.began))
+    → IfSome o (λ e. AnyOf (SaysOf e.user.items e.class.items e.began (stop_of e).key) (tenures_in rows))
+ended_said rows rows' r None takes one says = tt
+ended_said rows rows' r (Some e) takes one says =
+    subst (λ (k : Key). AnyOf (SaysOf e.user.items e.class.items e.began k) (tenures_in rows)) (sym one.1)
+    (subst (λ n. AnyOf (SaysOf e.user.items e.class.items n (key_from r)) (tenures_in rows)) (sym says.2)
+    (subst (λ (v : ArrayVec ℕ). AnyOf (SaysOf e.user.items v.items r.began (key_from r)) (tenures_in rows)) (sym says.1)
+    (subst (λ (v : ArrayVec ℕ). AnyOf (SaysOf v.items r.class.items r.began (key_from r)) (tenures_in rows)) (sym says.0)
+    (left_says rows rows' r true takes))))
+
+-- those that stay were there
+module _ (sessions : Sessions Session) where
+  pub placed_kept : (rules : Rules) → ArePlaced rules sessions → ArePlaced rules (kept (λ (y : Session). not (leaves y)) sessions)
+  placed_kept rules placed n x at = placed n x (kept_from (λ (y : Session). not (leaves y)) sessions n x at).0
+
+  pub tied_kept : (ts : List Tenure) → AreTied sessions ts → AreTied (kept (λ (y : Session). not (leaves y)) sessions) ts
+  tied_kept ts tied n x l at leased = tied n x l (kept_from (λ (y : Session). not (leaves y)) sessions n x at).0 leased

@@ -1,5 +1,5 @@
 //! One shard.
-ghost use Rattle.std.specs.Prelude.{ℕ, drop, slice_get, IfSome, IfNone, ◌≡◌, ◌≢◌, ◌≤◌, ◌<◌, ◌+◌, ◌*◌, ◌^◌, [], true, IfOk, OnOk, length, option_map, vec_capacity};
+ghost use Rattle.std.specs.Prelude.{ℕ, Some, None as Nothing, drop, slice_get, IfSome, IfNone, ◌≡◌, ◌≢◌, ◌≤◌, ◌<◌, ◌+◌, ◌*◌, ◌^◌, [], true, IfOk, OnOk, length, option_map, vec_capacity};
 ghost use Rattle.bng_engine.specs.Books.{book_at};
 ghost use Rattle.bng_engine.specs.Calls.{Kept, IsReady};
 ghost use Rattle.bng_engine.specs.Protocol.{IsOwned};
@@ -13,6 +13,7 @@ ghost use Rattle.bng_slots.specs.Sessions.{IsNumberOf};
 ghost use Rattle.std.specs.List.{All, AllPairs};
 ghost use Rattle.bng_engine.specs.Lists.{AnyOf};
 ghost use Rattle.bng_pool.specs.Tables.{TableFrees};
+ghost use Rattle.bng_shard.specs.Running.{key_from};
 ghost use Rattle.bng_shard.specs.State.{reaped};
 ghost use Rattle.bng_shard.specs.Tenures.{Tenure};
 ghost use Rattle.bng_base.specs.declared.address.Ip4.{Ip4 as Address};
@@ -142,8 +143,12 @@ fn left_after(left: u32, claim: Claim) -> u32
     }
 }
 
-// What is reported of a term that has ended.
-fn stop_from(row: Running) -> Option<EndedTerm> {
+// What is reported of a term, if it has ended.
+fn stop_from(row: Running) -> Option<EndedTerm>
+    ensures one { IfSome result (λ e. (row.cause ≡ Some e.cause) × ((stop_of e).key ≡ key_from row) × (e.carried ≡ row.carried)) }
+    ensures says { IfSome result (λ e. (e.user ≡ row.user) × (e.class ≡ row.class) × (e.began ≡ row.began)) }
+    ensures none { IfNone result (row.cause ≡ Nothing) }
+{
     Some(EndedTerm {
         term: row.term,
         circuit: row.circuit,

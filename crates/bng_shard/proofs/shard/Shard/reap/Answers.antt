@@ -1,33 +1,43 @@
-use Rattle.std.proofs.Common.{◌∙◌, not, ap, sym, subst, refl, arith, List}
-use Rattle.bng_engine.specs.Terms.{keys}
-use Rattle.bng_engine.specs.Views.{row_keys}
-use Rattle.bng_shard.specs.declared.terms.Running.{Running}
+use Rattle.std.proofs.Common.{◌≡◌, ◌≢◌, ◌≤◌, refl, sym, ap, subst, arith, not, true}
+use Rattle.std.specs.List.{All, AllPairs}
+use Rattle.bng_base.specs.declared.item.Entry.{Entry}
+use Rattle.bng_engine.specs.Views.{ShardView}
+use Rattle.bng_slots.specs.Sessions.{Sessions}
 use Rattle.bng_shard.specs.declared.session.Session.{Session}
+use Rattle.bng_shard.specs.declared.terms.Running.{Running}
 use Rattle.bng_shard.specs.Fits.{ArePlaced}
-use Rattle.bng_shard.specs.Running.{AreRising, rows_in}
-use Rattle.bng_shard.specs.State.{State, leaves, settled}
-use Rattle.bng_shard.proofs.OfSession.{is_of, option_carried}
-use Rattle.bng_shard.proofs.Reaping.{its_row, leaves_so, left_fit, left_placed, none_ended, none_settled}
-use Rattle.bng_shard.proofs.RowSums.{rising_kept}
-use Rattle.bng_shard.proofs.Stepping.{view}
-use Rattle.bng_shard.proofs.TermLaws.{terms_there}
-use Rattle.bng_shard.proofs.Values.{kept_from, none_some}
+use Rattle.bng_shard.specs.Protocol.{AreHeld, ShardState, terms_of}
+use Rattle.bng_shard.specs.Running.{AreTied, TermsView, tenures_in}
+use Rattle.bng_shard.specs.State.{State, leaves}
+use Rattle.bng_shard.proofs.LeavingFirst.{left_all, left_pairs, none_over}
+use Rattle.bng_shard.proofs.Reaping.{ended_said, ended_so, held_here, held_still, placed_kept, reaped_shown, tied_kept, tied_left}
+use Rattle.bng_shard.proofs.Values.{kept}
 use Rattle.bng_shard.proofs.shard.Shard.reap.Goals as goal
 
 pub invariant_of-self : goal.invariant_of-self
 invariant_of-self c =
     let was = c.self.invariant in
-    let s = c.self.inside.served in
-    let none = c.in_default.ensures.none in
-    let next = c.settle.ensures ∙ ap settled none.1 in
+    let a = c.self.inside in
+    let same = sym c.in_default.ensures.none.1 in
+    let now = c.settle.ensures in
+    let begun = sym (ap (λ (s : State). s.begun) now) in
+    let stay = kept (λ (x : Session). not (leaves x)) a.served.sessions in
+    let sessions : stay ≡ c.settle.new.self.sessions = sym (ap (λ (s : State). s.sessions) now) in
     record {
-      rows = was.rows ∙ sym (ap (λ (t : State). keys (terms_there t)) next ∙ ap keys (none_settled s none.0));
-      rising = was.rising;
-      placed = subst (λ (t : State). ArePlaced c.self.inside.rules t.sessions) (sym next) (λ n x at. was.placed n x (kept_from (λ (y : Session). not (leaves y)) s.sessions n x at).0);
+      numbered = subst (λ (t : TermsView). All (λ (r : Running). r.term.serial ≤ c.settle.new.self.begun) t.rows) same (subst (λ n. All (λ (r : Running). r.term.serial ≤ n) a.terms.rows) begun was.numbered);
+      numbered_news = subst (λ (t : TermsView). All (λ (r : Running). r.term.serial ≤ c.settle.new.self.begun) t.news) same (subst (λ n. All (λ (r : Running). r.term.serial ≤ n) a.terms.news) begun was.numbered_news);
+      apart = subst (λ (t : TermsView). AllPairs (λ (b d : Running). b.lease ≢ d.lease) t.rows) same was.apart;
+      tied = subst (λ (t : TermsView). AreTied c.settle.new.self.sessions (tenures_in t.rows)) same
+          (subst (λ (xs : Sessions Session). AreTied xs (tenures_in a.terms.rows)) sessions (tied_kept a.served.sessions (tenures_in a.terms.rows) was.tied));
+      left = λ some. absurd (omega (arith, some));
+      numbers = λ some. omega (arith, was.numbers some, begun);
+      placed = subst (ArePlaced a.rules) sessions (placed_kept a.served.sessions a.rules was.placed);
+      few_pools = was.few_pools;
       auth = was.auth;
       offers = was.offers;
       journal_room = omega (arith, was.journal_room);
-      outs_room = λ some. omega (arith, some);
+      outs_room = λ some. absurd (omega (arith, some));
+      terms_room = omega arith;
     }
 
 pub returns-in_default-clause-none : goal.returns-in_default-clause-none
@@ -35,44 +45,56 @@ returns-in_default-clause-none c =
     let a = c.self.inside in
     let none = c.in_default.ensures.none in
     rw (← c.self.view_is) (
-      none_ended a.served none.0,
+      none_over a.terms.rows none.0,
       refl,
-      ap (λ (t : State). view a.rules t (rows_in a.rows.items) a.passed a.allowance a.journal.items a.outs.items 0) (c.settle.ensures ∙ ap settled none.1),
+      reaped_shown a.rules a.served a.passed a.allowance a.journal.items a.outs.items a.terms c.take_first_over.new.self c.settle.new.self a.room none.0 none.1 c.settle.ensures,
     )
 
-pub unreachable-requires : goal.unreachable-requires
-unreachable-requires c =
-    let s = c.self.inside.served in
-    let first = c.in-Some.ensures.found.0 in
-    let row = its_row s.sessions c.in-Some.session c.in-Some.done c.in-Some.ensures.own first.there first.done c.self.inside.rows.items c.self.invariant.rows in
-    none_some row.0.carried (sym c.in_default-leave.is ∙ c.leave.ensures.carried ∙ ap option_carried row.1)
+pub give_back-requires : goal.give_back-requires
+give_back-requires c =
+    let a = c.self.inside in
+    let held = subst (λ (v : ShardView ShardState Entry). AreHeld v.number (terms_of v.state) c.args.pool.now.table) (sym c.self.view_is) c.requires.held in
+    (a.served.sessions.shard, held_here a.terms.rows c.take_first_over.new.self.rows c.in-Some.row a.served.sessions.shard c.args.pool.now.table c.in-Some.ensures.one.0 held)
 
 pub invariant_of-self-2 : goal.invariant_of-self-2
 invariant_of-self-2 c =
     let was = c.self.invariant in
-    let s = c.self.inside.served in
-    let x = c.in-Some.session in
-    let d = c.in-Some.done in
-    let first = c.in-Some.ensures.found.0 in
-    let next = c.in-Some.ensures.found.1 in
-    let own = c.in-Some.ensures.own in
-    let rs = c.self.inside.rows.items in
+    let a = c.self.inside in
+    let rows = c.take_first_over.new.self.rows in
+    let r = c.in-Some.row in
+    let one = c.in-Some.ensures.one in
     record {
-      rows = ap (λ (qs : List Running). row_keys (rows_in qs)) c.leave.ensures.rows ∙ left_fit s.sessions x d own first.there first.done rs was.rows ∙ sym (ap (λ (t : State). keys (terms_there t)) next);
-      rising = subst AreRising (sym c.leave.ensures.rows) (rising_kept (λ (r : Running). not (is_of x.number.0 r)) rs was.rising);
-      placed = subst (λ (t : State). ArePlaced c.self.inside.rules t.sessions) (sym next) (left_placed s.sessions x d own first.there first.done c.self.inside.rules was.placed);
+      numbered = left_all a.terms.rows rows r true (λ (q : Running). q.term.serial ≤ a.served.begun) one.0 was.numbered;
+      numbered_news = subst (All (λ (q : Running). q.term.serial ≤ a.served.begun)) (sym (ap (λ (v : TermsView). v.news) one.1)) was.numbered_news;
+      apart = left_pairs a.terms.rows rows r true (λ (b d : Running). b.lease ≢ d.lease) one.0 was.apart;
+      tied = tied_left a.served.sessions a.terms.rows rows r one.0 was.tied;
+      left = λ some. absurd (omega (arith, some));
+      numbers = was.numbers;
+      placed = was.placed;
+      few_pools = was.few_pools;
       auth = was.auth;
       offers = was.offers;
       journal_room = omega (arith, was.journal_room);
-      outs_room = λ some. omega (arith, some);
+      outs_room = λ some. absurd (omega (arith, some));
+      terms_room = omega arith;
     }
 
 pub returns-clause-one : goal.returns-clause-one
 returns-clause-one c =
     let a = c.self.inside in
-    let found = c.in-Some.ensures.found in
+    let one = c.in-Some.ensures.one in
     rw (← c.self.view_is) (
-      leaves_so a.rules a.served a.rows.items a.passed a.allowance a.journal.items a.outs.items a.room c.in-Some.session c.in-Some.done c.in-Some-leave.carried c.in-Some.ensures.own found.0 c.self.invariant.rows
-          (sym c.in-Some-leave.is ∙ c.leave.ensures.carried) c.take_done.new.self c.leave.new.rows.items c.pppoe_circuit.result found.1 c.leave.ensures.rows c.pppoe_circuit.ensures,
-      c.give_back.ensures,
+    ended_so a.rules a.served a.passed a.allowance a.journal.items a.outs.items a.terms c.take_first_over.new.self a.room c.in-Some.row c.stop_from.result one.0 one.1 c.stop_from.ensures.one
+    c.args.pool.now.table c.give_back.new.self.table c.give_back.ensures.table
     )
+
+pub returns-clause-says : goal.returns-clause-says
+returns-clause-says c =
+    rw (← c.self.view_is) (ended_said c.self.inside.terms.rows c.take_first_over.new.self.rows c.in-Some.row c.stop_from.result c.in-Some.ensures.one.0 c.stop_from.ensures.one c.stop_from.ensures.says)
+
+pub returns-clause-held : goal.returns-clause-held
+returns-clause-held c =
+    let a = c.self.inside in
+    let held = subst (λ (v : ShardView ShardState Entry). AreHeld v.number (terms_of v.state) c.args.pool.now.table) (sym c.self.view_is) c.requires.held in
+    held_still a.terms.rows c.take_first_over.new.self.rows c.in-Some.row a.served.sessions.shard c.args.pool.now.table c.in-Some.ensures.one.0 held
+    c.give_back.ensures.table.0 c.give_back.new.self.table c.self.invariant.apart c.give_back.ensures.table.1
