@@ -1,4 +1,5 @@
--- A term that has ended leaves a shard, and gives its address back, and one that began is told; once none is left, the sessions that ended leave.
+-- A term that has ended leaves a shard, and gives its address back, and one that began is told. Once none that ended is left, the sessions
+-- that ended leave.
 use Rattle.std.proofs.Common.{◌≡◌, ◌≢◌, ℕ, zero, suc, ◌+◌, true, false, not, List, [], ◌∷◌, ◌++◌, map, filter, sum_by, Option, Some, None, refl, sym, ap, subst, ◌∙◌, arith}
 use Rattle.std.specs.Option.{IfSome}
 use Rattle.std.specs.List.{All, AllByRecursion, AllPairs}
@@ -67,10 +68,10 @@ module _ (rows rows' : List Running) (r : Running) (shard : ℕ) (table : Table)
       let differ = pairs_within (λ (b c : Running). b.lease ≢ c.lease) takes.before takes.after r (λ a b other same. other (sym same)) (subst (AllPairs (λ (b c : Running). b.lease ≢ c.lease)) takes.were apart) in
       let P : Term → Type 0 = λ t. entry table t.key.lease.0 ≡ Some shard in
       let were : All (λ (q : Running). P (term_in (tenure_in q))) (takes.before ++ takes.after) =
-          all_left (λ (q : Running). P (term_in (tenure_in q))) takes.before takes.after r (subst (All (λ (q : Running). P (term_in (tenure_in q)))) takes.were (held_rows P rows held)) in
+      all_left (λ (q : Running). P (term_in (tenure_in q))) takes.before takes.after r (subst (All (λ (q : Running). P (term_in (tenure_in q)))) takes.were (held_rows P rows held)) in
       let P' : Term → Type 0 = λ t. entry table' t.key.lease.0 ≡ Some shard in
       let are : All (λ (q : Running). P' (term_in (tenure_in q))) (takes.before ++ takes.after) =
-          λ j d lt. frees.elsewhere (get_or (takes.before ++ takes.after) j d).lease.0 (λ same. differ j d lt (same_address r.lease (get_or (takes.before ++ takes.after) j d).lease (sym same))) ∙ were j d lt in
+      λ j d lt. frees.elsewhere (get_or (takes.before ++ takes.after) j d).lease.0 (λ same. differ j d lt (same_address r.lease (get_or (takes.before ++ takes.after) j d).lease (sym same))) ∙ were j d lt in
       rows_held P' rows' (subst (All (λ (q : Running). P' (term_in (tenure_in q)))) (sym takes.are) are)
 
 -- A term leaves -----------------------------------------------------------------------------------------------------------
@@ -130,7 +131,7 @@ module _ (rules : Rules) (s : State) (passed : Book) (allowance : ℕ) (journal 
     (frees.0, subst (λ (k : Key). TableFrees table frees.0 k.lease.0 table') (sym says.1) frees.1),
   )
 
--- One is told ---------------------------------------------------------------------------------------------------------------
+  -- One is told ---------------------------------------------------------------------------------------------------------------
 
   pub tells_so : (t t' : TermsView) (r : Running) → TakesFirst false t.news r t'.news → t' ≡ record t { news = t'.news } → TellsNew (whole s t) (whole s t') (tenure_in r)
   tells_so t t' r takes others = record {

@@ -84,8 +84,8 @@ returns-clause-one c =
     let a = c.self.inside in
     let one = c.in-Some.ensures.one in
     rw (← c.self.view_is) (
-      ended_so a.rules a.served a.passed a.allowance a.journal.items a.outs.items a.terms c.take_first_over.new.self a.room c.in-Some.row c.stop_from.result one.0 one.1 c.stop_from.ensures.one
-          c.args.pool.now.table c.give_back.new.self.table c.give_back.ensures.table
+    ended_so a.rules a.served a.passed a.allowance a.journal.items a.outs.items a.terms c.take_first_over.new.self a.room c.in-Some.row c.stop_from.result one.0 one.1 c.stop_from.ensures.one
+    c.args.pool.now.table c.give_back.new.self.table c.give_back.ensures.table
     )
 
 pub returns-clause-says : goal.returns-clause-says
