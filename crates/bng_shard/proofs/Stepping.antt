@@ -336,6 +336,10 @@ module _ (r : Rules) (s s' : State) (outs outs' : List OutRecord) (e : Entry) (l
           (all_last (λ (j : Key). entry pool'.table j.lease.0 ≡ Some shard) ks k stay (ap (λ (b : Ip4). entry pool'.table b.0) begins.address ∙ put.put))
     ])
 
+  -- by the number of the shard after it
+  pub moved_held : (pool' : PlainView) → AreHeld s.sessions.shard (terms_there s') pool'.table → AreHeld s'.sessions.shard (terms_there s') pool'.table
+  moved_held pool' h = subst (λ (n : ℕ). AreHeld n (terms_there s') pool'.table) (sym moved_shard) h
+
   module _ (rows rows' : List Row) (passed passed' : Book) (allowance left room : ℕ) (journal journal' : List Entry) (counted : left + begun_in journal ≡ allowance) (is_limited : limited ≡ (left == 0))
       (fit : row_keys rows' ≡ keys (terms_there s')) (sums : SayTheSame rows rows') where
     abbrev effect : Handled
