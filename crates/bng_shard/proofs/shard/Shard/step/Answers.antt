@@ -56,11 +56,11 @@ hear-fate-requires-clause-begins c x is =
       tied = was.tied;
     }
 
-pub left_after-self-inside-requires-clause-left : goal.left_after-self-inside-requires-clause-left
-left_after-self-inside-requires-clause-left c x is =
+pub left_after-self-inside-requires : goal.left_after-self-inside-requires
+left_after-self-inside-requires c =
     let a = c.self.inside in
     let asked : IsAnswered c.self.inside.rules c.self.inside.served c.args.item (c.self.inside.left == 0) c.ask-claim.result = record { wish = c.wish_for-wish.result; is_wished = c.wish_for-wish.ensures; answers = c.ask-claim.ensures.answer } in
-    some_left a.left (claimed_within a.rules a.served c.args.item (a.left == 0) c.ask-claim.result asked x is)
+    record { left = λ x is. some_left a.left (claimed_within a.rules a.served c.args.item (a.left == 0) c.ask-claim.result asked x is) }
 
 pub book-requires-clause-low : goal.book-requires-clause-low
 book-requires-clause-low c =
@@ -97,7 +97,7 @@ invariant_of-self c =
       numbered_news = news_numbered c.hear-fate.new.served c.hear-fate.new.terms keys;
       apart = rows_apart c.hear-fate.new.served c.hear-fate.new.terms keys;
       tied = ties.tied;
-      left = omega (arith, left, was.left, begun_more a.journal.items e, ap begun_in items);
+      left = λ some. let counted = was.left (omega (arith, some)) in omega (arith, left, counted, begun_more a.journal.items e, ap begun_in items);
       numbers = λ some. let numbers = was.numbers (omega (arith, some, left)) in omega (arith, numbers, begun, left);
       placed = moved_placed a.rules s s' outs outs' e limited fate does was.placed;
       few_pools = was.few_pools;
@@ -122,6 +122,7 @@ returns c =
     let outs' = c.hear-fate.new.outs.items in
     let fate = c.hear-fate.result in
     let does = c.hear-fate.ensures.does in
+    let room = ap (λ (v : ShardView ShardState Entry). v.room) c.self.view_is in
     let pool = c.args.pool.now in
     let pool' = c.ask-claim.new.pool in
     let rows = rows_in a.terms.rows in
@@ -135,5 +136,5 @@ returns c =
     let answers = subst (λ (n : ℕ). AnswersClaim n claim pool pool') c.shard.ensures.number c.ask-claim.ensures.table in
     let holds = held_after a.rules s s' outs outs' e limited fate does s.sessions.shard pool pool' answers held in
     subst (λ (v : ShardView ShardState Entry). Handles v next pool pool' e0 fate c.args.ledger.now c.tally.new.tally) c.self.view_is
-    (handles a.rules s s' outs outs' e limited fate does rows rows' a.passed c.book.new.book a.allowance a.left a.room a.journal.items c.push_reserved.new.self.items was.left refl (keys_of_rows c.hear-fate.new.terms.rows) c.hear-fate.ensures.sums.sums
+    (handles a.rules s s' outs outs' e limited fate does rows rows' a.passed c.book.new.book a.allowance a.left a.room a.journal.items c.push_reserved.new.self.items (was.left (omega (arith, room, c.requires.room))) refl (keys_of_rows c.hear-fate.new.terms.rows) c.hear-fate.ensures.sums.sums
     e0 claim refl pool pool' answers (moved_held a.rules s s' outs outs' e limited fate does pool' holds) c.args.ledger.now c.tally.new.tally c.push_reserved.ensures.items short booked tallied does.few)
