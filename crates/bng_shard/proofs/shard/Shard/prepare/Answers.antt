@@ -1,0 +1,11 @@
+use Rattle.bng_shard.proofs.Stepping.{keys_of_rows}
+use Rattle.bng_shard.proofs.shard.Shard.prepare.Goals as goal
+
+pub returns-then-not-reserve_amply-clause-fit : goal.returns-then-not-reserve_amply-clause-fit
+returns-then-not-reserve_amply-clause-fit c = keys_of_rows c.self.inside.terms.rows
+
+pub returns-then-not-reserve-clause-fit : goal.returns-then-not-reserve-clause-fit
+returns-then-not-reserve-clause-fit c = keys_of_rows c.reserve.new.self.rows
+
+pub returns-clause-fit : goal.returns-clause-fit
+returns-clause-fit c = keys_of_rows c.reserve.new.self.rows
