@@ -143,6 +143,11 @@ impl Model for Bench {
 
     ghost Value = { ShardView ShardState Entry × PlainView };
 
+    ghost use Rattle.std.specs.Coded.{codes};
+    ghost use Rattle.bng_shard.specs.Codes.{state_code};
+
+    ghost coded = { Prim.hlevel (codes, state_code) };
+
     ghost view = { λ b. (b.shard, b.pool) };
 
     ghost invariant = { λ b. HasPools b.shard.state.rules.pools b.pool.ranges × (b.shard.number < b.pool.shards)
