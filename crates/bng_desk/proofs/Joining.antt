@@ -36,7 +36,7 @@ use Rattle.bng_desk.specs.declared.drops.Drops.{Drops}
 use Rattle.bng_desk.specs.declared.holding.Named.{Named}
 use Rattle.bng_desk.specs.Counting.{plus, drops_of}
 use Rattle.bng_desk.specs.Items.{entries_in, loose_in, all_loose, stands_in}
-use Rattle.bng_desk.specs.Round.{Round, AreParts, StandsWithin, views_of, IsReturned, held_by, stops_of, entries_of, of_seat, is_failed, with_failed, fates_in, sends_stretch}
+use Rattle.bng_desk.specs.Round.{Round, AreParts, StandsWithin, views_of, IsReturned, held_by, entries_of, of_seat, is_failed, with_failed, fates_in, sends_stretch}
 use Rattle.bng_desk.specs.Taking.{Accounts, BooksStops, HasFewSessions, AreDealt, Deals, Falls, IsPlain, IsTurning, AllTurn, SendsAll, ReapsAll, RoundHeld}
 use Rattle.bng_desk.proofs.Dealing.{Seens}
 use Rattle.bng_desk.proofs.DropLaws.{same}

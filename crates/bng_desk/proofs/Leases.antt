@@ -1,5 +1,5 @@
 -- The table of a gateway that was just opened has each circuit's address, held by the circuit's shard.
-use Rattle.std.proofs.Common.{◌≡◌, ◌≢◌, ℕ, zero, suc, ◌+◌, ◌<◌, ◌==◌, Bool, true, false, cond, eqb, List, [], ◌∷◌, ◌++◌, Option, Some, None, find, option_map, map, length, take, get_or, inl, inr, ◌*◌, refl, sym, ap, subst, ◌∙◌, arith}
+use Rattle.std.proofs.Common.{◌≡◌, ◌≢◌, ℕ, zero, suc, ◌+◌, ◌<◌, ◌==◌, Bool, true, false, cond, eqb, List, [], ◌∷◌, ◌++◌, Option, Some, None, option_map, map, length, take, get_or, inl, inr, ◌*◌, refl, sym, ap, subst, ◌∙◌, arith}
 use Rattle.std.specs.List.{All, AllByRecursion, AllPairs, flat_map, range_with_len}
 use Rattle.std.proofs.lemmas.Bool.Decides.{nat_tests}
 use Rattle.std.proofs.lemmas.List.{take_more}
@@ -7,15 +7,13 @@ use Rattle.std.proofs.lemmas.List.Elements.{All-filter, All-from_recursion, filt
 use Rattle.bng_base.specs.declared.address.Ip4.{Ip4}
 use Rattle.bng_base.specs.declared.item.Claim.{Claim}
 use Rattle.bng_base.specs.declared.settings.Static.{Static}
-use Rattle.bng_config.specs.declared.config.Config.{Config}
 use Rattle.bng_engine.specs.Terms.{Term}
 use Rattle.bng_engine.proofs.Everywhere.{all_append}
-use Rattle.bng_pool.specs.Plain.{PlainView}
 use Rattle.bng_pool.specs.Tables.{Table, TableClaims, entry}
 use Rattle.bng_shard.specs.declared.rules.Rules.{Rules}
 use Rattle.bng_shard.specs.Opening.{circuit_at, in_order, tenures_after}
 use Rattle.bng_shard.specs.Protocol.{opened, term_in}
-use Rattle.bng_desk.specs.Opening.{IsOpenedPool, circuit_with, shard_of}
+use Rattle.bng_desk.specs.Opening.{circuit_with, shard_of}
 use Rattle.bng_desk.proofs.Outfit.{of_shard}
 use Rattle.bng_desk.proofs.Parts.{pairs_head, pairs_tail}
 use Rattle.bng_desk.proofs.Returning.{HoldsOwn}

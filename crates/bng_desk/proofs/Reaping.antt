@@ -1,11 +1,8 @@
 -- The terms that ended leave the shards, one shard after the other.
-use Rattle.std.proofs.Common.{◌≡◌, ◌≢◌, ℕ, ◌+◌, ◌<◌, Bool, true, false, not, ◌&&◌, ◌||◌, cond, eqb, List, [], ◌∷◌, ◌++◌, map, filter, length, take, Some, drop, get_or, set, refl, sym, ap, subst, ◌∙◌, append_assoc, append-nil, arith}
-use Rattle.std.specs.List.{All, AllZip, flat_map, list_any, sum_by}
-use Rattle.std.proofs.lemmas.Bool.{false≢true}
-use Rattle.std.proofs.lemmas.Bool.Decides.{nat_tests}
-use Rattle.std.proofs.lemmas.List.{map-append, take_more, take_more_set, take_all, drop-set-lt, drop-drop}
+use Rattle.std.proofs.Common.{◌≡◌, ◌≢◌, ℕ, ◌+◌, ◌<◌, Bool, true, false, not, cond, List, [], ◌∷◌, ◌++◌, map, filter, length, take, Some, drop, get_or, set, refl, sym, ap, subst, ◌∙◌, append_assoc, append-nil, arith}
+use Rattle.std.specs.List.{All, AllZip, flat_map, sum_by}
+use Rattle.std.proofs.lemmas.List.{take_more, take_more_set, take_all, drop-set-lt, drop-drop}
 use Rattle.std.proofs.lemmas.List.Concat.{flat_map-append}
-use Rattle.std.proofs.lemmas.List.Folds.{list_any-append}
 use Rattle.std.proofs.lemmas.List.Sums.{sum_by-cons}
 use Rattle.bng_acct.specs.Roster.{of_term}
 use Rattle.bng_acct.specs.Spool.{is_live as is_billed}
@@ -15,14 +12,11 @@ use Rattle.bng_base.specs.declared.item.OutRecord.{OutRecord}
 use Rattle.bng_base.specs.Listed.{Same}
 use Rattle.bng_billing.specs.State.{BillingState}
 use Rattle.bng_engine.specs.Calls.{InReaping, IsSettled, all_sends}
-use Rattle.bng_engine.specs.Claims.{is_held}
 use Rattle.bng_engine.specs.Lists.{Zip3}
-use Rattle.bng_engine.specs.Pool.{GivesAllBack}
 use Rattle.bng_engine.specs.Quantities.{Quantity, Octets}
 use Rattle.bng_engine.specs.Showing.{with_lists}
 use Rattle.bng_engine.specs.Sums.{is_any, stopped_where}
 use Rattle.bng_engine.specs.Terms.{Key, Term, Stop, is_ended, is_live, keys}
-use Rattle.bng_engine.specs.Turns.{given_back}
 use Rattle.bng_engine.specs.Views.{Row, ShardView, row_keys, rows_where}
 use Rattle.bng_engine.proofs.Reaping.{reaping_begins, reaping_goes_on, reaping_ends}
 use Rattle.bng_engine.proofs.SameLists.{same_equal, same_map}

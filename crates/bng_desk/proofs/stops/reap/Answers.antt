@@ -1,4 +1,4 @@
-use Rattle.std.proofs.Common.{[], sym, subst, ◌∙◌, arith}
+use Rattle.std.proofs.Common.{[], sym, subst, arith}
 use Rattle.bng_pool.specs.Plain.{PlainView}
 use Rattle.bng_shard.specs.Protocol.{AreHeld, stop_of}
 use Rattle.bng_desk.specs.Round.{IsReturned}
