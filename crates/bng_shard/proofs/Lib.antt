@@ -51,7 +51,6 @@ pub mod Replacing
 pub mod Controls
 pub mod Vacating
 pub mod DueLaws
-pub mod InRange
 pub mod BookLaws
 pub mod OneCircuit
 pub mod Circuits
