@@ -26,6 +26,7 @@ pub mod Packets
 pub mod Sends
 pub mod StepLaws
 pub mod Fewer
+pub mod KeyLaws
 pub mod Stepping
 pub mod Carrying
 pub mod Driving

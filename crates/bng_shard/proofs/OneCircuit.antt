@@ -15,8 +15,8 @@ use Rattle.bng_engine.specs.Views.{Row, new_row, row_keys, rows_where}
 use Rattle.bng_slots.specs.Sessions.{IsNumberOf}
 use Rattle.bng_shard.specs.declared.rules.Rules.{Rules}
 use Rattle.bng_shard.specs.Frames.{charge_of}
-use Rattle.bng_shard.specs.Opening.{circuit_at, in_order, lease_from, provisioned}
-use Rattle.bng_shard.specs.Protocol.{opened, term_of, terms_after}
+use Rattle.bng_shard.specs.Opening.{circuit_at, in_order, lease_from, provisioned, tenure_from, tenures_after}
+use Rattle.bng_shard.specs.Protocol.{key_in, opened, term_in}
 use Rattle.bng_shard.specs.Sums.{RowsAreLow}
 use Rattle.bng_shard.proofs.InOrder.{number, opened_terms}
 
@@ -66,12 +66,12 @@ module _ (c : Static) where
   -- Its row ---------------------------------------------------------------------------------------------------------------
 
   abbrev row : Row
-  row = new_row (term_of (provisioned c 1) (lease_from c 1) None).key
+  row = new_row (key_in (tenure_from 0 c 1))
 
-  pub one_row : (r : Rules) (shard : ℕ) → IsNumberOf shard c.session.0 → (opened shard r (c ∷ [])).rows ≡ row ∷ []
-  one_row r shard of =
-      ap (λ (ts : List Term). map new_row (keys ts)) (opened_terms r shard (c ∷ []) (tt, tt))
-      ∙ ap (λ (cs : List Static). map new_row (keys (terms_after 0 cs))) (one_in_order shard of)
+  pub one_row : (r : Rules) (shard now : ℕ) → IsNumberOf shard c.session.0 → (opened shard r (c ∷ []) now).rows ≡ row ∷ []
+  one_row r shard now of =
+      ap (λ (ts : List Term). map new_row (keys ts)) (opened_terms r shard (c ∷ []) now)
+      ∙ ap (λ (cs : List Static). map new_row (keys (map term_in (tenures_after 0 0 cs)))) (one_in_order shard of)
 
   nothing_carried : (most : ℕ) (q : Quantity) (input : Bool) → rows_where q is_any input (row ∷ []) ≤ most
   nothing_carried most Octets true = omega arith
@@ -80,12 +80,12 @@ module _ (c : Static) where
   nothing_carried most Packets false = omega arith
 
   -- nothing was carried
-  pub row_low : (r : Rules) (shard most : ℕ) → IsNumberOf shard c.session.0 → RowsAreLow most (opened shard r (c ∷ [])).rows
-  row_low r shard most of = subst (RowsAreLow most) (sym (one_row r shard of)) (nothing_carried most)
+  pub row_low : (r : Rules) (shard now most : ℕ) → IsNumberOf shard c.session.0 → RowsAreLow most (opened shard r (c ∷ []) now).rows
+  row_low r shard now most of = subst (RowsAreLow most) (sym (one_row r shard now of)) (nothing_carried most)
 
   -- a packet of its term is of that row
-  pub row_owned : (r : Rules) (shard : ℕ) → IsNumberOf shard c.session.0 → (o : OutRecord) (input : Bool) (octets : ℕ) → o.charge ≡ Some (charge_of (provisioned c 1) (lease_from c 1) input octets)
-      → IsOwned (row_keys (opened shard r (c ∷ [])).rows) o
-  row_owned r shard of o input octets e =
-      subst (λ (rows : List Row). IsOwned (row_keys rows) o) (sym (one_row r shard of))
+  pub row_owned : (r : Rules) (shard now : ℕ) → IsNumberOf shard c.session.0 → (o : OutRecord) (input : Bool) (octets : ℕ) → o.charge ≡ Some (charge_of (provisioned c 1) (lease_from c 1) input octets)
+      → IsOwned (row_keys (opened shard r (c ∷ []) now).rows) o
+  row_owned r shard now of o input octets e =
+      subst (λ (rows : List Row). IsOwned (row_keys rows) o) (sym (one_row r shard now of))
       (subst (λ (charge : Option Charge). IfSome charge (λ p. AnyOf (HasKey p) (row_keys (row ∷ [])))) (sym e) (inl refl))

@@ -105,12 +105,12 @@ same_term x y l t number port mac is =
     let p = sym port in
     let m = sym mac in
     record {
-  term = is.term ∙ ap (λ (n : SessionNo). let k : TermId = record { session = n; serial = l.serial } in k) (sym number);
-  circuit = is.circuit ∙ (λ i. Pppoe (p i) (m i) (n i));
-  address = is.address;
-  profile = is.profile;
-  live = is.live;
-}
+      term = is.term ∙ ap (λ (n : SessionNo). let k : TermId = record { session = n; serial = l.serial } in k) (sym number);
+      circuit = is.circuit ∙ (λ i. Pppoe (p i) (m i) (n i));
+      address = is.address;
+      profile = is.profile;
+      live = is.live;
+    }
 
 any_of : (P Q : Tenure → Type 0) (ts : List Tenure) → ((t : Tenure) → P t → Q t) → AnyOf P ts → AnyOf Q ts
 any_of P Q [] f any = any

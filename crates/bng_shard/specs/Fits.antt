@@ -25,9 +25,10 @@ ArePlaced r sessions = (n : ℕ) (x : Session) → value_at sessions n ≡ Some 
 abbrev pub begun_in : List Entry → ℕ
 begun_in journal = length (flat_map (λ (e : Entry). claimed_by e.claim) journal)
 
--- No term has a number above those that began, no two have one address, and each session's lease is that of a live term. As long as a round
--- goes on, as many terms may begin still as the allowance is above those that began in it. At most 16 pools, a way to authenticate, and what each access port offers. Where a
--- round has room for an entry, there is room for it, for its outs, and for a term that it begins.
+-- No term has a number above those that began, no two have one address, and each session's lease is that of a live term. As long as a
+-- round goes on, as many terms may begin still as the allowance is above those that began in it. At most 16 pools, a way to authenticate,
+-- and what each access port offers. Where a round has room for an entry, there is room for it, for its outs, and for a term that it
+-- begins.
 pub record Fits (a : Inside) : Type 0 where
   pub numbered : All (λ (r : Running). r.term.serial ≤ a.served.begun) a.terms.rows
   pub numbered_news : All (λ (r : Running). r.term.serial ≤ a.served.begun) a.terms.news

@@ -104,8 +104,8 @@ fn hear_access(
     }
 }
 
-/// Handles an item at this moment in milliseconds, with what was answered where it asked for an address, and answers its fate. What is to be sent for it stands after what stood in
-/// `outs`, of which no memory is taken.
+/// Handles an item at this moment in milliseconds, with what was answered where it asked for an address, and answers its fate. What is
+/// to be sent for it stands after what stood in `outs`, of which no memory is taken.
 pub(crate) fn hear(
     served: &mut Served,
     terms: &mut Terms,

@@ -1,10 +1,12 @@
 //! One shard of the gateway: the sessions that discovery made and the provisioned circuits of its numbers, stepped one item at a
 //! time. `Shard::step` is a step of the protocol of `specs/Step.antt` (PPPoE discovery by RFC 2516, PPP by RFC 1661, the peer's
-//! authentication by RFC 1334 and RFC 1994, forwarding by RFC 791), and appends one entry to the journal of the round. `whose_is` says which shard an item is for. `open` and `prepare`
-//! alone take memory.
+//! authentication by RFC 1334 and RFC 1994, forwarding by RFC 791), and appends one entry to the journal of the round. An Access-Accept
+//! begins a term of a session, with an address of a pool, and the term ends with the link, by a PADT or by an End. `whose_is` says which
+//! shard an item is for. `open` and `prepare` alone take memory.
 #![tactic(auto)]
 
 mod answering;
+mod claim;
 mod data;
 mod discover;
 mod drive;

@@ -6,7 +6,7 @@ ghost use Rattle.bng_engine.specs.Protocol.{IsOwned};
 ghost use Rattle.bng_engine.specs.Showing.{ChargesShown};
 ghost use Rattle.bng_engine.specs.Terms.{keys};
 ghost use Rattle.bng_engine.specs.Views.{row_keys};
-ghost use Rattle.bng_shard.specs.Protocol.{AnswersClaim, AreHeld, Handles, HasPools, Leaves, SaysOf, TellsNew, claimed_by, deadline_of, ended_terms, entry_of, key_of, opened, pppoe, profiles_there, row_at, sessions_of, stop_of, terms_of};
+ghost use Rattle.bng_shard.specs.Protocol.{AreHeld, Handles, HasPools, Leaves, SaysOf, TellsNew, deadline_of, ended_terms, entry_of, key_of, opened, pppoe, profiles_there, row_at, sessions_of, stop_of, terms_of};
 ghost use Rattle.bng_shard.specs.Questions.{asking_from, handed_after, waiting};
 ghost use Rattle.bng_shard.specs.Room.{Admits};
 ghost use Rattle.bng_slots.specs.Sessions.{IsNumberOf};
@@ -16,11 +16,9 @@ ghost use Rattle.bng_pool.specs.Tables.{TableFrees};
 ghost use Rattle.bng_shard.specs.Running.{key_from};
 ghost use Rattle.bng_shard.specs.State.{reaped};
 ghost use Rattle.bng_shard.specs.Tenures.{Tenure};
-ghost use Rattle.bng_base.specs.declared.address.Ip4.{Ip4 as Address};
-ghost use Rattle.bng_shard.specs.Wished.{MayWish};
-ghost use Rattle.bng_shard.specs.Wishes.{IsAnswerTo};
 ghost use Rattle.bng_shard.specs.Sums.{charged_as, traffic_in, AreCovered, AreLow, IsLow, RowsAreLow};
 
+use crate::claim::{ask, left_after};
 use crate::hear::hear;
 use crate::questions::Handed;
 use crate::rules::Rules;
@@ -28,9 +26,10 @@ use crate::sending::At;
 use crate::served::Served;
 use crate::sums::{Charged, Traffic, book, charged_as, tally};
 use crate::term::{EndedTerm, LiveTerm};
-use crate::terms::{Running, Terms};
-use crate::wish::{Wish, wish_for};
-use bng_base::{Book, Claim, Entry, Fate, Item, LONGEST, OutRecord, SessionNo, Static};
+use crate::term_rows::stop_from;
+use crate::terms::Terms;
+use crate::wish::wish_for;
+use bng_base::{Book, Entry, Fate, Item, LONGEST, OutRecord, SessionNo, Static};
 use bng_pool::PlainPool;
 use bng_verdict::AuthAsk;
 use std::alloc::{AllocError, Global};
@@ -117,50 +116,6 @@ fn reserve_amply(journal: &mut Vec<Entry>, outs: &mut Vec<OutRecord>, items: usi
     reserve(journal, outs, items)
 }
 
-// What the pool answers to a wish of the shard with this number.
-fn ask(pool: &mut PlainPool, _rules: &Rules, shard: u16, wish: Wish) -> Claim
-    requires shard { shard < pool.old.shards }
-    requires pools { HasPools _rules.now.pools pool.old.ranges }
-    requires may { MayWish _rules.now.pools wish }
-    ensures answer { IsAnswerTo _rules.now.pools wish result }
-    ensures table { AnswersClaim shard result pool.old pool.new }
-{
-    match wish {
-        Wish::Nothing => Claim::NoClaim,
-        Wish::Address(address) => pool.claim(shard, address),
-        Wish::Pool(place) => pool.scan(shard, place),
-    }
-}
-
-// How many terms may still begin, once this was claimed.
-fn left_after(left: u32, claim: Claim) -> u32
-    requires left { (a : Address) → claim ≡ Claim.Claimed a → 0 < left }
-    ensures { result + length (claimed_by claim) ≡ left }
-{
-    match claim {
-        Claim::Claimed(_) => left - 1,
-        Claim::NoClaim | Claim::Held(_) | Claim::Exhausted(_) => left,
-    }
-}
-
-// What is reported of a term, if it has ended.
-fn stop_from(row: Running) -> Option<EndedTerm>
-    ensures one { IfSome result (λ e. (row.cause ≡ Some e.cause) × ((stop_of e).key ≡ key_from row) × (e.carried ≡ row.carried)) }
-    ensures says { IfSome result (λ e. (e.user ≡ row.user) × (e.class ≡ row.class) × (e.began ≡ row.began)) }
-    ensures none { IfNone result (row.cause ≡ Nothing) }
-{
-    Some(EndedTerm {
-        term: row.term,
-        circuit: row.circuit,
-        address: row.lease,
-        user: row.user,
-        class: row.class,
-        began: row.began,
-        cause: row.cause?,
-        carried: row.carried,
-    })
-}
-
 impl Shard {
     /// A shard with this number, at most 63, that works by these rules, and these circuits. It has no other session. The rules name a
     /// way to authenticate, and what each access port offers. The circuits' session numbers are the shard's, no two have the same
@@ -206,7 +161,8 @@ impl Shard {
     }
 
     /// Makes room for a round of so many items: for an entry and ten outs of each, for a term that it begins, and for the outs of a Tick
-    /// and of an End. At most `allowance` terms may begin in it. No round may be going on. After an error all is as before, room and allowance aside.
+    /// and of an End. At most `allowance` terms may begin in it. No round may be going on. After an error all is as before, room and
+    /// allowance aside.
     pub fn prepare(&mut self, _alloc: Global, items: u16, allowance: u32) -> Result<(), ShardError>
         requires journal { self.old.journal ≡ [] }
         requires outs { self.old.outs ≡ [] }

@@ -1,18 +1,18 @@
 //! The rows of a shard's terms.
-ghost use Rattle.std.specs.Prelude.{◌≡◌, ◌+◌, ◌^◌, ◌<◌, ◌≤◌, ◌++◌, ◌∷◌, [], ℕ, Some, true, cond, count_by, is_none, map, option_map, slice_get, length, vec_capacity, IfSome, IfNone};
+ghost use Rattle.std.specs.Prelude.{◌≡◌, ◌+◌, ◌^◌, ◌<◌, ◌≤◌, ◌++◌, ◌∷◌, [], ℕ, Some, None as Nothing, true, cond, count_by, is_none, map, option_map, slice_get, length, vec_capacity, IfSome, IfNone};
 ghost use Rattle.std.specs.List.{list_any};
 ghost use Rattle.bng_base.specs.declared.item.OutRecord.{OutRecord as Out};
 ghost use Rattle.bng_engine.specs.Calls.{SayMore};
 ghost use Rattle.bng_engine.specs.Lists.{AnyOf};
 ghost use Rattle.bng_engine.specs.Protocol.{HasKey};
 ghost use Rattle.bng_engine.specs.Views.{row_keys};
-ghost use Rattle.bng_shard.specs.Protocol.{key_of, row_at, SaysOf};
+ghost use Rattle.bng_shard.specs.Protocol.{key_of, row_at, stop_of, SaysOf};
 ghost use Rattle.bng_shard.specs.Running.{ended_by, has_ended, is_meant, key_from, row_over_by, rows_in, tenure_in, tenures_in, AreRising, HasSerial, IsFirstOf, IsPlaceOf, NoneIsMeant, TakesFirst};
 ghost use Rattle.bng_shard.specs.Sums.{traffic_in, IsLow, IsMore, RowsAreLow};
 ghost use Rattle.bng_shard.specs.Tenures.{has_kept};
 
 use crate::sums::{Traffic, enter};
-use crate::term::LiveTerm;
+use crate::term::{EndedTerm, LiveTerm};
 use crate::terms::Running;
 use arrayvec::ArrayVec;
 use bng_base::{Book, Charge, Ip4, SessionNo};
@@ -25,6 +25,24 @@ pub(crate) fn copied<const N: usize>(octets: &ArrayVec<u8, N>) -> ArrayVec<u8, N
         unreachable!();
     };
     list
+}
+
+/// What is reported of a term, if it has ended.
+pub(crate) fn stop_from(row: Running) -> Option<EndedTerm>
+    ensures one { IfSome result (λ e. (row.cause ≡ Some e.cause) × ((stop_of e).key ≡ key_from row) × (e.carried ≡ row.carried)) }
+    ensures says { IfSome result (λ e. (e.user ≡ row.user) × (e.class ≡ row.class) × (e.began ≡ row.began)) }
+    ensures none { IfNone result (row.cause ≡ Nothing) }
+{
+    Some(EndedTerm {
+        term: row.term,
+        circuit: row.circuit,
+        address: row.lease,
+        user: row.user,
+        class: row.class,
+        began: row.began,
+        cause: row.cause?,
+        carried: row.carried,
+    })
 }
 
 /// The row of the same term, with nothing carried.

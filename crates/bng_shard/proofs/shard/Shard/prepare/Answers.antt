@@ -1,4 +1,4 @@
-use Rattle.bng_shard.proofs.Stepping.{keys_of_rows}
+use Rattle.bng_shard.proofs.KeyLaws.{keys_of_rows}
 use Rattle.bng_shard.proofs.shard.Shard.prepare.Goals as goal
 
 pub returns-then-not-reserve_amply-clause-fit : goal.returns-then-not-reserve_amply-clause-fit

@@ -14,7 +14,8 @@ use Rattle.bng_shard.specs.Running.{rows_in, whole}
 use Rattle.bng_shard.specs.Sums.{AreLow, Rises}
 use Rattle.bng_shard.specs.Wished.{IsAnswered}
 use Rattle.bng_shard.proofs.AskedPool.{claimed_within, wished_may}
-use Rattle.bng_shard.proofs.Stepping.{are_tied, begun_more, claimed_free, fit_after, fit_rows, handles, held_after, keys_of_rows, moved_begun, moved_held, moved_holds, moved_placed, news_numbered, owed_more, rows_apart, rows_free, rows_numbered, slice_after, view}
+use Rattle.bng_shard.proofs.KeyLaws.{are_tied, fit_rows, keys_of_rows, news_numbered, rows_apart, rows_free, rows_numbered}
+use Rattle.bng_shard.proofs.Stepping.{begun_more, claimed_free, fit_after, handles, held_after, moved_begun, moved_held, moved_holds, moved_placed, owed_more, slice_after, view}
 use Rattle.bng_shard.proofs.shard.Shard.step.Goals as goal
 
 -- a test that failed says that there are some

@@ -10,9 +10,9 @@ use Rattle.bng_shard.proofs.tests.terms.charge_first.Goals as goal
 pub charge-requires-clause-low : goal.charge-requires-clause-low
 charge-requires-clause-low c =
     subst (λ (v : ShardView ShardState Entry). RowsAreLow (2 ^ 63) v.rows) (sym c.requires.opened.1)
-    (row_low c.args.circuit.now c.requires.opened.0 1 (2 ^ 63) c.requires.number)
+    (row_low c.args.circuit.now c.requires.opened.0 1 0 (2 ^ 63) c.requires.number)
 
 pub charge-requires-clause-own : goal.charge-requires-clause-own
 charge-requires-clause-own c =
     subst (λ (v : ShardView ShardState Entry). IsOwned (row_keys v.rows) c.args.out.now) (sym c.requires.opened.1)
-    (row_owned c.args.circuit.now c.requires.opened.0 1 c.requires.number c.args.out.now true c.requires.charged.0 c.requires.charged.1)
+    (row_owned c.args.circuit.now c.requires.opened.0 1 0 c.requires.number c.args.out.now true c.requires.charged.0 c.requires.charged.1)

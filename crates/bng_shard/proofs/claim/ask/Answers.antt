@@ -5,7 +5,7 @@ use Rattle.bng_shard.specs.declared.wish.Wish.{Wish}
 use Rattle.bng_shard.specs.Wished.{MayWish}
 use Rattle.bng_shard.specs.Wishes.{IsAnswerTo}
 use Rattle.bng_shard.proofs.AskedPool.{has_address, claim_answers, scan_answers}
-use Rattle.bng_shard.proofs.shard.ask.Goals as goal
+use Rattle.bng_shard.proofs.claim.ask.Goals as goal
 
 pub claim-requires-clause-has : goal.claim-requires-clause-has
 claim-requires-clause-has c =
