@@ -64,3 +64,4 @@ pub mod Tying
 pub mod AskedPool
 pub mod ClaimLaws
 pub mod OpenedKeys
+pub mod Benches

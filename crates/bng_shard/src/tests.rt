@@ -1,8 +1,8 @@
 //! What the tests of a shard share: its rules, the rounds of one item, and how a host asks for a session.
-ghost use Rattle.std.specs.Prelude.{◌≡◌, ◌<◌, ◌≤◌, ◌^◌, IfOk, length, true};
+ghost use Rattle.std.specs.Prelude.{◌≡◌, ◌⊎◌, ◌+◌, ◌<◌, ◌≤◌, ◌^◌, [], ◌∷◌, IfOk, length, map, true};
 ghost use Rattle.bng_shard.specs.Sums.{AreLow, IsLow};
 
-use crate::{EndedTerm, Rules, Shard};
+use crate::{EndedTerm, LiveTerm, Rules, Shard};
 use arrayvec::ArrayVec;
 use bng_base::{
     AccessPort, AuthKind, Book, Fate, Frame, Ip4, Item, ItemKind, Listed, Mac, NamedRange,
@@ -94,6 +94,7 @@ fn rules(alloc: Global) -> Result<Rules, AllocError>
     ensures auth { IfOk result (λ r. 0 < length r.link.auth.items) }
     ensures access { IfOk result (λ r. length r.access ≡ 1) }
     ensures offers { IfOk result (λ r. length r.offers ≡ 1) }
+    ensures pools { IfOk result (λ r. r.pools ≡ []) }
 {
     let port = AccessPort {
         local: peer(9010),
@@ -233,6 +234,11 @@ impl Bench {
         let (journal, outs) = self.shard.drain();
         assert_eq!(rt; journal.len(), 1);
         (fate, outs)
+    }
+
+    // The first term of whose beginning no Start was formed yet.
+    fn fresh(&mut self) -> Option<LiveTerm> {
+        self.shard.fresh()
     }
 
     // The next term that ended leaves, if one has.

@@ -90,11 +90,10 @@ fn an_accept_begins_a_term_and_a_terminate_request_ends_it(rt: HostRuntime) -> R
     assert_eq!(rt; span(&outs, 1, 20, 32), OWN.as_slice());
     assert_eq!(rt; bench.pool.look(ADDRESS), Some(0));
     let fresh = bench
-        .shard
         .fresh()
         .map(|term| (term.term.serial, term.address));
     assert_eq!(rt; fresh, Some((1, ADDRESS)));
-    assert!(rt; bench.shard.fresh().is_none());
+    assert!(rt; bench.fresh().is_none());
     assert_eq!(rt; fates(&rt, alloc, &mut bench), [NOT_OPEN, NOT_OPEN]);
     let _acknowledged = hear(&rt, alloc, &mut bench, in_session_of(1, ASKS));
     let _opened = hear(&rt, alloc, &mut bench, in_session_of(1, TAKES));

@@ -2,7 +2,9 @@ ghost use Rattle.std.specs.Prelude.{◌≡◌, [], ◌∷◌, Some, ℕ, IfOk, t
 ghost use Rattle.bng_shard.specs.declared.rules.Rules.{Rules as Ways};
 ghost use Rattle.bng_shard.specs.Frames.{charge_of};
 ghost use Rattle.bng_shard.specs.Opening.{lease_from, provisioned};
-ghost use Rattle.bng_shard.specs.Protocol.{AreHeld, opened, terms_of};
+ghost use Rattle.bng_shard.specs.Protocol.{opened};
+ghost use Rattle.bng_pool.specs.Tables.{entry};
+ghost use Rattle.std.specs.List.{All};
 ghost use Rattle.bng_slots.specs.Sessions.{IsNumberOf};
 
 use super::{Bench, NOTHING, TWO, item, peer, request, rules, span};
@@ -39,7 +41,7 @@ fn open_with(alloc: Global, circuit: &Static) -> Result<Shard, Fail>
     requires number { IsNumberOf 1 circuit.now.session.0 }
     requires port { circuit.now.port ≡ 1 }
     requires profile { circuit.now.profile ≡ 0 }
-    ensures { IfOk result (λ s. (rules : Ways) × (s ≡ opened 1 rules (circuit.now ∷ []) 0)) }
+    ensures { IfOk result (λ s. (rules : Ways) × (rules.pools ≡ []) × (s ≡ opened 1 rules (circuit.now ∷ []) 0)) }
 {
     let rules = rules(alloc)?;
     let circuits = std::slice::from_ref(circuit);
@@ -84,6 +86,8 @@ fn charge_first(shard: &mut Shard, circuit: &Static, out: &OutRecord) -> Charged
     requires opened { (rules : Ways) × (shard.old ≡ opened 1 rules (circuit.now ∷ []) 0) }
     requires charged { (octets : ℕ) × (out.now.charge ≡ Some (charge_of (provisioned circuit.now 1) (lease_from circuit.now 1) true octets)) }
     requires sent { out.now.sent ≡ true }
+    ensures number { shard.new.number ≡ shard.old.number }
+    ensures state { shard.new.state ≡ shard.old.state }
 {
     shard.charge(out)
 }
@@ -127,19 +131,30 @@ fn circuit_of(host: u8, session: u16, address: u32) -> Static
     }
 }
 
-// Whether each term of a shard holds its address in the table.
-fn holds(shard: &Shard, pool: &PlainPool, number: u16) -> bool
-    requires number { shard.now.number ≡ number }
-    ensures { result ≡ true → AreHeld number (terms_of shard.now.state) pool.now.table }
+// Whether the shard 1 holds the addresses of these circuits.
+fn are_held(pool: &PlainPool, circuits: &[Static]) -> bool
+    ensures { result ≡ true → All (λ c. entry pool.now.table c.address.0 ≡ Some 1) circuits.now }
 {
-    let mut place = 0;
-    while let Some(term) = shard.term(place) {
-        if pool.look(term.address) != Some(number) {
+    for circuit in circuits {
+        if pool.look(circuit.address) != Some(1) {
             return false;
         }
-        place += 1;
     }
     true
+}
+
+// The shard 1 with these circuits, as it was opened, whose addresses it holds.
+fn bench_of(rt: &impl Abort, alloc: Global, shard: Shard, circuits: &[Static]) -> Result<Bench, Fail>
+    requires number { shard.number ≡ 1 }
+    requires state { (rules : Ways) × (rules.pools ≡ []) × (shard.state ≡ (opened 1 rules circuits.now 0).state) }
+    requires own { All (λ c. IsNumberOf 1 c.session.0) circuits.now }
+{
+    let mut pool = PlainPool::open(alloc, &[TWO], 2)?;
+    for _ in circuits {
+        let _held = pool.scan(1, 0);
+    }
+    assert!(rt; are_held(&pool, circuits));
+    Ok(Bench { shard, pool })
 }
 
 // The shard 1 with two circuits, the one with the higher session number first, whose addresses it holds.
@@ -150,11 +165,7 @@ fn open_two(rt: &impl Abort, alloc: Global) -> Result<Bench, Fail> {
         circuit_of(1, 1025, 0x0a000002),
     ];
     let shard = Shard::open(alloc, 1, rules, circuits.as_slice(), 0)?;
-    let mut pool = PlainPool::open(alloc, &[TWO], 2)?;
-    let _first = pool.scan(1, 0);
-    let _second = pool.scan(1, 0);
-    assert!(rt; holds(&shard, &pool, 1));
-    Ok(Bench { shard, pool })
+    bench_of(rt, alloc, shard, circuits.as_slice())
 }
 
 // Which term is the circuit's of this host.
@@ -280,10 +291,8 @@ fn a_stop_says_what_its_term_carried(rt: HostRuntime) -> Result<(), Fail> {
     let packet = sent(&circuit, 84);
     let mut shard = open_with(alloc, &circuit)?;
     let _charged = charge_first(&mut shard, &circuit, &packet);
-    let mut pool = PlainPool::open(alloc, &[TWO], 2)?;
-    let _held = pool.scan(1, 0);
-    assert!(rt; holds(&shard, &pool, 1));
-    let mut bench = Bench { shard, pool };
+    let circuits = std::slice::from_ref(&circuit);
+    let mut bench = bench_of(&rt, alloc, shard, circuits)?;
     let _outs = end(&rt, alloc, &mut bench);
     let mut carried = NOTHING;
     carried.input = 84;
