@@ -147,7 +147,6 @@ fn are_held(pool: &PlainPool, circuits: &[Static]) -> bool
 fn bench_of(rt: &impl Abort, alloc: Global, shard: Shard, circuits: &[Static]) -> Result<Bench, Fail>
     requires number { shard.number ≡ 1 }
     requires state { (rules : Ways) × (rules.pools ≡ []) × (shard.state ≡ (opened 1 rules circuits.now 0).state) }
-    requires own { All (λ c. IsNumberOf 1 c.session.0) circuits.now }
 {
     let mut pool = PlainPool::open(alloc, &[TWO], 2)?;
     for _ in circuits {
@@ -164,8 +163,9 @@ fn open_two(rt: &impl Abort, alloc: Global) -> Result<Bench, Fail> {
         circuit_of(2, 1026, 0x0a000003),
         circuit_of(1, 1025, 0x0a000002),
     ];
-    let shard = Shard::open(alloc, 1, rules, circuits.as_slice(), 0)?;
-    bench_of(rt, alloc, shard, circuits.as_slice())
+    let circuits = circuits.as_slice();
+    let shard = Shard::open(alloc, 1, rules, circuits, 0)?;
+    bench_of(rt, alloc, shard, circuits)
 }
 
 // Which term is the circuit's of this host.
