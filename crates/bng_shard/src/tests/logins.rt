@@ -1,4 +1,4 @@
-ghost use Rattle.std.specs.Prelude.{◌≤◌, length};
+ghost use Rattle.std.specs.Prelude.{◌≡◌, ◌≤◌, length};
 
 use super::verdicts::{ACCEPT, ACK, PASSWORD, REQUEST, in_session_of, verdict};
 use super::{Bench, NOTHING, ONE, item, octets, open_bench, peer, request, rules_with, span};
