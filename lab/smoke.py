@@ -116,7 +116,7 @@ def goes_on_after_memory_was_refused(checks):
     The program is started with too little for the one or for the other, and gets more after a packet came."""
     first, second = packet(ttl=63), packet(ttl=63, number=2)
     whole, part = report(168), report(84, WantOfMemory=1)
-    for what, megabytes, comes, wanted in (("lists", 128, [first, second], whole), ("its round", 256, [second], part)):
+    for what, megabytes, comes, wanted in (("lists", 192, [first, second], whole), ("its round", 320, [second], part)):
         with Lab(keys="shards = 64\n") as lab:
             limit = lambda: resource.setrlimit(resource.RLIMIT_AS, (megabytes << 20, resource.RLIM_INFINITY))
             lab.start([PROGRAM, "serve", lab.configuration], preexec_fn=limit)
