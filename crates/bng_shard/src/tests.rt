@@ -5,8 +5,8 @@ ghost use Rattle.bng_shard.specs.Sums.{AreLow, IsLow};
 use crate::{EndedTerm, LiveTerm, Rules, Shard};
 use arrayvec::ArrayVec;
 use bng_base::{
-    AccessPort, AuthKind, Book, Fate, Frame, Ip4, Item, ItemKind, Listed, Mac, NamedRange,
-    OutRecord, Peer, Range, Static,
+    AccessPort, AuthKind, Book, Fate, Frame, Ip4, Item, ItemKind, Listed, Mac, OutRecord, Peer,
+    Range, Static,
 };
 use bng_discovery::PortRules;
 use bng_pool::PlainPool;
@@ -17,7 +17,6 @@ use std::process::Abort;
 use std::test::Fail;
 
 mod discovery;
-mod logins;
 mod terms;
 mod verdicts;
 
@@ -111,21 +110,6 @@ fn rules(alloc: Global) -> Result<Rules, AllocError>
         pools: Listed::of(Vec::new(alloc)),
         link: links(),
     })
-}
-
-// The same with this pool.
-fn rules_with(alloc: Global, range: Range) -> Result<Rules, AllocError>
-    ensures auth { IfOk result (λ r. 0 < length r.link.auth.items) }
-    ensures access { IfOk result (λ r. length r.access ≡ 1) }
-    ensures offers { IfOk result (λ r. length r.offers ≡ 1) }
-    ensures pools { IfOk result (λ r. map (λ p. p.range) r.pools ≡ range ∷ []) }
-{
-    let mut name = ArrayVec::new();
-    name.push(b'a');
-    let pools = Vec::from_array(alloc, [NamedRange { name, range }])?;
-    let mut rules = rules(alloc)?;
-    rules.pools = Listed::of(pools);
-    Ok(rules)
 }
 
 /// A shard, and who holds an address.

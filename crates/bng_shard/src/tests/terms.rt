@@ -144,7 +144,12 @@ fn are_held(pool: &PlainPool, circuits: &[Static]) -> bool
 }
 
 // The shard 1 with these circuits, as it was opened, whose addresses it holds.
-fn bench_of(rt: &impl Abort, alloc: Global, shard: Shard, circuits: &[Static]) -> Result<Bench, Fail>
+fn bench_of(
+    rt: &impl Abort,
+    alloc: Global,
+    shard: Shard,
+    circuits: &[Static],
+) -> Result<Bench, Fail>
     requires number { shard.number ≡ 1 }
     requires state { (rules : Ways) × (rules.pools ≡ []) × (shard.state ≡ (opened 1 rules circuits.now 0).state) }
 {
