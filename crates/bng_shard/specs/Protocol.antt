@@ -1,6 +1,7 @@
 -- The protocol of a shard, as the engine reads it.
 use Rattle.std.specs.Prelude.{◌≡◌, ◌⊎◌, ℕ, ◌+◌, ◌≤◌, ◌==◌, Bool, true, false, List, [], ◌∷◌, ◌++◌, Option, Some, None, filter, length, map, find, slice_get, sum_by}
 use Rattle.std.specs.List.{flat_map, range_with_len, All, AllByRecursion}
+use Rattle.bng_base.specs.declared.address.Ip4.{Ip4}
 use Rattle.bng_base.specs.declared.book.Book.{Book}
 use Rattle.bng_base.specs.declared.book.Range.{Range}
 use Rattle.bng_base.specs.declared.fate.Fate.{Fate}
@@ -27,7 +28,7 @@ use Rattle.bng_slots.specs.Sessions.{value_at}
 use Rattle.bng_shard.specs.declared.session.Session.{Session}
 use Rattle.bng_shard.specs.Link.{nas_request}
 use Rattle.bng_shard.specs.State.{State, count_in, made_one, reaped, settled}
-use Rattle.bng_shard.specs.Tenures.{Tenure, is_over}
+use Rattle.bng_shard.specs.Tenures.{LeavesTerms, Tenure, is_over}
 use Rattle.bng_shard.specs.Deed.{Deed}
 use Rattle.bng_shard.specs.Due.{due_of}
 use Rattle.bng_shard.specs.Hearing.{outs_most}
@@ -175,9 +176,9 @@ opened number rules circuits now = record {
   room = 0;
 }
 
--- the row of the live term of a session
-abbrev pub row_at : List Row → ℕ → Option Row
-row_at rows session = find (λ (r : Row). r.key.term.session.0 == session) rows
+-- the row of the term that has an address
+abbrev pub row_at : List Row → Ip4 → Option Row
+row_at rows address = find (λ (r : Row). r.key.lease.0 == address.0) rows
 
 -- what is reported of a term that ended
 abbrev pub stop_of : EndedTerm → Stop
@@ -219,7 +220,7 @@ pub record Leaves (v v' : ShardView ShardState Entry) (s : Stop) : Type 0 where
 
 -- One of the terms of whose beginning no Start was formed yet is told, the first in order, and counts no longer among them.
 pub record TellsNew (s s' : State) (t : Tenure) : Type 0 where
-  pub one : (f : Tenure → ℕ) → f t + sum_by f s'.news ≡ sum_by f s.news
+  pub leaves : LeavesTerms s.news s'.news t
   pub least : AllByRecursion (λ (u : Tenure). ComesBefore (key_in t) (key_in u)) s'.news
   pub others : s' ≡ record s { news = s'.news }
 

@@ -40,3 +40,10 @@ kept_lease (Some cause) lease = None
 -- a term that has ended and still has this address
 abbrev pub has_kept : Ip4 → Tenure → Bool
 has_kept a t = is_over t && (t.address.0 == a.0)
+
+-- The term has left, and those before it and after it stand as they were.
+pub record LeavesTerms (terms terms' : List Tenure) (t : Tenure) : Type 0 where
+  pub before : List Tenure
+  pub after : List Tenure
+  pub were : terms ≡ before ++ t ∷ after
+  pub are : terms' ≡ before ++ after

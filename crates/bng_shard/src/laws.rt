@@ -13,11 +13,12 @@ ghost use Rattle.bng_shard.specs.declared.rules.Rules.{Rules};
 ghost use Rattle.bng_shard.specs.Deed.{Deed, is_forwarded};
 ghost use Rattle.bng_shard.specs.Protocol.{ShardState, Handled, HasNoLogins, StaysOrEnds, opened, pppoe, packet_octets, sessions_of, terms_of};
 ghost use Rattle.bng_shard.specs.Claiming.{IsAskedBy};
+ghost use Rattle.bng_shard.specs.Lasting.{AreHoused, AreTenures, BeginsByClaims, CircuitsLast};
 ghost use Rattle.bng_shard.specs.Granting.{IsGranted, IsGrantedOn, IsSound, IsYesOn, accepted_ask_at};
 ghost use Rattle.bng_shard.specs.Opening.{opened_slots};
 ghost use Rattle.bng_shard.specs.Questions.{Asking, AsksOn, last_asking_at};
 ghost use Rattle.bng_shard.specs.Reader.{IsWhole};
-ghost use Rattle.bng_shard.specs.State.{State, settled};
+ghost use Rattle.bng_shard.specs.State.{State, count_in, settled};
 ghost use Rattle.bng_shard.specs.Step.{Step};
 
 /// The steps of a shard meet the laws on which the accounts of a run rest: each packet that is charged is of a live term, on its
@@ -49,6 +50,39 @@ pub fn gateways_without_pools_have_no_logins()
     ensures terms { (r : Rules) (s : State) (limited : Bool) (d : Deed) → Step r s limited d → r.pools ≡ [] → HasNoLogins s → ¬ (d.entry.item.kind ≡ End) → d.next.terms ≡ s.terms }
     ensures ends { (r : Rules) (s : State) (limited : Bool) (d : Deed) → Step r s limited d → r.pools ≡ [] → HasNoLogins s
         → AllZip StaysOrEnds (terms_of (record { rules = r; slots = s })) (terms_of (record { rules = r; slots = d.next })) }
+{}
+
+/// A term begins with each address that a step claims, and no other begins.
+pub fn terms_begin_by_claims()
+    ensures { (r : Rules) (s : State) (limited : Bool) (d : Deed) → Step r s limited d → BeginsByClaims s d }
+{}
+
+/// The terms of a shard are numbered in the order in which they began, each is of one of the shard's session numbers and has begun, and
+/// its Class attributes are whole (RFC 2865 section 5.25). It is so at the opening, and from then on.
+pub fn terms_are_numbered()
+    ensures opened { (number : ℕ) (circuits : List Static) (now : ℕ) → number < 64 → All (λ c. IsNumberOf number c.session.0) circuits → AllPairs (λ a b. a.session ≢ b.session) circuits
+        → AreTenures now (opened_slots number circuits now) }
+    ensures kept { (r : Rules) (s : State) (limited : Bool) (d : Deed) (moment : ℕ) → Step r s limited d → IsSound s → moment ≤ d.entry.moment → AreTenures moment s → AreTenures d.entry.moment d.next }
+    ensures settled { (moment : ℕ) (s : State) → AreTenures moment s → AreTenures moment (settled s) }
+    ensures later { (m n : ℕ) (s : State) → m ≤ n → AreTenures m s → AreTenures n s }
+{}
+
+/// The term of a provisioned circuit ends by the gateway's own stop alone. It is so at the opening, and from then on.
+pub fn circuits_last()
+    ensures opened { (number : ℕ) (circuits : List Static) (now : ℕ) → number < 64 → All (λ c. IsNumberOf number c.session.0) circuits → AllPairs (λ a b. a.session ≢ b.session) circuits
+        → CircuitsLast (length circuits) (opened_slots number circuits now) }
+    ensures kept { (circuits : ℕ) (r : Rules) (s : State) (limited : Bool) (d : Deed) → Step r s limited d → CircuitsLast circuits s → CircuitsLast circuits d.next }
+    ensures settled { (circuits : ℕ) (s : State) → CircuitsLast circuits s → CircuitsLast circuits (settled s) }
+{}
+
+/// No term outlasts its session: a live term is that of a session that is there, and a session that has ended has none. It is so at the
+/// opening, and from then on. So where no session is left after a settlement, no term is.
+pub fn terms_are_housed()
+    ensures opened { (number : ℕ) (circuits : List Static) (now : ℕ) → number < 64 → All (λ c. IsNumberOf number c.session.0) circuits → AllPairs (λ a b. a.session ≢ b.session) circuits
+        → AreHoused (opened_slots number circuits now) }
+    ensures kept { (r : Rules) (s : State) (limited : Bool) (d : Deed) → Step r s limited d → IsSound s → AreHoused s → AreHoused d.next }
+    ensures settled { (s : State) → AreHoused s → AreHoused (settled s) }
+    ensures none { (s : State) → AreHoused (settled s) → count_in (settled s) ≡ 0 → (settled s).terms ≡ [] }
 {}
 
 /// A peer is told that it is accepted, by Success of CHAP (RFC 1994 section 4.2) or Authenticate-Ack of PAP (RFC 1334 section 2.2.2),

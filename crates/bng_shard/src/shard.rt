@@ -15,7 +15,7 @@ ghost use Rattle.bng_engine.specs.Lists.{AnyOf};
 ghost use Rattle.bng_pool.specs.Tables.{TableFrees};
 ghost use Rattle.bng_shard.specs.Running.{key_from};
 ghost use Rattle.bng_shard.specs.State.{reaped};
-ghost use Rattle.bng_shard.specs.Tenures.{Tenure};
+ghost use Rattle.bng_shard.specs.Tenures.{LeavesTerms, Tenure};
 ghost use Rattle.bng_shard.specs.Sums.{charged_as, traffic_in, AreCovered, AreLow, IsLow, RowsAreLow};
 
 use crate::claim::{ask, left_after};
@@ -29,7 +29,7 @@ use crate::term::{EndedTerm, LiveTerm};
 use crate::term_rows::stop_from;
 use crate::terms::Terms;
 use crate::wish::wish_for;
-use bng_base::{Book, Entry, Fate, Item, LONGEST, OutRecord, SessionNo, Static};
+use bng_base::{Book, Entry, Fate, Ip4, Item, LONGEST, OutRecord, Static};
 use bng_pool::PlainPool;
 use bng_verdict::AuthAsk;
 use std::alloc::{AllocError, Global};
@@ -249,6 +249,13 @@ impl Shard {
         fate
     }
 
+    /// How many terms may begin in the round that is going on, or was held last.
+    pub fn allowance(&self) -> u32
+        ensures { result ≡ self.now.allowance }
+    {
+        self.allowance
+    }
+
     /// Hands out the journal of the round and what is to be sent for it.
     pub fn drain(&mut self) -> (Vec<Entry>, Vec<OutRecord>)
         ensures journal { result.0.items ≡ self.old.journal }
@@ -268,7 +275,8 @@ impl Shard {
     pub fn reap(&mut self, pool: &mut PlainPool) -> Option<EndedTerm>
         requires held { AreHeld self.old.number (terms_of self.old.state) pool.old.table }
         ensures one { IfSome result (λ e. Leaves self.old self.new (stop_of e) × ((k : ℕ) × TableFrees pool.old.table k e.address.0 pool.new.table)) }
-        ensures says { IfSome result (λ e. AnyOf (SaysOf e.user.items e.class.items e.began (stop_of e).key) self.old.state.slots.terms) }
+        ensures says { IfSome result (λ e. (t : Tenure) × SaysOf e.user.items e.class.items e.began (stop_of e).key t
+            × LeavesTerms self.old.state.slots.terms self.new.state.slots.terms t) }
         ensures none { IfNone result ((ended_terms self.old.state ≡ []) × (pool.new ≡ pool.old)
             × (self.new ≡ record self.old { state = record self.old.state { slots = reaped self.old.state.slots }; room = 0 })) }
         ensures rest { (pool.new.ranges ≡ pool.old.ranges) × (pool.new.shards ≡ pool.old.shards) }
@@ -375,11 +383,11 @@ impl Shard {
         self.passed
     }
 
-    /// What the term of this session carried; none exactly where no term has it.
-    pub fn carried(&self, session: SessionNo) -> Option<Traffic>
-        ensures { result ≡ option_map traffic_in (row_at self.now.rows session.0) }
+    /// What the term that has this address carried; none exactly where no term has it.
+    pub fn carried(&self, address: Ip4) -> Option<Traffic>
+        ensures { result ≡ option_map traffic_in (row_at self.now.rows address) }
     {
-        self.terms.carried_by(session)
+        self.terms.carried_by(address)
     }
 
     /// The term at this place, from 0, of those that are there, by their numbers: which it is, its circuit and its address. One that

@@ -87,11 +87,11 @@ pub(crate) fn term_at(rows: &[Running], place: usize) -> Option<LiveTerm>
     Some(rows.get(place)?.shown())
 }
 
-/// What the first term of this session carried.
-pub(crate) fn carried_by(rows: &[Running], session: SessionNo) -> Option<Traffic>
-    ensures { result ≡ option_map traffic_in (row_at (rows_in rows.now) session.0) }
+/// What the term with this address carried.
+pub(crate) fn carried_by(rows: &[Running], address: Ip4) -> Option<Traffic>
+    ensures { result ≡ option_map traffic_in (row_at (rows_in rows.now) address) }
 {
-    let row = rows.iter().find(|r| r.term.session.0 == session.0)?;
+    let row = rows.iter().find(|r| r.lease.0 == address.0)?;
     Some(Traffic {
         input: row.carried.input,
         output: row.carried.output,

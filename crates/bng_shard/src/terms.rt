@@ -225,11 +225,11 @@ impl Terms {
         term_at(&self.rows, place)
     }
 
-    /// What the first term of this session carried.
-    pub(crate) fn carried_by(&self, session: SessionNo) -> Option<Traffic>
-        ensures { result ≡ option_map traffic_in (row_at (rows_in self.now.rows) session.0) }
+    /// What the term with this address carried.
+    pub(crate) fn carried_by(&self, address: Ip4) -> Option<Traffic>
+        ensures { result ≡ option_map traffic_in (row_at (rows_in self.now.rows) address) }
     {
-        carried_by(&self.rows, session)
+        carried_by(&self.rows, address)
     }
 
     /// Takes the answer to a send: a packet that was sent is added to the row of its term, and one that was not is taken off the book
