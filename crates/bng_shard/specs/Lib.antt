@@ -22,6 +22,7 @@ pub mod Reader
 pub mod Due
 pub mod Hearing
 pub mod Protocol
+pub mod Lasting
 pub mod Wished
 pub mod Room
 pub mod Running
