@@ -1,6 +1,6 @@
 -- What lasts of the terms of a shard, step by step.
 use Rattle.std.specs.Prelude.{◌≡◌, ◌⊎◌, ℕ, ◌+◌, ◌/◌, ◌≤◌, ◌<◌, true, false, List, Some, None, length, map, ◌++◌}
-use Rattle.std.specs.List.{All, AllPairs}
+use Rattle.std.specs.List.{All, AllPairs, range_with_len}
 use Rattle.bng_grant.specs.Classes.{AreClasses}
 use Rattle.bng_ppp.specs.Phases.{KeepsPhases}
 use Rattle.bng_radius_wire.specs.Attributes.{Field}
@@ -15,14 +15,16 @@ use Rattle.bng_shard.specs.State.{State, made_one}
 use Rattle.bng_shard.specs.Tenures.{Tenure}
 use Rattle.bng_slots.specs.Sessions.{value_at}
 
--- A term begins with each address that the entry claimed, and no other does: it stands behind the terms that are there, and behind those
--- of whose beginning no Start was formed yet. Of the others none came or went, whether it ended or not.
+-- A term begins with each address that the entry claimed, and no other does: it takes the next number, and stands behind the terms that are
+-- there, and behind those of whose beginning no Start was formed yet. Of the others none came or went, whether it ended or not.
 pub record BeginsByClaims (s : State) (d : Deed) : Type 0 where
   pub began : List Tenure
   pub one_each : map (λ (t : Tenure). t.address.0) began ≡ claimed_by d.entry.claim
   pub count : d.next.begun ≡ s.begun + length began
+  pub numbers : map (λ (t : Tenure). t.term.serial) began ≡ range_with_len (s.begun + 1) (length began)
   pub news : d.next.news ≡ s.news ++ began
   pub keys : map key_in d.next.terms ≡ map key_in s.terms ++ map key_in began
+  pub shard : d.next.sessions.shard ≡ s.sessions.shard
 
 -- A term of the shard: its session's number is one of the shard's, its own number is among those that began, it began no later than at
 -- this moment, and its Class attributes are whole (RFC 2865 section 5.25).
