@@ -1,15 +1,18 @@
 -- What a turn does with accounting (RFC 2866): the datagrams of its server, the records that are formed, and the requests that are sent.
-use Rattle.std.specs.Prelude.{◌≡◌, ℕ, ◌==◌, ◌++◌, true, false, not, List, [], ◌∷◌, Option, Some, None, find, map, count_by, if◌then◌else◌}
-use Rattle.std.specs.List.{AllPairs, All, flat_map}
+use Rattle.std.specs.Prelude.{◌≡◌, ◌⊎◌, ℕ, ◌+◌, ◌/◌, ◌≤◌, ◌<◌, ◌++◌, Bool, true, false, not, List, [], ◌∷◌, Option, Some, None, is_some, length, map, count_by, slice_index_or, if◌then◌else◌}
+use Rattle.std.specs.List.{AllPairs, All, Contains, flat_map}
 use Rattle.bng_acct.specs.declared.facts.Moment.{Moment}
 use Rattle.bng_acct.specs.declared.facts.RecordNo.{RecordNo}
 use Rattle.bng_acct.specs.declared.facts.StatusType.{StatusType}
 use Rattle.bng_acct.specs.declared.facts.StatusType.TheVariants.{Start, Stop as OfStop}
 use Rattle.bng_acct.specs.declared.facts.TermFacts.{TermFacts}
+use Rattle.bng_acct.specs.declared.held.Held.{Held}
 use Rattle.bng_acct.specs.Roster.{of_term, same}
-use Rattle.bng_acct.specs.Spool.{is_live}
+use Rattle.bng_acct.specs.Spool.{is_live, open_of}
 use Rattle.bng_base.specs.declared.address.Peer.{Peer}
+use Rattle.bng_base.specs.declared.circuit.TermId.{TermId}
 use Rattle.bng_base.specs.declared.book.Book.{Book}
+use Rattle.bng_base.specs.declared.item.Entry.{Entry}
 use Rattle.bng_base.specs.declared.outside.Datagram.{Datagram}
 use Rattle.bng_base.specs.declared.outside.Role.TheVariants.{Acct}
 use Rattle.bng_base.specs.Books.{empty_book}
@@ -21,9 +24,12 @@ use Rattle.bng_billing.specs.Records.{IsFormedBy}
 use Rattle.bng_billing.specs.Replies.{Takes}
 use Rattle.bng_billing.specs.Sending.{IsSentBy, NoneToSend}
 use Rattle.bng_billing.specs.State.{BillingState, noted}
+use Rattle.bng_engine.specs.Lists.{AnyOf}
 use Rattle.bng_engine.specs.Terms.{Key, Stop}
+use Rattle.bng_engine.specs.Views.{ShardView}
 use Rattle.bng_lane.specs.Sends.{LaneSend}
-use Rattle.bng_desk.specs.declared.line.Line.{Line}
+use Rattle.bng_shard.specs.Protocol.{SaysOf, ShardState}
+use Rattle.bng_shard.specs.Tenures.{Tenure}
 use Rattle.bng_desk.specs.declared.reading.Ended.{Ended}
 use Rattle.bng_desk.specs.Items.{DataReading}
 
@@ -59,35 +65,25 @@ pub record FormedRecord : Type 0 where
 abbrev pub Forms : BillingState → List FormedRecord → BillingState → Type 0
 Forms = Chain (λ b (f : FormedRecord) b'. IsFormedBy b f.status f.facts f.moment f.number b')
 
-abbrev pub user_in : Option Line → List ℕ
-user_in None = []
-user_in (Some l) = l.user.items
-
--- the User-Name of a circuit's records
-abbrev pub user_of : List Line → ℕ → List ℕ
-user_of lines session = user_in (find (λ (l : Line). l.session.0 == session) lines)
-
--- What a record says of a provisioned circuit's term: its key, the circuit's User-Name, the moment of the opening, at which it began, and
--- the book of what it carried. No Access-Accept gave it a Class.
-pub record AreFactsOf (lines : List Line) (moment : ℕ) (k : Key) (book : Book) (f : TermFacts) : Type 0 where
+-- What a record says of a term: its key, and the book of what it carried. And what one of these terms that has this key says: its
+-- User-Name, its Class attributes, and the moment at which it began.
+pub record AreFactsOf (terms : List Tenure) (k : Key) (book : Book) (f : TermFacts) : Type 0 where
   pub term : f.term ≡ k.term
   pub circuit : f.circuit ≡ k.circuit
   pub address : f.address ≡ k.lease
-  pub user : f.user.items ≡ user_of lines k.term.session.0
-  pub class : f.class.items ≡ []
-  pub began : f.began ≡ moment
+  pub says : AnyOf (SaysOf f.user.items f.class.items f.began k) terms
   pub carried : f.carried ≡ book
 
--- the Start of a term that begins at this moment
-pub record IsStartOf (lines : List Line) (moment wall : ℕ) (k : Key) (f : FormedRecord) : Type 0 where
+-- the Start of a term that began, formed at this moment
+pub record IsStartOf (terms : List Tenure) (moment wall : ℕ) (k : Key) (f : FormedRecord) : Type 0 where
   pub status : f.status ≡ Start
-  pub facts : AreFactsOf lines moment k empty_book f.facts
+  pub facts : AreFactsOf terms k empty_book f.facts
   pub at : f.moment ≡ record { now = moment; wall = wall; cause = 0 }
 
--- the Stop of a term that ended: its octets and packets are those that the settlement counted for it
-pub record IsStopOf (lines : List Line) (began moment wall : ℕ) (s : Stop) (f : FormedRecord) : Type 0 where
+-- the Stop of a term that ended, formed at this moment: its octets and packets are those that the settlement counted for it
+pub record IsStopOf (terms : List Tenure) (moment wall : ℕ) (s : Stop) (f : FormedRecord) : Type 0 where
   pub status : f.status ≡ OfStop
-  pub facts : AreFactsOf lines began s.key s.carried f.facts
+  pub facts : AreFactsOf terms s.key s.carried f.facts
   pub at : f.moment ≡ record { now = moment; wall = wall; cause = s.cause }
 
 -- Requests that are sent -----------------------------------------------------------------------------------------------------
@@ -144,3 +140,26 @@ records_stretch server q = record_stretch server (record_sends q)
 pub record AreBilled (keys : List Key) (b : BillingState) : Type 0 where
   pub live : All (λ (k : Key). is_live (of_term k.term b.spool.held) ≡ true) keys
   pub apart : AllPairs (λ (j k : Key). same j.term k.term ≡ false) keys
+
+-- accounting knows nothing of the term with this key
+abbrev pub is_unknown : BillingState → Key → Bool
+is_unknown b k = not (is_some (of_term k.term b.spool.held))
+
+-- In a settlement, of the terms that are there and of those that began in its round and have no Start yet: each that is there is live in
+-- accounting, or is one of those that began, and accounting knows nothing of it. No Start of those that began is open. No two are one.
+-- And there is room for those of which accounting knows nothing.
+pub record AreSettling (terms began : List Key) (b : BillingState) : Type 0 where
+  pub known : All (λ (k : Key). (is_live (of_term k.term b.spool.held) ≡ true) ⊎ ((is_unknown b k ≡ true) × Contains began k)) terms
+  pub apart : AllPairs (λ (j k : Key). same j.term k.term ≡ false) terms
+  pub unstarted : All (λ (k : Key). open_of k.term Start b.spool.held ≡ None) began
+  pub apart_began : AllPairs (λ (j k : Key). same j.term k.term ≡ false) began
+  pub room : length b.spool.held + count_by (is_unknown b) began ≤ b.spool.rules.terms
+
+-- the term is of one of these shards, and has a number of those that began there
+pub record HasBegun (shards : List (ShardView ShardState Entry)) (t : TermId) : Type 0 where
+  pub within : t.session.0 / 1024 < length shards
+  pub number : (d : ShardView ShardState Entry) → t.serial ≤ (slice_index_or shards (t.session.0 / 1024) d).state.slots.begun
+
+-- accounting knows of no other terms
+abbrev pub KnowsBegun : List (ShardView ShardState Entry) → BillingState → Type 0
+KnowsBegun shards b = (t : TermId) (h : Held) → of_term t b.spool.held ≡ Some h → HasBegun shards t

@@ -6,14 +6,14 @@ use Rattle.bng_base.specs.declared.item.Item.{Item}
 use Rattle.bng_base.specs.declared.item.ItemKind.TheVariants.{Verdict}
 use Rattle.bng_engine.specs.Books.{book_at}
 use Rattle.bng_engine.specs.Views.{ShardView}
-use Rattle.bng_shard.specs.Protocol.{ShardState, AreHeld, terms_of}
+use Rattle.bng_shard.specs.Protocol.{ShardState, AreHeld, HasPools, terms_of}
 use Rattle.bng_shard.specs.Sums.{AreLow, RowsAreLow}
-use Rattle.bng_desk.specs.Accounting.{AreBilled}
+use Rattle.bng_desk.specs.Accounting.{AreBilled, KnowsBegun}
 use Rattle.bng_desk.specs.Counting.{Within}
 use Rattle.bng_desk.specs.Items.{ends_of}
 use Rattle.bng_desk.specs.Logins.{verdicts_most}
 use Rattle.bng_desk.specs.Model.{Desk, HasOneRule, keys_in, is_over, graces_most, rounds_left, unopened_most}
-use Rattle.bng_desk.specs.Taking.{IsEmpty, IsPlainly, HasFewSessions, AreInOrder, AreItems, AreTallied}
+use Rattle.bng_desk.specs.Taking.{IsEmpty, KeepsTerms, HasFewSessions, AreInOrder, AreItems, AreTallied}
 
 -- a shard between two rounds, as the desk's contracts see it: nothing of a round, and no room for one
 abbrev pub rested : ShardView ShardState Entry → ShardView ShardState Entry
@@ -59,10 +59,11 @@ pub record Stays (shards : ℕ) (items : List Item) : Type 0 where
   pub one_each : (ends ≡ []) ⊎ AreEndsOf shards ends
 
 -- One port to sixteen, one shard to 64 in their order, all by the desk's rules, with nothing of a round in them and at most 1,022
--- sessions in each, one seat. No sum is above what the turns so far could add, and none wraps before the last; what a circuit has carried,
--- by its Stops and by its row, stands in the seat's tally. What stays of a round that was not opened are verdicts, and Ends in the ending
--- alone. Of each shard there is a list of the questions that it handed out. Each term that is there is live in accounting, and no two
--- terms are one.
+-- sessions in each, one seat. Its terms hold their addresses, have numbers that it gave, and have a Start each. No sum is above what the
+-- turns so far could add, and none wraps before the last; what was carried with a circuit's address, by Stops and by rows, stands in the
+-- seat's tally. What stays of a round that was not opened are verdicts, and Ends in the ending alone. Of each shard there is a list of the
+-- questions that it handed out. Each term that is there is live in accounting, no two terms are one, and accounting knows of no term that
+-- did not begin.
 pub record IsKept (d : Desk) : Type 0 where
   pub some_port : 1 ≤ length d.rules.access
   pub few_ports : length d.rules.access ≤ 16
@@ -73,10 +74,10 @@ pub record IsKept (d : Desk) : Type 0 where
   pub rules : HasOneRule d
   pub empty : All IsEmpty d.shards
   pub sessions : All HasFewSessions d.shards
-  pub no_pools : d.rules.pools ≡ []
+  pub pools : HasPools d.rules.pools d.pool.ranges
   pub places : d.pool.shards ≡ d.rules.shards
   pub held : All (λ v. AreHeld v.number (terms_of v.state) d.pool.table) d.shards
-  pub plain : All IsPlainly d.shards
+  pub terms : All (KeepsTerms d.moment) d.shards
   pub most : d.rounds ≤ 2 ^ 40
   pub made : d.turns ≤ d.rounds
   pub serving : is_over d ≡ false → IsUnended d
@@ -95,7 +96,7 @@ pub record IsKept (d : Desk) : Type 0 where
   pub stays : Stays (length d.shards) d.kept
   pub while_serving : is_over d ≡ false → All is_verdict d.kept
   pub handed : length d.handed ≡ length d.shards
-  pub began : d.began ≤ d.moment
   pub closing : d.closing ≤ d.moment
   pub graces : d.graces ≤ graces_most
   pub billed : AreBilled (keys_in d.shards) d.billing
+  pub knows : KnowsBegun d.shards d.billing

@@ -7,6 +7,7 @@ pub mod Items
 pub mod Logins
 pub mod Accounting
 pub mod Round
+pub mod Allowing
 pub mod Settlement
 pub mod Report
 pub mod Turn

@@ -2,19 +2,20 @@
 use Rattle.std.specs.Prelude.{◌≡◌, ℕ, ◌+◌, ◌-◌, ◌*◌, ◌/◌, Bool, true, false, ◌==◌, ◌||◌, ◌&&◌, not, List, Option, Some, None, map, sum_by, slice_get, nat_le, if◌then◌else◌}
 use Rattle.std.specs.List.{All, flat_map}
 use Rattle.bng_acct.specs.Spool.{unacked_stops}
+use Rattle.bng_base.specs.declared.address.Ip4.{Ip4}
 use Rattle.bng_base.specs.declared.book.Book.{Book}
 use Rattle.bng_base.specs.declared.item.Entry.{Entry}
 use Rattle.bng_base.specs.declared.item.Item.{Item}
 use Rattle.bng_billing.specs.State.{BillingState}
 use Rattle.bng_engine.specs.Quantities.{Octets}
-use Rattle.bng_engine.specs.Sums.{stopped_where}
-use Rattle.bng_engine.specs.Terms.{Key, Stop}
-use Rattle.bng_engine.specs.Views.{ShardView, Row, row_keys}
+use Rattle.bng_engine.specs.Sums.{has_lease, stopped_where}
+use Rattle.bng_engine.specs.Terms.{Key, Stop, keys}
+use Rattle.bng_engine.specs.Views.{ShardView, Row}
 use Rattle.bng_lane.specs.State.{LaneState}
 use Rattle.bng_pool.specs.Plain.{PlainView}
 use Rattle.bng_shard.specs.declared.rules.Rules.{Rules}
 use Rattle.bng_shard.specs.declared.sums.Traffic.{Traffic}
-use Rattle.bng_shard.specs.Protocol.{ShardState, row_at, sessions_of}
+use Rattle.bng_shard.specs.Protocol.{ShardState, row_at, sessions_of, terms_of}
 use Rattle.bng_shard.specs.Sums.{traffic_in}
 use Rattle.bng_desk.specs.declared.desk.DeskState.{DeskState}
 use Rattle.bng_desk.specs.declared.desk.DeskState.TheVariants.{Serving, Ending, Grace, Ended, Starved}
@@ -26,7 +27,7 @@ use Rattle.bng_desk.specs.Reading.{is_empty}
 -- many it made, whether it was told to stop, the shards in the order of their numbers, who holds an address, what each seat passed, the
 -- seed and how many times sixteen octets were drawn from it, the drops, the last moment that it was given, and the number of the last
 -- round that the trace took, 0 before the first. The lane of the questions that are out at the server, and of each shard which of its
--- questions were handed out. The moment of the opening, and the records that are open at the server of accounting. Of the ending: how
+-- questions were handed out. The records that are open at the server of accounting. Of the ending: how
 -- many of its turns were made, how many in a row opened no round, whether one opened a round, and the moment of the last that did, which
 -- is that of the opening before the first. How many turns of the grace were made. The items that stay of the last round, where it was not
 -- opened.
@@ -46,7 +47,6 @@ pub record Desk : Type 0 where
   pub told : ℕ
   pub lane : LaneState
   pub handed : List (List ℕ)
-  pub began : ℕ
   pub billing : BillingState
   pub endings : ℕ
   pub unopened : ℕ
@@ -55,9 +55,9 @@ pub record Desk : Type 0 where
   pub graces : ℕ
   pub kept : List Item
 
--- the keys of the terms that are there, of the first shard first, and in each by rising session number
+-- the keys of the terms that are there, of the first shard first, and in each in the order in which they began
 abbrev pub keys_in : List (ShardView ShardState Entry) → List Key
-keys_in shards = flat_map (λ v. row_keys v.rows) shards
+keys_in shards = flat_map (λ v. keys (terms_of v.state)) shards
 
 -- each shard works by the desk's rules
 abbrev pub HasOneRule : Desk → Type 0
@@ -112,35 +112,29 @@ abbrev pub traffic_or : Option Row → Traffic
 traffic_or None = no_traffic
 traffic_or (Some row) = traffic_in row
 
-abbrev pub traffic_at : Option (ShardView ShardState Entry) → ℕ → Traffic
-traffic_at None session = no_traffic
-traffic_at (Some v) session = traffic_or (row_at v.rows session)
+abbrev pub traffic_at : Option (ShardView ShardState Entry) → Ip4 → Traffic
+traffic_at None address = no_traffic
+traffic_at (Some v) address = traffic_or (row_at v.rows address)
 
 -- one and the other together
 abbrev pub plus_traffic : Traffic → Traffic → Traffic
 plus_traffic a b = record { input = a.input + b.input; output = a.output + b.output }
 
--- what a provisioned circuit carried: what the Stops of its terms say, and what the shard of its number keeps for a term that is there
+-- what a provisioned circuit carried: what the Stops with its address say, and what the shard of its number keeps for the term that has it
 abbrev pub carried_on : List (ShardView ShardState Entry) → Line → Traffic
-carried_on shards l = plus_traffic l.stopped (traffic_at (slice_get shards (l.session.0 / 1024)) l.session.0)
+carried_on shards l = plus_traffic l.stopped (traffic_at (slice_get shards (l.session.0 / 1024)) l.address)
 
--- a term of the session with this number
-abbrev pub is_of : ℕ → Key → Bool
-is_of session k = k.term.session.0 == session
-
--- what the Stops of a session's terms say, in octets
-abbrev pub stopped_of : ℕ → List Stop → Traffic
-stopped_of session stops = record { input = stopped_where Octets (is_of session) true stops; output = stopped_where Octets (is_of session) false stops }
+-- what the Stops with an address say, in octets
+abbrev pub stopped_of : Ip4 → List Stop → Traffic
+stopped_of address stops = record { input = stopped_where Octets (has_lease address) true stops; output = stopped_where Octets (has_lease address) false stops }
 
 -- a circuit once these Stops were formed
 abbrev pub line_after : List Stop → Line → Line
-line_after stops l = record l { stopped = plus_traffic l.stopped (stopped_of l.session.0 stops) }
+line_after stops l = record l { stopped = plus_traffic l.stopped (stopped_of l.address stops) }
 
 abbrev pub all_carried : Desk → List Traffic
 all_carried d = map (carried_on d.shards) d.lines
 
-abbrev pub input_of : List Traffic → ℕ
-input_of traffic = sum_by (λ t. t.input) traffic
-
-abbrev pub output_of : List Traffic → ℕ
-output_of traffic = sum_by (λ t. t.output) traffic
+-- what all seats passed, and did not take off again: the octets of all packets that were sent
+abbrev pub total_of : List Book → Traffic
+total_of tallies = record { input = sum_by (λ (b : Book). b.input) tallies; output = sum_by (λ (b : Book). b.output) tallies }

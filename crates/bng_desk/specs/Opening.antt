@@ -1,8 +1,11 @@
 -- A desk that was opened over a configuration.
-use Rattle.std.specs.Prelude.{◌≡◌, ◌≢◌, ℕ, ◌+◌, ◌/◌, ◌<◌, ◌≤◌, ◌==◌, false, List, [], ◌∷◌, Option, find, length, map, filter, option_map, slice_get}
+use Rattle.std.specs.Prelude.{◌≡◌, ◌≢◌, ℕ, ◌+◌, ◌/◌, ◌<◌, ◌≤◌, ◌==◌, false, List, [], ◌∷◌, Option, Some, find, length, map, filter, option_map, slice_get}
 use Rattle.std.specs.List.{All, AllPairs, AllZip, range_with_len}
 use Rattle.arrayvec.specs.ArrayVec.{ArrayVec}
+use Rattle.bng_acct.specs.declared.held.Held.{Held}
+use Rattle.bng_acct.specs.Roster.{of_term}
 use Rattle.bng_base.specs.declared.address.Ip4.{Ip4}
+use Rattle.bng_base.specs.declared.circuit.TermId.{TermId}
 use Rattle.bng_base.specs.declared.item.Entry.{Entry}
 use Rattle.bng_base.specs.declared.settings.AccessPort.{AccessPort}
 use Rattle.bng_base.specs.declared.settings.NamedRange.{NamedRange}
@@ -10,6 +13,7 @@ use Rattle.bng_base.specs.declared.settings.Static.{Static}
 use Rattle.bng_config.specs.declared.config.Config.{Config}
 use Rattle.bng_discovery.specs.declared.port.PortRules.{PortRules}
 use Rattle.bng_base.specs.Books.{empty_book}
+use Rattle.bng_engine.specs.Lists.{AnyOf}
 use Rattle.bng_engine.specs.Terms.{Key}
 use Rattle.bng_engine.specs.Views.{ShardView}
 use Rattle.bng_billing.specs.declared.rules.BillingRules.{BillingRules}
@@ -27,7 +31,8 @@ use Rattle.bng_desk.specs.Accounting.{AreBilled, FormedRecord, Forms, IsStartOf}
 use Rattle.bng_desk.specs.Counting.{no_drops}
 use Rattle.bng_desk.specs.Model.{Desk, keys_in, no_traffic}
 use Rattle.bng_desk.specs.Random.{draw}
-use Rattle.bng_desk.specs.Taking.{Accounts, BooksStarts}
+use Rattle.bng_desk.specs.Round.{terms_in}
+use Rattle.bng_desk.specs.Taking.{Accounts, BooksStarts, states_of}
 
 -- what the access port with this number offers: its MAC, this key of its cookies, this name and these services
 pub record IsOfferOf (name : List ℕ) (services : List (ArrayVec ℕ)) (key : List ℕ) (number : ℕ) (port : AccessPort) (offer : PortRules) : Type 0 where
@@ -57,7 +62,7 @@ pub record AreRules (config : Config) (seed : List ℕ) (r : Rules) : Type 0 whe
   pub core_peer : r.core_peer ≡ config.core_peer
   pub access : r.access ≡ config.access
   pub offers : AreOffers config seed config.access r.offers
-  pub pools : r.pools ≡ []
+  pub pools : r.pools ≡ config.pools
   pub name : r.link.name.items ≡ config.name.items
   pub address : r.link.address ≡ config.address
   pub dns : r.link.dns ≡ dns_of config.dns.items
@@ -65,7 +70,7 @@ pub record AreRules (config : Config) (seed : List ℕ) (r : Rules) : Type 0 whe
   pub echo : r.link.echo ≡ config.echo
 
 abbrev pub line_of : Static → Line
-line_of c = record { session = c.session; address = c.address; user = c.user; stopped = no_traffic }
+line_of c = record { session = c.session; address = c.address; stopped = no_traffic }
 
 -- the shard of a session number
 abbrev pub shard_of : Static → ℕ
@@ -112,13 +117,14 @@ billing_rules config wall = record {
   secret = config.secret;
 }
 
--- Accounting was opened by these rules over these lines, and of each of the terms with these keys a Start was formed, in their order;
--- each of them is live in accounting from then on.
-pub record OpensAccounts (rules : BillingRules) (lines : List Line) (keys : List Key) (now : ℕ) (a : Accounts) : Type 0 where
+-- Accounting was opened by these rules over these lines, and of each of the terms of these shards a Start was formed, at this moment, in
+-- their order; each of them is live in accounting from then on, and it knows of no other.
+pub record OpensAccounts (rules : BillingRules) (lines : List Line) (shards : List (ShardView ShardState Entry)) (now : ℕ) (a : Accounts) : Type 0 where
   pub new_billing : BillingState
   pub is_new : IsNewBilling rules new_billing
-  pub booked : BooksStarts rules.acct.wall keys (record { lines = lines; billing = new_billing; began = now }) a
-  pub billed : AreBilled keys a.billing
+  pub booked : BooksStarts (terms_in (states_of shards)) now rules.acct.wall (keys_in shards) (record { lines = lines; billing = new_billing }) a
+  pub billed : AreBilled (keys_in shards) a.billing
+  pub known : (t : TermId) (h : Held) → of_term t a.billing.spool.held ≡ Some h → AnyOf (λ (k : Key). k.term ≡ t) (keys_in shards)
 
 -- Each shard works by the same rules. Each provisioned circuit has its term in the shard of its number and holds its address; there is
 -- no session, and nothing has passed. Of each term a Start was formed, at this moment and this second of the wall, by rising session
@@ -133,7 +139,7 @@ pub record IsOpened (config : Config) (rounds : ℕ) (seed : List ℕ) (now wall
   pub new_billing : BillingState
   pub is_new : IsNewBilling (billing_rules config wall) new_billing
   pub starts : List FormedRecord
-  pub are_starts : AllZip (IsStartOf (map line_of config.statics) now wall) (keys_in (opened_shards config rules now)) starts
+  pub are_starts : AllZip (IsStartOf (terms_in (states_of (opened_shards config rules now))) now wall) (keys_in (opened_shards config rules now)) starts
   pub billing : BillingState
   pub forms : Forms new_billing starts billing
   pub desk : d ≡ record {
@@ -152,7 +158,6 @@ pub record IsOpened (config : Config) (rounds : ℕ) (seed : List ℕ) (now wall
     told = 0;
     lane = lane;
     handed = map (λ n. none_handed) (range_with_len 0 config.shards);
-    began = now;
     billing = billing;
     endings = 0;
     unopened = 0;

@@ -10,7 +10,6 @@ use Rattle.bng_base.specs.declared.fate.DropCause.TheVariants.{Malformed, NoSess
 use Rattle.bng_desk.specs.declared.drops.Drops.{Drops}
 use Rattle.bng_desk.specs.declared.line.Line.{Line}
 use Rattle.bng_shard.specs.declared.sums.Traffic.{Traffic}
-use Rattle.bng_desk.specs.Model.{input_of, output_of}
 
 -- the drops, by the number of the cause
 abbrev pub by_number : Drops → List ℕ
@@ -56,10 +55,10 @@ drop_lines _ [] = []
 drop_lines [] (items ∷ others) = []
 drop_lines (cause ∷ more) (items ∷ others) = drop_line cause items ++ drop_lines more others
 
--- the total of the circuits, each circuit, and what was dropped by each cause
-abbrev pub report_text : List Line → List Traffic → List ℕ → List ℕ
-report_text circuits traffic drops =
-    codes "total" ++ quantities (input_of traffic) (output_of traffic)
+-- the total of all that was sent, each circuit, and what was dropped by each cause
+abbrev pub report_text : Traffic → List Line → List Traffic → List ℕ → List ℕ
+report_text total circuits traffic drops =
+    codes "total" ++ quantities total.input total.output
     ++ static_lines circuits traffic
     ++ drop_lines causes drops
 

@@ -1,6 +1,6 @@
 -- A round and its settlement.
-use Rattle.std.specs.Prelude.{◌≡◌, ℕ, ◌+◌, ◌<◌, ◌==◌, Bool, not, ◌&&◌, List, [], ◌∷◌, ◌++◌, Option, None, map, filter, length, replicate, is_some, count_by, slice_index_or, if◌then◌else◌}
-use Rattle.std.specs.List.{All, AllZip, flat_map, list_any}
+use Rattle.std.specs.Prelude.{◌≡◌, ℕ, ◌+◌, ◌<◌, ◌==◌, Bool, not, ◌&&◌, List, [], ◌∷◌, ◌++◌, Option, None, Some, map, filter, length, replicate, is_some, count_by, slice_index_or, if◌then◌else◌}
+use Rattle.std.specs.List.{All, AllZip, Contains, flat_map, list_any}
 use Rattle.bng_base.specs.declared.address.Ip4.{Ip4}
 use Rattle.bng_base.specs.declared.book.Book.{Book}
 use Rattle.bng_base.specs.declared.fate.Fate.{Fate}
@@ -10,9 +10,11 @@ use Rattle.bng_base.specs.declared.item.OutRecord.{OutRecord}
 use Rattle.bng_base.specs.declared.round.RoundRecord.{RoundRecord}
 use Rattle.bng_base.specs.Stretch.{PlantStretch}
 use Rattle.bng_engine.specs.Calls.{all_sends}
+use Rattle.bng_engine.specs.Journals.{after, claims_of}
+use Rattle.bng_engine.specs.Pool.{ClaimsSoFar}
 use Rattle.bng_engine.specs.Showing.{with_journal}
-use Rattle.bng_engine.specs.Terms.{Stop}
-use Rattle.bng_engine.specs.Turns.{TurnOf}
+use Rattle.bng_engine.specs.Terms.{Key, Stop}
+use Rattle.bng_engine.specs.Turns.{TurnOf, journals_in}
 use Rattle.bng_engine.specs.Views.{ShardView, DeskView}
 use Rattle.bng_engine.specs.Wire.{went}
 use Rattle.bng_pool.specs.Plain.{PlainView}
@@ -21,17 +23,20 @@ use Rattle.bng_shard.specs.declared.rules.Rules.{Rules}
 use Rattle.bng_shard.specs.declared.whose.Whose.{Whose}
 use Rattle.bng_shard.specs.declared.whose.Whose.TheVariants.{Loose as IsLoose, Stands}
 use Rattle.bng_shard.specs.Protocol.{ShardState, Handled, pppoe}
+use Rattle.bng_shard.specs.Tenures.{Tenure}
 use Rattle.bng_shard.specs.Whose.{IsWhose}
 use Rattle.bng_desk.specs.declared.drops.Drops.{Drops}
 use Rattle.bng_desk.specs.Counting.{no_drops, drops_of, plus}
 use Rattle.bng_desk.specs.Items.{entries_in, all_loose, is_from_outside}
 
 -- Whose each item of each seat's list was; each shard as the engine sees it once the round is settled: with what its entries did, what
--- they had to send and the answers to these sends; the tally of each seat; and who holds which address then.
+-- they had to send and the answers to these sends, and the terms that ended and began; the tally of each seat; who held which address
+-- once all entries were handled, and who holds it once the round is settled.
 pub record Round : Type 0 where
   pub whose : List (List Whose)
   pub shards : List (ShardView ShardState Handled)
   pub tallies : List Book
+  pub claimed : PlainView
   pub pool : PlainView
 
 -- the shards before a round
@@ -48,9 +53,45 @@ view_of shards pool tallies = record { shards = views_of shards; held = held_by 
 abbrev pub view_after : Round → DeskView ShardState Handled
 view_after round = record { shards = round.shards; held = held_by round.pool; tallies = round.tallies }
 
--- the Stops of a round, of the first shard first
+-- the Stops of a round, and its Starts, of the first shard first
 abbrev pub stops_of : Round → List Stop
 stops_of round = flat_map (λ v. v.stops) round.shards
+
+abbrev pub starts_of : Round → List Key
+starts_of round = flat_map (λ v. v.starts) round.shards
+
+-- the states of the shards once all entries of a round were handled, before its settlement
+abbrev pub handled_states : List (ShardView ShardState Entry) → List (ShardView ShardState Handled) → List ShardState
+handled_states [] ws = []
+handled_states (v ∷ vs) [] = []
+handled_states (v ∷ vs) (w ∷ ws) = after pppoe v.state w.journal ∷ handled_states vs ws
+
+-- the terms of some shards, and those of whose beginning no Start was formed yet
+abbrev pub terms_in : List ShardState → List Tenure
+terms_in states = flat_map (λ (s : ShardState). s.slots.terms) states
+
+abbrev pub news_in : List ShardState → List Tenure
+news_in states = flat_map (λ (s : ShardState). s.slots.news) states
+
+-- the one table has what the other has
+abbrev pub HasAll : Table → Table → Type 0
+HasAll table table' = (a k : ℕ) → entry table a ≡ Some k → entry table' a ≡ Some k
+
+-- An item is for this by who held which address at some moment of a round, between its opening and its last entry.
+pub record IsWhoseIn (r : Rules) (opening last : Table) (item : Item) (whose : Whose) : Type 0 where
+  pub table : Table
+  pub since : HasAll opening table
+  pub until : HasAll table last
+  pub is : IsWhose r table item whose
+
+-- The entries of a round claimed addresses that were free, each once: each is held by the shard of its entry from then on, and no other
+-- address changed hands.
+pub record AreClaimed (pool pool' : PlainView) (shards : List (ShardView ShardState Handled)) : Type 0 where
+  pub keeps : HasAll pool.table pool'.table
+  pub claims : ClaimsSoFar pppoe (held_by pool) (journals_in shards) (held_by pool')
+  pub holders : (n : ℕ) (d : ShardView ShardState Handled) (a : ℕ) → n < length shards → Contains (claims_of pppoe (slice_index_or shards n d).journal) a → entry pool'.table a ≡ Some n
+  pub ranges : pool'.ranges ≡ pool.ranges
+  pub places : pool'.shards ≡ pool.shards
 
 -- whose an address is once the terms of these Stops have left
 abbrev pub holder_after : List Stop → Table → ℕ → Option ℕ
@@ -85,20 +126,20 @@ abbrev pub StandsWithin : ℕ → Whose → Type 0
 StandsWithin shards (IsLoose fate) = Unit {0}
 StandsWithin shards (Stands n) = n < shards
 
--- Each item of each seat's list is handled in the shard that it is for, which is one of those that there are, or loose, and no term
--- may begin yet.
+-- Each item of each seat's list is handled in the shard that it is for, which is one of those that there are, or loose.
 pub record IsDealt (r : Rules) (pool : PlainView) (moment : ℕ) (lists : List (List Item)) (round : Round) : Type 0 where
-  pub whose : AllZip (AllZip (IsWhose r pool.table)) lists round.whose
+  pub whose : AllZip (AllZip (IsWhoseIn r pool.table round.claimed.table)) lists round.whose
   pub inside : All (All (StandsWithin (length round.shards))) round.whose
   pub parts : AreParts lists round.whose 0 moment round.shards
-  pub allowances : All (λ (v : ShardView ShardState Handled). v.allowance ≡ 0) round.shards
+  pub claimed : AreClaimed pool round.claimed round.shards
 
 -- A round with its settlement: its items were dealt, and the shards made one turn of the engine, in which each journal is a run of steps,
--- each of its outs was sent once, what was sent was charged, each term that ended has a Stop, and its address was given back.
+-- each of its outs was sent once, what was sent was charged, each term that ended has a Stop, and its address was given back, and each
+-- that began has a Start.
 pub record IsRound (r : Rules) (shards : List (ShardView ShardState Entry)) (pool : PlainView) (tallies : List Book) (moment : ℕ) (lists : List (List Item)) (round : Round) : Type 0 where
   pub dealt : IsDealt r pool moment lists round
   pub turn : TurnOf pppoe (view_of shards pool tallies) (view_after round)
-  pub returned : IsReturned (stops_of round) pool round.pool
+  pub returned : IsReturned (stops_of round) round.claimed round.pool
 
 -- a shard once its round is over
 abbrev pub left_by : ShardView ShardState Handled → ShardView ShardState Entry

@@ -6,20 +6,20 @@ use Rattle.bng_base.specs.declared.round.RoundRecord.{RoundRecord}
 use Rattle.bng_base.specs.Causes.{HasCause}
 use Rattle.bng_base.specs.Told.{PlantTold, TraceTold, Grows}
 use Rattle.bng_shard.specs.declared.rules.Rules.{Rules}
-use Rattle.bng_shard.specs.Protocol.{AreHeld, terms_of}
+use Rattle.bng_shard.specs.Protocol.{AreHeld, HasPools, terms_of}
 use Rattle.bng_shard.specs.Sums.{IsLow, AreLow, RowsAreLow}
 use Rattle.bng_billing.specs.State.{BillingState}
 use Rattle.bng_desk.specs.declared.holding.Named.{Named}
 use Rattle.bng_desk.specs.declared.lists.Lists.{Lists}
 use Rattle.bng_desk.specs.declared.settlement.Settled.{Settled}
 use Rattle.bng_desk.specs.declared.settlement.Works.{Works}
-use Rattle.bng_desk.specs.Accounting.{AreBilled}
+use Rattle.bng_desk.specs.Accounting.{AreBilled, KnowsBegun}
 use Rattle.bng_desk.specs.Counting.{Within}
 use Rattle.bng_desk.specs.Intake.{SendsRequests, SendsRecords}
 use Rattle.bng_desk.specs.Items.{kept_of}
 use Rattle.bng_desk.specs.Kept.{octets_most, drops_most}
 use Rattle.bng_desk.specs.Model.{keys_in}
-use Rattle.bng_desk.specs.Taking.{IsEmpty, IsPlainly, HasFewSessions, AreInOrder, AreItems, AreTallied, Holds, outs_of_items}
+use Rattle.bng_desk.specs.Taking.{IsEmpty, KeepsTerms, HasFewSessions, AreInOrder, AreItems, AreTallied, Holds, outs_of_items}
 use Rattle.bng_desk.specs.Turn.{told_if}
 
 -- the lists of a turn over so many shards, with nothing on them but its items, and with room for all that it may put on them
@@ -33,9 +33,9 @@ pub record AreBlank (shards : ℕ) (lists : Lists) : Type 0 where
   pub allowances : lists.allowances.items ≡ replicate shards 0
   pub refused : lists.refused.items ≡ []
 
--- The shards are those of the rules, in their order, with nothing of a round in them, and no sum is near its end; what the circuits have
--- carried stands in the tally, and their terms are billed. Nothing stays of the round before, and there is room for what may stay of this
--- one.
+-- The shards are those of the rules, in their order, with nothing of a round in them, and no sum is near its end; what was carried with the
+-- circuits' addresses stands in the tally, and the terms are billed. Nothing stays of the round before, and there is room for what may stay
+-- of this one.
 pub record IsReady (r : Rules) (named : Named) (lists : Lists) (w : Works) : Type 0 where
   pub count : length w.shards.items ≡ r.shards
   pub some : 1 ≤ r.shards
@@ -45,15 +45,15 @@ pub record IsReady (r : Rules) (named : Named) (lists : Lists) (w : Works) : Typ
   pub sessions : All HasFewSessions w.shards.items
   pub places : w.pool.shards ≡ r.shards
   pub held : All (λ v. AreHeld v.number (terms_of v.state) w.pool.table) w.shards.items
-  pub no_pools : r.pools ≡ []
+  pub pools : HasPools r.pools w.pool.ranges
   pub one_rule : All (λ v. v.state.rules ≡ r) w.shards.items
-  pub plain : All IsPlainly w.shards.items
+  pub terms : All (KeepsTerms named.moment) w.shards.items
   pub low : All (λ v. RowsAreLow (2 ^ 62 + 2 ^ 61) v.rows) w.shards.items
   pub books : All (λ v. AreLow (2 ^ 62 + 2 ^ 61) v.books) w.shards.items
   pub tally : IsLow (2 ^ 62 + 2 ^ 61) w.tally
   pub tallied : AreTallied w.tally w.shards.items w.accounts.lines
   pub billed : AreBilled (keys_in w.shards.items) w.accounts.billing
-  pub began : w.accounts.began ≤ named.moment
+  pub knows : KnowsBegun w.shards.items w.accounts.billing
   pub moment : named.moment < 2 ^ 60
   pub counts : Within (2 ^ 61) w.drops
   pub drawn : w.draws.drawn < 2 ^ 60
@@ -78,9 +78,9 @@ pub record Settles (r : Rules) (named : Named) (items : List Item) (w w' : Works
   pub cause : HasCause t.faults t'.faults (s.noted ≡ false)
   pub uncounted : s.noted ≡ true → t'.faults ≡ t.faults
 
--- The shards are as many as before, in their order, with nothing of a round in them. No sum is higher than a round can make it; what the
--- circuits have carried stands in the tally still, and their terms are billed.
-pub record KeepsWorks (w w' : Works) : Type 0 where
+-- The shards are as many as before, in their order, with nothing of a round in them. No sum is higher than a round can make it; what was
+-- carried with the circuits' addresses stands in the tally still, and the terms are billed. The round was at this moment.
+pub record KeepsWorks (moment : ℕ) (w w' : Works) : Type 0 where
   pub count : length w'.shards.items ≡ length w.shards.items
   pub order : AreInOrder w'.shards.items
   pub empty : All IsEmpty w'.shards.items
@@ -96,4 +96,6 @@ pub record KeepsWorks (w w' : Works) : Type 0 where
   pub room : vec_capacity w'.kept ≡ vec_capacity w.kept
   pub places : w'.pool.shards ≡ w.pool.shards
   pub held : All (λ v. AreHeld v.number (terms_of v.state) w'.pool.table) w'.shards.items
-  pub plain : All IsPlainly w'.shards.items
+  pub ranges : w'.pool.ranges ≡ w.pool.ranges
+  pub terms : All (KeepsTerms moment) w'.shards.items
+  pub knows : KnowsBegun w'.shards.items w'.accounts.billing

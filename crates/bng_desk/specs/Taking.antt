@@ -1,5 +1,5 @@
 -- A round in the desk: its items are dealt to the shards, and the shards are settled.
-use Rattle.std.specs.Prelude.{◌≡◌, ◌⊎◌, ℕ, ◌+◌, ◌*◌, ◌^◌, ◌≤◌, ◌<◌, Bool, true, false, cond, List, [], ◌∷◌, ◌++◌, All, length, map, sum_by, count_by, ◌||◌, filter, not, slice_index_or, slice_set}
+use Rattle.std.specs.Prelude.{◌≡◌, ◌⊎◌, ℕ, ◌+◌, ◌*◌, ◌^◌, ◌≤◌, ◌<◌, Bool, true, false, cond, List, [], ◌∷◌, ◌++◌, All, length, map, sum_by, count_by, ◌||◌, filter, not, slice_index_or, slice_set, Some}
 use Rattle.std.specs.List.{AllByRecursion, AllZip, AllPairs, flat_map}
 use Rattle.bng_base.specs.declared.book.Book.{Book}
 use Rattle.bng_base.specs.declared.fate.Fate.{Fate}
@@ -10,15 +10,17 @@ use Rattle.bng_base.specs.declared.item.ItemKind.{ItemKind}
 use Rattle.bng_base.specs.declared.item.Loose.{Loose}
 use Rattle.bng_base.specs.declared.item.OutRecord.{OutRecord}
 use Rattle.bng_base.specs.declared.round.RoundRecord.{RoundRecord}
+use Rattle.bng_base.specs.Listed.{Same}
 use Rattle.bng_base.specs.Told.{PlantTold}
 use Rattle.bng_base.specs.Stretch.{ExtendsPlant}
-use Rattle.bng_engine.specs.Calls.{Kept, InTurn, Reaps, all_sends}
+use Rattle.bng_engine.specs.Calls.{Kept, InTurn, all_sends}
 use Rattle.bng_engine.specs.Journals.{unsent}
 use Rattle.bng_engine.specs.Lists.{Zip3}
 use Rattle.bng_engine.specs.Quantities.{Quantity, Octets, amount, in_book}
 use Rattle.bng_engine.specs.Showing.{Shows, with_lists}
-use Rattle.bng_engine.specs.Sums.{same, charge_if, is_directed, passed_sum, failed_sum, stopped_where}
-use Rattle.bng_engine.specs.Terms.{Key, Stop, keys}
+use Rattle.bng_engine.specs.Sums.{has_lease, same, charge_if, is_directed, passed_sum, failed_sum, stopped_where}
+use Rattle.bng_engine.specs.Settlements.{OneEach}
+use Rattle.bng_engine.specs.Terms.{AreInOrder as AreOrdered, Key, Stop, keys, stopped_keys}
 use Rattle.bng_engine.specs.Turns.{InRound}
 use Rattle.bng_engine.specs.Views.{ShardView, row_keys, rows_where}
 use Rattle.bng_pool.specs.Plain.{PlainView}
@@ -28,9 +30,13 @@ use Rattle.bng_shard.specs.declared.sums.Charged.TheVariants.{Packet, Control}
 use Rattle.bng_shard.specs.declared.whose.Whose.{Whose}
 use Rattle.bng_shard.specs.declared.whose.Whose.TheVariants.{Loose as IsLoose, Stands}
 use Rattle.bng_shard.specs.Hearing.{outs_most}
-use Rattle.bng_shard.specs.Protocol.{ShardState, Handled, pppoe, sessions_of, terms_of, entry_of, HasNoLogins, Handles}
+use Rattle.bng_shard.specs.Granting.{IsSound}
+use Rattle.bng_shard.specs.Lasting.{AreTenures}
+use Rattle.bng_shard.specs.Protocol.{ShardState, Handled, key_in, pppoe, sessions_of, terms_of, entry_of, Handles}
 use Rattle.bng_shard.specs.Room.{is_tick, is_end}
+use Rattle.bng_shard.specs.State.{reaped}
 use Rattle.bng_shard.specs.Sums.{AreLow, RowsAreLow}
+use Rattle.bng_shard.specs.Tenures.{Tenure}
 use Rattle.bng_shard.specs.Whose.{IsWhose}
 use Rattle.bng_billing.specs.State.{BillingState}
 use Rattle.bng_desk.specs.declared.drops.Drops.{Drops}
@@ -39,8 +45,9 @@ use Rattle.bng_desk.specs.declared.line.Line.{Line}
 use Rattle.bng_desk.specs.Accounting.{FormedRecord, Forms, IsStartOf, IsStopOf}
 use Rattle.bng_desk.specs.Counting.{drops_of, plus}
 use Rattle.bng_desk.specs.Items.{entries_in, kept_of, loose_item, loose_in}
-use Rattle.bng_desk.specs.Model.{is_of, line_after}
-use Rattle.bng_desk.specs.Round.{Round, IsRound, StandsWithin, views_of, held_by, stops_of, IsReturned, is_failed, with_failed, sends_stretch, drops_in, record_of, refused_of, refused_record, with_refused, entries_of}
+use Rattle.bng_desk.specs.Allowing.{Allows}
+use Rattle.bng_desk.specs.Model.{line_after}
+use Rattle.bng_desk.specs.Round.{Round, IsRound, StandsWithin, AreClaimed, IsWhoseIn, views_of, held_by, stops_of, starts_of, terms_in, news_in, handled_states, IsReturned, is_failed, with_failed, sends_stretch, drops_in, record_of, refused_of, refused_record, with_refused, entries_of}
 
 -- a shard as the desk has it, and as the engine sees it
 abbrev pub Shown : Type 0
@@ -53,9 +60,17 @@ Sight = ShardView ShardState Handled
 abbrev pub IsEmpty : Shown → Type 0
 IsEmpty v = (v.journal ≡ []) × (v.outs ≡ [])
 
--- no session that discovery made has a term, and of each term that began a Start was formed
-abbrev pub IsPlainly : Shown → Type 0
-IsPlainly v = HasNoLogins v.state.slots × (v.state.slots.news ≡ [])
+-- of each term that began a Start was formed
+abbrev pub OwesNone : Shown → Type 0
+OwesNone v = v.state.slots.news ≡ []
+
+-- What lasts of a shard from round to round, at this moment: its sessions and terms are its own, with numbers that it gave, and the terms
+-- began no later; of each a Start was formed.
+pub record KeepsTerms (moment : ℕ) (v : Shown) : Type 0 where
+  pub sound : IsSound v.state.slots
+  pub number : v.state.slots.sessions.shard ≡ v.number
+  pub tenures : AreTenures moment v.state.slots
+  pub owes_none : OwesNone v
 
 -- a row for each term
 abbrev pub HasRows : Shown → Type 0
@@ -109,45 +124,50 @@ abbrev pub lost_part : Quantity → Bool → Charged → Bool → ℕ
 lost_part q input (Packet way octets) sent = cond sent 0 (cond (same input way) (amount q octets) 0)
 lost_part q input Control sent = 0
 
--- the shard at this place handled the entry, and the others are as they were
-pub record HandledAt (pool : PlainView) (place : ℕ) (e : Entry) (fate : Fate) (shards shards' : List Shown) (tally tally' : Book) : Type 0 where
+-- the shard at this place handled the entry, for which it may have claimed an address, and the others are as they were
+pub record HandledAt (pool pool' : PlainView) (place : ℕ) (e : Entry) (fate : Fate) (shards shards' : List Shown) (tally tally' : Book) : Type 0 where
   pub within : place < length shards
   pub shard : Shown
-  pub handles : Handles (slice_index_or shards place shard) shard pool pool e fate tally tally'
+  pub handles : Handles (slice_index_or shards place shard) shard pool pool' e fate tally tally'
   pub others : shards' ≡ slice_set shards place shard
 
 -- the item, from this place of the list, was handed to its shard, or is one of the loose
-abbrev pub DealsTo : PlainView → Whose → ℕ → ℕ → Item → List Shown → List Shown → List Loose → List Loose → Book → Book → Fate → Type 0
-DealsTo pool (IsLoose cause) place moment item shards shards' loose loose' tally tally' fate =
-    (fate ≡ cause) × (shards' ≡ shards) × (loose' ≡ loose ++ loose_item 0 place item (IsLoose cause)) × (tally' ≡ tally)
-DealsTo pool (Stands n) place moment item shards shards' loose loose' tally tally' fate =
-    HandledAt pool n (entry_of 0 place moment item) fate shards shards' tally tally' × (loose' ≡ loose)
+abbrev pub DealsTo : PlainView → PlainView → Whose → ℕ → ℕ → Item → List Shown → List Shown → List Loose → List Loose → Book → Book → Fate → Type 0
+DealsTo pool pool' (IsLoose cause) place moment item shards shards' loose loose' tally tally' fate =
+    (fate ≡ cause) × (pool' ≡ pool) × (shards' ≡ shards) × (loose' ≡ loose ++ loose_item 0 place item (IsLoose cause)) × (tally' ≡ tally)
+DealsTo pool pool' (Stands n) place moment item shards shards' loose loose' tally tally' fate =
+    HandledAt pool pool' n (entry_of 0 place moment item) fate shards shards' tally tally' × (loose' ≡ loose)
 
-pub record DealsOne (r : Rules) (pool : PlainView) (place moment : ℕ) (item : Item) (shards shards' : List Shown) (loose loose' : List Loose) (tally tally' : Book) (fate : Fate) : Type 0 where
+pub record DealsOne (r : Rules) (pool pool' : PlainView) (place moment : ℕ) (item : Item) (shards shards' : List Shown) (loose loose' : List Loose) (tally tally' : Book) (fate : Fate) : Type 0 where
   pub whose : Whose
   pub is_whose : IsWhose r pool.table item whose
-  pub deals : DealsTo pool whose place moment item shards shards' loose loose' tally tally' fate
+  pub deals : DealsTo pool pool' whose place moment item shards shards' loose loose' tally tally' fate
 
 -- the shards, from this one on, have the entries of the items that stand in them
 abbrev pub AreDealt : ℕ → ℕ → List Item → List Whose → List Sight → Type 0
 AreDealt shard moment items whose [] = Unit {0}
 AreDealt shard moment items whose (v ∷ vs) = (entries_of v ≡ entries_in 0 shard 0 moment items whose) × AreDealt (shard + 1) moment items whose vs
 
--- no term may begin in its round, and no Stop and no Start is formed yet
+-- no Stop and no Start is formed yet
 pub record IsPlain (v : Sight) : Type 0 where
-  pub allowance : v.allowance ≡ 0
   pub stops : v.stops ≡ []
   pub starts : v.starts ≡ []
 
--- Each item was handed to its shard or is loose: the shards are in a round from those before, the fates were counted, and what passed
--- is in the tally.
-pub record Deals (r : Rules) (pool : PlainView) (moment : ℕ) (items : List Item) (shards shards' : List Shown) (loose : List Loose) (drops drops' : Drops) (tally tally' : Book) : Type 0 where
+-- the shard has the allowance that it had
+abbrev pub HasAllowance : Shown → Shown → Type 0
+HasAllowance v v' = v'.allowance ≡ v.allowance
+
+-- Each item was handed to its shard or is loose: the shards are in a round from those before, what was claimed is held, the fates were
+-- counted, and what passed is in the tally.
+pub record Deals (r : Rules) (pool pool' : PlainView) (moment : ℕ) (items : List Item) (shards shards' : List Shown) (loose : List Loose) (drops drops' : Drops) (tally tally' : Book) : Type 0 where
   pub whose : List Whose
-  pub is_whose : AllZip (IsWhose r pool.table) items whose
+  pub is_whose : AllZip (IsWhoseIn r pool.table pool'.table) items whose
   pub inside : AllByRecursion (StandsWithin (length shards)) whose
   pub seen : List Sight
-  pub round : InRound pppoe (views_of shards) (held_by pool) (tally ∷ []) seen (held_by pool) (tally' ∷ [])
+  pub round : InRound pppoe (views_of shards) (held_by pool) (tally ∷ []) seen (held_by pool') (tally' ∷ [])
+  pub claimed : AreClaimed pool pool' seen
   pub shown : AllZip (Shows pppoe) shards' seen
+  pub allowances : AllZip HasAllowance shards shards'
   pub plain : All IsPlain seen
   pub dealt : AreDealt 0 moment items whose seen
   pub loose_are : loose ≡ loose_in 0 0 items whose
@@ -205,9 +225,9 @@ pub record SendsAll (vs vs' : List Shown) (old new : PlantTold) (outs : List Out
   pub drops_are : drops' ≡ plus drops (with_failed (count_by is_failed (joined sends)))
   pub falls : Falls tally (joined sends) tally'
 
--- a shard as the engine sees it once its round was settled: with that journal, those outs and sends, and these Stops; no term began
-abbrev pub settled_as : Shown → List Handled → List OutRecord → List OutRecord → List Stop → Sight
-settled_as v es outs sends stops = record {
+-- a shard as the engine sees it once its round was settled: with that journal, those outs and sends, and these Stops and Starts
+abbrev pub settled_as : Shown → List Handled → List OutRecord → List OutRecord → List Stop → List Key → Sight
+settled_as v es outs sends stops starts = record {
   number = v.number;
   state = v.state;
   rows = v.rows;
@@ -217,13 +237,16 @@ settled_as v es outs sends stops = record {
   outs = outs;
   sends = sends;
   stops = stops;
-  starts = [];
+  starts = starts;
   room = 0;
 }
 
--- The terms of a shard that ended have left, each by one Stop, and its round is over.
+-- The terms of a shard that ended have left, each by one Stop, in order, and the sessions that ended.
 pub record ReapedTo (v v' : Shown) (stops : List Stop) : Type 0 where
-  pub reaps : (was : Sight) (es : List Handled) (outs sends : List OutRecord) → InTurn pppoe was (with_lists v es outs sends) → Reaps pppoe (terms_of was.state) (with_lists v es outs sends) (settled_as v' es outs sends stops)
+  pub order : AreOrdered (stopped_keys stops)
+  pub each : OneEach stops (terms_of v.state)
+  pub state : v'.state ≡ record v.state { slots = reaped v.state.slots }
+  pub fit : Same (row_keys v.rows) (keys (terms_of v.state)) → Same (row_keys v'.rows) (keys (terms_of v'.state))
   pub rows : (q : Quantity) (pick : Key → Bool) (input : Bool) → stopped_where q pick input stops + rows_where q pick input v'.rows ≡ rows_where q pick input v.rows
   pub number : v'.number ≡ v.number
   pub allowance : v'.allowance ≡ v.allowance
@@ -232,53 +255,72 @@ pub record ReapedTo (v v' : Shown) (stops : List Stop) : Type 0 where
   pub outs : v'.outs ≡ v.outs
   pub sessions : HasFewSessions v'
 
--- what a settlement writes to beside the shards: the lines of the circuits, and the records of their terms, which began at this moment
+-- Of each term of a shard of whose beginning no Start was formed yet one is formed, in order, and all else is as it was.
+pub record BegunTo (v v' : Shown) (starts : List Key) : Type 0 where
+  pub order : AreOrdered starts
+  pub each : Same starts (map key_in v.state.slots.news)
+  pub after : v' ≡ record v { state = record v.state { slots = record v.state.slots { news = [] } } }
+
+-- what a settlement writes to beside the shards: the lines of the circuits, and the records of terms
 pub record Accounts : Type 0 where
   pub lines : List Line
   pub billing : BillingState
-  pub began : ℕ
 
 -- Of each of these Stops a record was formed, in their order, at this moment and this second on the wall, and what it says was added to
--- the line of its circuit.
-pub record BooksStops (moment wall : ℕ) (stops : List Stop) (a a' : Accounts) : Type 0 where
+-- the line with its address. They are of these terms.
+pub record BooksStops (terms : List Tenure) (moment wall : ℕ) (stops : List Stop) (a a' : Accounts) : Type 0 where
   pub formed : List FormedRecord
   pub forms : Forms a.billing formed a'.billing
-  pub are_stops : AllZip (IsStopOf a.lines a.began moment wall) stops formed
+  pub are_stops : AllZip (IsStopOf terms moment wall) stops formed
   pub lines_are : a'.lines ≡ map (line_after stops) a.lines
-  pub began : a'.began ≡ a.began
 
--- Of each of the terms with these keys a Start was formed, in their order, at the moment at which all began and this second on the wall.
-pub record BooksStarts (wall : ℕ) (keys : List Key) (a a' : Accounts) : Type 0 where
+-- Of each of the terms with these keys a Start was formed, in their order, at this moment and this second on the wall. They are of these
+-- terms.
+pub record BooksStarts (terms : List Tenure) (moment wall : ℕ) (keys : List Key) (a a' : Accounts) : Type 0 where
   pub formed : List FormedRecord
   pub forms : Forms a.billing formed a'.billing
-  pub are_starts : AllZip (IsStartOf a.lines a.began wall) keys formed
+  pub are_starts : AllZip (IsStartOf terms moment wall) keys formed
   pub lines_are : a'.lines ≡ a.lines
-  pub began : a'.began ≡ a.began
+
+-- the states of some shards
+abbrev pub states_of : List Shown → List ShardState
+states_of vs = map (λ v. v.state) vs
 
 -- and their addresses were given back, and they were booked
-pub record ReapsShard (moment wall : ℕ) (v v' : Shown) (pool pool' : PlainView) (a a' : Accounts) : Type 0 where
+pub record ReapsShard (terms : List Tenure) (moment wall : ℕ) (v v' : Shown) (pool pool' : PlainView) (a a' : Accounts) : Type 0 where
   pub stops : List Stop
   pub reaped : ReapedTo v v' stops
   pub returned : IsReturned stops pool pool'
-  pub booked : BooksStops moment wall stops a a'
+  pub booked : BooksStops terms moment wall stops a a'
 
 -- so in all shards, in their order
 pub record ReapsAll (moment wall : ℕ) (vs vs' : List Shown) (pool pool' : PlainView) (a a' : Accounts) : Type 0 where
   pub stops : List (List Stop)
   pub each : Zip3 ReapedTo vs vs' stops
   pub returned : IsReturned (joined stops) pool pool'
-  pub booked : BooksStops moment wall (joined stops) a a'
+  pub booked : BooksStops (terms_in (states_of vs)) moment wall (joined stops) a a'
 
--- what the Stops of a circuit's terms say so far, in octets of one direction
+-- the Starts of a shard were formed and booked, and those of all shards, in their order
+pub record BeginsShard (terms : List Tenure) (moment wall : ℕ) (v v' : Shown) (a a' : Accounts) : Type 0 where
+  pub starts : List Key
+  pub begun : BegunTo v v' starts
+  pub booked : BooksStarts terms moment wall starts a a'
+
+pub record BeginsAll (moment wall : ℕ) (vs vs' : List Shown) (a a' : Accounts) : Type 0 where
+  pub starts : List (List Key)
+  pub each : Zip3 BegunTo vs vs' starts
+  pub booked : BooksStarts (news_in (states_of vs)) moment wall (joined starts) a a'
+
+-- what the Stops with a line's address say so far, in octets of one direction
 abbrev pub stopped_in : Bool → Line → ℕ
 stopped_in true l = l.stopped.input
 stopped_in false l = l.stopped.output
 
 -- and what a shard says of the terms that are there
 abbrev pub kept_in : Bool → Line → Shown → ℕ
-kept_in input l v = rows_where Octets (is_of l.session.0) input v.rows
+kept_in input l v = rows_where Octets (has_lease l.address) input v.rows
 
--- the circuit has carried no more, in octets of either direction
+-- no more was carried with the line's address, in octets of either direction
 abbrev pub CarriesWithin : (Bool → ℕ) → List Shown → Line → Type 0
 CarriesWithin most vs l = (input : Bool) → stopped_in input l + sum_by (kept_in input l) vs ≤ most input
 
@@ -289,11 +331,11 @@ LinesWithin most vs lines = All (CarriesWithin most vs) lines
 abbrev pub far : Bool → ℕ
 far input = 2 ^ 63
 
--- a line has room for what these Stops say of its circuit
+-- a line has room for what these Stops say of its address
 abbrev pub TakesIn : List Stop → Line → Type 0
-TakesIn stops l = (input : Bool) → stopped_in input l + stopped_where Octets (is_of l.session.0) input stops ≤ far input
+TakesIn stops l = (input : Bool) → stopped_in input l + stopped_where Octets (has_lease l.address) input stops ≤ far input
 
--- what the circuits have carried stands in the tally
+-- what was carried with the circuits' addresses stands in the tally
 abbrev pub AreTallied : Book → List Shown → List Line → Type 0
 AreTallied tally vs lines = LinesWithin (λ input. in_book Octets input tally) vs lines
 
@@ -310,17 +352,20 @@ pub record RoundHeld (r : Rules) (pool pool' : PlainView) (accounts accounts' : 
   pub is : IsRound r shards pool (tally ∷ []) named.moment (items ∷ []) round
   pub shards_are : AllZip IsLeftBy shards' round.shards
   pub pool_is : round.pool ≡ pool'
-  pub booked : BooksStops named.moment named.wall (stops_of round) accounts accounts'
+  pub mid : Accounts
+  pub ends : BooksStops (terms_in (handled_states shards round.shards)) named.moment named.wall (stops_of round) accounts mid
+  pub begins : BooksStarts (news_in (handled_states shards round.shards)) named.moment named.wall (starts_of round) mid accounts'
   pub tallies_are : round.tallies ≡ tally' ∷ []
   pub drops_are : drops' ≡ plus drops (drops_in (items ∷ []) round)
   pub told : ExtendsPlant old new (sends_stretch (all_sends round.shards))
   pub record_told : record_is ≡ record_of named.number named.moment named.wall (items ∷ []) round
 
--- The shards were made ready, and the round was held.
+-- The shards were made ready, each with its allowance, and the round was held.
 pub record IsHeld (r : Rules) (pool pool' : PlainView) (accounts accounts' : Accounts) (named : Named) (items : List Item) (old new : PlantTold) (shards shards' : List Shown) (drops drops' : Drops) (tally tally' : Book) (record_is : RoundRecord) : Type 0 where
   pub ready : List Shown
   pub kept : AllZip Kept shards ready
   pub held : RoundHeld r pool pool' accounts accounts' named items old new ready shards' drops drops' tally tally' record_is
+  pub allows : Allows accounts.billing shards (Some held.round)
 
 -- The shards could not be made ready: the items of the outside were dropped, and nothing was sent.
 pub record IsRefused (pool pool' : PlainView) (accounts accounts' : Accounts) (named : Named) (items : List Item) (old new : PlantTold) (shards shards' : List Shown) (drops drops' : Drops) (tally tally' : Book) (record_is : RoundRecord) : Type 0 where

@@ -20,12 +20,12 @@ use Rattle.bng_shard.specs.Room.{is_end}
 use Rattle.bng_desk.specs.declared.desk.Turned.{Turned}
 use Rattle.bng_desk.specs.declared.desk.Turned.TheVariants.{Ok, TraceFault, WantOfMemory}
 use Rattle.bng_desk.specs.declared.reading.Ended.{Ended}
-use Rattle.bng_desk.specs.Accounting.{Acknowledged, FormedRecord, RecordRequests, HearsRecords, Forms, IsStopOf, SettlesRecords, acct_reading, acknowledged_most, records_stretch}
+use Rattle.bng_desk.specs.Accounting.{Acknowledged, FormedRecord, RecordRequests, HearsRecords, Forms, IsStartOf, IsStopOf, SettlesRecords, acct_reading, acknowledged_most, records_stretch}
 use Rattle.bng_desk.specs.Control.{Heeded, has_stop, control_stretch}
 use Rattle.bng_desk.specs.Counting.{plus}
 use Rattle.bng_billing.specs.State.{BillingState, places_of}
 use Rattle.bng_billing.specs.Stopping.{StopsOnly}
-use Rattle.bng_engine.specs.Terms.{Stop}
+use Rattle.bng_desk.specs.Allowing.{Allows}
 use Rattle.bng_lane.specs.State.{LaneState}
 use Rattle.bng_rad_client.specs.DueRequests.{IsDeadline}
 use Rattle.bng_verdict.specs.declared.question.QuestionNo.{QuestionNo}
@@ -33,7 +33,7 @@ use Rattle.bng_desk.specs.Items.{DataReading, taken_items, ticks_of, ends_of, dr
 use Rattle.bng_desk.specs.Logins.{Answered, Requests, Hears, TimesOut, SettlesLane, reply_items, timeout_items, auth_reading, requests_stretch, verdicts_most}
 use Rattle.bng_desk.specs.Model.{Desk, grace_most, has_ended, line_after}
 use Rattle.bng_desk.specs.Reading.{receives, taken_in, ending_stretch, EndsRight, is_empty}
-use Rattle.bng_desk.specs.Round.{Round, IsRound, stops_of, left_by, drops_in, sends_stretch, record_of, refused_of, refused_record, with_refused}
+use Rattle.bng_desk.specs.Round.{Round, IsRound, stops_of, starts_of, terms_in, news_in, handled_states, left_by, drops_in, sends_stretch, record_of, refused_of, refused_record, with_refused}
 
 -- the access ports so far, and then the core
 abbrev pub ports_up_to : ℕ → List Role
@@ -165,19 +165,29 @@ pub record LaneTurn (d : Desk) (t : Turn) : Type 0 where
   pub settles : SettlesLane t.moment t.waited (after_round d (items_of d t) t.round).shards d.handed d.seed (d.drawn + length (new_items d t)) t.requests t.lane t.handed
   pub due : IsDeadline t.lane.client.auth.places t.deadline
 
--- the Stops of a round, where it was opened
-abbrev pub stops_in : Option Round → List Stop
-stops_in None = []
-stops_in (Some round) = stops_of round
+-- The records of a round: a Stop of each of its Stops, and then a Start of each of its Starts, each of one of the terms that the shards had
+-- once all entries were handled.
+pub record AreOfRound (shards : List (ShardView ShardState Entry)) (moment wall : ℕ) (round : Round) (formed : List FormedRecord) : Type 0 where
+  pub stops : List FormedRecord
+  pub starts : List FormedRecord
+  pub are : formed ≡ stops ++ starts
+  pub are_stops : AllZip (IsStopOf (terms_in (handled_states shards round.shards)) moment wall) (stops_of round) stops
+  pub are_starts : AllZip (IsStartOf (news_in (handled_states shards round.shards)) moment wall) (starts_of round) starts
 
--- Accounting in a turn while serving: it hears Acct; in the settlement a record is formed of each Stop, in their order, and then it sends
--- what is due again and the records that wait.
+-- no record is formed where it was not opened
+abbrev pub FormsRecords : List (ShardView ShardState Entry) → ℕ → ℕ → Option Round → List FormedRecord → Type 0
+FormsRecords shards moment wall None formed = formed ≡ []
+FormsRecords shards moment wall (Some round) formed = AreOfRound shards moment wall round formed
+
+-- Accounting in a turn while serving: it hears Acct; what it has room for then is what the shards are allowed of new terms; in the
+-- settlement the records of the round are formed, and then it sends what is due again and the records that wait.
 pub record BillingTurn (d : Desk) (t : Turn) : Type 0 where
   pub heard : BillingState
   pub hears : HearsRecords d.billing t.acknowledged heard
+  pub allows : Allows heard d.shards t.round
   pub booked : BillingState
   pub forms : Forms heard t.formed booked
-  pub stops : AllZip (IsStopOf d.lines d.began t.moment t.wall) (stops_in t.round) t.formed
+  pub of_round : FormsRecords d.shards t.moment t.wall t.round t.formed
   pub settles : SettlesRecords t.moment booked t.records t.billing
   pub due : IsDeadline (places_of t.billing) t.record_deadline
 
@@ -323,9 +333,10 @@ Closes true b b' = StopsOnly b b'
 
 -- Accounting in a turn of the ending: its settlement, and where no session is left after it, all but Stops are forgotten.
 pub record BillingEnd (d : Desk) (t : EndTurn) : Type 0 where
+  pub allows : Allows d.billing d.shards t.round
   pub booked : BillingState
   pub forms : Forms d.billing t.formed booked
-  pub stops : AllZip (IsStopOf d.lines d.began t.moment t.wall) (stops_in t.round) t.formed
+  pub of_round : FormsRecords d.shards t.moment t.wall t.round t.formed
   pub settled : BillingState
   pub settles : SettlesRecords t.moment booked t.records settled
   pub closes : Closes (has_ended (after_end d t)) settled t.billing

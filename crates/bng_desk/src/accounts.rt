@@ -1,14 +1,18 @@
-//! What a settlement writes to beside the shards: the lines of the circuits, and the records of their terms.
-ghost use Rattle.std.specs.Prelude.{◌≡◌, ◌==◌, ◌+◌, ◌≤◌, ◌<◌, ◌^◌, true, false, None, [], ◌∷◌, IfOk, find, length, map};
+//! What a settlement writes to beside the shards: the lines of the circuits, and the records of terms.
+ghost use Rattle.std.specs.Prelude.{◌≡◌, ◌⊎◌, ◌+◌, ◌≤◌, ◌<◌, ◌^◌, List, true, false, None, [], ◌∷◌, IfOk, length, map};
 ghost use Rattle.std.specs.List.{All, AllPairs};
-ghost use Rattle.std.specs.Option.{option_copied};
 ghost use Rattle.bng_acct.specs.Roster.{of_term, same};
-ghost use Rattle.bng_acct.specs.Spool.{is_live, unacked_stops};
+ghost use Rattle.bng_acct.specs.Spool.{is_live, open_of, unacked_stops, Agree, IsAdmitted};
+ghost use Rattle.bng_acct.specs.Request.{AreClasses};
+ghost use Rattle.bng_acct.specs.declared.facts.StatusType.TheVariants as status;
 ghost use Rattle.bng_billing.specs.State.{places_of};
-ghost use Rattle.bng_engine.specs.Views.{row_keys};
+ghost use Rattle.bng_engine.specs.Lists.{AnyOf};
+ghost use Rattle.bng_engine.specs.Quantities.{empty_book};
 ghost use Rattle.bng_rad_client.specs.DueRequests.{IsDeadline};
-ghost use Rattle.bng_shard.specs.Protocol.{key_of, stop_of};
-ghost use Rattle.bng_desk.specs.Accounting.{AreFactsOf, user_of};
+ghost use Rattle.bng_radius_wire.specs.Attributes.{Field};
+ghost use Rattle.bng_shard.specs.Protocol.{key_of, stop_of, SaysOf};
+ghost use Rattle.bng_shard.specs.Tenures.{Tenure};
+ghost use Rattle.bng_desk.specs.Accounting.{IsStartOf, IsStopOf};
 ghost use Rattle.bng_desk.specs.Intake.{SendsRecords, TakesAcknowledgements};
 ghost use Rattle.bng_desk.specs.Model.{line_after};
 ghost use Rattle.bng_desk.specs.Reading.{is_empty};
@@ -18,24 +22,21 @@ ghost use Rattle.bng_desk.specs.Turn.{Closes};
 
 use crate::acknowledgements::take_acknowledgements;
 use crate::line::Line;
-use crate::opening::copied;
 use crate::records::send_records;
 use crate::unanswered::unanswered;
-use arrayvec::ArrayVec;
 use bng_acct::{Moment, TermFacts};
-use bng_base::{Book, Circuit, Frame, Ip4, SessionNo, TermId};
+use bng_base::{Book, Frame};
 use bng_billing::Billing;
 use bng_plant::Plant;
-use bng_shard::{EndedTerm, LiveTerm, Shard};
+use bng_shard::{EndedTerm, LiveTerm};
 use std::alloc::{AllocError, Global};
 use std::marker::Model;
 
-/// The lines of the circuits, and the records of their terms, which began at `began`, the moment of the opening.
+/// The lines of the circuits, and the records of terms.
 #[derive(Drop)]
 pub(crate) struct Accounts {
     pub(crate) lines: Vec<Line>,
     pub(crate) billing: Billing,
-    pub(crate) began: u64,
 }
 
 impl Model for Accounts {
@@ -43,21 +44,21 @@ impl Model for Accounts {
 
     ghost Value = { Seen };
 
-    ghost view = { λ a. record { lines = a.lines.items; billing = a.billing; began = a.began } };
+    ghost view = { λ a. record { lines = a.lines.items; billing = a.billing } };
 }
 
-// Adds what a term that ended carried to a line, if it was a term of the line's circuit.
+// Adds what a term that ended carried to a line, if it had the line's address.
 fn add_to(line: &mut Line, ended: &EndedTerm)
     requires { TakesIn (stop_of ended.now ∷ []) line.old }
     ensures { line.new ≡ line_after (stop_of ended.now ∷ []) line.old }
 {
-    if line.session.0 == ended.term.session.0 {
+    if line.address.0 == ended.address.0 {
         line.stopped.input += ended.carried.input;
         line.stopped.output += ended.carried.output;
     }
 }
 
-// Adds what a term that ended carried to the line of its circuit.
+// Adds what a term that ended carried to the line with its address.
 fn add_carried(lines: &mut Vec<Line>, ended: &EndedTerm)
     requires { All (TakesIn (stop_of ended.now ∷ [])) lines.old.items }
     ensures { lines.new.items ≡ map (line_after (stop_of ended.now ∷ [])) lines.old.items }
@@ -67,110 +68,69 @@ fn add_carried(lines: &mut Vec<Line>, ended: &EndedTerm)
     }
 }
 
-// The line of a session's circuit.
-fn line_at(lines: &[Line], session: SessionNo) -> Option<&Line>
-    ensures { option_copied result ≡ find (λ l. l.session.0 == session.0) lines.now }
-{
-    lines.iter().find(|line| line.session.0 == session.0)
-}
-
-// The User-Name of the records of a session's term: that of its circuit.
-fn user_of(lines: &[Line], session: SessionNo) -> ArrayVec<u8, 128>
-    ensures { result.items ≡ user_of lines.now session.0 }
-{
-    match line_at(lines, session) {
-        Some(line) => copied(&line.user),
-        None => ArrayVec::new(),
-    }
-}
-
-// What a record says of a term that carried so much. It began at the opening, and has no Class.
-fn facts_of(
-    lines: &[Line],
-    began: u64,
-    term: TermId,
-    circuit: Circuit,
-    address: Ip4,
-    carried: Book,
-) -> TermFacts
-    ensures { AreFactsOf lines.now began (record { term = term; circuit = circuit; lease = address }) carried result }
-{
-    TermFacts {
-        term,
-        circuit,
-        address,
-        user: user_of(lines, term.session),
-        class: ArrayVec::new(),
-        began,
-        carried,
-    }
-}
-
 impl Accounts {
-    // Forms the Start of a term, at the moment at which it began and this second on the wall. There is room for it, and nothing of it is
-    // held.
-    fn start(&mut self, term: LiveTerm, wall: u64)
-        requires fresh { of_term term.term self.old.billing.spool.held ≡ None }
-        requires room { length self.old.billing.spool.held < self.old.billing.spool.rules.terms }
-        ensures { BooksStarts wall (key_of term ∷ []) self.old self.new }
+    /// Forms the Start of a term that began, at this moment and this second on the wall. Its Classes are whole, it began no later than now,
+    /// no Start of it is open, and there is room for it. It is one of these terms.
+    pub(crate) fn start(&mut self, term: LiveTerm, moment: u64, wall: u64)
+        requires classes { (classes : List Field) × AreClasses classes term.class.items }
+        requires began { term.began ≤ moment }
+        requires admitted { IsAdmitted self.old.billing.spool term.term }
+        requires once { open_of term.term status.Start self.old.billing.spool.held ≡ None }
+        ensures { (terms : List Tenure) → AnyOf (SaysOf term.user.items term.class.items term.began (key_of term)) terms → BooksStarts terms moment wall (key_of term ∷ []) self.old self.new }
     {
-        let facts = facts_of(
-            self.lines.as_slice(),
-            self.began,
-            term.term,
-            term.circuit,
-            term.address,
-            Book::empty(),
-        );
-        let moment = Moment {
-            now: self.began,
+        let facts = TermFacts {
+            term: term.term,
+            circuit: term.circuit,
+            address: term.address,
+            user: term.user,
+            class: term.class,
+            began: term.began,
+            carried: Book::empty(),
+        };
+        let at = Moment {
+            now: moment,
             wall,
             cause: 0,
         };
-        let _number = self.billing.start(&facts, moment);
+        let _number = self.billing.start(&facts, at);
     }
 
-    /// Forms the Starts of the terms that a shard has, by rising session number, at the moment at which they began and this second on
-    /// the wall. There is room for them, and nothing of them is held.
-    pub(crate) fn start_all(&mut self, shard: &Shard, wall: u64)
-        requires few { length (row_keys shard.now.rows) ≤ 2 ^ 32 }
-        requires room { length self.old.billing.spool.held + length (row_keys shard.now.rows) ≤ self.old.billing.spool.rules.terms }
-        requires fresh { All (λ k. of_term k.term self.old.billing.spool.held ≡ None) (row_keys shard.now.rows) }
-        requires apart { AllPairs (λ j k. same j.term k.term ≡ false) (row_keys shard.now.rows) }
-        ensures { BooksStarts wall (row_keys shard.now.rows) self.old self.new }
+    /// Forms the Stop of a term that ended, at this moment and this second on the wall, and adds what it carried to the line with its
+    /// address. Its Classes are whole, it began no later than now, no Stop of it is open, and there is room for it. It is one of these
+    /// terms.
+    pub(crate) fn stop(&mut self, ended: EndedTerm, moment: u64, wall: u64)
+        requires classes { (classes : List Field) × AreClasses classes ended.class.items }
+        requires began { ended.began ≤ moment }
+        requires admitted { IsAdmitted self.old.billing.spool ended.term }
+        requires once { open_of ended.term status.Stop self.old.billing.spool.held ≡ None }
+        requires room { All (TakesIn (stop_of ended ∷ [])) self.old.lines }
+        ensures { (terms : List Tenure) → AnyOf (SaysOf ended.user.items ended.class.items ended.began (stop_of ended).key) terms → BooksStops terms moment wall (stop_of ended ∷ []) self.old self.new }
     {
-        let mut place = 0;
-        while let Some(term) = shard.term(place) {
-            self.start(term, wall);
-            place += 1;
-        }
-    }
-
-    /// Forms the Stop of a term that ended, at this moment and this second on the wall, and adds what it carried to the line of its
-    /// circuit. The term is live in accounting.
-    pub(crate) fn stop(&mut self, ended: &EndedTerm, moment: u64, wall: u64)
-        requires live { is_live (of_term ended.now.term self.old.billing.spool.held) ≡ true }
-        requires began { self.old.began ≤ moment }
-        requires room { All (TakesIn (stop_of ended.now ∷ [])) self.old.lines }
-        ensures { BooksStops moment wall (stop_of ended.now ∷ []) self.old self.new }
-    {
-        let facts = facts_of(
-            self.lines.as_slice(),
-            self.began,
-            ended.term,
-            ended.circuit,
-            ended.address,
-            ended.carried,
-        );
+        add_carried(&mut self.lines, &ended);
         let at = Moment {
             now: moment,
             wall,
             cause: ended.cause,
         };
-        // Terms and records agree: no Stop of a live term is open.
-        prove!(self.billing.free() <= u32::MAX);
+        let facts = TermFacts {
+            term: ended.term,
+            circuit: ended.circuit,
+            address: ended.address,
+            user: ended.user,
+            class: ended.class,
+            began: ended.began,
+            carried: ended.carried,
+        };
         let _number = self.billing.stop(&facts, at);
-        add_carried(&mut self.lines, ended);
+    }
+
+    /// For how many terms there is room beside those that are live or have an open record. What it knows of terms agrees with the records
+    /// that are open.
+    pub(crate) fn free(&self) -> u32
+        ensures agree { Agree self.now.billing.spool.sheets self.now.billing.spool.held }
+        ensures free { result + length self.now.billing.spool.held ≡ self.now.billing.spool.rules.terms }
+    {
+        self.billing.free()
     }
 
     /// Takes what came from the server of accounting, and says whether nothing was taken.

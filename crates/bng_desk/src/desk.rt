@@ -5,7 +5,7 @@ ghost use Rattle.bng_base.specs.declared.settings.NamedRange.{NamedRange};
 ghost use Rattle.bng_config.specs.Rules.{KeepsRules};
 ghost use Rattle.bng_pool.specs.Ranges.{ArePoolRanges, HasAddress};
 ghost use Rattle.bng_shard.specs.Protocol.{profiles_there};
-ghost use Rattle.bng_desk.specs.Model.{state_of, all_carried, HasOneRule, grace_most, graces_most};
+ghost use Rattle.bng_desk.specs.Model.{state_of, all_carried, total_of, HasOneRule, grace_most, graces_most};
 ghost use Rattle.bng_desk.specs.Opening.{IsOpened};
 ghost use Rattle.bng_desk.specs.Report.{by_number, report_text, stop_lines};
 
@@ -19,7 +19,7 @@ use crate::settlement::Works;
 use crate::sums::{all_carried, sessions_in};
 use bng_base::{Book, Item};
 use bng_config::Config;
-use bng_shard::Rules;
+use bng_shard::{Rules, Traffic};
 use std::alloc::Global;
 use std::marker::Model;
 
@@ -90,9 +90,9 @@ impl Model for Desk {
 
     ghost coded = { Prim.hlevel (codes, state_code) };
 
-    ghost view = { λ d. record { rules = d.rules; lines = d.works.accounts.lines; rounds = d.rounds; turns = d.turns; stopped = d.stopped; shards = map rested d.works.shards.items; pool = d.works.pool; tallies = d.works.tally ∷ []; seed = d.works.draws.seed; drawn = d.works.draws.drawn; drops = d.works.drops; moment = d.moment; told = d.told; lane = d.works.lane; handed = d.works.handed.items; began = d.works.accounts.began; billing = d.works.accounts.billing; endings = d.endings; unopened = d.unopened; closed = d.closed; closing = d.closing; graces = d.graces; kept = d.works.kept.items } };
+    ghost view = { λ d. record { rules = d.rules; lines = d.works.accounts.lines; rounds = d.rounds; turns = d.turns; stopped = d.stopped; shards = map rested d.works.shards.items; pool = d.works.pool; tallies = d.works.tally ∷ []; seed = d.works.draws.seed; drawn = d.works.draws.drawn; drops = d.works.drops; moment = d.moment; told = d.told; lane = d.works.lane; handed = d.works.handed.items; billing = d.works.accounts.billing; endings = d.endings; unopened = d.unopened; closed = d.closed; closing = d.closing; graces = d.graces; kept = d.works.kept.items } };
 
-    ghost invariant = { λ d. IsKept (record { rules = d.rules; lines = d.works.accounts.lines; rounds = d.rounds; turns = d.turns; stopped = d.stopped; shards = d.works.shards.items; pool = d.works.pool; tallies = d.works.tally ∷ []; seed = d.works.draws.seed; drawn = d.works.draws.drawn; drops = d.works.drops; moment = d.moment; told = d.told; lane = d.works.lane; handed = d.works.handed.items; began = d.works.accounts.began; billing = d.works.accounts.billing; endings = d.endings; unopened = d.unopened; closed = d.closed; closing = d.closing; graces = d.graces; kept = d.works.kept.items }) × (192 ≤ vec_capacity d.works.kept) };
+    ghost invariant = { λ d. IsKept (record { rules = d.rules; lines = d.works.accounts.lines; rounds = d.rounds; turns = d.turns; stopped = d.stopped; shards = d.works.shards.items; pool = d.works.pool; tallies = d.works.tally ∷ []; seed = d.works.draws.seed; drawn = d.works.draws.drawn; drops = d.works.drops; moment = d.moment; told = d.told; lane = d.works.lane; handed = d.works.handed.items; billing = d.works.accounts.billing; endings = d.endings; unopened = d.unopened; closed = d.closed; closing = d.closing; graces = d.graces; kept = d.works.kept.items }) × (192 ≤ vec_capacity d.works.kept) };
 }
 
 // An empty list with room for all items that may stay of a round.
@@ -213,9 +213,10 @@ impl Desk {
         self.stopped = true;
     }
 
-    /// Appends the report: the octets in and out of all provisioned circuits and of each, and the drops by cause.
+    /// Appends the report: the octets in and out of all packets that were sent, those of each provisioned circuit, and the drops by
+    /// cause.
     pub fn report(&self, alloc: Global, out: &mut Vec<u8>) -> Result<(), DeskError>
-        ensures appended { OnOk result (out.new.items ≡ out.old.items ++ report_text self.now.lines (all_carried self.now) (by_number self.now.drops)) }
+        ensures appended { OnOk result (out.new.items ≡ out.old.items ++ report_text (total_of self.now.tallies) self.now.lines (all_carried self.now) (by_number self.now.drops)) }
         ensures kept { OnErr result (out.new.items ≡ out.old.items) }
     {
         let lines = self.works.accounts.lines();
@@ -223,7 +224,11 @@ impl Desk {
             return Err(DeskError::OutOfMemory);
         };
         let drops = self.works.drops.by_number();
-        let Ok(text) = report(alloc, lines, traffic.as_slice(), &drops) else {
+        let total = Traffic {
+            input: self.works.tally.input,
+            output: self.works.tally.output,
+        };
+        let Ok(text) = report(alloc, total, lines, traffic.as_slice(), &drops) else {
             return Err(DeskError::OutOfMemory);
         };
         match out.extend_from_slice(text.as_bytes()) {

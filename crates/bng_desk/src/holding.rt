@@ -1,24 +1,26 @@
 //! A round of given items: opened and settled, or refused for want of memory.
-ghost use Rattle.std.specs.Prelude.{◌≡◌, ◌+◌, ◌*◌, ◌^◌, ◌≤◌, ◌<◌, ◌++◌, ◌∷◌, [], ℕ, true, false, length, replicate, vec_capacity};
+ghost use Rattle.std.specs.Prelude.{◌≡◌, ◌+◌, ◌*◌, ◌^◌, ◌≤◌, ◌<◌, ◌++◌, ◌∷◌, [], ℕ, true, false, length, replicate, sum_by, vec_capacity};
 ghost use Rattle.std.specs.List.{All};
 ghost use Rattle.bng_base.specs.Causes.{HasCause};
 ghost use Rattle.bng_base.specs.Told.{Grows};
 ghost use Rattle.bng_engine.specs.Calls.{IsReady};
-ghost use Rattle.bng_shard.specs.Protocol.{AreHeld, terms_of};
+ghost use Rattle.bng_shard.specs.Protocol.{AreHeld, HasPools, terms_of};
 ghost use Rattle.bng_shard.specs.Sums.{IsLow, AreLow, RowsAreLow};
-ghost use Rattle.bng_desk.specs.Accounting.{AreBilled};
+ghost use Rattle.bng_desk.specs.Accounting.{AreBilled, KnowsBegun};
 ghost use Rattle.bng_desk.specs.Counting.{Within};
 ghost use Rattle.bng_desk.specs.Items.{stays, kept_of, is_from_outside};
 ghost use Rattle.bng_desk.specs.Kept.{octets_most, drops_most};
 ghost use Rattle.bng_desk.specs.Model.{keys_in};
-ghost use Rattle.bng_desk.specs.Taking.{IsEmpty, HasFewSessions, HasRows, AreInOrder, AreItems, RoundHeld, Holds, AreTallied, outs_of_items};
+ghost use Rattle.bng_desk.specs.Taking.{IsEmpty, HasFewSessions, HasRows, KeepsTerms, AreInOrder, AreItems, RoundHeld, Holds, AreTallied, outs_of_items};
 ghost use Rattle.bng_desk.specs.Round.{refused_of};
 ghost use Rattle.bng_desk.specs.Turn.{told_if};
 
 use crate::accounts::Accounts;
+use crate::allowing::note as note_allowances;
 use crate::drops::{Drops, count_refused};
 use crate::lists::Lists;
 use crate::round::{deal_all, prepare_all, send_all};
+use crate::starts::begin_all;
 use crate::stops::reap_all;
 use bng_base::{
     Book, Entry, Frame, Ip4, Item, ItemKind, Listed, Loose, OutRecord, Peer, RoundRecord,
@@ -77,20 +79,21 @@ pub(crate) fn opened<P: Plant>(
     requires some { 1 ≤ rules.now.shards }
     requires few { rules.now.shards ≤ 64 }
     requires one_rule { All (λ v. v.state.rules ≡ rules.now) shards.old }
-    requires no_pools { rules.now.pools ≡ [] }
-    requires no_news { All (λ v. v.state.slots.news ≡ []) shards.old }
+    requires pools { HasPools rules.now.pools pool.old.ranges }
+    requires terms { All (KeepsTerms named.moment) shards.old }
     requires places { pool.old.shards ≡ rules.now.shards }
     requires held { All (λ v. AreHeld v.number (terms_of v.state) pool.old.table) shards.old }
     requires moment { named.moment < 2 ^ 60 }
     requires items { AreItems lists.items.items }
-    requires ready { All (IsReady (length lists.items.items) 0) shards.old }
+    requires ready { All (λ v. IsReady (length lists.items.items) v.allowance v) shards.old }
     requires rows { All HasRows shards.old }
     requires low { All (λ v. RowsAreLow (2 ^ 62 + 2 ^ 61) v.rows) shards.old }
     requires low_books { All (λ v. AreLow (2 ^ 62 + 2 ^ 61) v.books) shards.old }
     requires low_tally { IsLow (2 ^ 62 + 2 ^ 61) tally.old }
     requires lines { AreTallied tally.old shards.old accounts.old.lines }
     requires billed { AreBilled (keys_in shards.old) accounts.old.billing }
-    requires began { accounts.old.began ≤ named.moment }
+    requires knows { KnowsBegun shards.old accounts.old.billing }
+    requires free { length accounts.old.billing.spool.held + sum_by (λ v. v.allowance) shards.old ≤ accounts.old.billing.spool.rules.terms }
     requires few_outs { outs_of_items lists.items.items ≤ 5760 + 320 * length shards.old }
     requires loose { (lists.loose.items ≡ []) × (1024 ≤ vec_capacity lists.loose) }
     requires journals { (lists.journals.items ≡ []) × (length shards.old ≤ vec_capacity lists.journals) }
@@ -107,14 +110,17 @@ pub(crate) fn opened<P: Plant>(
     ensures tally { (most : ℕ) → IsLow most tally.old → IsLow (most + octets_most) tally.new }
     ensures lines { AreTallied tally.new shards.new accounts.new.lines }
     ensures billed { AreBilled (keys_in shards.new) accounts.new.billing }
+    ensures knows { KnowsBegun shards.new accounts.new.billing }
+    ensures terms { All (KeepsTerms named.moment) shards.new }
     ensures held { All (λ v. AreHeld v.number (terms_of v.state) pool.new.table) shards.new }
     ensures places { pool.new.shards ≡ pool.old.shards }
+    ensures ranges { pool.new.ranges ≡ pool.old.ranges }
     ensures within { (most : ℕ) → Within most drops.old → Within (most + drops_most) drops.new }
 {
     let Lists {
         items,
         mut loose,
-        allowances,
+        mut allowances,
         mut journals,
         mut outs,
         refused,
@@ -131,6 +137,8 @@ pub(crate) fn opened<P: Plant>(
     );
     send_all(shards, plant, &mut outs, &mut journals, drops, tally);
     reap_all(shards, pool, accounts, named.moment, named.wall);
+    begin_all(shards, accounts, named.moment, named.wall);
+    note_allowances(shards, &mut allowances);
     recorded(named, allowances, journals, loose, outs, refused)
 }
 
@@ -253,8 +261,8 @@ pub(crate) fn hold<P: Plant>(
     requires some { 1 ≤ rules.now.shards }
     requires few { rules.now.shards ≤ 64 }
     requires one_rule { All (λ v. v.state.rules ≡ rules.now) shards.old }
-    requires no_pools { rules.now.pools ≡ [] }
-    requires no_news { All (λ v. v.state.slots.news ≡ []) shards.old }
+    requires pools { HasPools rules.now.pools pool.old.ranges }
+    requires terms { All (KeepsTerms named.moment) shards.old }
     requires places { pool.old.shards ≡ rules.now.shards }
     requires held { All (λ v. AreHeld v.number (terms_of v.state) pool.old.table) shards.old }
     requires moment { named.moment < 2 ^ 60 }
@@ -265,7 +273,7 @@ pub(crate) fn hold<P: Plant>(
     requires low_tally { IsLow (2 ^ 62 + 2 ^ 61) tally.old }
     requires lines { AreTallied tally.old shards.old accounts.old.lines }
     requires billed { AreBilled (keys_in shards.old) accounts.old.billing }
-    requires began { accounts.old.began ≤ named.moment }
+    requires knows { KnowsBegun shards.old accounts.old.billing }
     requires few_outs { outs_of_items lists.items.items ≤ 5760 + 320 * length shards.old }
     requires loose { (lists.loose.items ≡ []) × (1024 ≤ vec_capacity lists.loose) }
     requires journals { (lists.journals.items ≡ []) × (length shards.old ≤ vec_capacity lists.journals) }
@@ -285,12 +293,16 @@ pub(crate) fn hold<P: Plant>(
     ensures tally { (most : ℕ) → IsLow most tally.old → IsLow (most + octets_most) tally.new }
     ensures lines { AreTallied tally.new shards.new accounts.new.lines }
     ensures billed { AreBilled (keys_in shards.new) accounts.new.billing }
+    ensures knows { KnowsBegun shards.new accounts.new.billing }
+    ensures terms { All (KeepsTerms named.moment) shards.new }
     ensures held { All (λ v. AreHeld v.number (terms_of v.state) pool.new.table) shards.new }
     ensures places { pool.new.shards ≡ pool.old.shards }
+    ensures ranges { pool.new.ranges ≡ pool.old.ranges }
     ensures within { (most : ℕ) → Within most drops.old → Within (most + drops_most) drops.new }
 {
     let count = lists.items.len() as u16;
-    if prepare_all(shards, alloc, count, spare) {
+    let free = accounts.free();
+    if prepare_all(shards, alloc, count, free, spare) {
         return Held {
             record: opened(
                 rules, shards, pool, accounts, plant, named, lists, drops, tally,

@@ -7,6 +7,7 @@
 
 mod accounts;
 mod acknowledgements;
+mod allowing;
 mod answers;
 mod calls;
 mod control;
@@ -28,6 +29,7 @@ mod report;
 mod requests;
 mod round;
 mod settlement;
+mod starts;
 mod stops;
 mod sums;
 mod turns;

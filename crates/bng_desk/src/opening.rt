@@ -5,6 +5,7 @@ ghost use Rattle.bng_acct.specs.Roster.{same};
 ghost use Rattle.bng_base.specs.declared.settings.NamedRange.{NamedRange};
 ghost use Rattle.bng_pool.specs.Ranges.{ArePoolRanges, HasAddress};
 ghost use Rattle.bng_pool.specs.Tables.{entry};
+ghost use Rattle.bng_shard.specs.Lasting.{AreTenures};
 ghost use Rattle.bng_shard.specs.Protocol.{opened};
 ghost use Rattle.bng_lane.specs.State.{IsNewLane};
 ghost use Rattle.bng_shard.specs.Questions.{none_handed};
@@ -15,6 +16,7 @@ ghost use Rattle.bng_desk.specs.Taking.{HasFewSessions};
 use crate::accounts::Accounts;
 use crate::desk::DeskError;
 use crate::line::Line;
+use crate::starts::start_all;
 use crate::sums::NO_TRAFFIC;
 use arrayvec::ArrayVec;
 use bng_access::NasRules;
@@ -158,21 +160,22 @@ fn dns(servers: &ArrayVec<Ip4, 2>) -> [Option<Ip4>; 2]
     [servers.get(0).copied(), servers.get(1).copied()]
 }
 
-/// By what all shards work. They have no pools yet: a peer that the RADIUS server accepts gets no address.
+/// By what all shards work.
 pub(crate) fn rules(
     alloc: Global,
     config: &Config,
     offers: Vec<PortRules>,
 ) -> Result<Rules, DeskError>
-    ensures { IfOk result (λ r. r ≡ record { shards = config.now.shards; core_peer = config.now.core_peer; access = config.now.access; offers = offers.items; pools = []; link = record { name = config.now.name; address = config.now.address; dns = dns_of config.now.dns.items; auth = config.now.auth; echo = config.now.echo } }) }
+    ensures { IfOk result (λ r. r ≡ record { shards = config.now.shards; core_peer = config.now.core_peer; access = config.now.access; offers = offers.items; pools = config.now.pools; link = record { name = config.now.name; address = config.now.address; dns = dns_of config.now.dns.items; auth = config.now.auth; echo = config.now.echo } }) }
 {
     let access = ports_copied(alloc, config.access.as_slice())?;
+    let pools = pools_copied(alloc, config.pools.as_slice())?;
     Ok(Rules {
         shards: config.shards,
         core_peer: config.core_peer,
         access: Listed::of(access),
         offers: Listed::of(offers),
-        pools: Listed::of(Vec::new(alloc)),
+        pools: Listed::of(pools),
         link: LinkRules {
             name: copied(&config.name),
             address: config.address,
@@ -247,8 +250,8 @@ pub(crate) fn billing_rules(config: &Config, wall: u64) -> BillingRules
     }
 }
 
-/// Accounting over these lines, with the Start of each term that the shards have, of the first shard first and in each by rising session
-/// number, at this moment and at the rules' second on the wall. There is room for the terms, and no two are one.
+/// Accounting over these lines, with the Start of each term that the shards have, of the first shard first and in each in the order in
+/// which they began, at this moment and at the rules' second on the wall. There is room for the terms, and no two are one.
 pub(crate) fn accounts(
     alloc: Global,
     rules: BillingRules,
@@ -259,19 +262,16 @@ pub(crate) fn accounts(
     requires most { rules.acct.terms ≤ 262144 }
     requires room { length (keys_in shards.now) ≤ rules.acct.terms }
     requires apart { AllPairs (λ j k. same j.term k.term ≡ false) (keys_in shards.now) }
-    ensures { IfOk result (λ a. OpensAccounts rules lines.items (keys_in shards.now) now a) }
+    requires terms { All (λ v. AreTenures now v.state.slots) shards.now }
+    ensures { IfOk result (λ a. OpensAccounts rules lines.items shards.now now a) }
 {
     let wall = rules.acct.wall;
     let Ok(billing) = Billing::open(alloc, rules) else {
         return Err(DeskError::OutOfMemory);
     };
-    let mut accounts = Accounts {
-        lines,
-        billing,
-        began: now,
-    };
+    let mut accounts = Accounts { lines, billing };
     for shard in shards {
-        accounts.start_all(shard, wall);
+        start_all(shard, &mut accounts, now, wall);
     }
     Ok(accounts)
 }
@@ -299,7 +299,6 @@ pub(crate) fn lines(alloc: Global, circuits: &[Static]) -> Result<Vec<Line>, Des
     let named = circuits.iter().map(|circuit| Line {
         session: circuit.session,
         address: circuit.address,
-        user: copied(&circuit.user),
         stopped: NO_TRAFFIC,
     });
     match named.collect(alloc) {

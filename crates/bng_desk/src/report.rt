@@ -1,5 +1,4 @@
 ghost use Rattle.std.specs.Prelude.{◌≡◌, ◌++◌, ◌<◌, ◌^◌, IfOk, OnOk, length, string_bytes};
-ghost use Rattle.bng_desk.specs.Model.{input_of, output_of};
 ghost use Rattle.bng_config.specs.Address.{address_text};
 ghost use Rattle.bng_desk.specs.Report.{report_text, static_line, static_lines, drop_line, drop_lines, causes, quantities, cause_name};
 
@@ -21,21 +20,20 @@ const CAUSES: [DropCause; 9] = [
     DropCause::WantOfMemory,
 ];
 
-/// The report: the total of the circuits, a line for each circuit, and the items dropped by each cause. `drops` is by the
+/// The report: the total of all that was sent, a line for each circuit, and the items dropped by each cause. `drops` is by the
 /// number of the cause. There is one traffic for each circuit.
 pub(crate) fn report(
     alloc: Global,
+    total: Traffic,
     circuits: &[Line],
     traffic: &[Traffic],
     drops: &[u64; 9],
 ) -> Result<String, AllocError>
     requires circuits { length traffic.now ≡ length circuits.now }
-    ensures { IfOk result (λ text. string_bytes text ≡ report_text circuits.now traffic.now drops.now) }
+    ensures { IfOk result (λ text. string_bytes text ≡ report_text total circuits.now traffic.now drops.now) }
 {
-    let input = traffic.iter().map(|t| u128::from(t.input)).sum();
-    let output = traffic.iter().map(|t| u128::from(t.output)).sum();
     let mut text = String::from_str(alloc, "total")?;
-    push_quantities(&mut text, input, output)?;
+    push_quantities(&mut text, u128::from(total.input), u128::from(total.output))?;
     push_static_lines(&mut text, circuits, traffic)?;
     push_drop_lines(&mut text, drops)?;
     Ok(text)

@@ -5,14 +5,16 @@ ghost use Rattle.bng_engine.specs.Calls.{Kept, IsReady};
 ghost use Rattle.bng_engine.specs.Lists.{one_if};
 ghost use Rattle.bng_engine.specs.Quantities.{Quantity, in_book};
 ghost use Rattle.bng_engine.specs.Sums.{charge_if, is_directed, passed_sum};
-ghost use Rattle.bng_shard.specs.Protocol.{AreHeld, terms_of};
+ghost use Rattle.bng_shard.specs.Protocol.{AreHeld, HasPools, terms_of};
 ghost use Rattle.bng_shard.specs.Room.{Admits};
 ghost use Rattle.bng_shard.specs.Sums.{Has, IsMore, IsLow, AreLow, RowsAreLow};
 ghost use Rattle.bng_shard.specs.Whose.{IsWhose};
+ghost use Rattle.bng_desk.specs.Allowing.{allowance_of};
 ghost use Rattle.bng_desk.specs.Counting.{Within, plus};
 ghost use Rattle.bng_desk.specs.Round.{with_failed};
 ghost use Rattle.bng_desk.specs.Taking.{Shown, IsEmpty, HasRows, AreInOrder, AreItems, IsLight, Covers, DealsOne, Deals, is_lost, lost_part, Turns, AllTurn, Sends, SendsAll};
 
+use crate::allowing::allowance;
 use crate::calls::send;
 use crate::drops::{Drops, count};
 use bng_base::{Book, DropCause, Entry, Fate, Item, Listed, Loose, OutRecord};
@@ -30,43 +32,57 @@ fn lend(shard: &mut Shard, mut list: Vec<Entry>)
     shard.keep_journal(list);
 }
 
-// Makes a shard ready for a round of so many items, in which no term may begin, with the list of a journal of before where one is left.
-fn prepare_one(shard: &mut Shard, alloc: Global, items: u16, spare: &mut Vec<Vec<Entry>>) -> bool
-    requires { IsEmpty shard.old }
+// Makes a shard ready for a round of so many items, in which so many terms may begin, with the list of a journal of before where one is
+// left.
+fn prepare_one(
+    shard: &mut Shard,
+    alloc: Global,
+    items: u16,
+    allowance: u32,
+    spare: &mut Vec<Vec<Entry>>,
+) -> bool
+    requires empty { IsEmpty shard.old }
+    requires numbers { 0 < allowance → shard.old.state.slots.begun + allowance < 2 ^ 48 }
     ensures kept { Kept shard.old shard.new }
     ensures empty { IsEmpty shard.new }
-    ensures ready { result ≡ true → IsReady items 0 shard.new }
+    ensures ready { result ≡ true → IsReady items allowance shard.new }
     ensures rows { HasRows shard.new }
 {
     if let Some(list) = spare.pop() {
         lend(shard, list);
     }
-    shard.prepare(alloc, items, 0).is_ok()
+    shard.prepare(alloc, items, allowance).is_ok()
 }
 
-/// Makes all shards ready for a round of so many items, and says whether there is room. Lists of `spare` serve for their journals.
+/// Makes all shards ready for a round of so many items, and says whether there is room. Accounting has room for so many terms, of which
+/// each shard has its share. Lists of `spare` serve for their journals.
 pub(crate) fn prepare_all(
     shards: &mut [Shard],
     alloc: Global,
     items: u16,
+    free: u32,
     spare: &mut Vec<Vec<Entry>>,
 ) -> bool
+    requires some { 1 ≤ length shards.old }
+    requires few { length shards.old ≤ 64 }
+    requires numbers { AreInOrder shards.old }
     requires empty { All IsEmpty shards.old }
     ensures kept { AllZip Kept shards.old shards.new }
     ensures empty { All IsEmpty shards.new }
-    ensures ready { result ≡ true → All (IsReady items 0) shards.new }
+    ensures ready { result ≡ true → AllZip (λ v w. IsReady items (allowance_of free (length shards.old) v) w) shards.old shards.new }
     ensures rows { result ≡ true → All HasRows shards.new }
 {
-    for shard in shards.iter_mut() {
-        if !prepare_one(shard, alloc, items, spare) {
+    let count = shards.len() as u16;
+    for (number, shard) in shards.iter_mut().enumerate() {
+        let allowance = allowance(shard, number as u16, free, count);
+        if !prepare_one(shard, alloc, items, allowance, spare) {
             return false;
         }
     }
     true
 }
 
-// Hands an item to its shard, or keeps it as a loose one, and answers its fate. As long as the rules have no pools, no item asks for an
-// address.
+// Hands an item to its shard, or keeps it as a loose one, and answers its fate.
 fn deal(
     rules: &Rules,
     shards: &mut [Shard],
@@ -81,7 +97,7 @@ fn deal(
     requires some { 1 ≤ rules.now.shards }
     requires numbers { AreInOrder shards.old }
     requires one_rule { All (λ v. v.state.rules ≡ rules.now) shards.old }
-    requires no_pools { rules.now.pools ≡ [] }
+    requires pools { HasPools rules.now.pools pool.old.ranges }
     requires places { pool.old.shards ≡ rules.now.shards }
     requires held { All (λ v. AreHeld v.number (terms_of v.state) pool.old.table) shards.old }
     requires moment { now < 2 ^ 60 }
@@ -91,8 +107,8 @@ fn deal(
     requires low_books { All (λ v. AreLow (2 ^ 63) v.books) shards.old }
     requires low_tally { IsLow (2 ^ 63) tally.old }
     requires loose_room { length loose.old.items < vec_capacity loose.old }
-    ensures deals { DealsOne rules.now pool.old place now item shards.old shards.new loose.old.items loose.new.items tally.old tally.new result }
-    ensures pool { pool.new ≡ pool.old }
+    ensures deals { DealsOne rules.now pool.old pool.new place now item shards.old shards.new loose.old.items loose.new.items tally.old tally.new result }
+    ensures held { All (λ v. AreHeld v.number (terms_of v.state) pool.new.table) shards.new }
     ensures capacity { vec_capacity loose.new ≡ vec_capacity loose.old }
 {
     match whose_is(rules, pool, &item) {
@@ -111,7 +127,8 @@ fn deal(
     }
 }
 
-/// Hands each item to its shard, in their order; an item that is for no shard is loose. What passes is entered in the tally.
+/// Hands each item to its shard, in their order; an item that is for no shard is loose. Where a peer is accepted an address is claimed of
+/// the pool. What passes is entered in the tally. At most as many terms begin in a shard as it is allowed.
 pub(crate) fn deal_all(
     rules: &Rules,
     shards: &mut [Shard],
@@ -126,22 +143,21 @@ pub(crate) fn deal_all(
     requires count { length shards.old ≡ rules.now.shards }
     requires some { 1 ≤ rules.now.shards }
     requires one_rule { All (λ v. v.state.rules ≡ rules.now) shards.old }
-    requires no_pools { rules.now.pools ≡ [] }
+    requires pools { HasPools rules.now.pools pool.old.ranges }
     requires places { pool.old.shards ≡ rules.now.shards }
     requires held { All (λ v. AreHeld v.number (terms_of v.state) pool.old.table) shards.old }
     requires moment { now < 2 ^ 60 }
     requires items { AreItems items.items }
-    requires ready { All (IsReady (length items.items) 0) shards.old }
+    requires ready { All (λ v. IsReady (length items.items) v.allowance v) shards.old }
     requires rows { All HasRows shards.old }
     requires low_books { All (λ v. AreLow (2 ^ 62 + 2 ^ 61) v.books) shards.old }
     requires low_tally { IsLow (2 ^ 62 + 2 ^ 61) tally.old }
     requires loose { loose.old.items ≡ [] }
     requires room { length items.items ≤ vec_capacity loose.old }
     requires drops { Within (2 ^ 62) drops.old }
-    ensures deals { Deals rules.now pool.old now items.items shards.old shards.new loose.new.items drops.old drops.new tally.old tally.new }
+    ensures deals { Deals rules.now pool.old pool.new now items.items shards.old shards.new loose.new.items drops.old drops.new tally.old tally.new }
     ensures numbers { AreInOrder shards.new }
-    ensures pool { pool.new ≡ pool.old }
-    ensures held { All (λ v. AreHeld v.number (terms_of v.state) pool.old.table) shards.new }
+    ensures held { All (λ v. AreHeld v.number (terms_of v.state) pool.new.table) shards.new }
     ensures within { (most : ℕ) → Within most drops.old → Within (most + length items.items) drops.new }
     ensures tally { (most : ℕ) → IsLow most tally.old → IsLow (most + 4160 * length items.items) tally.new }
 {

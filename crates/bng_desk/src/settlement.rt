@@ -52,7 +52,7 @@ pub(crate) fn settle<P: Plant, T: Trace>(
 ) -> Settled
     requires ready { IsReady rules.now named lists works.old }
     ensures settles { Settles rules.now named lists.items.items works.old works.new (P.told plant.old) (P.told plant.new) (T.told trace.old) (T.told trace.new) result }
-    ensures keeps { KeepsWorks works.old works.new }
+    ensures keeps { KeepsWorks named.moment works.old works.new }
 {
     let Held { record, is_opened } = hold(
         alloc,

@@ -5,7 +5,7 @@ ghost use Rattle.bng_desk.specs.Taking.{CarriesWithin, LinesWithin, far};
 ghost use Rattle.bng_shard.specs.Protocol.{row_at};
 
 use crate::line::Line;
-use bng_base::SessionNo;
+use bng_base::{Ip4, SessionNo};
 use bng_shard::{Shard, Traffic};
 use std::alloc::{AllocError, Global};
 
@@ -27,11 +27,11 @@ pub(crate) fn sessions_in(shards: &[Shard]) -> u64
     sessions
 }
 
-// What the term of a session carried; nothing where the shard has no such term.
-fn carried_in(shard: &Shard, session: SessionNo) -> Traffic
-    ensures { result ≡ traffic_or (row_at shard.now.rows session.0) }
+// What the term with an address carried; nothing where the shard has no such term.
+fn carried_in(shard: &Shard, address: Ip4) -> Traffic
+    ensures { result ≡ traffic_or (row_at shard.now.rows address) }
 {
-    match shard.carried(session) {
+    match shard.carried(address) {
         Some(traffic) => traffic,
         None => NO_TRAFFIC,
     }
@@ -49,22 +49,22 @@ fn plus(a: Traffic, b: Traffic) -> Traffic
     }
 }
 
-// What the term of a circuit carried that is there.
-fn carried_now(shards: &[Shard], session: SessionNo) -> Traffic
-    ensures { result ≡ traffic_at (slice_get shards.now (session.0 / 1024)) session.0 }
+// What the term with an address carried that is in the shard of this session's number.
+fn carried_now(shards: &[Shard], session: SessionNo, address: Ip4) -> Traffic
+    ensures { result ≡ traffic_at (slice_get shards.now (session.0 / 1024)) address }
 {
     match shards.get(usize::from(session.0 / 1024)) {
-        Some(shard) => carried_in(shard, session),
+        Some(shard) => carried_in(shard, address),
         None => NO_TRAFFIC,
     }
 }
 
-/// What a circuit carried: what the Stops of its terms say, and what the shard of its number keeps for a term that is there.
+/// What a circuit carried: what the Stops with its address say, and what the shard of its number keeps for the term that has it.
 pub(crate) fn carried_on(shards: &[Shard], line: &Line) -> Traffic
     requires { CarriesWithin far shards.now line.now }
     ensures { result ≡ carried_on shards.now line.now }
 {
-    plus(line.stopped, carried_now(shards, line.session))
+    plus(line.stopped, carried_now(shards, line.session, line.address))
 }
 
 /// What each circuit carried.
