@@ -65,3 +65,4 @@ pub mod AskedPool
 pub mod ClaimLaws
 pub mod OpenedKeys
 pub mod Benches
+pub mod ClaimedTerms
