@@ -25,15 +25,19 @@ moves_by_claims r s limited d (inl (none, m)) = record {
   began = [];
   one_each = sym none;
   count = omega (arith, m.begun);
+  numbers = refl;
   news = m.news ∙ sym (append-nil s.news);
   keys = sym (its_keys d.next.terms) ∙ zip_keys AnyCause s.terms d.next.terms m.terms ∙ its_keys s.terms ∙ sym (append-nil (map key_in s.terms));
+  shard = m.shard;
 }
 moves_by_claims r s limited d (inr (a, is, may, m)) = record {
   began = m.one ∷ [];
   one_each = ap (λ (b : Ip4). b.0 ∷ []) m.address ∙ sym (ap claimed_by is);
   count = m.begun;
+  numbers = ap (λ (n : ℕ). n ∷ []) m.serial;
   news = m.news;
   keys = ap (λ (ts : List Tenure). map key_in ts) m.terms ∙ keys_then s.terms (m.one ∷ []);
+  shard = m.shard;
 }
 
 pub step_by_claims : (r : Rules) (s : State) (limited : Bool) (d : Deed) → Step r s limited d → BeginsByClaims s d

@@ -66,3 +66,4 @@ pub mod ClaimLaws
 pub mod OpenedKeys
 pub mod Benches
 pub mod ClaimedTerms
+pub mod Numbered

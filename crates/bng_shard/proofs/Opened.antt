@@ -86,7 +86,7 @@ numbered_up_to : (now k most : ℕ) (cs : List Static) → k + length cs ≤ mos
 numbered_up_to now k most [] few = tt
 numbered_up_to now k most (c ∷ cs) few = (omega (arith, few), numbered_up_to now (k + 1) most cs (omega (arith, few)))
 
-in_order_count : (shard : ℕ) (cs : List Static) → All (λ c. IsNumberOf shard c.session.0) cs → length (in_order shard cs) ≡ length cs
+pub in_order_count : (shard : ℕ) (cs : List Static) → All (λ c. IsNumberOf shard c.session.0) cs → length (in_order shard cs) ≡ length cs
 in_order_count shard cs own =
     let one : Static → ℕ = λ _. 1 in
     sym (ones (in_order shard cs)) ∙ sum_in_order one shard cs (recursion_from_All (λ (c : Static). IsNumberOf shard c.session.0) cs own) ∙ ones cs
