@@ -262,7 +262,7 @@ module _ (pools : List NamedRange) (limited : Bool) (octets : List ℕ) (claim :
   decides_none (inr (inr (v, says, accepted, g, grants, answers, e))) = absurd (none_some (told_of pools limited claim v.text g) e)
 
 module _ (r : Rules) (s : State) (e : Entry) (t : Told) (d : Deed) (h : Judges r s e t d) where
-  settled_as : (lease : Option Ip4) → t.lease ≡ lease → d.next ≡ settled_by s e.item.target h.x h.question t e.moment h.after h.asked lease
+  pub settled_as : (lease : Option Ip4) → t.lease ≡ lease → d.next ≡ settled_by s e.item.target h.x h.question t e.moment h.after h.asked lease
   settled_as lease is = next_of d (handled s e h.outs (settled_by s e.item.target h.x h.question t e.moment h.after h.asked t.lease)) h.done ∙ ap (settled_by s e.item.target h.x h.question t e.moment h.after h.asked) is
 
   after_there : IsThere r h.after
@@ -271,7 +271,7 @@ module _ (r : Rules) (s : State) (e : Entry) (t : Told) (d : Deed) (h : Judges r
   pub judged_none : t.lease ≡ None → d.next ≡ with_driven s e.item.target None None h.after h.asked
   judged_none none = settled_as None none
 
-  judged_remains : t.lease ≡ None → Remains AnyCause r s d.next
+  pub judged_remains : t.lease ≡ None → Remains AnyCause r s d.next
   judged_remains none = subst (Remains AnyCause r s) (sym (judged_none none)) (remain_with r AnyCause s e.item.target None None h.after h.asked (λ c is. tt) (λ p. after_there))
 
   judged_begins : (a : Ip4) → t.lease ≡ Some a → Begins r s d.next a
