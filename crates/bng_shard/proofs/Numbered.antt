@@ -1,5 +1,5 @@
 -- The terms of a shard are numbered in the order in which they began, and their Class attributes are whole.
-use Rattle.std.proofs.Common.{◌≡◌, ◌≢◌, inl, inr, ⊎_elim, ℕ, zero, suc, ◌+◌, ◌*◌, ◌/◌, ◌<◌, ◌≤◌, Bool, true, false, not, List, [], ◌∷◌, ◌++◌, length, get_or, Option, Some, None, is_some, refl, sym, ap, subst, ◌∙◌, arith}
+use Rattle.std.proofs.Common.{◌≡◌, inl, inr, ⊎_elim, ℕ, zero, suc, ◌+◌, ◌/◌, ◌<◌, ◌≤◌, Bool, true, false, not, List, [], ◌∷◌, ◌++◌, length, Option, Some, None, is_some, refl, sym, ap, subst, ◌∙◌, arith}
 use Rattle.std.specs.List.{All, AllByRecursion, AllPairs, AllZip}
 use Rattle.std.proofs.lemmas.List.Elements.{All-cons, All-filter, All-from_recursion, All-head, All-nil, All-push, All-tail, All-weaker, recursion_from_All}
 use Rattle.std.proofs.lemmas.List.Kept.{AllPairs-cons, AllPairs-filter}
@@ -23,12 +23,11 @@ use Rattle.bng_shard.specs.Granting.{IsSound}
 use Rattle.bng_shard.specs.Lasting.{AreTenures, IsTenureOf, Precedes}
 use Rattle.bng_shard.specs.Link.{Told}
 use Rattle.bng_shard.specs.Opening.{in_order, opened_slots, tenures_after}
-use Rattle.bng_shard.specs.Protocol.{claimed_by}
 use Rattle.bng_shard.specs.State.{State, settled}
 use Rattle.bng_shard.specs.Step.{Hears, Step}
 use Rattle.bng_shard.specs.Tenures.{Tenure, is_over}
 use Rattle.bng_shard.specs.Verdicts.{HearsVerdict, Judges, next_term, with_term}
-use Rattle.bng_shard.specs.Wishes.{Decides, accepted_with, pool_for, refused_with, told_at, told_by, told_of}
+use Rattle.bng_shard.specs.Wishes.{Decides, pool_for, refused_with, told_at, told_by, told_of}
 use Rattle.bng_shard.proofs.InOrder.{all_in_order}
 use Rattle.bng_shard.proofs.Naming.{next_of}
 use Rattle.bng_shard.proofs.Opened.{in_order_count}
