@@ -31,6 +31,7 @@ use Rattle.bng_shard.specs.Wishes.{Decides, pool_for, refused_with, told_at, tol
 use Rattle.bng_shard.proofs.InOrder.{all_in_order}
 use Rattle.bng_shard.proofs.Naming.{next_of}
 use Rattle.bng_shard.proofs.Opened.{in_order_count}
+use Rattle.bng_shard.proofs.OpenedKeys.{of_shard}
 use Rattle.bng_shard.proofs.TermLaws.{AnyCause, Lasts, Moves, Remains, claim_or, judged_remains, settled_as, step_moves}
 use Rattle.bng_shard.proofs.Values.{none_some, same_some}
 
@@ -170,10 +171,6 @@ module _ (m n : ℕ) (s s' : State) (le : m ≤ n) (h : AreTenures m s) where
         each_new = subst (All Its) (sym news) (All-push Its s.news t (its s.news h.each_new) new);
         rising_new = subst (AllPairs Precedes) (sym news) (next_rise s.sessions.shard s.begun m t s.news serial h.each_new h.rising_new);
       }
-
--- a session number of a shard names it
-of_shard : (shard n : ℕ) → IsNumberOf shard n → n / 1024 ≡ shard
-of_shard shard n own = omega (arith, own.0, own.1)
 
 -- Steps ----------------------------------------------------------------------------------------------------------------------
 

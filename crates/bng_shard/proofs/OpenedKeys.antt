@@ -18,7 +18,7 @@ abbrev pub keys_after : ℕ → ℕ → List Static → List Key
 keys_after now n cs = keys (map term_in (tenures_after now n cs))
 
 -- a session number of a shard names it
-of_shard : (shard n : ℕ) → IsNumberOf shard n → n / 1024 ≡ shard
+pub of_shard : (shard n : ℕ) → IsNumberOf shard n → n / 1024 ≡ shard
 of_shard shard n own = omega (arith, own.0, own.1)
 
 -- the keys' session numbers are those of the circuits
