@@ -1,15 +1,14 @@
 -- The rows that are kept for the terms of a shard, as a caller sees them.
-use Rattle.std.proofs.Common.{◌≡◌, ℕ, zero, suc, ◌<◌, length, arith, inl, inr, ◌==◌, Bool, true, false, cond, List, [], ◌∷◌, ◌++◌, map, Option, Some, None, refl, sym, ap, ◌∙◌, append-nil}
-use Rattle.std.proofs.lemmas.List.{map-append}
+use Rattle.std.proofs.Common.{◌≡◌, ℕ, zero, suc, ◌<◌, length, arith, inl, inr, ◌==◌, Bool, true, false, cond, List, [], ◌∷◌, map, Option, Some, None, refl, ap, ◌∙◌}
 use Rattle.std.specs.Prelude.{find, option_map, slice_get}
 use Rattle.std.proofs.lemmas.Option.{slice_get-map}
 use Rattle.std.proofs.Math.ListN.{get_or}
 use Rattle.bng_base.specs.declared.address.Ip4.{Ip4}
 use Rattle.bng_engine.specs.Lists.{AnyOf}
 use Rattle.bng_engine.specs.Views.{Row, new_row, row_keys}
-use Rattle.bng_engine.specs.Terms.{Key, keys}
+use Rattle.bng_engine.specs.Terms.{Key}
 use Rattle.bng_shard.specs.declared.terms.Running.{Running}
-use Rattle.bng_shard.specs.Protocol.{row_at, key_of}
+use Rattle.bng_shard.specs.Protocol.{row_at}
 use Rattle.bng_shard.specs.Running.{row_from, rows_in, tenure_in, tenures_in}
 use Rattle.bng_shard.specs.Tenures.{Tenure}
 use Rattle.bng_shard.specs.Sums.{traffic_in}
