@@ -3,8 +3,7 @@ use Rattle.std.proofs.Common.{◌≡◌, ℕ, ◌+◌, Bool, true, false, not, c
 use Rattle.std.specs.Prelude.{sum_by}
 use Rattle.std.specs.List.{All, AllByRecursion, AllPairs}
 use Rattle.std.proofs.lemmas.List.{map-append}
-use Rattle.std.proofs.lemmas.List.Elements.{filter-append}
-use Rattle.std.proofs.lemmas.List.Sums.{sum_by-cons, sum_by-append}
+use Rattle.std.proofs.lemmas.List.Sums.{sum_by-cons}
 use Rattle.bng_base.specs.declared.book.Book.{Book}
 use Rattle.bng_engine.specs.Lists.{AnyOf}
 use Rattle.bng_engine.specs.Quantities.{Quantity, in_book}
@@ -12,10 +11,10 @@ use Rattle.bng_engine.specs.Sums.{stopped_where}
 use Rattle.bng_engine.specs.Terms.{ComesBefore, Key, Stop, Term, is_ended, keys}
 use Rattle.bng_engine.specs.Views.{Row, row_keys, rows_where}
 use Rattle.bng_shard.specs.declared.terms.Running.{Running}
-use Rattle.bng_shard.specs.Protocol.{SaysOf, cause_in, key_in, term_in}
+use Rattle.bng_shard.specs.Protocol.{cause_in, key_in, term_in}
 use Rattle.bng_shard.specs.Running.{TakesFirst, has_ended, is_meant, key_from, row_from, rows_in, tenure_in, tenures_in}
-use Rattle.bng_shard.specs.Tenures.{Tenure, is_over}
-use Rattle.bng_shard.proofs.ListParts.{all_left, any_left, any_within, pairs_left}
+use Rattle.bng_shard.specs.Tenures.{LeavesTerms, Tenure, is_over}
+use Rattle.bng_shard.proofs.ListParts.{all_left, any_left, pairs_left}
 use Rattle.bng_shard.proofs.RowOrder.{sum_taken}
 
 -- the terms of rows, as the engine reads them
@@ -67,10 +66,6 @@ row_sum q pick input (r ∷ rows) =
       sum_by-cons (λ (x : Running). cond (pick (key_from x)) (in_book q input x.carried) 0) r rows,
     )
 
-tenure_sum : (f : Tenure → ℕ) (rows : List Running) → sum_by f (tenures_in rows) ≡ sum_by (λ (r : Running). f (tenure_in r)) rows
-tenure_sum f [] = refl
-tenure_sum f (r ∷ rows) = omega (arith, tenure_sum f rows, sum_by-cons f (tenure_in r) (tenures_in rows), sum_by-cons (λ (x : Running). f (tenure_in x)) r rows)
-
 keys_parts : (before after : List Running) → row_keys (rows_in (before ++ after)) ≡ row_keys (rows_in before) ++ row_keys (rows_in after)
 keys_parts [] after = refl
 keys_parts (b ∷ before) after = ap (λ (ks : List Key). key_from b ∷ ks) (keys_parts before after)
@@ -114,12 +109,14 @@ module _ (rows rows' : List Running) (r : Running) where
   pub left_are : (over : Bool) → (t : TakesFirst over rows r rows') → row_keys (rows_in rows') ≡ row_keys (rows_in t.before) ++ row_keys (rows_in t.after)
   left_are over takes = ap (λ (rs : List Running). row_keys (rows_in rs)) takes.are ∙ keys_parts takes.before takes.after
 
-  -- it was one of the terms
-  pub left_says : (over : Bool) → TakesFirst over rows r rows' → AnyOf (SaysOf r.user.items r.class.items r.began (key_from r)) (tenures_in rows)
-  left_says over takes =
-      subst (λ (rs : List Running). AnyOf (SaysOf r.user.items r.class.items r.began (key_from r)) (tenures_in rs)) (sym takes.were)
-      (subst (AnyOf (SaysOf r.user.items r.class.items r.began (key_from r))) (sym (map-append tenure_in takes.before (r ∷ takes.after)))
-      (any_within (SaysOf r.user.items r.class.items r.began (key_from r)) (tenures_in takes.before) (tenures_in takes.after) (tenure_in r) (record { key = refl; user_is = refl; class_is = refl; began_is = refl })))
+  -- its term has left, and those before it and after it stand as they were
+  pub left_leaves : (over : Bool) → TakesFirst over rows r rows' → LeavesTerms (tenures_in rows) (tenures_in rows') (tenure_in r)
+  left_leaves over takes = record {
+    before = tenures_in takes.before;
+    after = tenures_in takes.after;
+    were = ap tenures_in takes.were ∙ map-append tenure_in takes.before (r ∷ takes.after);
+    are = ap tenures_in takes.are ∙ map-append tenure_in takes.before takes.after;
+  }
 
   -- what holds of a live term alone holds of one that stays
   pub left_live : (P : Tenure → Type 0) → ((t : Tenure) → P t → t.cause ≡ None) → TakesFirst true rows r rows' → AnyOf P (tenures_in rows) → AnyOf P (tenures_in rows')
@@ -163,9 +160,6 @@ module _ (rows rows' : List Running) (r : Running) where
   left_lives takes =
       ap (λ (rs : List Running). live_among (tenures_in rs)) takes.are ∙ sym (over_passed takes.before takes.after r takes.meant) ∙ sym (ap (λ (rs : List Running). live_among (tenures_in rs)) takes.were)
 
-  -- one of the new terms is told
-  pub told_one : TakesFirst false rows r rows' → (f : Tenure → ℕ) → f (tenure_in r) + sum_by f (tenures_in rows') ≡ sum_by f (tenures_in rows)
-  told_one takes f = omega (arith, tenure_sum f rows, tenure_sum f rows', sum_taken (λ (x : Running). f (tenure_in x)) false rows rows' r takes)
-
+  -- it comes before each new term that is left
   pub told_least : TakesFirst false rows r rows' → AllByRecursion (λ (t : Tenure). ComesBefore (key_in (tenure_in r)) (key_in t)) (tenures_in rows')
   told_least takes = least_new (key_from r) rows' takes.least

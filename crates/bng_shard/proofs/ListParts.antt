@@ -1,6 +1,6 @@
 -- Lists with one element less, and with one more at the end.
-use Rattle.std.proofs.Common.{◌≡◌, ℕ, zero, suc, ◌<◌, List, [], ◌∷◌, ◌++◌, length, length-append, inl, inr, arith}
-use Rattle.std.specs.List.{All, AllByRecursion, AllPairs}
+use Rattle.std.proofs.Common.{zero, suc, List, [], ◌∷◌, ◌++◌, inl, inr, arith}
+use Rattle.std.specs.List.{All, AllPairs}
 use Rattle.bng_engine.specs.Lists.{AnyOf}
 
 module _ {X : Type 0} where

@@ -9,7 +9,6 @@ use Rattle.bng_base.specs.declared.address.Ip4.{Ip4}
 use Rattle.bng_base.specs.declared.book.Book.{Book}
 use Rattle.bng_base.specs.declared.item.Entry.{Entry}
 use Rattle.bng_base.specs.declared.item.OutRecord.{OutRecord}
-use Rattle.bng_engine.specs.Lists.{AnyOf}
 use Rattle.bng_engine.specs.Terms.{ComesBefore, Key, Stop, Term}
 use Rattle.bng_engine.specs.Views.{ShardView, row_keys}
 use Rattle.bng_pool.specs.Tables.{Table, TableFrees, entry}
@@ -22,8 +21,8 @@ use Rattle.bng_shard.specs.Fits.{ArePlaced}
 use Rattle.bng_shard.specs.Protocol.{AreHeld, Leaves, SaysOf, ShardState, TellsNew, stop_of, term_in}
 use Rattle.bng_shard.specs.Running.{AreTied, TakesFirst, TermsView, has_ended, key_from, rows_in, tenure_in, tenures_in, whole}
 use Rattle.bng_shard.specs.State.{IsTermOf, State, leaves, reaped}
-use Rattle.bng_shard.specs.Tenures.{Tenure}
-use Rattle.bng_shard.proofs.LeavingFirst.{all_are_live, ended_from, left_are, left_least, left_live, left_lives, left_one, left_sums, left_says, left_were, rows_fit, told_least, told_one}
+use Rattle.bng_shard.specs.Tenures.{LeavesTerms, Tenure}
+use Rattle.bng_shard.proofs.LeavingFirst.{all_are_live, ended_from, left_are, left_least, left_leaves, left_live, left_lives, left_one, left_sums, left_were, rows_fit, told_least}
 use Rattle.bng_shard.proofs.ListParts.{all_left}
 use Rattle.bng_shard.proofs.Values.{kept, kept_from}
 
@@ -135,7 +134,7 @@ module _ (rules : Rules) (s : State) (passed : Book) (allowance : ℕ) (journal 
 
   pub tells_so : (t t' : TermsView) (r : Running) → TakesFirst false t.news r t'.news → t' ≡ record t { news = t'.news } → TellsNew (whole s t) (whole s t') (tenure_in r)
   tells_so t t' r takes others = record {
-    one = told_one t.news t'.news r takes;
+    leaves = left_leaves t.news t'.news r false takes;
     least = told_least t.news t'.news r takes;
     others = ap (λ (v : TermsView). let u : State = record s { terms = tenures_in v.rows; news = tenures_in t'.news } in u) others;
   }
@@ -161,14 +160,18 @@ reaped_shown rules s passed allowance journal outs t t' s' room none same next =
 
 pub ended_said : (rows rows' : List Running) (r : Running) (o : Option EndedTerm) → TakesFirst true rows r rows'
     → IfSome o (λ e. (r.cause ≡ Some e.cause) × ((stop_of e).key ≡ key_from r) × (e.carried ≡ r.carried)) → IfSome o (λ e. (e.user ≡ r.user) × (e.class ≡ r.class) × (e.began ≡ r.began))
-    → IfSome o (λ e. AnyOf (SaysOf e.user.items e.class.items e.began (stop_of e).key) (tenures_in rows))
+    → IfSome o (λ e. (t : Tenure) × SaysOf e.user.items e.class.items e.began (stop_of e).key t × LeavesTerms (tenures_in rows) (tenures_in rows') t)
 ended_said rows rows' r None takes one says = tt
-ended_said rows rows' r (Some e) takes one says =
-    subst (λ (k : Key). AnyOf (SaysOf e.user.items e.class.items e.began k) (tenures_in rows)) (sym one.1)
-    (subst (λ n. AnyOf (SaysOf e.user.items e.class.items n (key_from r)) (tenures_in rows)) (sym says.2)
-    (subst (λ (v : ArrayVec ℕ). AnyOf (SaysOf e.user.items v.items r.began (key_from r)) (tenures_in rows)) (sym says.1)
-    (subst (λ (v : ArrayVec ℕ). AnyOf (SaysOf v.items r.class.items r.began (key_from r)) (tenures_in rows)) (sym says.0)
-    (left_says rows rows' r true takes))))
+ended_said rows rows' r (Some e) takes one says = (
+  tenure_in r,
+  record {
+    key = sym one.1;
+    user_is = sym (ap (λ (v : ArrayVec ℕ). v.items) says.0);
+    class_is = sym (ap (λ (v : ArrayVec ℕ). v.items) says.1);
+    began_is = sym says.2;
+  },
+  left_leaves rows rows' r true takes,
+)
 
 -- those that stay were there
 module _ (sessions : Sessions Session) where

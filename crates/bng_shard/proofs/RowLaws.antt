@@ -1,14 +1,14 @@
 -- The rows that are kept for the terms of a shard, as a caller sees them.
-use Rattle.std.proofs.Common.{◌≡◌, ℕ, zero, suc, ◌<◌, length, arith, inl, inr, ◌==◌, Bool, true, false, cond, List, [], ◌∷◌, ◌++◌, map, Option, Some, None, refl, sym, ap, ◌∙◌, append-nil}
-use Rattle.std.proofs.lemmas.List.{map-append}
+use Rattle.std.proofs.Common.{◌≡◌, ℕ, zero, suc, ◌<◌, length, arith, inl, inr, ◌==◌, Bool, true, false, cond, List, [], ◌∷◌, map, Option, Some, None, refl, ap, ◌∙◌}
 use Rattle.std.specs.Prelude.{find, option_map, slice_get}
 use Rattle.std.proofs.lemmas.Option.{slice_get-map}
 use Rattle.std.proofs.Math.ListN.{get_or}
+use Rattle.bng_base.specs.declared.address.Ip4.{Ip4}
 use Rattle.bng_engine.specs.Lists.{AnyOf}
 use Rattle.bng_engine.specs.Views.{Row, new_row, row_keys}
-use Rattle.bng_engine.specs.Terms.{Key, keys}
+use Rattle.bng_engine.specs.Terms.{Key}
 use Rattle.bng_shard.specs.declared.terms.Running.{Running}
-use Rattle.bng_shard.specs.Protocol.{row_at, key_of}
+use Rattle.bng_shard.specs.Protocol.{row_at}
 use Rattle.bng_shard.specs.Running.{row_from, rows_in, tenure_in, tenures_in}
 use Rattle.bng_shard.specs.Tenures.{Tenure}
 use Rattle.bng_shard.specs.Sums.{traffic_in}
@@ -22,16 +22,16 @@ found : (b : Bool) (r : Running) (m : Option Running) (n : Option Row) → optio
 found true r m n e = refl
 found false r m n e = e
 
--- the row with a session number
-pub row_at_same : (rs : List Running) (session : ℕ) → option_map row_from (find (λ (r : Running). r.term.session.0 == session) rs) ≡ row_at (rows_in rs) session
-row_at_same [] session = refl
-row_at_same (r ∷ rs) session = found (r.term.session.0 == session) r (find (λ (x : Running). x.term.session.0 == session) rs) (row_at (rows_in rs) session) (row_at_same rs session)
+-- the row with an address
+pub row_at_same : (rs : List Running) (address : Ip4) → option_map row_from (find (λ (r : Running). r.lease.0 == address.0) rs) ≡ row_at (rows_in rs) address
+row_at_same [] address = refl
+row_at_same (r ∷ rs) address = found (r.lease.0 == address.0) r (find (λ (x : Running). x.lease.0 == address.0) rs) (row_at (rows_in rs) address) (row_at_same rs address)
 
 -- what it carried
-pub traffic_at : (rs : List Running) (session : ℕ) → option_map (λ (r : Running). traffic_in (row_from r)) (find (λ (r : Running). r.term.session.0 == session) rs) ≡ option_map traffic_in (row_at (rows_in rs) session)
-traffic_at rs session =
+pub traffic_at : (rs : List Running) (address : Ip4) → option_map (λ (r : Running). traffic_in (row_from r)) (find (λ (r : Running). r.lease.0 == address.0) rs) ≡ option_map traffic_in (row_at (rows_in rs) address)
+traffic_at rs address =
     let both : (m : Option Running) → option_map (λ (r : Running). traffic_in (row_from r)) m ≡ option_map traffic_in (option_map row_from m) = λ m. elim m as (λ o. option_map (λ (r : Running). traffic_in (row_from r)) o ≡ option_map traffic_in (option_map row_from o)) [ None ↦ refl | Some r ↦ refl ] in
-    both (find (λ (r : Running). r.term.session.0 == session) rs) ∙ ap (option_map traffic_in) (row_at_same rs session)
+    both (find (λ (r : Running). r.lease.0 == address.0) rs) ∙ ap (option_map traffic_in) (row_at_same rs address)
 
 -- the key at a place is that of the row there
 pub key_at : (rs : List Running) (place : ℕ) → slice_get (row_keys (rows_in rs)) place ≡ option_map (λ (r : Running). (row_from r).key) (slice_get rs place)

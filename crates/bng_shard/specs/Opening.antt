@@ -1,5 +1,5 @@
 -- A shard at its opening: the sessions of its provisioned circuits.
-use Rattle.std.specs.Prelude.{ℕ, ◌+◌, ◌*◌, ◌==◌, Bool, false, List, [], ◌∷◌, Option, Some, None, length, filter}
+use Rattle.std.specs.Prelude.{ℕ, ◌+◌, ◌*◌, ◌==◌, false, List, [], ◌∷◌, Some, None, length, filter}
 use Rattle.std.specs.List.{flat_map, range_with_len}
 use Rattle.std.specs.FinMap.{from_sorted}
 use Rattle.bng_base.specs.declared.circuit.Circuit.TheVariants.{Pppoe}

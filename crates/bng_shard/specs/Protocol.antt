@@ -1,6 +1,6 @@
 -- The protocol of a shard, as the engine reads it.
 use Rattle.std.specs.Prelude.{◌≡◌, ◌⊎◌, ℕ, ◌+◌, ◌≤◌, ◌==◌, Bool, true, false, List, [], ◌∷◌, ◌++◌, Option, Some, None, filter, length, map, find, slice_get, sum_by}
-use Rattle.std.specs.List.{flat_map, range_with_len, All, AllByRecursion}
+use Rattle.std.specs.List.{range_with_len, All, AllByRecursion}
 use Rattle.bng_base.specs.declared.address.Ip4.{Ip4}
 use Rattle.bng_base.specs.declared.book.Book.{Book}
 use Rattle.bng_base.specs.declared.book.Range.{Range}

@@ -3,7 +3,6 @@ use Rattle.std.specs.Prelude.{◌≡◌, ◌⊎◌, ℕ, Bool, true, false, ◌&
 use Rattle.std.specs.List.{list_any, position}
 use Rattle.std.specs.Str.{bytes_eq}
 use Rattle.bng_base.specs.declared.address.Ip4.{Ip4}
-use Rattle.bng_base.specs.declared.book.Range.{Range}
 use Rattle.bng_base.specs.declared.item.Claim.{Claim}
 use Rattle.bng_base.specs.declared.item.Claim.TheVariants.{NoClaim, Claimed, Held, Exhausted}
 use Rattle.bng_base.specs.declared.settings.NamedRange.{NamedRange}

@@ -5,8 +5,8 @@ ghost use Rattle.bng_shard.specs.Sums.{AreLow, IsLow};
 use crate::{EndedTerm, LiveTerm, Rules, Shard};
 use arrayvec::ArrayVec;
 use bng_base::{
-    AccessPort, AuthKind, Book, Fate, Frame, Ip4, Item, ItemKind, Listed, Mac, OutRecord, Peer,
-    Range, Static,
+    AccessPort, AuthKind, Book, Fate, Frame, Ip4, Item, ItemKind, Listed, Mac, NamedRange,
+    OutRecord, Peer, Range, Static,
 };
 use bng_discovery::PortRules;
 use bng_pool::PlainPool;
@@ -17,6 +17,7 @@ use std::process::Abort;
 use std::test::Fail;
 
 mod discovery;
+mod logins;
 mod terms;
 mod verdicts;
 
@@ -35,6 +36,12 @@ const PADR: [u8; 52] = [
     0, 4, 0xa1, 0xb2, 0xc3, 0xd4, 1, 4, 0, 16, 0, 0, 0, 0, 0, 0, 0, 0, 0, 0, 0, 0, 0, 0, 0, 0,
 ];
 
+// A packet towards 10.0.0.2.
+const TO_IT: [u8; 28] = [
+    0x45, 0, 0, 28, 0, 0, 0, 0, 64, 17, 0xae, 0xce, 192, 0, 2, 1, 10, 0, 0, 2, 0x30, 0x39, 0x30,
+    0x39, 0, 8, 0, 0,
+];
+
 fn peer(port: u16) -> Peer {
     Peer {
         ip: Ip4(0x7f000001),
@@ -42,7 +49,7 @@ fn peer(port: u16) -> Peer {
     }
 }
 
-fn text(octets: &[u8]) -> ArrayVec<u8, 64> {
+fn text<const N: usize>(octets: &[u8]) -> ArrayVec<u8, N> {
     let mut text = ArrayVec::new();
     for octet in octets {
         if !text.is_full() {
@@ -88,12 +95,12 @@ const ONE: Range = Range {
     last: Ip4(0x0a000002),
 };
 
-// One shard, the port 1, and no pool.
-fn rules(alloc: Global) -> Result<Rules, AllocError>
+// One shard, the port 1, and these pools.
+fn rules_over(alloc: Global, pools: Vec<NamedRange>) -> Result<Rules, AllocError>
     ensures auth { IfOk result (λ r. 0 < length r.link.auth.items) }
     ensures access { IfOk result (λ r. length r.access ≡ 1) }
     ensures offers { IfOk result (λ r. length r.offers ≡ 1) }
-    ensures pools { IfOk result (λ r. r.pools ≡ []) }
+    ensures pools { IfOk result (λ r. r.pools ≡ pools.items) }
 {
     let port = AccessPort {
         local: peer(9010),
@@ -107,9 +114,31 @@ fn rules(alloc: Global) -> Result<Rules, AllocError>
         core_peer: peer(9001),
         access: Listed::of(access),
         offers: Listed::of(offers),
-        pools: Listed::of(Vec::new(alloc)),
+        pools: Listed::of(pools),
         link: links(),
     })
+}
+
+// The same with no pool.
+fn rules(alloc: Global) -> Result<Rules, AllocError>
+    ensures auth { IfOk result (λ r. 0 < length r.link.auth.items) }
+    ensures access { IfOk result (λ r. length r.access ≡ 1) }
+    ensures offers { IfOk result (λ r. length r.offers ≡ 1) }
+    ensures pools { IfOk result (λ r. r.pools ≡ []) }
+{
+    rules_over(alloc, Vec::new(alloc))
+}
+
+// The same with this pool, whose name is main.
+fn rules_with(alloc: Global, range: Range) -> Result<Rules, AllocError>
+    ensures auth { IfOk result (λ r. 0 < length r.link.auth.items) }
+    ensures access { IfOk result (λ r. length r.access ≡ 1) }
+    ensures offers { IfOk result (λ r. length r.offers ≡ 1) }
+    ensures pools { IfOk result (λ r. map (λ p. p.range) r.pools ≡ range ∷ []) }
+{
+    let name = text(b"main");
+    let pools = Vec::from_array(alloc, [NamedRange { name, range }])?;
+    rules_over(alloc, pools)
 }
 
 /// A shard, and who holds an address.

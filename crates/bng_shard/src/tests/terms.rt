@@ -7,7 +7,7 @@ ghost use Rattle.bng_pool.specs.Tables.{entry};
 ghost use Rattle.std.specs.List.{All};
 ghost use Rattle.bng_slots.specs.Sessions.{IsNumberOf};
 
-use super::{Bench, NOTHING, TWO, item, peer, request, rules, span};
+use super::{Bench, NOTHING, TO_IT, TWO, item, peer, request, rules, span};
 use crate::{Charged, EndedTerm, LiveTerm, Shard, Traffic};
 use arrayvec::ArrayVec;
 use bng_base::{
@@ -107,8 +107,8 @@ fn a_packet_counts_for_its_term(rt: HostRuntime) -> Result<(), Fail> {
         input: 84,
         output: 0,
     });
-    assert_eq!(rt; shard.carried(SessionNo(1025)), carried);
-    assert_eq!(rt; shard.carried(SessionNo(1026)), None);
+    assert_eq!(rt; shard.carried(Ip4(0x0a000002)), carried);
+    assert_eq!(rt; shard.carried(Ip4(0x0a000003)), None);
     Ok(())
 }
 
@@ -202,16 +202,11 @@ fn is_end(ended: &EndedTerm, term: (TermId, Circuit, Ip4)) -> bool {
         && ended.carried == NOTHING
 }
 
-// A packet of the first circuit, in a frame of its session, and one towards it.
+// A packet of the first circuit, in a frame of its session.
 const FROM_IT: [u8; 50] = [
     2, 0, 0, 0, 0, 0xfe, 2, 0, 0, 0, 0, 1, 0x88, 0x64, 0x11, 0, 4, 1, 0, 30, 0, 0x21, 0x45, 0, 0,
     28, 0, 0, 0, 0, 64, 17, 0xae, 0xce, 10, 0, 0, 2, 192, 0, 2, 1, 0x30, 0x39, 0x30, 0x39, 0, 8, 0,
     0,
-];
-
-const TO_IT: [u8; 28] = [
-    0x45, 0, 0, 28, 0, 0, 0, 0, 64, 17, 0xae, 0xce, 192, 0, 2, 1, 10, 0, 0, 2, 0x30, 0x39, 0x30,
-    0x39, 0, 8, 0, 0,
 ];
 
 // A packet of the first circuit and one towards it have this fate.
@@ -308,6 +303,6 @@ fn a_stop_says_what_its_term_carried(rt: HostRuntime) -> Result<(), Fail> {
             .as_ref()
             .is_some_and(|ended| ended.carried == carried)
     );
-    assert_eq!(rt; bench.shard.carried(SessionNo(1025)), None);
+    assert_eq!(rt; bench.shard.carried(Ip4(0x0a000002)), None);
     Ok(())
 }

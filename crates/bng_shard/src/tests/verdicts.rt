@@ -2,6 +2,7 @@ ghost use Rattle.std.specs.Prelude.{◌≡◌, ◌≤◌, length};
 
 use super::{Bench, NOTHING, ONE, item, octets, open_bench, request, rules, span, text};
 use crate::Handed;
+use arrayvec::ArrayVec;
 use bng_base::{Item, ItemKind, OutRecord, SessionNo};
 use bng_verdict::QuestionNo;
 use std::alloc::Global;
@@ -36,7 +37,7 @@ pub(super) fn in_session_of(host: u8, ppp: &[u8]) -> Item
     ensures { result.frame.headroom ≡ 64 }
 {
     let length = ppp.len() as u8;
-    let mut octets = text(&[
+    let mut octets: ArrayVec<u8, 64> = text(&[
         2, 0, 0, 0, 0, 0xfe, 2, 0, 0, 0, 0, host, 0x88, 0x64, 0x11, 0, 0, host, 0, length,
     ]);
     for octet in ppp {

@@ -1,0 +1,144 @@
+ghost use Rattle.std.specs.Prelude.{◌≡◌, ◌≤◌, length};
+
+use super::verdicts::{ACCEPT, ACK, PASSWORD, REQUEST, in_session_of, verdict};
+use super::{
+    Bench, NOTHING, ONE, TO_IT, item, octets, open_bench, peer, request, rules_with, span,
+};
+use bng_base::{DropCause, Fate, Ip4, Item, ItemKind, OutRecord};
+use std::alloc::Global;
+use std::process::Abort;
+use std::test::Fail;
+
+// The address of the pool.
+const ADDRESS: Ip4 = Ip4(0x0a000002);
+
+// A host asks for the pool's address by IPCP, and takes what the gateway asks for: its own address (RFC 1332 section 3.3).
+const ASKS: &[u8; 12] = b"\x80\x21\x01\x01\x00\x0a\x03\x06\x0a\0\0\x02";
+
+const TAKES: &[u8; 12] = b"\x80\x21\x02\x01\x00\x0a\x03\x06\x0a\0\0\x01";
+
+// The gateway's own Configure-Request of IPCP, and what PAP makes of a refusal by the gateway.
+const OWN: &[u8; 12] = b"\x80\x21\x01\x01\x00\x0a\x03\x06\x0a\0\0\x01";
+
+const NO_ADDRESS: &[u8; 17] = b"\xc0\x23\x03\x07\x00\x0f\x0ano address";
+
+// The peer's end of LCP (RFC 1661 section 5.5).
+const TERMINATE: &[u8; 6] = b"\xc0\x21\x05\x09\x00\x04";
+
+// A packet of the first host from the pool's address.
+const FROM_IT: &[u8; 30] =
+    b"\0\x21\x45\0\0\x1c\0\0\0\0\x40\x11\xae\xce\x0a\0\0\x02\xc0\0\x02\x01\x30\x39\x30\x39\0\x08\0\0";
+
+// The outs of one item at moment 0. The round is not settled.
+fn hear(rt: &impl Abort, alloc: Global, bench: &mut Bench, item: Item) -> Vec<OutRecord>
+    requires whole { item.frame.headroom ≡ 64 }
+{
+    let mut tally = NOTHING;
+    let (_fate, outs) = bench.handled(rt, alloc, &mut tally, 0, item);
+    outs
+}
+
+// The outs of the Accept of a host that made the session of its number and sent its password, by which it asks this question.
+fn accepted(
+    rt: &impl Abort,
+    alloc: Global,
+    bench: &mut Bench,
+    host: u8,
+    ask: u64,
+) -> Vec<OutRecord> {
+    let _made = request(rt, alloc, bench, u16::from(host));
+    let _answered = hear(rt, alloc, bench, in_session_of(host, REQUEST));
+    let _opened = hear(rt, alloc, bench, in_session_of(host, ACK));
+    let _asked = hear(rt, alloc, bench, in_session_of(host, PASSWORD));
+    hear(rt, alloc, bench, verdict(u16::from(host), ask, ACCEPT))
+}
+
+// The fates of a packet of the first host and of one towards it.
+fn fates(rt: &impl Abort, alloc: Global, bench: &mut Bench) -> [Fate; 2] {
+    let mut tally = NOTHING;
+    let (up, _sent_up) = bench.handled(rt, alloc, &mut tally, 0, in_session_of(1, FROM_IT));
+    let mut core = item(ItemKind::Core, &TO_IT);
+    core.from = peer(9001);
+    let (down, _sent_down) = bench.handled(rt, alloc, &mut tally, 0, core);
+    [up, down]
+}
+
+// The term that ended leaves: of the first host, with this number and by this cause; its address is held until then.
+fn assert_reaps(rt: &impl Abort, bench: &mut Bench, serial: u64, cause: u8) {
+    assert_eq!(rt; bench.pool.look(ADDRESS), Some(0));
+    let Some(ended) = bench.reap() else {
+        assert!(rt; false);
+        return;
+    };
+    assert_eq!(rt; ended.term.serial, serial);
+    assert_eq!(rt; ended.address, ADDRESS);
+    assert_eq!(rt; ended.user.as_slice(), b"u0".as_slice());
+    assert_eq!(rt; ended.cause, cause);
+    assert_eq!(rt; bench.pool.look(ADDRESS), None);
+    assert!(rt; bench.reap().is_none());
+}
+
+const NOT_OPEN: Fate = Fate::Dropped(DropCause::NotOpen);
+
+#[test]
+fn an_accept_begins_a_term_and_a_terminate_request_ends_it(rt: HostRuntime) -> Result<(), Fail> {
+    let alloc = rt.alloc();
+    let mut bench = open_bench(alloc, rules_with(alloc, ONE)?, ONE)?;
+    let outs = accepted(&rt, alloc, &mut bench, 1, 1);
+    assert_eq!(rt; outs.len(), 2);
+    assert_eq!(rt; span(&outs, 1, 20, 32), OWN.as_slice());
+    assert_eq!(rt; bench.pool.look(ADDRESS), Some(0));
+    let fresh = bench.fresh().map(|term| (term.term.serial, term.address));
+    assert_eq!(rt; fresh, Some((1, ADDRESS)));
+    assert!(rt; bench.fresh().is_none());
+    assert_eq!(rt; fates(&rt, alloc, &mut bench), [NOT_OPEN, NOT_OPEN]);
+    let _acknowledged = hear(&rt, alloc, &mut bench, in_session_of(1, ASKS));
+    let _opened = hear(&rt, alloc, &mut bench, in_session_of(1, TAKES));
+    assert_eq!(rt;
+        fates(&rt, alloc, &mut bench),
+        [Fate::Forwarded, Fate::Forwarded]
+    );
+    let _ended = hear(&rt, alloc, &mut bench, in_session_of(1, TERMINATE));
+    assert_eq!(rt; fates(&rt, alloc, &mut bench), [NOT_OPEN, NOT_OPEN]);
+    assert_reaps(&rt, &mut bench, 1, 1);
+    Ok(())
+}
+
+#[test]
+fn an_address_that_is_held_is_given_to_nobody_else(rt: HostRuntime) -> Result<(), Fail> {
+    let alloc = rt.alloc();
+    let mut bench = open_bench(alloc, rules_with(alloc, ONE)?, ONE)?;
+    let first = accepted(&rt, alloc, &mut bench, 1, 1);
+    assert_eq!(rt; first.len(), 2);
+    // the Authenticate-Nak says why, and LCP does Close
+    let second = accepted(&rt, alloc, &mut bench, 2, 2);
+    assert_eq!(rt; second.len(), 2);
+    assert_eq!(rt; octets(&second, 0).len(), 37);
+    assert_eq!(rt; span(&second, 0, 20, 37), NO_ADDRESS.as_slice());
+    assert_eq!(rt; span(&second, 1, 20, 23), b"\xc0\x21\x05".as_slice());
+    // a Configure-Request in Opened ends the term; then the address is free, and it is leased again
+    let _again = hear(&rt, alloc, &mut bench, in_session_of(1, REQUEST));
+    assert_reaps(&rt, &mut bench, 1, 1);
+    let third = accepted(&rt, alloc, &mut bench, 3, 3);
+    assert_eq!(rt; third.len(), 2);
+    assert_eq!(rt; bench.pool.look(ADDRESS), Some(0));
+    Ok(())
+}
+
+#[test]
+fn a_padt_and_an_end_end_terms_by_causes_of_their_own(rt: HostRuntime) -> Result<(), Fail> {
+    let alloc = rt.alloc();
+    let mut bench = open_bench(alloc, rules_with(alloc, ONE)?, ONE)?;
+    let _first = accepted(&rt, alloc, &mut bench, 1, 1);
+    let padt = [
+        2, 0, 0, 0, 0, 0xfe, 2, 0, 0, 0, 0, 1, 0x88, 0x63, 0x11, 0xa7, 0, 1, 0, 0,
+    ];
+    let access = ItemKind::Access(1);
+    let _ended = hear(&rt, alloc, &mut bench, item(access, &padt));
+    assert_reaps(&rt, &mut bench, 1, 1);
+    let _second = accepted(&rt, alloc, &mut bench, 1, 2);
+    let _all = hear(&rt, alloc, &mut bench, item(ItemKind::End, &[]));
+    assert_reaps(&rt, &mut bench, 2, 10);
+    assert_eq!(rt; bench.shard.sessions(), 0);
+    Ok(())
+}
