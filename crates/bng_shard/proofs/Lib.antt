@@ -14,6 +14,7 @@ pub mod Wishing
 pub mod TermBegins
 pub mod TermLaws
 pub mod Poolless
+pub mod CircuitsKept
 pub mod Reading
 pub mod Spelling
 pub mod Naming
