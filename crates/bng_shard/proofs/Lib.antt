@@ -15,6 +15,8 @@ pub mod TermBegins
 pub mod TermLaws
 pub mod Poolless
 pub mod CircuitsKept
+pub mod Housing
+pub mod HousedSettled
 pub mod Reading
 pub mod Spelling
 pub mod Naming
