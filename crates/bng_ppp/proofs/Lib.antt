@@ -2,6 +2,7 @@ pub mod RejectLaws
 pub mod ReplyLaws
 pub mod RoomLaws
 pub mod TermLaws
+pub mod FinishLaws
 pub mod MruLaws
 pub mod LcpOuts
 pub mod OneOutcome

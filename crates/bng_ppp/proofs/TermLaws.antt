@@ -38,7 +38,7 @@ use Rattle.bng_ppp.proofs.WholePhases.{not_both, second_true}
 
 -- Open and Up finish nothing ----------------------------------------------------------------------------------------------
 
-abbrev is_tlf : Action → Bool
+abbrev pub is_tlf : Action → Bool
 is_tlf Tlu = false
 is_tlf Tld = false
 is_tlf Tls = false

@@ -29,7 +29,7 @@ use Rattle.bng_ppp.specs.IpcpAutomaton.{IpcpWhy}
 use Rattle.bng_ppp.specs.LinkState.{is_down, is_opened, LinkState}
 use Rattle.bng_ppp.specs.Phases.{is_begun, KeepsPhases}
 use Rattle.bng_ppp.specs.Layers.{Turn, begun, leaves, ipcp_of, IpcpMoves, Above, authenticates, silenced, LcpStep, LcpSteps, LcpCloses, lcp_told, lcp_hears, with_auth, with_auth_until}
-use Rattle.bng_ppp.specs.WholeFrame.{IsWay, HearsAuth, AuthDoes, HearsWay}
+use Rattle.bng_ppp.specs.WholeFrame.{IsWay, HearsAuth, AuthDoes, HearsOctets, HearsWay}
 use Rattle.bng_ppp.specs.Verdict.{Refuses, BeginsFor, Accepts, Settles}
 use Rattle.bng_ppp.specs.WholeTimers.{AuthReminds, AboveReminds}
 use Rattle.bng_ppp.specs.PppRelation.{PppGoes, PppSaid, PppSteps, after_turn}
@@ -332,6 +332,14 @@ module _ (r : LinkRules) (now : ℕ) (random : List ℕ) where
   -- a step of a whole link, whatever it is told
   pub phases_kept : (what : WholeInput) (old : PppState) (says : PppSaid) (new : PppState) → KeepsPhases old → PppSteps r what now random old says new → KeepsPhases new
   phases_kept what old says new h x = subst (λ (s : PppState). KeepsPhases s) (sym x.state) (after_keeps x.turn (goes_keeps what old x.turn x.cause h x.goes))
+
+  -- by a frame of the peer
+  pub heard_phases : (octets : List ℕ) (old : PppState) (turn : Turn) → KeepsPhases old → HearsOctets r octets now random old turn → KeepsPhases (after_turn turn)
+  heard_phases octets old turn h x = after_keeps turn (way_keeps x.way octets old turn h x.is x.hears)
+
+  -- by a verdict on the question that is open
+  pub settled_phases : (found : Bool) (lease : Option Ip4) (text : List ℕ) (old : PppState) (turn : Turn) → KeepsPhases old → Settles (is_open old.auth) found r lease text now random old turn → KeepsPhases (after_turn turn)
+  settled_phases found lease text old turn h x = after_keeps turn (settles_keeps (is_open old.auth) found lease text old turn refl h x)
 
 -- data passes only for a peer that was accepted
 pub data_for_accepted : (s : PppState) → KeepsPhases s → passes s ≡ true → (is_accepted s.auth ≡ true) × (is_opened s.ipcp.machine.state ≡ true)

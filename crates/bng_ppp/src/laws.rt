@@ -1,5 +1,5 @@
 //! The laws that the steps of a link meet.
-ghost use Rattle.std.specs.Prelude.{◌≡◌, ◌⊎◌, ℕ, List, Some, None, IsSome, false};
+ghost use Rattle.std.specs.Prelude.{◌≡◌, ◌⊎◌, ℕ, Bool, List, Option, Some, None, IsSome, false};
 ghost use Rattle.bng_ppp.specs.declared.rules.Input.{Input};
 ghost use Rattle.bng_ppp.specs.declared.rules.LinkRules.{LinkRules};
 ghost use Rattle.bng_ppp.specs.LinkState.{LinkState, is_opened};
@@ -58,10 +58,26 @@ pub fn frames_read_back()
     ensures one { (n m : ℕ) (p q : ControlPacket) → n < 65536 → m < 65536 → length (packet_text p) < 65536 → frame_text n p ≡ frame_text m q → (n ≡ m) × (p ≡ q) }
 {}
 
-/// A step of a whole link keeps the phases (RFC 1661 section 3.2), which a new link keeps.
+/// A step of a whole link keeps the phases (RFC 1661 section 3.2), which a new link keeps: whatever it is told, by a frame of the peer
+/// (`heard`), and by a verdict on the question that is open (`settled`).
 pub fn steps_keep_phases()
-    ensures { (r : LinkRules) (now : ℕ) (random : List ℕ) (what : WholeInput) (old : PppState) (says : PppSaid) (new : PppState)
+    ensures steps { (r : LinkRules) (now : ℕ) (random : List ℕ) (what : WholeInput) (old : PppState) (says : PppSaid) (new : PppState)
         → PppSteps r what now random old says new → KeepsPhases old → KeepsPhases new }
+    ensures heard { (r : LinkRules) (octets : List ℕ) (now : ℕ) (random : List ℕ) (old : PppState) (turn : Turn)
+        → HearsOctets r octets now random old turn → KeepsPhases old → KeepsPhases (after_turn turn) }
+    ensures settled { (r : LinkRules) (found : Bool) (lease : Option Ip4) (text : List ℕ) (now : ℕ) (random : List ℕ) (old : PppState) (turn : Turn)
+        → Settles (is_open old.auth) found r lease text now random old turn → KeepsPhases old → KeepsPhases (after_turn turn) }
+{}
+
+/// Where LCP finished in a step (This-Layer-Finished, RFC 1661 section 4.4), it is not Opened after the step, so no term is live then
+/// (`phases_tell`): whatever the link is told, by a frame of the peer, and by a verdict. It is so of every state.
+pub fn finished_links_are_down()
+    ensures steps { (r : LinkRules) (now : ℕ) (random : List ℕ) (what : WholeInput) (old : PppState) (says : PppSaid) (new : PppState)
+        → PppSteps r what now random old says new → says.finished ≡ true → is_opened new.lcp.lcp.state ≡ false }
+    ensures heard { (r : LinkRules) (octets : List ℕ) (now : ℕ) (random : List ℕ) (old : PppState) (turn : Turn)
+        → HearsOctets r octets now random old turn → turn.finished ≡ true → is_opened (after_turn turn).lcp.lcp.state ≡ false }
+    ensures settled { (r : LinkRules) (asked found : Bool) (lease : Option Ip4) (text : List ℕ) (now : ℕ) (random : List ℕ) (old : PppState) (turn : Turn)
+        → Settles asked found r lease text now random old turn → turn.finished ≡ true → is_opened (after_turn turn).lcp.lcp.state ≡ false }
 {}
 
 /// While a link keeps its phases (RFC 1661 section 3.2), data passes only for a peer that was accepted and once IPCP is Opened,

@@ -56,9 +56,9 @@ pub use crate::counters::{ECHOES_UNANSWERED_MOST, Kept, NAKS_MOST};
 pub use crate::identifiers::Identifiers;
 pub use crate::ipcp_counters::IpcpKept;
 pub use crate::laws::{
-    frames_read_back, lcp_frames_read_back, lcp_has_one_outcome, link_frames_read_back,
-    link_has_one_outcome, phases_tell, questions_open_by_asking, questions_stand_in_frames,
-    steps_keep_phases, yes_needs_a_verdict,
+    finished_links_are_down, frames_read_back, lcp_frames_read_back, lcp_has_one_outcome,
+    link_frames_read_back, link_has_one_outcome, phases_tell, questions_open_by_asking,
+    questions_stand_in_frames, steps_keep_phases, terms_last, yes_needs_a_verdict,
 };
 pub use crate::link::Link;
 pub use crate::rules::{Input, LinkKind, LinkRules};

@@ -14,6 +14,9 @@ pub mod Wishing
 pub mod TermBegins
 pub mod TermLaws
 pub mod Poolless
+pub mod CircuitsKept
+pub mod Housing
+pub mod HousedSettled
 pub mod Reading
 pub mod Spelling
 pub mod Naming

@@ -48,7 +48,7 @@ question_open true asks o q e = absurd (never q e)
 question_open false true o q e = refl
 question_open false false o q e = absurd (never q e)
 
-asks_open : (m : Made) (q : Question) → open_in (Discovered m) ≡ Some q → is_open m.link.auth ≡ true
+pub asks_open : (m : Made) (q : Question) → open_in (Discovered m) ≡ Some q → is_open m.link.auth ≡ true
 asks_open m q e = question_open m.ended (is_open m.link.auth) m.question q e
 
 no_lease_in : (v : Service) (lease : Option Lease) (q : Question) → open_in v ≡ Some q → KeepsLease v lease → lease ≡ None

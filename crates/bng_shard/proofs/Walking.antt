@@ -1,5 +1,6 @@
 -- What holds of each change that an entry makes to a shard's state holds of the step, a verdict aside.
 use Rattle.std.proofs.Common.{◌≡◌, ◌⊎◌, inl, inr, ℕ, zero, suc, Bool, List, Option, Some, None, refl, sym, subst, ◌∙◌}
+use Rattle.bng_base.specs.declared.address.Mac.{Mac}
 use Rattle.bng_base.specs.declared.item.Entry.{Entry}
 use Rattle.bng_base.specs.declared.item.ItemKind.{ItemKind}
 use Rattle.bng_base.specs.declared.item.ItemKind.TheVariants.{Access, Core, Tunnel, Verdict, Change, Tick, End}
@@ -10,7 +11,8 @@ use Rattle.bng_discovery.specs.declared.answers.Answer.{Answer}
 use Rattle.bng_discovery.specs.declared.answers.Answer.TheVariants.{Offer, Make, Again, Refuse, Ended, NoSession, Ignore}
 use Rattle.bng_discovery.specs.declared.port.PortRules.{PortRules}
 use Rattle.bng_ppp.specs.declared.whole_input.WholeInput.TheVariants.{Start, Timer}
-use Rattle.bng_slots.specs.Sessions.{value_at}
+use Rattle.bng_ppp.specs.PppState.{PppState}
+use Rattle.bng_slots.specs.Sessions.{IsLowestVacant, value_at}
 use Rattle.bng_shard.specs.Made.{Made}
 use Rattle.bng_shard.specs.declared.rules.Rules.{Rules}
 use Rattle.bng_shard.specs.declared.session.Service.{Service}
@@ -18,7 +20,7 @@ use Rattle.bng_shard.specs.declared.session.Service.TheVariants.{Provisioned, Di
 use Rattle.bng_shard.specs.declared.session.Session.{Session}
 use Rattle.bng_shard.specs.State.{State, session_of, with_driven, with_ended}
 use Rattle.bng_shard.specs.Deed.{Deed, at_of}
-use Rattle.bng_shard.specs.Discovery.{Answers, Discovers}
+use Rattle.bng_shard.specs.Discovery.{Answers, Discovers, IsNewLink, host_uniq_of, new_session}
 use Rattle.bng_shard.specs.Frames.{HearsData, HearsPpp, HearsControl, HearsIn, HearsFrame, HearsAccess, HearsCore}
 use Rattle.bng_shard.specs.Link.{LinkStep, Drives, ended, hears, nas_request, told, user_request}
 use Rattle.bng_shard.specs.Step.{Hears}
@@ -36,16 +38,39 @@ pub record Walks (r : Rules) (R : State → State → Type 0) : Type 1 where
       → Drives r (at_of s e) s.asked x Steps outs cause x' asked' → R s (with_driven s n None cause x' asked')
   pub padt : (s : State) (n : ℕ) (x : Session) (m : Made) → value_at s.sessions n ≡ Some x → x.service ≡ Discovered m → R s (with_ended s n x.lease user_request (ended x))
 
+-- The same by what makes each change: the time that has run out for a session, a frame that its link hears, and discovery, which makes a
+-- session where none stood.
+pub record WalksBy (r : Rules) (R : State → State → Type 0) : Type 0 where
+  pub same : (s s' : State) → s' ≡ s → R s s'
+  pub then : (s s' s'' : State) → R s s' → R s' s'' → R s s''
+  pub timed : (e : Entry) (s : State) (n : ℕ) (x x' : Session) (outs : List OutRecord) (cause : Option ℕ) (asked' : ℕ) → value_at s.sessions n ≡ Some x
+      → Drives r (at_of s e) s.asked x (told r e Timer) outs cause x' asked' → R s (with_driven s n x.lease cause x' asked')
+  pub heard : (octets : List ℕ) (e : Entry) (s : State) (n : ℕ) (x x' : Session) (outs : List OutRecord) (cause : Option ℕ) (asked' : ℕ) → value_at s.sessions n ≡ Some x
+      → Drives r (at_of s e) s.asked x (hears r e octets) outs cause x' asked' → R s (with_driven s n x.lease cause x' asked')
+  pub made : (e : Entry) (s : State) (n port : ℕ) (mac : Mac) (host_uniq : Option (List ℕ)) (link : PppState) (x' : Session) (outs : List OutRecord) (cause : Option ℕ) (asked' : ℕ)
+      → IsLowestVacant s.sessions n → IsNewLink e.item.random link → Drives r (at_of s e) s.asked (new_session n port mac host_uniq link) (told r e Start) outs cause x' asked' → R s (with_driven s n None cause x' asked')
+  pub padt : (s : State) (n : ℕ) (x : Session) (m : Made) → value_at s.sessions n ≡ Some x → x.service ≡ Discovered m → R s (with_ended s n x.lease user_request (ended x))
+
+walks_by : (r : Rules) (R : State → State → Type 0) → Walks r R → WalksBy r R
+walks_by r R w = record {
+  same = w.same;
+  then = w.then;
+  timed = λ e s n x x' outs cause asked' at drives. w.driven (told r e Timer) e s n x x' outs cause asked' at drives;
+  heard = λ octets e s n x x' outs cause asked' at drives. w.driven (hears r e octets) e s n x x' outs cause asked' at drives;
+  made = λ e s n port mac host_uniq link x' outs cause asked' vacant new drives. w.made (told r e Start) e s n (new_session n port mac host_uniq link) x' outs cause asked' refl drives;
+  padt = w.padt;
+}
+
 -- and of one that the gateway ends
 abbrev pub Stops : (State → State → Type 0) → Type 0
 Stops R = (s : State) (n : ℕ) (x : Session) → value_at s.sessions n ≡ Some x → R s (with_ended s n x.lease nas_request (ended x))
 
-module _ (r : Rules) (R : State → State → Type 0) (w : Walks r R) where
+module _ (r : Rules) (R : State → State → Type 0) (w : WalksBy r R) where
   ticks_walk : (k : ℕ) (e : Entry) (s : State) (outs : List OutRecord) (s' : State) → Ticks k r e s outs s' → R s s'
   ticks_walk zero e s outs s' h = w.same s s' h.1
   ticks_walk (suc k) e s outs s' (inl h) = w.same s s' h.2
   ticks_walk (suc k) e s outs s' (inr (n, due, x, x', at, first, cause, asked', drives, rest, more, are)) =
-      w.then s (with_driven s n x.lease cause x' asked') s' (w.driven (told r e Timer) e s n x x' first cause asked' at drives)
+      w.then s (with_driven s n x.lease cause x' asked') s' (w.timed e s n x x' first cause asked' at drives)
       (ticks_walk k e (with_driven s n x.lease cause x' asked') rest s' more)
 
   ends_walk : Stops R → (k : ℕ) (e : Entry) (s : State) (outs : List OutRecord) (s' : State) → Ends k r e s outs s' → R s s'
@@ -65,7 +90,7 @@ module _ (r : Rules) (R : State → State → Type 0) (w : Walks r R) where
     answers : (answer : Answer) (number : ℕ) (port : AccessPort) (offers : PortRules) (p : PppoeFrame) (tags : List PppoeTag) → Answers answer r s e number port offers p tags d → R s d.next
     answers Offer number port offers p tags h = kept _ h refl
     answers Make number port offers p tags h =
-        after (with_driven s h.session None h.cause h.x h.asked) _ h.done refl (w.made (told r e Start) e s h.session _ h.x h.outs h.cause h.asked refl h.starts)
+        after (with_driven s h.session None h.cause h.x h.asked) _ h.done refl (w.made e s h.session number p.src (host_uniq_of tags) h.link h.x h.outs h.cause h.asked h.vacant h.new h.starts)
     answers Again number port offers p tags h = kept _ h.done refl
     answers (Refuse error) number port offers p tags h = kept _ h refl
     answers Ended number port offers p tags h = kept _ h refl
@@ -82,7 +107,7 @@ module _ (r : Rules) (R : State → State → Type 0) (w : Walks r R) where
     ppp : (x : Session) (made : Made) (p : PppoeFrame) → value_at s.sessions p.session ≡ Some x → HearsPpp r s e x made p d → R s d.next
     ppp x made p at (inl (over, h)) = kept _ h refl
     ppp x made p at (inr (live, outs, cause, x', asked', drives, h)) =
-        after (with_driven s p.session x.lease cause x' asked') _ h refl (w.driven (hears r e p.payload) e s p.session x x' outs cause asked' at drives)
+        after (with_driven s p.session x.lease cause x' asked') _ h refl (w.heard p.payload e s p.session x x' outs cause asked' at drives)
 
     control : (v : Service) (x : Session) (p : PppoeFrame) → value_at s.sessions p.session ≡ Some x → x.service ≡ v → HearsControl v r s e x p d → R s d.next
     control (Provisioned over) x p at is h = kept _ h refl
@@ -112,15 +137,23 @@ module _ (r : Rules) (R : State → State → Type 0) (w : Walks r R) where
     tick (outs, s', ticks, h) = after s' _ h refl (ticks_walk at_once e s outs s' ticks)
 
     -- of an End
-    pub end_walks : Stops R → HearsEnd r s e d → R s d.next
-    end_walks stops (outs, s', all, h) = after s' _ h refl (ends_walk stops at_once e s outs s' all)
+    pub end_walks_by : Stops R → HearsEnd r s e d → R s d.next
+    end_walks_by stops (outs, s', all, h) = after s' _ h refl (ends_walk stops at_once e s outs s' all)
 
     -- of each other entry that is no verdict
-    pub hears_walks : (kind : ItemKind) → Hears kind r s limited e d → (kind ≡ Verdict) ⊎ ((kind ≡ End) ⊎ R s d.next)
-    hears_walks (Access number) h = inr (inr (access number h))
-    hears_walks Core h = inr (inr (core h))
-    hears_walks Tunnel h = inr (inr (kept _ h refl))
-    hears_walks Verdict h = inl refl
-    hears_walks Change h = inr (inr (kept _ h refl))
-    hears_walks Tick h = inr (inr (tick h))
-    hears_walks End h = inr (inl refl)
+    pub hears_walks_by : (kind : ItemKind) → Hears kind r s limited e d → (kind ≡ Verdict) ⊎ ((kind ≡ End) ⊎ R s d.next)
+    hears_walks_by (Access number) h = inr (inr (access number h))
+    hears_walks_by Core h = inr (inr (core h))
+    hears_walks_by Tunnel h = inr (inr (kept _ h refl))
+    hears_walks_by Verdict h = inl refl
+    hears_walks_by Change h = inr (inr (kept _ h refl))
+    hears_walks_by Tick h = inr (inr (tick h))
+    hears_walks_by End h = inr (inl refl)
+
+-- the same of a relation that holds of each step of a link
+module _ (r : Rules) (R : State → State → Type 0) (w : Walks r R) (s : State) (limited : Bool) (e : Entry) (d : Deed) where
+  pub end_walks : Stops R → HearsEnd r s e d → R s d.next
+  end_walks stops h = end_walks_by r R (walks_by r R w) s limited e d stops h
+
+  pub hears_walks : (kind : ItemKind) → Hears kind r s limited e d → (kind ≡ Verdict) ⊎ ((kind ≡ End) ⊎ R s d.next)
+  hears_walks kind h = hears_walks_by r R (walks_by r R w) s limited e d kind h

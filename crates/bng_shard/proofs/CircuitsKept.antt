@@ -1,0 +1,175 @@
+-- The terms of provisioned circuits end by the gateway's own stop alone: what each entry keeps of it.
+use Rattle.std.proofs.Common.{◌≡◌, ◌≢◌, ◌⊎◌, ⊎_elim, inl, inr, ℕ, ◌+◌, ◌<◌, ◌≤◌, Bool, true, false, not, ◌&&◌, List, [], ◌∷◌, ◌++◌, length, cond, map, Option, Some, None, refl, sym, ap, subst, ◌∙◌, arith}
+use Rattle.std.specs.List.{All, AllByRecursion, AllPairs}
+use Rattle.std.proofs.lemmas.Bool.{cases_eq, ne_eqb}
+use Rattle.std.proofs.lemmas.List.Elements.{All-filter, All-from_recursion, recursion_from_All, All-push}
+use Rattle.bng_base.specs.declared.address.Ip4.{Ip4}
+use Rattle.bng_base.specs.declared.item.ItemKind.{ItemKind}
+use Rattle.bng_base.specs.declared.item.ItemKind.TheVariants.{End, Verdict}
+use Rattle.bng_base.specs.declared.item.OutRecord.{OutRecord}
+use Rattle.bng_base.specs.declared.settings.Static.{Static}
+use Rattle.bng_slots.specs.Sessions.{value_at, with_value}
+use Rattle.bng_slots.proofs.SessionLaws.{value_at-with_value, value_at-with_other}
+use Rattle.bng_shard.specs.declared.rules.Rules.{Rules}
+use Rattle.bng_shard.specs.declared.sending.At.{At}
+use Rattle.bng_shard.specs.declared.session.Lease.{Lease}
+use Rattle.bng_shard.specs.declared.session.Session.{Session}
+use Rattle.bng_shard.specs.Deed.{Deed, at_of, handled, ignored}
+use Rattle.bng_shard.specs.Lasting.{CircuitsLast}
+use Rattle.bng_shard.specs.Link.{Drives, LinkStep, Told, ended, nas_request, settles, user_request}
+use Rattle.bng_shard.specs.Opening.{in_order, opened_slots, tenures_after}
+use Rattle.bng_shard.specs.State.{State, leaves, made_one, settled, with_driven, with_ended, with_session}
+use Rattle.bng_shard.specs.Step.{Hears, Step}
+use Rattle.bng_shard.specs.Tenures.{Tenure, closed, is_over, kept_lease, over_by}
+use Rattle.bng_shard.specs.Verdicts.{HearsVerdict, Judges, next_lease, next_term, settled_by, with_term}
+use Rattle.bng_shard.proofs.Naming.{next_of}
+use Rattle.bng_shard.proofs.Poolless.{logins_opened}
+use Rattle.bng_shard.proofs.Values.{kept_from, none_some, same_some}
+use Rattle.bng_shard.proofs.Walking.{Stops, Walks, end_walks, hears_walks}
+
+pub lease_was : (cause : Option ℕ) (lease : Option Lease) (l : Lease) → kept_lease cause lease ≡ Some l → lease ≡ Some l
+lease_was None lease l e = e
+lease_was (Some cause) lease l e = absurd (none_some l e)
+
+module _ (circuits : ℕ) where
+  -- Terms ------------------------------------------------------------------------------------------------------------------
+
+  -- a term of a circuit is live, or ended by the gateway's own stop
+  abbrev Lasting : Tenure → Type 0
+  Lasting t = t.term.serial ≤ circuits → (t.cause ≡ None) ⊎ (t.cause ≡ Some nas_request)
+
+  one_lasts : (b : Bool) (cause : ℕ) (t : Tenure) → (t.term.serial ≤ circuits → cause ≡ nas_request) → Lasting t → Lasting (cond b (record t { cause = Some cause }) t)
+  one_lasts true cause t is h = λ low. inr (ap Some (is low))
+  one_lasts false cause t is h = h
+
+  over_lasts : (serial cause : ℕ) (t : Tenure) → (serial ≤ circuits → cause ≡ nas_request) → Lasting t → Lasting (over_by serial cause t)
+  over_lasts serial cause t is h =
+      elim (cases_eq t.term.serial serial) [
+        | inl e ↦ one_lasts _ cause t (λ low. is (omega (arith, e, low))) h
+        | inr ne ↦ subst Lasting (sym (ap (λ (b : Bool). cond (b && not (is_over t)) (record t { cause = Some cause }) t) (ne_eqb t.term.serial serial ne))) h
+      ]
+
+  each_over : (serial cause : ℕ) (ts : List Tenure) → (serial ≤ circuits → cause ≡ nas_request) → AllByRecursion Lasting ts → AllByRecursion Lasting (map (over_by serial cause) ts)
+  each_over serial cause [] is h = tt
+  each_over serial cause (t ∷ ts) is h = (over_lasts serial cause t is h.0, each_over serial cause ts is h.1)
+
+  -- only the gateway's own stop ends a term with the number of a circuit's
+  abbrev Spares : Option Lease → Option ℕ → Type 0
+  Spares lease cause = (l : Lease) (c : ℕ) → lease ≡ Some l → cause ≡ Some c → l.serial ≤ circuits → c ≡ nas_request
+
+  each_closed : (lease : Option Lease) (cause : Option ℕ) (ts : List Tenure) → Spares lease cause → AllByRecursion Lasting ts → AllByRecursion Lasting (closed lease cause ts)
+  each_closed None cause ts spares h = h
+  each_closed (Some l) None ts spares h = h
+  each_closed (Some l) (Some c) ts spares h = each_over l.serial c ts (spares l c refl refl) h
+
+  closed_lasts : (lease : Option Lease) (cause : Option ℕ) (ts : List Tenure) → Spares lease cause → All Lasting ts → All Lasting (closed lease cause ts)
+  closed_lasts lease cause ts spares h = All-from_recursion Lasting (closed lease cause ts) (each_closed lease cause ts spares (recursion_from_All Lasting ts h))
+
+  -- Sessions ---------------------------------------------------------------------------------------------------------------
+
+  -- the lease of a session that discovery made is that of a later term
+  abbrev IsLater : Session → Type 0
+  IsLater x = (l : Lease) → made_one x.service ≡ 1 → x.lease ≡ Some l → circuits < l.serial
+
+  abbrev AreLater : State → Type 0
+  AreLater s = (n : ℕ) (x : Session) (l : Lease) → value_at s.sessions n ≡ Some x → made_one x.service ≡ 1 → x.lease ≡ Some l → circuits < l.serial
+
+  later_with : (s : State) (n : ℕ) (y : Session) → IsLater y → AreLater s → AreLater (with_session s n y)
+  later_with s n y later h m x l at =
+      elim (cases_eq m n) [
+        | inl e ↦
+            let there : value_at (with_value s.sessions n y) n ≡ Some x = subst (λ (k : ℕ). value_at (with_value s.sessions n y) k ≡ Some x) e at in
+            subst IsLater (same_some y x (sym (value_at-with_value s.sessions n y) ∙ there)) later l
+        | inr ne ↦ h m x l (sym (value_at-with_other s.sessions n y m ne) ∙ at)
+      ]
+
+  -- a step of a link gives no lease
+  drives_was : (r : Rules) (a : At) (asked : ℕ) (x x' : Session) (outs : List OutRecord) (cause : Option ℕ) (asked' : ℕ) (Steps : LinkStep) → Drives r a asked x Steps outs cause x' asked'
+      → (l : Lease) → x'.lease ≡ Some l → x.lease ≡ Some l
+  drives_was r a asked x x' outs cause asked' Steps h l leased = lease_was h.says.term_ended x.lease l (sym (ap (λ (y : Session). y.lease) h.session) ∙ leased)
+
+  none_later : (x : Session) → x.lease ≡ None → IsLater x
+  none_later x none l made leased = absurd (none_some l (sym none ∙ leased))
+
+  -- Steps ------------------------------------------------------------------------------------------------------------------
+
+  abbrev Keeps : State → State → Type 0
+  Keeps s s' = CircuitsLast circuits s → CircuitsLast circuits s'
+
+  -- a session is another one, and a term may have ended
+  keeps_with : (s : State) (n : ℕ) (lease : Option Lease) (cause : Option ℕ) (y : Session) (asked : ℕ) → (CircuitsLast circuits s → IsLater y) → (CircuitsLast circuits s → Spares lease cause) → Keeps s (with_driven s n lease cause y asked)
+  keeps_with s n lease cause y asked later spares h = record { few = h.few; later = later_with s n y (later h) h.later; causes = closed_lasts lease cause s.terms (spares h) h.causes }
+
+  keeps_ended : (s : State) (n : ℕ) (x : Session) (cause : ℕ) → (CircuitsLast circuits s → Spares x.lease (Some cause)) → Keeps s (with_ended s n x.lease cause (ended x))
+  keeps_ended s n x cause spares = keeps_with s n x.lease (Some cause) (ended x) s.asked (λ h. none_later (ended x) refl) spares
+
+  -- what a session that discovery made ends is no circuit's
+  made_spares : (s : State) (n : ℕ) (x : Session) (cause : Option ℕ) → value_at s.sessions n ≡ Some x → made_one x.service ≡ 1 → CircuitsLast circuits s → Spares x.lease cause
+  made_spares s n x cause at made h l c leased is low = absurd (omega (arith, h.later n x l at made leased, low))
+
+  keeps_walk : (r : Rules) → Walks r Keeps
+  keeps_walk r = record {
+    same = λ s s' e h. subst (CircuitsLast circuits) (sym e) h;
+    then = λ s s' s'' f g h. g (f h);
+    driven = λ Steps e s n x x' outs cause asked' at drives.
+        let made : made_one x.service ≡ 1 = ap made_one drives.is_made in
+        keeps_with s n x.lease cause x' asked' (λ h l is leased. h.later n x l at made (drives_was r (at_of s e) s.asked x x' outs cause asked' Steps drives l leased)) (made_spares s n x cause at made);
+    made = λ Steps e s n x x' outs cause asked' none drives.
+        keeps_with s n None cause x' asked' (λ h l is leased. absurd (none_some l (sym none ∙ drives_was r (at_of s e) s.asked x x' outs cause asked' Steps drives l leased))) (λ h l c leased. absurd (none_some l leased));
+    padt = λ s n x m at is. keeps_ended s n x user_request (made_spares s n x (Some user_request) at (ap made_one is));
+  }
+
+  keeps_stops : Stops Keeps
+  keeps_stops s n x at = keeps_ended s n x nas_request (λ h l c leased is low. sym (same_some nas_request c is))
+
+  -- a term begins, numbered on
+  begun_keeps : (s : State) (n : ℕ) (y : Session) (asked : ℕ) (a : Ip4) (t : Tenure) → t.cause ≡ None → Keeps s (with_term s n y asked a t)
+  begun_keeps s n y asked a t live h = record {
+    few = omega (arith, h.few);
+    later = later_with s n (record y { lease = Some (next_lease s a) }) (λ l made is. omega (arith, h.few, ap (λ (k : Lease). k.serial) (same_some (next_lease s a) l is))) h.later;
+    causes = All-push Lasting s.terms t h.causes (λ low. inl live);
+  }
+
+  module _ (r : Rules) (s : State) (limited : Bool) (d : Deed) where
+    judged_keeps : (t : Told) (h : Judges r s d.entry t d) → (lease : Option Ip4) → Keeps s (settled_by s d.entry.item.target h.x h.question t d.entry.moment h.after h.asked lease)
+    judged_keeps t h None =
+        let after : (l : Lease) → h.after.lease ≡ Some l → h.x.lease ≡ Some l = drives_was r (at_of s d.entry) s.asked h.x h.after h.outs h.cause h.asked (settles r d.entry t) h.drives in
+        keeps_with s d.entry.item.target None None h.after h.asked (λ k l made leased. absurd (none_some l (sym h.no_term ∙ after l leased))) (λ k l c leased. absurd (none_some l leased))
+    judged_keeps t h (Some a) = begun_keeps s d.entry.item.target h.after h.asked a (next_term s h.x h.question t.class d.entry.moment a) refl
+
+    verdict_keeps : HearsVerdict r s d.entry limited d → Keeps s d.next
+    verdict_keeps (inl (asks, t, decides, h)) =
+        subst (Keeps s) (sym (next_of d (handled s d.entry h.outs (settled_by s d.entry.item.target h.x h.question t d.entry.moment h.after h.asked t.lease)) h.done)) (judged_keeps t h t.lease)
+    verdict_keeps (inr (inl (asks, decides, h))) = (keeps_walk r).same s d.next (next_of d (ignored s d.entry) h)
+    verdict_keeps (inr (inr (other, none, h))) = (keeps_walk r).same s d.next (next_of d (ignored s d.entry) h)
+
+    pub circuits_kept : Step r s limited d → CircuitsLast circuits s → CircuitsLast circuits d.next
+    circuits_kept h =
+        let heard_as : (kind : ItemKind) → d.entry.item.kind ≡ kind → Hears kind r s limited d.entry d = λ kind is. subst (λ (k : ItemKind). Hears k r s limited d.entry d) is h.hears in
+        ⊎_elim
+        (λ (is : d.entry.item.kind ≡ Verdict). verdict_keeps (heard_as Verdict is))
+        (λ (rest : (d.entry.item.kind ≡ End) ⊎ Keeps s d.next). ⊎_elim
+        (λ (is : d.entry.item.kind ≡ End). end_walks r Keeps (keeps_walk r) s limited d.entry d keeps_stops (heard_as End is))
+        (λ (keeps : Keeps s d.next). keeps)
+        rest)
+        (hears_walks r Keeps (keeps_walk r) s limited d.entry d d.entry.item.kind h.hears)
+
+  pub circuits_settled : (s : State) → CircuitsLast circuits s → CircuitsLast circuits (settled s)
+  circuits_settled s h = record {
+    few = h.few;
+    later = λ n x l at. h.later n x l (kept_from (λ (y : Session). not (leaves y)) s.sessions n x at).0;
+    causes = All-filter (λ t. not (is_over t)) Lasting s.terms h.causes;
+  }
+
+-- Openings -----------------------------------------------------------------------------------------------------------------
+
+each_live : (circuits now k : ℕ) (cs : List Static) → AllByRecursion (Lasting circuits) (tenures_after now k cs)
+each_live circuits now k [] = tt
+each_live circuits now k (c ∷ cs) = (λ low. inl refl, each_live circuits now (k + 1) cs)
+
+pub circuits_opened : (number : ℕ) (circuits : List Static) (now : ℕ) → AllPairs (λ a b. a.session ≢ b.session) circuits → CircuitsLast (length circuits) (opened_slots number circuits now)
+circuits_opened number circuits now apart = record {
+  few = omega arith;
+  later = λ n x l at made leased. absurd (none_some l (sym (logins_opened number circuits now apart n x at made) ∙ leased));
+  causes = All-from_recursion (Lasting (length circuits)) (tenures_after now 0 (in_order number circuits)) (each_live (length circuits) now 0 (in_order number circuits));
+}
