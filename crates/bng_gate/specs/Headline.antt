@@ -1,8 +1,10 @@
 -- What a run says in the subject's own words.
-use Rattle.std.specs.Prelude.{◌≡◌, ℕ, ◌+◌, ◌++◌, true, false, List, Some, length, map, take, drop, slice_get, count_by}
-use Rattle.std.specs.List.{All, AllZip, flat_map, range_with_len}
+use Rattle.std.specs.Prelude.{◌≡◌, ℕ, ◌+◌, ◌++◌, true, false, List, [], Option, None, Some, length, map, take, drop, slice_get, count_by}
+use Rattle.std.specs.List.{All, AllZip, Contains, flat_map, range_with_len}
 use Rattle.byteorder.specs.Endian.{big_from}
 use Rattle.bng_base.specs.declared.address.Ip4.{Ip4}
+use Rattle.bng_base.specs.declared.address.Mac.{Mac}
+use Rattle.bng_base.specs.declared.address.SessionNo.{SessionNo}
 use Rattle.bng_base.specs.declared.circuit.Circuit.{Circuit}
 use Rattle.bng_base.specs.declared.circuit.Circuit.TheVariants.{Pppoe}
 use Rattle.bng_base.specs.declared.ipv4.Ipv4.{Ipv4}
@@ -21,17 +23,17 @@ use Rattle.bng_billing.specs.Calls.{BillingCall, StopsAreAcknowledged}
 use Rattle.bng_config.specs.declared.config.Config.{Config}
 use Rattle.bng_engine.specs.Accounted.{Balanced}
 use Rattle.bng_engine.specs.Exact.{ConservedAt}
-use Rattle.bng_engine.specs.Histories.{History, ShardHistory}
+use Rattle.bng_engine.specs.Histories.{History, ShardHistory, ShardTurn}
+use Rattle.bng_engine.specs.Lists.{AnyOf}
 use Rattle.bng_engine.specs.Laws.{RightRound, sends_of, stops_of}
 use Rattle.bng_engine.specs.Quantities.{Quantity, Octets}
 use Rattle.bng_engine.specs.Sums.{stopped_where, has_lease, has_circuit, is_at, is_any}
 use Rattle.bng_engine.specs.Terms.{Key, Stop, keys, stopped_keys}
 use Rattle.bng_engine.specs.Wire.{is_input, is_from, is_output, is_to, is_on, is_on_to, told_of, went}
 use Rattle.bng_shard.specs.declared.sums.Traffic.{Traffic}
-use Rattle.bng_shard.specs.Protocol.{ShardState, terms_of, terms_of_circuits, pppoe}
+use Rattle.bng_shard.specs.Protocol.{Handled, ShardState, terms_of, terms_of_circuits, pppoe}
 use Rattle.bng_shard.specs.Link.{nas_request}
 use Rattle.bng_shard.specs.Reader.{is_session_data, pppoe_reader, tells_pppoe}
-use Rattle.bng_desk.specs.Model.{input_of, output_of}
 use Rattle.bng_desk.specs.Opening.{line_of, statics_of}
 use Rattle.bng_desk.specs.Reading.{taken_in}
 use Rattle.bng_desk.specs.Report.{report_text, by_number}
@@ -50,38 +52,44 @@ pub record IsWhole (Holds : Ipv4 → Type 0) (octets : List ℕ) : Type 0 where
   pub total : header.total ≡ length octets
   pub holds : Holds header
 
--- they are a packet whose source is the address of a circuit
-pub record IsFromCircuit (config : Config) (octets : List ℕ) : Type 0 where
-  pub place : ℕ
-  pub circuit : Static
-  pub at : slice_get config.statics place ≡ Some circuit
-  pub packet : IsWhole (λ v. v.src ≡ circuit.address) octets
+-- they are a packet whose source is the address of one of these terms
+pub record IsFromTerm (terms : List Key) (octets : List ℕ) : Type 0 where
+  pub term : Key
+  pub among : Contains terms term
+  pub packet : IsWhole (λ v. v.src ≡ term.lease) octets
 
--- they went out on a circuit's port, to its MAC (octets 0 to 5) and in its session (octets 16 and 17), and after 22 octets they
--- are a packet whose destination is the circuit's address
-pub record IsToCircuit (config : Config) (role : Role) (octets : List ℕ) : Type 0 where
-  pub place : ℕ
-  pub circuit : Static
-  pub at : slice_get config.statics place ≡ Some circuit
-  pub port : role ≡ Access circuit.port
-  pub mac : take 6 octets ≡ circuit.mac.0
-  pub session : big_from 16 2 octets ≡ circuit.session.0
-  pub packet : IsWhole (λ v. v.dst ≡ circuit.address) (drop 22 octets)
+-- they went out on the port of the circuit of one of these terms, to its MAC (octets 0 to 5) and in its session (octets 16 and 17), and
+-- after 22 octets they are a packet whose destination is the term's address
+pub record IsToTerm (terms : List Key) (role : Role) (octets : List ℕ) : Type 0 where
+  pub term : Key
+  pub among : Contains terms term
+  pub port : ℕ
+  pub mac : Mac
+  pub session : SessionNo
+  pub circuit : term.circuit ≡ Pppoe port mac session
+  pub role_is : role ≡ Access port
+  pub mac_is : take 6 octets ≡ mac.0
+  pub session_is : big_from 16 2 octets ≡ session.0
+  pub packet : IsWhole (λ v. v.dst ≡ term.lease) (drop 22 octets)
 
--- What went to the core is a packet from a circuit's address. What went out on an access port as session data of IPv4 (ETHER_TYPE
--- 8864, PPP protocol 0021) is a packet on a circuit, to its address.
-pub record IsAddressed (config : Config) (d : Datagram) : Type 0 where
-  pub to_core : is_core d.role ≡ true → IsFromCircuit config d.octets
-  pub to_circuit : is_access d.role ≡ true → is_session_data d.octets ≡ true → IsToCircuit config d.role d.octets
+-- What went to the core is a packet from the address of one of these terms. What went out on an access port as session data of IPv4
+-- (ETHER_TYPE 8864, PPP protocol 0021) is a packet on the circuit of one of them, to its address.
+pub record IsAddressed (terms : List Key) (d : Datagram) : Type 0 where
+  pub to_core : is_core d.role ≡ true → IsFromTerm terms d.octets
+  pub to_circuit : is_access d.role ≡ true → is_session_data d.octets ≡ true → IsToTerm terms d.role d.octets
 
 -- Over the octets alone of what was sent, as anyone reads them. Input: the lengths of the datagrams to the core whose source (octets 12
--- to 15) is the circuit's address. Output: the lengths, without their first 22 octets, of the session data of IPv4 that went out on its
--- port, to its MAC and in its session.
+-- to 15) is the circuit's address. Output: the lengths, without their first 22 octets, of the session data of IPv4 that went out on access
+-- ports to its address.
 abbrev pub traffic_of : List Datagram → Static → Traffic
 traffic_of sent c = record {
   input = told_of pppoe_reader Octets (is_from c.address) sent;
-  output = told_of pppoe_reader Octets (is_on (Pppoe c.port c.mac c.session)) sent;
+  output = told_of pppoe_reader Octets (is_to c.address) sent;
 }
+
+-- and of all packets: those to the core, and those that went out on access ports
+abbrev pub total_in : List Datagram → Traffic
+total_in sent = record { input = told_of pppoe_reader Octets is_input sent; output = told_of pppoe_reader Octets is_output sent }
 
 -- of each circuit, in the order of the configuration
 abbrev pub all_traffic : Config → List Datagram → List Traffic
@@ -90,6 +98,26 @@ all_traffic config sent = map (traffic_of sent) config.statics
 -- the terms of the circuits, each in the shard of its number, numbered there by rising session number
 abbrev pub keys_of_circuits : Config → List (List Key)
 keys_of_circuits config = map (λ n. keys (terms_of_circuits n (statics_of config n))) (range_with_len 0 config.shards)
+
+-- the term with this key is that of a circuit
+abbrev pub IsOfCircuit : Config → Key → Type 0
+IsOfCircuit config k = AnyOf (λ ks. Contains ks k) (keys_of_circuits config)
+
+-- the Starts of these rounds in the shard with this number, in their order
+abbrev pub starts_in : Option (ShardTurn Handled) → List Key
+starts_in None = []
+starts_in (Some t) = t.settlement.starts
+
+abbrev pub starts_at : ℕ → List (List (ShardTurn Handled)) → List Key
+starts_at n rounds = flat_map (λ ts. starts_in (slice_get ts n)) rounds
+
+-- The terms of a run, shard by shard: those of its circuits, and then those of which a Start was formed in these rounds.
+abbrev pub terms_of_run : Config → List (List (ShardTurn Handled)) → List (List Key)
+terms_of_run config rounds = map (λ n. keys (terms_of_circuits n (statics_of config n)) ++ starts_at n rounds) (range_with_len 0 config.shards)
+
+-- those of all shards
+abbrev pub all_terms_of : Config → List (List (ShardTurn Handled)) → List Key
+all_terms_of config rounds = flat_map (λ ks. ks) (terms_of_run config rounds)
 
 -- of each of these terms there is a Stop, or it is live, and there is no other
 abbrev pub HaveTerms : ShardHistory ShardState → List Key → Type 0
@@ -132,16 +160,17 @@ pub record IsSafe (config : Config) (seed : List ℕ) (old new : World) (course 
   -- a live term, on its circuit and with its address.
   pub history : History ShardState
   pub rounds : Chain (RightRound pppoe) (history_of course.opening) (rounds_of course.turns course.endings) history
-  -- Each circuit has one term: it has its Stop, or it is live in the end. Each Stop says that the gateway stopped. For each circuit,
-  -- address and direction what was sent is what the Stops and the live terms say, in octets and in packets; and the books of the profiles,
-  -- the tallies of the seats and what the terms carried have one total, all that was sent.
-  pub terms : AllZip HaveTerms history.shards (keys_of_circuits config)
-  pub causes : All (λ s. s.cause ≡ nas_request) (stops_of (rounds_of course.turns course.endings))
+  -- Each circuit has one term, and each term of a subscriber that logged in has one Start: each term has one Stop, or is live in the end,
+  -- and there is no other. The Stop of a circuit's term says that the gateway stopped. For each circuit, address and direction what was
+  -- sent is what the Stops and the live terms say, in octets and in packets; and the books of the profiles, the tallies of the seats and
+  -- what the terms carried have one total, all that was sent.
+  pub terms : AllZip HaveTerms history.shards (terms_of_run config (rounds_of course.turns course.endings))
+  pub causes : All (λ s. IsOfCircuit config s.key → s.cause ≡ nas_request) (stops_of (rounds_of course.turns course.endings))
   pub conserved : ConservedAt pppoe history.shards
   pub balanced : Balanced (view_of course.last.shards course.last.pool course.last.tallies) history
-  -- Each datagram to the core was a packet from the address of a circuit, and each packet on an access port was on a circuit, to its
-  -- address.
-  pub addressed : All (IsAddressed config) sent
+  -- Each datagram to the core was a packet from the address of a term, and each packet on an access port was on the circuit of a term, to
+  -- its address.
+  pub addressed : All (IsAddressed (all_terms_of config (rounds_of course.turns course.endings))) sent
   -- What was taken from Auth, each datagram once and in order, are the datagrams that the stages of the turns heard, and so what was taken
   -- from Acct, and what was taken from the access ports and the core, those that they took there. What was sent on all roles but
   -- Control, each datagram once and in order, is what each stage sent there for its round, then its requests, and then its
@@ -159,8 +188,8 @@ pub record IsSafe (config : Config) (seed : List ℕ) (old new : World) (course 
   -- server, signed for this request. It is the question that the peer's link asked last. No datagram of the server is that of two
   -- logins, and no two logins of different questions have requests with the same draw as their authenticator.
   pub granted : Granted config seed course.turns course.endings
-  -- The records of accounting that the turns formed are the Stops of the rounds, one for each and in their order, which say what each
-  -- term carried. What was sent on Acct are their Accounting-Requests, to the configured server. What acknowledged a
+  -- The records of accounting that the turns formed are those of the rounds, one for each Stop, which says what its term carried, and one
+  -- for each Start, in their order. What was sent on Acct are their Accounting-Requests, to the configured server. What acknowledged a
   -- record came from that server, signed for the very request of the record, which was formed and sent before.
   pub recorded : Recorded config course.begins.bound.wall course.begins.is_opened.starts course.turns course.endings course.last taken sent
   -- Of what the rounds had to send, the requests of the turns and their Accounting-Requests, no more was not sent than the plant's count
@@ -178,15 +207,13 @@ pub record Headline (config : Config) (status : ℕ) (old new : World) : Type 0 
   pub seed : List ℕ
   pub run : Runs config seed (outside old) (outside new) old.out new.out
   pub safe : IsSafe config seed old new run.completes.course
-  -- Each circuit's term has its Stop. What the Stops say, in octets and in packets, is exactly what was sent: whoever reads the sent
-  -- octets alone finds for each address and for each circuit that the Stops with it sum to its packets.
-  pub stopped : AllZip AreStopped safe.history.shards (keys_of_circuits config)
+  -- Each term, of a circuit or of a subscriber that logged in, has one Stop. What the Stops say, in octets and in packets, is exactly what
+  -- was sent: whoever reads the sent octets alone finds for each address and for each circuit that the Stops with it sum to its packets.
+  pub stopped : AllZip AreStopped safe.history.shards (terms_of_run config (rounds_of run.completes.course.turns run.completes.course.endings))
   pub exact : StopsAccount (stops_of (rounds_of run.completes.course.turns run.completes.course.endings)) safe.sent
-  -- The octets printed for a circuit are those of the packets that were sent for it, and all together are those of all packets that
-  -- were sent. The drops printed are those of the rounds, and of those that could not be opened.
-  pub printed : Grows old.out.bytes new.out.bytes (report_text (map line_of config.statics) (all_traffic config safe.sent) (by_number (drops_of_run run.completes.course.turns run.completes.course.endings)))
-  pub all_input : input_of (all_traffic config safe.sent) ≡ told_of pppoe_reader Octets is_input safe.sent
-  pub all_output : output_of (all_traffic config safe.sent) ≡ told_of pppoe_reader Octets is_output safe.sent
+  -- The total that is printed is that of the octets of all packets that were sent, and the octets printed for a circuit are those of the
+  -- packets from its address and to it. The drops printed are those of the rounds, and of those that could not be opened.
+  pub printed : Grows old.out.bytes new.out.bytes (report_text (total_in safe.sent) (map line_of config.statics) (all_traffic config safe.sent) (by_number (drops_of_run run.completes.course.turns run.completes.course.endings)))
   -- With status 0 each Stop that was formed was acknowledged by a datagram that was heard later. With status 6 some was not, and the
   -- lines of those that were not were written.
   pub acknowledged : status ≡ 0 → StopsAreAcknowledged (calls_in_run config seed old new run.completes.course)

@@ -2,18 +2,20 @@
 -- them.
 use Rattle.std.specs.Prelude.{◌≡◌, ℕ, Bool, true, false, List, [], ◌∷◌, ◌++◌, Option, Some, None, map, if◌then◌else◌}
 use Rattle.std.specs.List.{AllZip, flat_map}
-use Rattle.bng_acct.specs.declared.facts.StatusType.TheVariants.{Stop as OfStop}
+use Rattle.bng_acct.specs.declared.facts.StatusType.TheVariants.{Start, Stop as OfStop}
 use Rattle.bng_base.specs.declared.address.Peer.{Peer}
 use Rattle.bng_base.specs.declared.outside.Datagram.{Datagram}
 use Rattle.bng_base.specs.declared.outside.Role.TheVariants.{Acct}
+use Rattle.bng_base.specs.Books.{empty_book}
 use Rattle.bng_base.specs.Chain.{Chain}
 use Rattle.bng_billing.specs.Answered.{AreAnswered}
 use Rattle.bng_billing.specs.Calls.{BillingCall, Formed, Given, Again, Told, Heard, Stopped, Does}
 use Rattle.bng_billing.specs.State.{BillingState, IsNewBilling}
 use Rattle.bng_config.specs.declared.config.Config.{Config}
-use Rattle.bng_engine.specs.Laws.{stops_of}
-use Rattle.bng_engine.specs.Terms.{Stop}
+use Rattle.bng_engine.specs.Histories.{ShardTurn, stops_in}
+use Rattle.bng_engine.specs.Terms.{Key, Stop}
 use Rattle.bng_lane.specs.Sends.{LaneSend}
+use Rattle.bng_shard.specs.Protocol.{Handled}
 use Rattle.bng_desk.specs.Accounting.{Acknowledged, FormedRecord, RecordSend, RecordRequests}
 use Rattle.bng_desk.specs.Model.{Desk, has_ended}
 use Rattle.bng_desk.specs.Opening.{billing_rules}
@@ -43,6 +45,27 @@ pub record SaysStop (s : Stop) (f : FormedRecord) : Type 0 where
   pub address : f.facts.address ≡ s.key.lease
   pub carried : f.facts.carried ≡ s.carried
   pub cause : f.moment.cause ≡ s.cause
+
+-- The record is the Start of a term: it has the term's key, and nothing was carried.
+pub record SaysStart (k : Key) (f : FormedRecord) : Type 0 where
+  pub status : f.status ≡ Start
+  pub term : f.facts.term ≡ k.term
+  pub circuit : f.facts.circuit ≡ k.circuit
+  pub address : f.facts.address ≡ k.lease
+  pub carried : f.facts.carried ≡ empty_book
+
+-- what is formed of a round: a Stop of each of its Stops, in their order, and then a Start of each of its Starts
+pub record SaysRound (ts : List (ShardTurn Handled)) (formed : List FormedRecord) : Type 0 where
+  pub stops : List FormedRecord
+  pub starts : List FormedRecord
+  pub are : formed ≡ stops ++ starts
+  pub are_stops : AllZip SaysStop (stops_in ts) stops
+  pub are_starts : AllZip SaysStart (flat_map (λ (t : ShardTurn Handled). t.settlement.starts) ts) starts
+
+-- round after round
+abbrev pub SayRounds : List (List (ShardTurn Handled)) → List FormedRecord → Type 0
+SayRounds [] formed = formed ≡ []
+SayRounds (ts ∷ rounds) formed = (first : List FormedRecord) × (rest : List FormedRecord) × (formed ≡ first ++ rest) × SaysRound ts first × SayRounds rounds rest
 
 -- The calls of accounting ---------------------------------------------------------------------------------------------------------
 
@@ -120,8 +143,8 @@ taken_for Stopped = []
 -- The law -------------------------------------------------------------------------------------------------------------------------
 
 -- Accounting was opened for the configured server and secret, at this second of the wall. The Starts of the opening and what the turns
--- did lead from there to how it stands in the end (`calls`). The records that the turns formed are the Stops of the rounds, one for each
--- and in their order, with the octets and packets of each (`stops`). What was sent on Acct, each datagram once and in order, are the
+-- did lead from there to how it stands in the end (`calls`). The records that the turns formed are those of the rounds, in their order: a Stop
+-- for each Stop, with its octets and packets, and then a Start for each Start (`formed`). What was sent on Acct, each datagram once and in order, are the
 -- Accounting-Requests that were given out and sent, to the configured server (`requests`), and what was taken from Acct, so too, is what
 -- was heard (`heard`). Each datagram that acknowledges a record comes from the configured server, and is one
 -- Accounting-Response, signed for the Accounting-Request of that record, which was formed before and was given out and sent since
@@ -130,7 +153,7 @@ pub record Recorded (config : Config) (wall : ℕ) (starts : List FormedRecord) 
   pub opened : BillingState
   pub is_new : IsNewBilling (billing_rules config wall) opened
   pub calls : Chain Does opened (calls_of starts turns endings) last.billing
-  pub stops : AllZip SaysStop (stops_of (rounds_of turns endings)) (formed_of turns endings)
+  pub formed : SayRounds (rounds_of turns endings) (formed_of turns endings)
   pub requests : on_acct sent ≡ sent_by_calls config.acct_server (calls_of starts turns endings)
   pub heard : on_acct taken ≡ flat_map taken_for (calls_of starts turns endings)
   pub answered : AreAnswered (billing_rules config wall) (calls_of starts turns endings)
