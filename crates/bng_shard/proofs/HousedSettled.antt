@@ -1,8 +1,8 @@
 -- No term outlasts its session: at the opening, and once a round is settled.
-use Rattle.std.proofs.Common.{◌≡◌, ◌≢◌, inl, inr, ℕ, zero, suc, ◌+◌, ◌*◌, ◌<◌, Bool, true, false, not, T, List, [], ◌∷◌, length, map, filter, Option, Some, None, is_some, refl, sym, ap, subst, ◌∙◌, arith}
-use Rattle.std.specs.FinMap.{from_sorted, get-from_sorted, is_sorted}
+use Rattle.std.proofs.Common.{◌≡◌, ◌≢◌, ℕ, zero, suc, ◌+◌, ◌*◌, true, false, not, T, List, [], ◌∷◌, length, map, filter, Option, Some, None, is_some, refl, sym, ap, subst, ◌∙◌, arith}
+use Rattle.std.specs.FinMap.{get-from_sorted, is_sorted}
 use Rattle.std.specs.FinMap.{find as find_at}
-use Rattle.std.specs.List.{All, AllByRecursion, AllPairs, Contains}
+use Rattle.std.specs.List.{AllByRecursion, AllPairs, Contains}
 use Rattle.std.specs.Ordering.{nat_cmp}
 use Rattle.std.proofs.lemmas.List.Elements.{All-filter, All-from_recursion, All-weaker, filter_passes, recursion_from_All}
 use Rattle.bng_base.specs.declared.settings.Static.{Static}
@@ -13,7 +13,7 @@ use Rattle.bng_shard.specs.declared.session.Lease.{Lease}
 use Rattle.bng_shard.specs.declared.session.Service.{Service}
 use Rattle.bng_shard.specs.declared.session.Service.TheVariants.{Provisioned, Discovered}
 use Rattle.bng_shard.specs.declared.session.Session.{Session}
-use Rattle.bng_shard.specs.Lasting.{AreHoused, HasPhases, IsHousedIn, KeepsTerm}
+use Rattle.bng_shard.specs.Lasting.{AreHoused, HasPhases, KeepsTerm}
 use Rattle.bng_shard.specs.Opening.{in_order, lease_from, numbered_after, opened_slots, provisioned, tenures_after}
 use Rattle.bng_shard.specs.State.{State, count_in, leaves, leaves_in, settled}
 use Rattle.bng_shard.specs.Tenures.{Tenure, is_over}
@@ -90,5 +90,5 @@ housed_opened number circuits now apart =
       phases = λ n x at. subst HasPhases (sym (is_circuit n x at)) tt;
       lasting = λ n x l at leased. subst KeepsTerm (sym (is_circuit n x at)) refl;
       housed = All-from_recursion (Housed s) (tenures_after now 0 cs)
-      (all_weaker (IsAmong (numbered_after 0 cs)) (Housed s) (λ t (x, l, at, leased, same) live. (x, l, get-from_sorted nat_cmp (numbered_after 0 cs) t.term.session.0 sorts ∙ at, leased, same)) (tenures_after now 0 cs) (among now 0 cs sorts));
+          (all_weaker (IsAmong (numbered_after 0 cs)) (Housed s) (λ t (x, l, at, leased, same) live. (x, l, get-from_sorted nat_cmp (numbered_after 0 cs) t.term.session.0 sorts ∙ at, leased, same)) (tenures_after now 0 cs) (among now 0 cs sorts));
     }

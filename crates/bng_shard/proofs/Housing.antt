@@ -1,5 +1,5 @@
 -- No term outlasts its session: what each entry keeps of it.
-use Rattle.std.proofs.Common.{◌≡◌, ◌≢◌, ◌⊎◌, ⊎_elim, inl, inr, ℕ, ◌+◌, Bool, true, false, not, ◌&&◌, List, [], ◌∷◌, ◌++◌, cond, map, Option, Some, None, is_some, refl, sym, ap, subst, ◌∙◌}
+use Rattle.std.proofs.Common.{◌≡◌, ◌≢◌, ◌⊎◌, ⊎_elim, inl, inr, ℕ, Bool, true, false, not, ◌&&◌, List, [], ◌∷◌, cond, map, Option, Some, None, is_some, refl, sym, ap, subst, ◌∙◌}
 use Rattle.std.specs.List.{All, AllByRecursion}
 use Rattle.std.specs.Prelude.{◌==◌}
 use Rattle.std.proofs.lemmas.Bool.{cases_eq, ne_eqb, eq-eqb}
@@ -22,7 +22,7 @@ use Rattle.bng_ppp.specs.Granting.{goes_by_itself}
 use Rattle.bng_ppp.specs.LinkState.{is_down, is_opened}
 use Rattle.bng_ppp.specs.Phases.{KeepsPhases, is_begun}
 use Rattle.bng_ppp.specs.PppRelation.{PppSaid, PppSteps}
-use Rattle.bng_ppp.specs.PppState.{PppState, is_accepted, is_open}
+use Rattle.bng_ppp.specs.PppState.{PppState, is_open}
 use Rattle.bng_ppp.specs.Verdict.{Settles}
 use Rattle.bng_slots.specs.Sessions.{value_at, with_value}
 use Rattle.bng_slots.proofs.SessionLaws.{value_at-with_value, value_at-with_other}
@@ -36,14 +36,14 @@ use Rattle.bng_shard.specs.Deed.{Deed, at_of, handled, ignored}
 use Rattle.bng_shard.specs.Discovery.{IsNewLink, new_session}
 use Rattle.bng_shard.specs.Granting.{IsSound}
 use Rattle.bng_shard.specs.Lasting.{AreHoused, HasPhases, IsHousedIn, KeepsTerm}
-use Rattle.bng_shard.specs.Link.{Drives, IsToldVerdict, LinkStep, Told, ended, ended_service, hears, nas_request, settles, told, user_request}
-use Rattle.bng_shard.specs.Made.{Made, Question}
-use Rattle.bng_shard.specs.Questions.{open_in, open_of}
+use Rattle.bng_shard.specs.Link.{Drives, LinkStep, Told, ended, ended_service, hears, nas_request, settles, told, user_request}
+use Rattle.bng_shard.specs.Made.{Made}
+use Rattle.bng_shard.specs.Questions.{open_in}
 use Rattle.bng_shard.specs.State.{State, with_driven, with_ended, with_session}
 use Rattle.bng_shard.specs.Step.{Hears, Step}
 use Rattle.bng_shard.specs.Tenures.{Tenure, closed, is_over, kept_lease, over_by}
 use Rattle.bng_shard.specs.Verdicts.{HearsVerdict, Judges, next_lease, next_term, settled_by, with_term}
-use Rattle.bng_shard.specs.Wishes.{Decides, accepted_with, has_none, pool_for, refused_with, told_at, told_by, told_of}
+use Rattle.bng_shard.specs.Wishes.{Decides, pool_for, refused_with, told_at, told_by, told_of}
 use Rattle.bng_shard.proofs.CircuitsKept.{lease_was}
 use Rattle.bng_shard.proofs.LinkSteps.{frame_steps, verdict_steps}
 use Rattle.bng_shard.proofs.Naming.{next_of}
