@@ -113,10 +113,11 @@ def accepts_by_pap(checks, lab, line):
     send_reply(lab, forged)
     say_password(host, 3)
     checks.same("the password again gets the same reply", host.hear_packet(), pap(pppoe.AUTHENTICATE_ACK, 3, b"welcome"))
-    host.say(packet_octets(Packet(pppoe.IPCP, pppoe.CONFIGURE_REQUEST, 1, bytes.fromhex("030600000000"))))
+    asked = host.hear_asked()
+    checks.same("the gateway tells its own address by IPCP", pppoe.read_options(asked.data), [(3, bytes([10, 0, 0, 1]))])
     host.say_lcp(pppoe.ECHO_REQUEST, 7, MAGIC[1])
     got = host.hear_packet()
-    checks.same("IPCP gets no answer yet, an echo does", (got.protocol, got.code, got.identifier), (LCP, pppoe.ECHO_REPLY, 7))
+    checks.same("an echo gets its reply", (got.protocol, got.code, got.identifier), (LCP, pppoe.ECHO_REPLY, 7))
     return host
 
 

@@ -8,6 +8,7 @@ import time
 
 from gateway import CRATE, PROGRAM, USAGE, Lab, delivery, frame, is_built, packet, report, run, tried, udp
 from logins import authenticates, gives_up_on_a_silent_server
+from leases import leases_addresses
 from records import records_a_circuit, tells_a_stop_that_nobody_acknowledges
 from sessions import serves_sessions
 
@@ -196,6 +197,7 @@ def try_all(checks):
         serves_sessions(checks, built, 10)
         authenticates(checks, built, 10)
         gives_up_on_a_silent_server(checks, built, 10)
+        leases_addresses(checks, built, 10)
         records_a_circuit(checks, built, 10)
         tells_a_stop_that_nobody_acknowledges(checks, built, 10)
         goes_on_after_memory_was_refused(checks)

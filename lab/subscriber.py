@@ -4,26 +4,27 @@ import collections
 import select
 import time
 
-from pppoe import CHALLENGE, CHAP, DATA, DISCOVERY, LCP, SESSION, Frame, Packet, frame_octets, frame_words, packet_octets
+from pppoe import CHALLENGE, CHAP, CONFIGURE_REQUEST, DATA, DISCOVERY, IPCP, LCP, SESSION, Frame, Packet, frame_octets, frame_words, packet_octets
 from pppoe import read_frame, read_packet, tags_octets
 
 PORT = bytes.fromhex("0200000000fe")
 
 
-def challenge_in(frame):
-    """The Challenge of a frame (RFC 1994 section 4.1), or None."""
+def packet_in(frame, *kind):
+    """The control packet of a frame, if it is of this protocol and code, or None."""
     packet = read_packet(frame.payload) if frame.ethertype == SESSION else None
-    return packet if packet and (packet.protocol, packet.code) == (CHAP, CHALLENGE) else None
+    return packet if packet and (packet.protocol, packet.code) == kind else None
 
 
 class Line:
-    """Our end of the access port, which brings each frame of the gateway to its subscriber. Challenges, which come again
-    every 3 s, are kept apart, the last one of each subscriber."""
+    """Our end of the access port, which brings each frame of the gateway to its subscriber. Challenges of CHAP (RFC 1994
+    section 4.1) and Configure-Requests of IPCP, which come again every 3 s, are kept apart, the last one of each subscriber."""
 
     def __init__(self, lab):
         self.lab = lab
         self.waiting = collections.defaultdict(collections.deque)
         self.challenges = {}
+        self.asked = {}
 
     def take(self, patience):
         """Takes one frame of the gateway, and says whether one came in so many seconds."""
@@ -33,19 +34,22 @@ class Line:
             frame = read_frame(octets)
             if frame is None or frame_octets(frame) != octets:
                 raise RuntimeError(f"the gateway sent what is no PPPoE frame, or one with padding: {octets.hex()}")
-            challenge = challenge_in(frame)
+            challenge = packet_in(frame, CHAP, CHALLENGE)
+            asked = packet_in(frame, IPCP, CONFIGURE_REQUEST)
             if challenge:
                 self.challenges[frame.destination] = challenge
+            elif asked:
+                self.asked[frame.destination] = asked
             else:
                 self.waiting[frame.destination].append((frame, time.monotonic()))
         return bool(ready)
 
-    def challenge(self, mac):
-        """The last Challenge to this MAC, or None where none comes in five seconds."""
+    def last(self, kept, mac):
+        """The last of those kept apart to this MAC, or None where none comes in five seconds."""
         end = time.monotonic() + 5
-        while mac not in self.challenges and self.take(max(0, end - time.monotonic())):
+        while mac not in kept and self.take(max(0, end - time.monotonic())):
             pass
-        return self.challenges.get(mac)
+        return kept.get(mac)
 
     def receive(self, mac):
         """The next frame to this MAC and the moment at which it came, or None where none comes in five seconds."""
@@ -103,10 +107,17 @@ class Subscriber:
 
     def hear_challenge(self):
         """The gateway's Challenge."""
-        challenge = self.line.challenge(self.mac)
+        challenge = self.line.last(self.line.challenges, self.mac)
         if challenge is None:
             raise RuntimeError(f"the host {self.mac.hex()} heard no Challenge for five seconds")
         return challenge
+
+    def hear_asked(self):
+        """The gateway's Configure-Request of IPCP."""
+        asked = self.line.last(self.line.asked, self.mac)
+        if asked is None:
+            raise RuntimeError(f"the host {self.mac.hex()} heard no Configure-Request of IPCP for five seconds")
+        return asked
 
     def hear_lcp(self):
         """The next frame from the gateway, an LCP packet of the session."""
