@@ -14,6 +14,7 @@ pub mod Parts
 pub mod Lines
 pub mod Billed
 pub mod Booking
+pub mod Forming
 pub mod Beginning
 pub mod ShardKeys
 pub mod Reaping
