@@ -1,11 +1,17 @@
 -- The keys of the terms in the shards, of one shard among others.
-use Rattle.std.proofs.Common.{◌≡◌, ℕ, zero, suc, ◌+◌, ◌<◌, List, [], ◌∷◌, ◌++◌, length, take, drop, get_or, set, refl, sym, ap, subst, ◌∙◌, append-nil, arith}
+use Rattle.std.proofs.Common.{◌≡◌, ℕ, zero, suc, ◌+◌, ◌<◌, List, [], ◌∷◌, ◌++◌, length, map, take, drop, get_or, set, refl, sym, ap, subst, ◌∙◌, append-nil, arith}
 use Rattle.std.proofs.lemmas.Grind.{flat_map-append}
+use Rattle.std.proofs.lemmas.List.{map-append}
 use Rattle.bng_base.specs.declared.item.Entry.{Entry}
+use Rattle.bng_engine.specs.Lists.{AnyOf}
 use Rattle.bng_engine.specs.Terms.{Key, keys}
 use Rattle.bng_engine.specs.Views.{ShardView}
-use Rattle.bng_shard.specs.Protocol.{ShardState, terms_of}
+use Rattle.bng_shard.specs.Protocol.{SaysOf, ShardState, terms_of}
+use Rattle.bng_shard.specs.Tenures.{Tenure}
 use Rattle.bng_desk.specs.Model.{keys_in}
+use Rattle.bng_desk.specs.Round.{terms_in}
+use Rattle.bng_desk.specs.Taking.{states_of}
+use Rattle.bng_desk.proofs.Booking.{AreAmong, among_between}
 use Rattle.bng_desk.proofs.Parts.{StandsAt, stands_at}
 use Rattle.bng_desk.proofs.Readying.{Shards}
 
@@ -37,3 +43,19 @@ keys_set vs i w lt =
 -- the shard at a place
 pub shard_at : (vs : Shards) (i : ℕ) (v : ShardView ShardState Entry) → v ≡ get_or vs i v → i < length vs → StandsAt vs i v
 shard_at vs i v is lt = subst (λ (w : ShardView ShardState Entry). StandsAt vs i w) (sym is) (stands_at vs i v lt)
+
+-- The terms ---------------------------------------------------------------------------------------------------------------
+
+tenures_append : (vs ws : Shards) → terms_in (states_of (vs ++ ws)) ≡ terms_in (states_of vs) ++ terms_in (states_of ws)
+tenures_append vs ws =
+    ap terms_in (map-append (λ (v : ShardView ShardState Entry). v.state) vs ws) ∙ flat_map-append (λ (s : ShardState). s.slots.terms) (states_of vs) (states_of ws)
+
+-- those of the first shards, of the one at a place, and of the others
+pub tenures_split : (vs : Shards) (i : ℕ) (v : ShardView ShardState Entry) → StandsAt vs i v → terms_in (states_of vs) ≡ terms_in (states_of (take i vs)) ++ (v.state.slots.terms ++ terms_in (states_of (drop (i + 1) vs)))
+tenures_split vs i v at = ap (λ (us : Shards). terms_in (states_of us)) at.whole ∙ tenures_append (take i vs) (v ∷ drop (i + 1) vs)
+
+-- those of the shard at a place are among them
+pub tenures_among : (vs : Shards) (i : ℕ) (v : ShardView ShardState Entry) → StandsAt vs i v → AreAmong v.state.slots.terms (terms_in (states_of vs))
+tenures_among vs i v at user class began k any =
+    subst (λ (ts : List Tenure). AnyOf (SaysOf user class began k) ts) (sym (tenures_split vs i v at))
+    (among_between (terms_in (states_of (take i vs))) v.state.slots.terms (terms_in (states_of (drop (i + 1) vs))) user class began k any)
