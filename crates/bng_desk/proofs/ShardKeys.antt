@@ -1,11 +1,12 @@
 -- The keys of the terms in the shards, of one shard among others.
-use Rattle.std.proofs.Common.{◌≡◌, ℕ, zero, suc, ◌+◌, ◌<◌, List, [], ◌∷◌, ◌++◌, length, map, take, drop, get_or, set, refl, sym, ap, subst, ◌∙◌, append-nil, arith}
+use Rattle.std.proofs.Common.{◌≡◌, ⊎_elim, ℕ, zero, suc, ◌+◌, ◌<◌, List, [], ◌∷◌, ◌++◌, length, map, take, drop, get_or, set, refl, sym, ap, subst, ◌∙◌, append-nil, arith}
 use Rattle.std.proofs.lemmas.Grind.{flat_map-append}
 use Rattle.std.proofs.lemmas.List.{map-append}
 use Rattle.bng_base.specs.declared.item.Entry.{Entry}
 use Rattle.bng_engine.specs.Lists.{AnyOf}
 use Rattle.bng_engine.specs.Terms.{Key, keys}
 use Rattle.bng_engine.specs.Views.{ShardView}
+use Rattle.bng_engine.proofs.Everywhere.{any_either}
 use Rattle.bng_shard.specs.Protocol.{SaysOf, ShardState, terms_of}
 use Rattle.bng_shard.specs.Tenures.{Tenure}
 use Rattle.bng_desk.specs.Model.{keys_in}
@@ -43,6 +44,24 @@ keys_set vs i w lt =
 -- the shard at a place
 pub shard_at : (vs : Shards) (i : ℕ) (v : ShardView ShardState Entry) → v ≡ get_or vs i v → i < length vs → StandsAt vs i v
 shard_at vs i v is lt = subst (λ (w : ShardView ShardState Entry). StandsAt vs i w) (sym is) (stands_at vs i v lt)
+
+-- the shard at a place, one of whose keys is such
+pub record IsOfOne (P : Key → Type 0) (vs : Shards) : Type 0 where
+  pub place : ℕ
+  pub within : place < length vs
+  pub shard : ShardView ShardState Entry
+  pub is : (d : ShardView ShardState Entry) → get_or vs place d ≡ shard
+  pub there : AnyOf P (keys_of shard)
+
+of_later : (P : Key → Type 0) (v : ShardView ShardState Entry) (vs : Shards) → IsOfOne P vs → IsOfOne P (v ∷ vs)
+of_later P v vs o = record { place = suc o.place; within = omega (arith, o.within); shard = o.shard; is = o.is; there = o.there }
+
+-- a key of all is one of some shard
+pub of_one : (P : Key → Type 0) (vs : Shards) → AnyOf P (keys_in vs) → IsOfOne P vs
+of_one P [] any = absurd any
+of_one P (v ∷ vs) any =
+    ⊎_elim (λ (here : AnyOf P (keys_of v)). let o : IsOfOne P (v ∷ vs) = record { place = 0; within = omega arith; shard = v; is = λ d. refl; there = here } in o)
+    (λ (later : AnyOf P (keys_in vs)). of_later P v vs (of_one P vs later)) (any_either P (keys_of v) (keys_in vs) any)
 
 -- The terms ---------------------------------------------------------------------------------------------------------------
 
