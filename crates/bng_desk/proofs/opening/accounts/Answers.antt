@@ -9,7 +9,7 @@ use Rattle.bng_shard.specs.Lasting.{AreTenures}
 use Rattle.bng_shard.specs.Protocol.{ShardState}
 use Rattle.bng_desk.specs.Model.{keys_in}
 use Rattle.bng_desk.specs.Round.{terms_in}
-use Rattle.bng_desk.specs.Taking.{Accounts, BooksStarts, states_of}
+use Rattle.bng_desk.specs.Taking.{Accounts, BooksStarts, HasRows, states_of}
 use Rattle.bng_desk.proofs.Beginning.{MayBegin, all_begun, all_billed, all_may, known_begun, may_begin}
 use Rattle.bng_desk.proofs.Booking.{starts_more, starts_none, starts_wider}
 use Rattle.bng_desk.proofs.ShardKeys.{keys_next, keys_of, keys_split, shard_at, tenures_among}
@@ -35,6 +35,7 @@ start_all-requires c =
       room = may.room;
       fresh = may.new;
       apart = may.apart;
+      rows = subst HasRows (sym c.shard-item.is) (c.requires.rows i v c.loop-shard-test.true);
       terms = subst (λ (w : ShardView ShardState Entry). AreTenures c.args.now w.state.slots) (sym c.shard-item.is) (c.requires.terms i v c.loop-shard-test.true);
     }
 
