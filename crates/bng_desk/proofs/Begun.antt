@@ -11,13 +11,13 @@ use Rattle.bng_base.specs.declared.item.Entry.{Entry}
 use Rattle.bng_billing.specs.Records.{IsFormedBy}
 use Rattle.bng_billing.specs.State.{BillingState}
 use Rattle.bng_engine.specs.Lists.{Zip3}
-use Rattle.bng_engine.specs.Terms.{AreInOrder as AreOrdered, ComesBefore, Key}
+use Rattle.bng_engine.specs.Terms.{AreInOrder as AreOrdered, ComesBefore, Key, keys}
 use Rattle.bng_engine.specs.Views.{ShardView}
 use Rattle.bng_engine.proofs.Everywhere.{all_append}
 use Rattle.bng_engine.proofs.Reaping.{in_order_more}
 use Rattle.bng_engine.proofs.Walks.{same_at}
 use Rattle.bng_shard.specs.Lasting.{AreTenures}
-use Rattle.bng_shard.specs.Protocol.{ShardState, TellsNew, key_in}
+use Rattle.bng_shard.specs.Protocol.{ShardState, TellsNew, key_in, terms_of}
 use Rattle.bng_shard.specs.State.{State}
 use Rattle.bng_shard.specs.Tenures.{Tenure}
 use Rattle.bng_desk.specs.Accounting.{AreBilled, AreSettling, FormedRecord, Forms, IsStartOf}
@@ -267,7 +267,7 @@ module _ (moment wall : ℕ) (olds shards : Shards) (i : ℕ) (d : ShardView Sha
 
 same_keys : (vs ws : Shards) (kss : List (List Key)) → Zip3 BegunTo vs ws kss → keys_in ws ≡ keys_in vs
 same_keys [] [] [] z = refl
-same_keys (v ∷ vs) (w ∷ ws) (ks ∷ kss) z = ap (λ (x : ShardView ShardState Entry). keys_in (x ∷ ws)) z.0.after ∙ ap (λ (js : List Key). keys_in (v ∷ []) ++ js) (same_keys vs ws kss z.1)
+same_keys (x ∷ vs) (w ∷ ws) (ks ∷ kss) z = ap (λ (y : ShardView ShardState Entry). keys (terms_of y.state) ++ keys_in ws) z.0.after ∙ ap (λ (js : List Key). keys (terms_of x.state) ++ js) (same_keys vs ws kss z.1)
 same_keys vs ws kss z = absurd z
 
 pub owe_none : (vs ws : Shards) (kss : List (List Key)) → Zip3 BegunTo vs ws kss → All OwesNone ws
