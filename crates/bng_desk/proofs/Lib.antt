@@ -16,6 +16,7 @@ pub mod Billed
 pub mod Booking
 pub mod Forming
 pub mod TermsLeft
+pub mod Begun
 pub mod Beginning
 pub mod ShardKeys
 pub mod Reaping
