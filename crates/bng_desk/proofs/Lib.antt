@@ -6,6 +6,7 @@ pub mod TakeLaws
 pub mod ItemLaws
 pub mod Zips
 pub mod Readying
+pub mod Shares
 pub mod Unclaiming
 pub mod Returning
 pub mod Sending
@@ -26,6 +27,8 @@ pub mod Outfit
 pub mod Joining
 pub mod Tallied
 pub mod SameTerms
+pub mod Growing
+pub mod Newcomers
 pub mod Resting
 pub mod Dwindling
 pub mod Works
