@@ -15,6 +15,8 @@ pub mod Parts
 pub mod Lines
 pub mod Billed
 pub mod Booking
+pub mod Forming
+pub mod TermsLeft
 pub mod Beginning
 pub mod ShardKeys
 pub mod Reaping

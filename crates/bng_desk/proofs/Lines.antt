@@ -6,12 +6,12 @@ use Rattle.std.proofs.lemmas.List.Elements.{All-map}
 use Rattle.std.proofs.lemmas.List.Sums.{sum_by-append, sum_by-cons, sum_by-set, sum_by_more_le}
 use Rattle.bng_base.specs.declared.item.Entry.{Entry}
 use Rattle.bng_engine.specs.Quantities.{Quantity, Octets, in_book}
-use Rattle.bng_engine.specs.Sums.{stopped_where}
+use Rattle.bng_engine.specs.Sums.{has_lease, stopped_where}
 use Rattle.bng_engine.specs.Terms.{Key, Stop}
 use Rattle.bng_engine.specs.Views.{ShardView, rows_where}
 use Rattle.bng_shard.specs.Protocol.{ShardState}
 use Rattle.bng_desk.specs.declared.line.Line.{Line}
-use Rattle.bng_desk.specs.Model.{is_of, line_after}
+use Rattle.bng_desk.specs.Model.{line_after}
 use Rattle.bng_desk.specs.Taking.{CarriesWithin, LinesWithin, stopped_in, kept_in}
 use Rattle.bng_desk.proofs.Readying.{Shards}
 
@@ -28,10 +28,10 @@ lines_none [] = refl
 lines_none (l ∷ ls) = ap (λ (x : Line). x ∷ ls) (line_none l) ∙ ap (λ (xs : List Line). line_after [] l ∷ xs) (lines_none ls)
 
 abbrev said : Bool → Line → List Stop → ℕ
-said input l stops = stopped_where Octets (is_of l.session.0) input stops
+said input l stops = stopped_where Octets (has_lease l.address) input stops
 
 said_more : (input : Bool) (l : Line) (a b : List Stop) → said input l (a ++ b) ≡ said input l a + said input l b
-said_more input l a b = sum_by-append (λ (s : Stop). cond (is_of l.session.0 s.key) (in_book Octets input s.carried) 0) a b
+said_more input l a b = sum_by-append (λ (s : Stop). cond (has_lease l.address s.key) (in_book Octets input s.carried) 0) a b
 
 line_more : (a b : List Stop) (l : Line) → line_after (a ++ b) l ≡ line_after b (line_after a l)
 line_more a b l =
@@ -47,14 +47,14 @@ pub stopped_after : (input : Bool) (stops : List Stop) (l : Line) → stopped_in
 stopped_after true stops l = refl
 stopped_after false stops l = refl
 
-same_session : (a b : ℕ) → a ≡ b → eqb b a ≡ true
-same_session a b e = grind (arith, nat_tests)
+same_address : (a b : ℕ) → a ≡ b → eqb b a ≡ true
+same_address a b e = grind (arith, nat_tests)
 
--- what the Stop of a line's own circuit says
-pub one_said : (input : Bool) (l : Line) (s : Stop) → l.session.0 ≡ s.key.term.session.0 → said input l (s ∷ []) ≡ in_book Octets input s.carried
+-- what the Stop with a line's address says
+pub one_said : (input : Bool) (l : Line) (s : Stop) → l.address.0 ≡ s.key.lease.0 → said input l (s ∷ []) ≡ in_book Octets input s.carried
 one_said input l s e =
     let n = in_book Octets input s.carried in
-    omega (arith, sum_by-cons (λ (x : Stop). cond (is_of l.session.0 x.key) (in_book Octets input x.carried) 0) s [], ap (λ (b : Bool). cond b n 0) (same_session l.session.0 s.key.term.session.0 e))
+    omega (arith, sum_by-cons (λ (x : Stop). cond (has_lease l.address x.key) (in_book Octets input x.carried) 0) s [], ap (λ (b : Bool). cond b n 0) (same_address l.address.0 s.key.lease.0 e))
 
 -- a line after these Stops
 abbrev pub IsAfter : List Stop → Line → Line → Type 0
@@ -80,4 +80,4 @@ within_more most vs i d w stops ls lt rows within =
     All-map (CarriesWithin most (set vs i w)) (line_after stops) ls
     (λ k e inside input.
     let l = get_or ls k e in
-    omega (arith, within k e inside input, stopped_after input stops l, sum_by-set (kept_in input l) vs i w d lt, rows Octets (is_of l.session.0) input))
+    omega (arith, within k e inside input, stopped_after input stops l, sum_by-set (kept_in input l) vs i w d lt, rows Octets (has_lease l.address) input))

@@ -1,61 +1,60 @@
 -- The terms that ended leave the shards, one shard after the other.
-use Rattle.std.proofs.Common.{◌≡◌, ◌≢◌, ℕ, ◌+◌, ◌<◌, Bool, true, false, not, cond, List, [], ◌∷◌, ◌++◌, map, filter, length, take, Some, drop, get_or, set, refl, sym, ap, subst, ◌∙◌, append_assoc, append-nil, arith}
-use Rattle.std.specs.List.{All, AllZip, flat_map, sum_by}
+use Rattle.std.proofs.Common.{◌≡◌, ◌≢◌, ℕ, zero, suc, ◌+◌, ◌<◌, Bool, true, false, not, cond, List, [], ◌∷◌, ◌++◌, map, filter, length, take, drop, get_or, set, refl, sym, ap, subst, ◌∙◌, append_assoc, append-nil, arith}
+use Rattle.std.specs.List.{All, AllPairs, AllZip, flat_map, sum_by}
 use Rattle.std.proofs.lemmas.List.{take_more, take_more_set, take_all, drop-set-lt, drop-drop}
 use Rattle.std.proofs.lemmas.List.Concat.{flat_map-append}
+use Rattle.std.proofs.lemmas.List.Elements.{All-cons, All-head, All-tail}
 use Rattle.std.proofs.lemmas.List.Sums.{sum_by-cons}
-use Rattle.bng_acct.specs.Roster.{of_term}
-use Rattle.bng_acct.specs.Spool.{is_live as is_billed}
+use Rattle.bng_acct.specs.declared.facts.StatusType.{StatusType}
+use Rattle.bng_acct.specs.declared.facts.StatusType.TheVariants.{Stop as OfStop}
 use Rattle.bng_base.specs.declared.book.Book.{Book}
 use Rattle.bng_base.specs.declared.item.Entry.{Entry}
-use Rattle.bng_base.specs.declared.item.OutRecord.{OutRecord}
 use Rattle.bng_base.specs.Listed.{Same}
+use Rattle.bng_billing.specs.Records.{IsFormedBy}
 use Rattle.bng_billing.specs.State.{BillingState}
-use Rattle.bng_engine.specs.Calls.{InReaping, IsSettled, all_sends}
-use Rattle.bng_engine.specs.Lists.{Zip3}
+use Rattle.bng_engine.specs.Calls.{InReaping}
+use Rattle.bng_engine.specs.Lists.{AnyOf, Zip3}
 use Rattle.bng_engine.specs.Quantities.{Quantity, Octets}
-use Rattle.bng_engine.specs.Showing.{with_lists}
-use Rattle.bng_engine.specs.Sums.{is_any, stopped_where}
-use Rattle.bng_engine.specs.Terms.{Key, Term, Stop, is_ended, is_live, keys}
+use Rattle.bng_engine.specs.Sums.{has_lease, is_any, stopped_where}
+use Rattle.bng_engine.specs.Terms.{Key, Term, Stop, is_ended, keys}
 use Rattle.bng_engine.specs.Views.{Row, ShardView, row_keys, rows_where}
 use Rattle.bng_engine.proofs.Reaping.{reaping_begins, reaping_goes_on, reaping_ends}
-use Rattle.bng_engine.proofs.SameLists.{same_equal, same_map}
+use Rattle.bng_engine.proofs.SameLists.{same_equal}
 use Rattle.bng_engine.proofs.Walks.{same_at}
 use Rattle.bng_pool.specs.Plain.{PlainView}
 use Rattle.bng_pool.specs.Tables.{TableFrees, entry}
 use Rattle.bng_shard.specs.declared.rules.Rules.{Rules}
-use Rattle.bng_shard.specs.Protocol.{ShardState, AreHeld, Handled, Leaves, pppoe, ended_terms, terms_of}
-use Rattle.bng_shard.specs.State.{State, reaped as reaped_slots, settled}
+use Rattle.bng_shard.specs.Lasting.{AreTenures}
+use Rattle.bng_shard.specs.Protocol.{ShardState, AreHeld, Handled, Leaves, SaysOf, pppoe, ended_terms, key_in, terms_of}
+use Rattle.bng_shard.specs.State.{State, reaped as reaped_slots}
 use Rattle.bng_shard.specs.Sums.{AreLow, RowsAreLow}
-use Rattle.bng_shard.specs.Tenures.{Tenure}
-use Rattle.bng_shard.proofs.StepLaws.{pppoe_laws}
+use Rattle.bng_shard.specs.Tenures.{LeavesTerms, Tenure}
 use Rattle.bng_desk.specs.declared.line.Line.{Line}
-use Rattle.bng_desk.specs.Accounting.{AreBilled}
-use Rattle.bng_desk.specs.Model.{is_of, keys_in}
-use Rattle.bng_desk.specs.Round.{IsReturned, entries_of}
-use Rattle.bng_desk.specs.Taking.{IsEmpty, HasFewSessions, Accounts, AreInOrder, BooksStops, IsLeftBy, IsTurning, LinesWithin, TakesIn, SentTo, ReapedTo, ReapsShard, ReapsAll, settled_as, kept_in, joined, far}
-use Rattle.bng_desk.proofs.Billed.{billed_part, billed_there, billed_without}
-use Rattle.bng_desk.proofs.Booking.{books_more, books_none, others_booked}
-use Rattle.bng_desk.proofs.Dealing.{Seens}
+use Rattle.bng_desk.specs.Accounting.{AreSettling, FormedRecord, Forms, IsStopOf}
+use Rattle.bng_desk.specs.Model.{keys_in}
+use Rattle.bng_desk.specs.Round.{IsReturned, news_in, terms_in}
+use Rattle.bng_desk.specs.Taking.{IsEmpty, HasFewSessions, Accounts, AreInOrder, BooksStops, LinesWithin, TakesIn, ReapedTo, ReapsShard, ReapsAll, settled_as, states_of, kept_in, joined, far}
+use Rattle.bng_desk.proofs.Booking.{AreAmong, among_left, among_left_by, among_right, books_more, books_none, books_wider, leaver_says}
+use Rattle.bng_desk.proofs.Forming.{settling_stopped, stop_admitted, stop_once}
 use Rattle.bng_desk.proofs.Lines.{within_more}
 use Rattle.bng_desk.proofs.Parts.{stands_at}
 use Rattle.bng_desk.proofs.Readying.{Shards}
-use Rattle.bng_desk.proofs.Sending.{not_sent_yet}
-use Rattle.bng_desk.proofs.ShardKeys.{keys_set, keys_split}
 use Rattle.bng_desk.proofs.Returning.{HoldsOwn, all_hold, order_set, others_hold, returned_more, returned_none, returned_one}
-use Rattle.bng_desk.proofs.Unclaiming.{after_rules, keys_stay}
+use Rattle.bng_desk.proofs.ShardKeys.{keys_set, keys_split}
+use Rattle.bng_desk.proofs.TermsLeft.{all_stay, it_was, its_classes, keys_are, keys_there, keys_were, tenures_left, tenures_reaped}
 use Rattle.bng_desk.proofs.Zips.{zip3_push, zip3_at, zip3_length}
 
 -- One shard -------------------------------------------------------------------------------------------------------------
 
 abbrev seen : ShardView ShardState Entry → List Stop → ShardView ShardState Handled
-seen v stops = settled_as v [] [] [] stops
+seen v stops = settled_as v [] [] [] stops []
 
 -- some terms have left by these Stops
 pub record LeavesSome (v w : ShardView ShardState Entry) (stops : List Stop) : Type 0 where
   pub reaping : InReaping pppoe (seen v []) (seen w stops)
   pub rules : w.state.rules ≡ v.state.rules
   pub slots : reaped_slots w.state.slots ≡ reaped_slots v.state.slots
+  pub among : AreAmong w.state.slots.terms v.state.slots.terms
   pub fit : Same (row_keys v.rows) (keys (terms_of v.state)) → Same (row_keys w.rows) (keys (terms_of w.state))
   pub number : w.number ≡ v.number
   pub allowance : w.allowance ≡ v.allowance
@@ -63,11 +62,12 @@ pub record LeavesSome (v w : ShardView ShardState Entry) (stops : List Stop) : T
   pub journal : w.journal ≡ v.journal
   pub outs : w.outs ≡ v.outs
 
-pub leaves_none : (v : ShardView ShardState Entry) → LeavesSome v v []
+leaves_none : (v : ShardView ShardState Entry) → LeavesSome v v []
 leaves_none v = record {
   reaping = reaping_begins pppoe (seen v []) refl;
   rules = refl;
   slots = refl;
+  among = λ user class began k any. any;
   fit = λ h. h;
   number = refl;
   allowance = refl;
@@ -76,20 +76,17 @@ leaves_none v = record {
   outs = refl;
 }
 
-live_by : (b : Bool) (t : Term) (ts : List Term) → cond b (t ∷ filter is_ended ts) (filter is_ended ts) ≡ [] → (filter is_ended ts ≡ [] → filter is_live ts ≡ ts) → cond (not b) (t ∷ filter is_live ts) (filter is_live ts) ≡ t ∷ ts
-live_by true t ts e rest = let no : ⊥ = cc in absurd no
-live_by false t ts e rest = ap (λ (us : List Term). t ∷ us) (rest e)
-
 ones : (ts : List Term) → sum_by (λ (t : Term). 1) ts ≡ length ts
 ones [] = refl
 ones (t ∷ ts) = omega (arith, sum_by-cons (λ (t : Term). 1) t ts, ones ts)
 
 -- one more leaves
-pub leaves_more : (v w w' : ShardView ShardState Entry) (stops : List Stop) (s : Stop) → LeavesSome v w stops → Leaves w w' s → LeavesSome v w' (stops ++ s ∷ [])
-leaves_more v w w' stops s some one = record {
+leaves_more : (v w w' : ShardView ShardState Entry) (stops : List Stop) (s : Stop) (t : Tenure) → LeavesSome v w stops → Leaves w w' s → LeavesTerms w.state.slots.terms w'.state.slots.terms t → LeavesSome v w' (stops ++ s ∷ [])
+leaves_more v w w' stops s t some one left = record {
   reaping = reaping_goes_on pppoe (seen v []) (seen w stops) s (seen w' (stops ++ s ∷ [])) some.reaping (record { one = one.one; least = one.least; rows = one.rows; stops = refl });
   rules = one.rules ∙ some.rules;
   slots = one.slots ∙ some.slots;
+  among = λ user class began k any. some.among user class began k (among_left_by w.state.slots.terms w'.state.slots.terms t left user class began k any);
   fit = λ h. same_equal (row_keys w'.rows) (keys (terms_of w'.state)) one.fit;
   number = one.number ∙ some.number;
   allowance = one.allowance ∙ some.allowance;
@@ -98,25 +95,31 @@ leaves_more v w w' stops s some one = record {
   outs = one.outs ∙ some.outs;
 }
 
+-- what a settlement is among goes on, with the terms of a shard among others
+abbrev pub KeepsSettling : ShardState → ShardState → BillingState → BillingState → Type 0
+KeepsSettling s s' b b' = (front back began : List Key) → AreSettling (front ++ (keys (terms_of s) ++ back)) began b → AreSettling (front ++ (keys (terms_of s') ++ back)) began b'
+
 -- and its address is given back, and it is booked; each term that is left holds its own, of this shard and of others
 pub record ReapsFew (moment wall : ℕ) (v w : ShardView ShardState Entry) (pool pool' : PlainView) (a a' : Accounts) : Type 0 where
   pub stops : List Stop
   pub some : LeavesSome v w stops
   pub returned : IsReturned stops pool pool'
-  pub booked : BooksStops moment wall stops a a'
+  pub booked : BooksStops v.state.slots.terms moment wall stops a a'
   pub within : (most : Bool → ℕ) → LinesWithin most (v ∷ []) a.lines → LinesWithin most (w ∷ []) a'.lines
-  pub billed : (front back : List Key) → AreBilled (front ++ (row_keys v.rows ++ back)) a.billing → AreBilled (front ++ (row_keys w.rows ++ back)) a'.billing
+  pub tenures : AreTenures moment w.state.slots
+  pub settling : KeepsSettling v.state w.state a.billing a'.billing
   pub held : HoldsOwn pool'.table w
   pub others : (n : ℕ) (ts : List Term) → n ≢ v.number → AreHeld n ts pool.table → AreHeld n ts pool'.table
 
-pub reaps_begin : (moment wall : ℕ) (v : ShardView ShardState Entry) (pool : PlainView) (a : Accounts) → HoldsOwn pool.table v → ReapsFew moment wall v v pool pool a a
-reaps_begin moment wall v pool a held = record {
+pub reaps_begin : (moment wall : ℕ) (v : ShardView ShardState Entry) (pool : PlainView) (a : Accounts) → AreTenures moment v.state.slots → HoldsOwn pool.table v → ReapsFew moment wall v v pool pool a a
+reaps_begin moment wall v pool a tenures held = record {
   stops = [];
   some = leaves_none v;
   returned = returned_none pool;
-  booked = books_none moment wall a;
+  booked = books_none v.state.slots.terms moment wall a;
   within = λ most h. h;
-  billed = λ front back h. h;
+  tenures = tenures;
+  settling = λ front back began h. h;
   held = held;
   others = λ n ts other h. h;
 }
@@ -125,7 +128,7 @@ reaps_begin moment wall v pool a held = record {
 pub takes_in : (w w' : ShardView ShardState Entry) (s : Stop) (ls : List Line) → Leaves w w' s → LinesWithin far (w ∷ []) ls → All (TakesIn (s ∷ [])) ls
 takes_in w w' s ls one within k e lt input =
     let l = get_or ls k e in
-    omega (arith, within k e lt input, one.rows Octets (is_of l.session.0) input, sum_by-cons (kept_in input l) w [])
+    omega (arith, within k e lt input, one.rows Octets (has_lease l.address) input, sum_by-cons (kept_in input l) w [])
 
 -- the keys before the one that leaves, that one, and those after it
 around : (front before after back : List Key) (k : Key) → front ++ ((before ++ k ∷ after) ++ back) ≡ (front ++ before) ++ k ∷ (after ++ back)
@@ -134,34 +137,51 @@ around front before after back k = ap (λ (ks : List Key). front ++ ks) (append_
 outside : (front before after back : List Key) → (front ++ before) ++ (after ++ back) ≡ front ++ ((before ++ after) ++ back)
 outside front before after back = append_assoc front before (after ++ back) ∙ ap (λ (ks : List Key). front ++ ks) (sym (append_assoc before after back))
 
--- a shard alone
-pub billed_alone : (v : ShardView ShardState Entry) (b : BillingState) → AreBilled (row_keys v.rows) b → AreBilled (row_keys v.rows ++ []) b
-billed_alone v b billed = subst (λ (ks : List Key). AreBilled ks b) (sym (append-nil (row_keys v.rows))) billed
+-- One has left, of which the records say this ----------------------------------------------------------------------------
 
--- the term that leaves is live in accounting
-pub leaves_live : (w w' : ShardView ShardState Entry) (s : Stop) (b : BillingState) → Leaves w w' s → AreBilled (row_keys w.rows ++ []) b → is_billed (of_term s.key.term b.spool.held) ≡ true
-leaves_live w w' s b one billed =
-    billed_there one.before one.after s.key b (subst (λ (ks : List Key). AreBilled ks b) (append-nil (row_keys w.rows) ∙ one.were) billed)
+-- it stood among those of the settlement
+module _ (front back began : List Key) (w w' : ShardView ShardState Entry) (t : Tenure) (k : Key) (left : LeavesTerms w.state.slots.terms w'.state.slots.terms t) (is : key_in t ≡ k) where
+  abbrev ahead : List Key
+  ahead = front ++ keys_there left.before
 
--- and the others still are
-leaves_billed : (front back : List Key) (w w' : ShardView ShardState Entry) (s : Stop) (moment wall : ℕ) (a a' : Accounts) → Leaves w w' s → BooksStops moment wall (s ∷ []) a a'
-    → AreBilled (front ++ (row_keys w.rows ++ back)) a.billing → AreBilled (front ++ (row_keys w'.rows ++ back)) a'.billing
-leaves_billed front back w w' s moment wall a a' one booked billed =
-    let was : front ++ (row_keys w.rows ++ back) ≡ (front ++ one.before) ++ s.key ∷ (one.after ++ back) = ap (λ (ks : List Key). front ++ (ks ++ back)) one.were ∙ around front one.before one.after back s.key in
-    let is : (front ++ one.before) ++ (one.after ++ back) ≡ front ++ (row_keys w'.rows ++ back) = outside front one.before one.after back ∙ ap (λ (ks : List Key). front ++ (ks ++ back)) (sym one.are) in
-    subst (λ (ks : List Key). AreBilled ks a'.billing) is
-    (billed_without (front ++ one.before) (one.after ++ back) s.key a.billing a'.billing (others_booked moment wall s a a' booked) (subst (λ (ks : List Key). AreBilled ks a.billing) was billed))
+  abbrev behind : List Key
+  behind = keys_there left.after ++ back
 
-pub reaps_on : (moment wall : ℕ) (v w w' : ShardView ShardState Entry) (s : Stop) (k : ℕ) (pool pool' pool'' : PlainView) (a a' a'' : Accounts) → ReapsFew moment wall v w pool pool' a a' → Leaves w w' s
+  pub among_them : (b : BillingState) → AreSettling (front ++ (keys (terms_of w.state) ++ back)) began b → AreSettling (ahead ++ k ∷ behind) began b
+  among_them b s =
+      subst (λ (ks : List Key). AreSettling ks began b)
+      (ap (λ (ks : List Key). front ++ (ks ++ back)) (keys_were w.state.slots.terms w'.state.slots.terms t k left is) ∙ around front (keys_there left.before) (keys_there left.after) back k) s
+
+  without_it : (b : BillingState) → AreSettling (ahead ++ behind) began b → AreSettling (front ++ (keys (terms_of w'.state) ++ back)) began b
+  without_it b s =
+      subst (λ (ks : List Key). AreSettling ks began b)
+      (outside front (keys_there left.before) (keys_there left.after) back ∙ ap (λ (ks : List Key). front ++ (ks ++ back)) (sym (keys_are w.state.slots.terms w'.state.slots.terms t left))) s
+
+  -- and no longer does, once its Stop is booked
+  pub left_settling : (terms : List Tenure) (moment wall : ℕ) (s : Stop) (a a' : Accounts) → s.key ≡ k → BooksStops terms moment wall (s ∷ []) a a' → AreSettling (front ++ (keys (terms_of w.state) ++ back)) began a.billing
+      → AreSettling (front ++ (keys (terms_of w'.state) ++ back)) began a'.billing
+  left_settling terms moment wall s a a' of_it booked so_far = without_it a'.billing (by booked.formed booked.forms booked.are_stops)
+    where
+      by : (fs : List FormedRecord) → Forms a.billing fs a'.billing → AllZip (IsStopOf terms moment wall) (s ∷ []) fs → AreSettling (ahead ++ behind) began a'.billing
+      by [] forms are = absurd are
+      by (f ∷ g ∷ fs) forms are = absurd are.1
+      by (f ∷ []) (m, one, last) are =
+          let stop : IsFormedBy a.billing OfStop f.facts f.moment f.number m = subst (λ (status : StatusType). IsFormedBy a.billing status f.facts f.moment f.number m) are.0.status one in
+          subst (λ (b : BillingState). AreSettling (ahead ++ behind) began b) (sym last)
+          (settling_stopped ahead behind began k f.facts f.moment f.number a.billing m stop (are.0.facts.term ∙ ap (λ (j : Key). j.term) of_it) (among_them a.billing so_far))
+
+pub reaps_on : (moment wall : ℕ) (v w w' : ShardView ShardState Entry) (s : Stop) (t : Tenure) (k : ℕ) (pool pool' pool'' : PlainView) (a a' a'' : Accounts) → ReapsFew moment wall v w pool pool' a a' → Leaves w w' s
+    → LeavesTerms w.state.slots.terms w'.state.slots.terms t → key_in t ≡ s.key
     → TableFrees pool'.table k s.key.lease.0 pool''.table → (pool''.ranges ≡ pool'.ranges) × (pool''.shards ≡ pool'.shards) → entry pool'.table s.key.lease.0 ≡ Some w.number → HoldsOwn pool''.table w'
-    → BooksStops moment wall (s ∷ []) a' a'' → ReapsFew moment wall v w' pool pool'' a a''
-reaps_on moment wall v w w' s k pool pool' pool'' a a' a'' so_far one frees rest mine held booked = record {
+    → BooksStops v.state.slots.terms moment wall (s ∷ []) a' a'' → ReapsFew moment wall v w' pool pool'' a a''
+reaps_on moment wall v w w' s t k pool pool' pool'' a a' a'' so_far one left is frees rest mine held booked = record {
   stops = so_far.stops ++ s ∷ [];
-  some = leaves_more v w w' so_far.stops s so_far.some one;
+  some = leaves_more v w w' so_far.stops s t so_far.some one left;
   returned = returned_more so_far.stops (s ∷ []) pool pool' pool'' so_far.returned (returned_one s k pool' pool'' frees rest);
-  booked = books_more moment wall so_far.stops (s ∷ []) a a' a'' so_far.booked booked;
+  booked = books_more v.state.slots.terms moment wall so_far.stops (s ∷ []) a a' a'' so_far.booked booked;
   within = λ most h. subst (λ (ls : List Line). LinesWithin most (w' ∷ []) ls) (sym booked.lines_are) (within_more most (w ∷ []) 0 w w' (s ∷ []) a'.lines (omega arith) one.rows (so_far.within most h));
-  billed = λ front back h. leaves_billed front back w w' s moment wall a' a'' one booked (so_far.billed front back h);
+  tenures = tenures_left moment w.state.slots w'.state.slots t left one.slots so_far.tenures;
+  settling = λ front back began h. left_settling front back began w w' t s.key left is v.state.slots.terms moment wall s a' a'' refl booked (so_far.settling front back began h);
   held = held;
   others = λ n ts other h. others_hold pool'.table pool''.table k s.key.lease.0 w.number n ts frees mine (λ same. other (same ∙ so_far.some.number)) (so_far.others n ts other h);
 }
@@ -170,10 +190,7 @@ reaps_on moment wall v w w' s k pool pool' pool'' a a' a'' so_far one frees rest
 pub fewer_ended : (w w' : ShardView ShardState Entry) (s : Stop) → Leaves w w' s → length (ended_terms w'.state) < length (ended_terms w.state)
 fewer_ended w w' s one = omega (arith, one.one (λ k c. 1), ones (ended_terms w'.state), ones (ended_terms w.state))
 
--- where none has ended, all are live
-all_live : (ts : List Term) → filter is_ended ts ≡ [] → filter is_live ts ≡ ts
-all_live [] e = refl
-all_live (t ∷ ts) e = live_by t.ended t ts e (all_live ts)
+-- All have left ---------------------------------------------------------------------------------------------------------
 
 abbrev pub over : ShardView ShardState Entry → ShardView ShardState Entry
 over w = record w { state = record w.state { slots = reaped_slots w.state.slots }; room = 0 }
@@ -181,47 +198,31 @@ over w = record w { state = record w.state { slots = reaped_slots w.state.slots 
 abbrev state_with : Rules → State → ShardState
 state_with rules slots = record { rules = rules; slots = slots }
 
--- what is over has the same rows
-pub over_billed : (front back : List Key) (w w' : ShardView ShardState Entry) (b : BillingState) → w' ≡ over w → AreBilled (front ++ (row_keys w.rows ++ back)) b → AreBilled (front ++ (row_keys w'.rows ++ back)) b
-over_billed front back w w' b is billed = subst (λ (rs : List Row). AreBilled (front ++ (row_keys rs ++ back)) b) (sym (ap (λ (x : ShardView ShardState Entry). x.rows) is)) billed
+module _ (w w' : ShardView ShardState Entry) (none : filter is_ended (terms_of w.state) ≡ []) (is : w' ≡ over w) where
+  -- those that are left are all that were there
+  same_terms : w'.state.slots.terms ≡ w.state.slots.terms
+  same_terms = ap (λ (x : ShardView ShardState Entry). x.state.slots.terms) is ∙ all_stay w.state.slots.terms none
 
--- all have left
--- where no Start is owed, a shard of which all terms that ended have left is settled
-no_start : (s : State) (news : List Tenure) → s.news ≡ news → news ≡ [] → reaped_slots s ≡ settled s
-no_start s news is none = ap (λ (ns : List Tenure). let t : State = record (reaped_slots s) { news = ns } in t) (is ∙ none)
+  pub over_settling : (front back began : List Key) (b : BillingState) → AreSettling (front ++ (keys (terms_of w.state) ++ back)) began b → AreSettling (front ++ (keys (terms_of w'.state) ++ back)) began b
+  over_settling front back began b s = subst (λ (ts : List Tenure). AreSettling (front ++ (keys_there ts ++ back)) began b) (sym same_terms) s
 
-module _ (v w w' : ShardView ShardState Entry) (stops : List Stop) (none_new : v.state.slots.news ≡ []) (no_pools : v.state.rules.pools ≡ []) (some : LeavesSome v w stops) (none : filter is_ended (terms_of w.state) ≡ []) (is : w' ≡ over w) where
-  state_is : w'.state ≡ pppoe.settled v.state
-  state_is = ap (λ (x : ShardView ShardState Entry). x.state) is
-      ∙ ap (λ (r : Rules). state_with r (reaped_slots w.state.slots)) some.rules
-      ∙ ap (λ (s : State). state_with v.state.rules s) (some.slots ∙ no_start v.state.slots v.state.slots.news refl none_new)
+  pub over_tenures : (moment : ℕ) → AreTenures moment w.state.slots → AreTenures moment w'.state.slots
+  over_tenures moment h = subst (λ (x : ShardView ShardState Entry). AreTenures moment x.state.slots) (sym is) (tenures_reaped moment w.state.slots h)
 
   rows_are : w'.rows ≡ w.rows
   rows_are = ap (λ (x : ShardView ShardState Entry). x.rows) is
 
-  rows_left : (q : Quantity) (pick : Key → Bool) (input : Bool) → stopped_where q pick input stops + rows_where q pick input w'.rows ≡ rows_where q pick input v.rows
-  rows_left q pick input = omega (arith, some.reaping.rows q pick input, ap (rows_where q pick input) rows_are)
+  same_fit : Same (row_keys w.rows) (keys (terms_of w.state)) → Same (row_keys w'.rows) (keys (terms_of w'.state))
+  same_fit h f = ap (λ (rs : List Row). sum_by f (row_keys rs)) rows_are ∙ h f ∙ sym (ap (λ (ts : List Tenure). sum_by f (keys_there ts)) same_terms)
 
-  -- the terms that are left are those that did not end
-  same_terms : Same (terms_of w'.state) (terms_of w.state)
-  same_terms f = ap (λ (x : ShardView ShardState Entry). sum_by f (terms_of x.state)) is ∙ pppoe_laws.settles w.state f ∙ ap (sum_by f) (all_live (terms_of w.state) none)
-
-  pub leaves_all : HasFewSessions w' → ReapedTo v w' stops
-  leaves_all few = record {
-    reaps = λ was es outs sends turn. record {
-      number = ap (λ (x : ShardView ShardState Entry). x.number) is ∙ some.number;
-      allowance = ap (λ (x : ShardView ShardState Entry). x.allowance) is ∙ some.allowance;
-      state = state_is;
-      fit = λ f. ap (λ (rs : List Row). sum_by f (row_keys rs)) rows_are ∙ some.fit turn.fit f ∙ sym (same_map (λ (t : Term). t.key) (terms_of w'.state) (terms_of w.state) same_terms f);
-      order = some.reaping.order;
-      each = reaping_ends pppoe (seen v []) (seen w stops) some.reaping none;
-      rows = rows_left;
-      begun = record { order = tt; each = λ f. ap (λ (s : ShardState). sum_by f (keys (terms_of s))) turn.state ∙ keys_stay was.state es turn.steps (ap (λ (r : Rules). r.pools) (sym (ap (λ (s : ShardState). s.rules) turn.state ∙ after_rules was.state es)) ∙ no_pools) f };
-      books = ap (λ (x : ShardView ShardState Entry). x.books) is ∙ some.books;
-      journal = refl;
-      sends = refl;
-    };
-    rows = rows_left;
+  -- all that ended have left
+  pub leaves_all : (v : ShardView ShardState Entry) (stops : List Stop) → LeavesSome v w stops → HasFewSessions w' → ReapedTo v w' stops
+  leaves_all v stops some few = record {
+    order = some.reaping.order;
+    each = reaping_ends pppoe (seen v []) (seen w stops) some.reaping none;
+    state = ap (λ (x : ShardView ShardState Entry). x.state) is ∙ ap (λ (r : Rules). state_with r (reaped_slots w.state.slots)) some.rules ∙ ap (λ (s : State). state_with v.state.rules s) some.slots;
+    fit = λ h. same_fit (some.fit h);
+    rows = λ q pick input. omega (arith, some.reaping.rows q pick input, ap (rows_where q pick input) rows_are);
     number = ap (λ (x : ShardView ShardState Entry). x.number) is ∙ some.number;
     allowance = ap (λ (x : ShardView ShardState Entry). x.allowance) is ∙ some.allowance;
     books = ap (λ (x : ShardView ShardState Entry). x.books) is ∙ some.books;
@@ -238,11 +239,12 @@ pub record ReapsSome (moment wall : ℕ) (olds shards : Shards) (i : ℕ) (pool 
   pub done : Zip3 ReapedTo (take i olds) (take i shards) stops
   pub rest : drop i shards ≡ drop i olds
   pub returned : IsReturned (joined stops) pool pool'
-  pub booked : BooksStops moment wall (joined stops) a a'
+  pub booked : BooksStops (terms_in (states_of olds)) moment wall (joined stops) a a'
   pub order : AreInOrder shards
   pub held : All (HoldsOwn pool'.table) shards
   pub within : (most : Bool → ℕ) → LinesWithin most olds a.lines → LinesWithin most shards a'.lines
-  pub billed : AreBilled (keys_in shards) a'.billing
+  pub tenures : All (λ (v : ShardView ShardState Entry). AreTenures moment v.state.slots) shards
+  pub settling : AreSettling (keys_in shards) (map key_in (news_in (states_of olds))) a'.billing
 
 tails : (xs ys : Shards) (i : ℕ) → drop i xs ≡ drop i ys → drop (i + 1) xs ≡ drop (i + 1) ys
 tails xs ys i e = sym (drop-drop 1 i xs) ∙ ap (drop 1) e ∙ drop-drop 1 i ys
@@ -250,69 +252,96 @@ tails xs ys i e = sym (drop-drop 1 i xs) ∙ ap (drop 1) e ∙ drop-drop 1 i ys
 joined_push : (sss : List (List Stop)) (ss : List Stop) → joined (sss ++ ss ∷ []) ≡ joined sss ++ ss
 joined_push sss ss = flat_map-append (λ (x : List Stop). x) sss (ss ∷ []) ∙ ap (λ (ys : List Stop). joined sss ++ ys) (append-nil ss)
 
-pub reaps_none : (moment wall : ℕ) (olds : Shards) (pool : PlainView) (a : Accounts) → AreInOrder olds → All (HoldsOwn pool.table) olds → AreBilled (keys_in olds) a.billing → ReapsSome moment wall olds olds 0 pool pool a a
-reaps_none moment wall olds pool a order held billed = record {
+pub reaps_none : (moment wall : ℕ) (olds : Shards) (pool : PlainView) (a : Accounts) → AreInOrder olds → All (HoldsOwn pool.table) olds → All (λ (v : ShardView ShardState Entry). AreTenures moment v.state.slots) olds
+    → AreSettling (keys_in olds) (map key_in (news_in (states_of olds))) a.billing → ReapsSome moment wall olds olds 0 pool pool a a
+reaps_none moment wall olds pool a order held tenures settling = record {
   stops = [];
   done = tt;
   rest = refl;
   returned = returned_none pool;
-  booked = books_none moment wall a;
+  booked = books_none (terms_in (states_of olds)) moment wall a;
   order = order;
   held = held;
   within = λ most h. h;
-  billed = billed;
+  tenures = tenures;
+  settling = settling;
 }
 
--- a shard that was not reaped yet keeps what it kept
-pub untouched : (P : ShardView ShardState Entry → Type 0) (olds shards : Shards) (i : ℕ) (d : ShardView ShardState Entry) → i < length olds → drop i shards ≡ drop i olds → All P olds → P (get_or shards i d)
-untouched P olds shards i d lt rest all = subst P (sym (same_at olds shards i d rest)) (all i d lt)
+-- the terms of a shard are among those of all
+among_all : (vs : Shards) (i : ℕ) (d : ShardView ShardState Entry) → i < length vs → AreAmong (get_or vs i d).state.slots.terms (terms_in (states_of vs))
+among_all [] i d lt = absurd (omega (arith, lt))
+among_all (v ∷ vs) zero d lt = among_left v.state.slots.terms (terms_in (states_of vs))
+among_all (v ∷ vs) (suc i) d lt = λ user class began k any. among_right v.state.slots.terms (terms_in (states_of vs)) user class began k (among_all vs i d (omega (arith, lt)) user class began k any)
 
--- the terms of the shard at a place are among those that are billed
-pub billed_at : (vs : Shards) (i : ℕ) (d : ShardView ShardState Entry) (b : BillingState) → i < length vs → AreBilled (keys_in vs) b → AreBilled (keys_in (take i vs) ++ (row_keys (get_or vs i d).rows ++ keys_in (drop (i + 1) vs))) b
-billed_at vs i d b lt billed = subst (λ (ks : List Key). AreBilled ks b) (keys_split vs i (get_or vs i d) (stands_at vs i d lt)) billed
+-- the terms of the shard at a place, among those of the settlement
+pub settling_at : (vs : Shards) (i : ℕ) (d : ShardView ShardState Entry) (began : List Key) (b : BillingState) → i < length vs → AreSettling (keys_in vs) began b
+    → AreSettling (keys_in (take i vs) ++ (keys (terms_of (get_or vs i d).state) ++ keys_in (drop (i + 1) vs))) began b
+settling_at vs i d began b lt s = subst (λ (ks : List Key). AreSettling ks began b) (keys_split vs i (get_or vs i d) (stands_at vs i d lt)) s
 
-pub billed_of : (vs : Shards) (i : ℕ) (d : ShardView ShardState Entry) (b : BillingState) → i < length vs → AreBilled (keys_in vs) b → AreBilled (row_keys (get_or vs i d).rows) b
-billed_of vs i d b lt billed = billed_part (keys_in (take i vs)) (row_keys (get_or vs i d).rows) (keys_in (drop (i + 1) vs)) b (billed_at vs i d b lt billed)
+-- another shard in its place
+pub settling_set : (vs : Shards) (i : ℕ) (w : ShardView ShardState Entry) (began : List Key) (b : BillingState) → i < length vs → AreSettling (keys_in (take i vs) ++ (keys (terms_of w.state) ++ keys_in (drop (i + 1) vs))) began b → AreSettling (keys_in (set vs i w)) began b
+settling_set vs i w began b lt s = subst (λ (ks : List Key). AreSettling ks began b) (sym (keys_set vs i w lt)) s
 
--- what a shard kept billed
-abbrev pub KeepsBilled : ShardView ShardState Entry → ShardView ShardState Entry → BillingState → BillingState → Type 0
-KeepsBilled v w b b' = (front back : List Key) → AreBilled (front ++ (row_keys v.rows ++ back)) b → AreBilled (front ++ (row_keys w.rows ++ back)) b'
+-- each of the others keeps what it kept
+all_set : (P : ShardView ShardState Entry → Type 0) (vs : Shards) (i : ℕ) (w : ShardView ShardState Entry) → P w → All P vs → All P (set vs i w)
+all_set P [] i w here all k d lt = absurd (omega (arith, lt))
+all_set P (v ∷ vs) zero w here all = All-cons P w vs here (All-tail P v vs all)
+all_set P (v ∷ vs) (suc i) w here all = All-cons P v (set vs i w) (All-head P v vs all) (all_set P vs i w here (All-tail P v vs all))
 
-pub reaps_more : (moment wall : ℕ) (olds shards : Shards) (i : ℕ) (d w : ShardView ShardState Entry) (pool pool' pool'' : PlainView) (a a' a'' : Accounts) → i < length olds → length shards ≡ length olds
-    → ReapsSome moment wall olds shards i pool pool' a a' → ReapsShard moment wall (get_or shards i d) w pool' pool'' a' a'' → KeepsBilled (get_or shards i d) w a'.billing a''.billing
-    → HoldsOwn pool''.table w → ((n : ℕ) (ts : List Term) → n ≢ (get_or shards i d).number → AreHeld n ts pool'.table → AreHeld n ts pool''.table) → ReapsSome moment wall olds (set shards i w) (i + 1) pool pool'' a a''
-reaps_more moment wall olds shards i d w pool pool' pool'' a a' a'' lt same so_far one keeps held others =
-    let v = get_or olds i d in
-    let at : get_or shards i d ≡ v = same_at olds shards i d so_far.rest in
-    let within : i < length shards = omega (arith, lt, same) in
-    let sss = so_far.stops in
-    let ss = one.stops in
-    let all : joined (sss ++ ss ∷ []) ≡ joined sss ++ ss = joined_push sss ss in
-    record {
-      stops = sss ++ ss ∷ [];
-      done = subst (λ (vs : Shards). Zip3 ReapedTo vs (take (i + 1) (set shards i w)) (sss ++ ss ∷ [])) (sym (take_more olds i d lt))
-          (subst (λ (ws : Shards). Zip3 ReapedTo (take i olds ++ v ∷ []) ws (sss ++ ss ∷ [])) (sym (take_more_set shards i w within))
-          (zip3_push ReapedTo (take i olds) (take i shards) sss v w ss so_far.done (subst (λ (x : ShardView ShardState Entry). ReapedTo x w ss) at one.reaped)));
-      rest = drop-set-lt (i + 1) shards i w (omega arith) ∙ tails shards olds i so_far.rest;
-      returned = subst (λ (xs : List Stop). IsReturned xs pool pool'') (sym all) (returned_more (joined sss) ss pool pool' pool'' so_far.returned one.returned);
-      order = order_set shards i w within d so_far.order one.reaped.number;
-      held = all_hold shards i w within d pool'.table pool''.table so_far.order held others so_far.held;
-      booked = subst (λ (xs : List Stop). BooksStops moment wall xs a a'') (sym all) (books_more moment wall (joined sss) ss a a' a'' so_far.booked one.booked);
-      within = λ most h. subst (λ (ls : List Line). LinesWithin most (set shards i w) ls) (sym one.booked.lines_are) (within_more most shards i d w ss a'.lines within one.reaped.rows (so_far.within most h));
-      billed = subst (λ (ks : List Key). AreBilled ks a''.billing) (sym (keys_set shards i w within)) (keeps (keys_in (take i shards)) (keys_in (drop (i + 1) shards)) (billed_at shards i d a'.billing within so_far.billed));
-    }
+module _ (moment wall : ℕ) (olds shards : Shards) (i : ℕ) (d w : ShardView ShardState Entry) (pool pool' pool'' : PlainView) (a a' a'' : Accounts) (lt : i < length olds) (same : length shards ≡ length olds) (so_far : ReapsSome moment wall olds shards i pool pool' a a') where
+  abbrev was : ShardView ShardState Entry
+  was = get_or shards i d
 
-pub reaps_them : (moment wall : ℕ) (olds shards : Shards) (i : ℕ) (pool pool' : PlainView) (a a' : Accounts) → i ≡ length olds → length shards ≡ length olds → ReapsSome moment wall olds shards i pool pool' a a'
-    → ReapsAll moment wall olds shards pool pool' a a'
-reaps_them moment wall olds shards i pool pool' a a' e same s =
-    let all : take i olds ≡ olds = take_all i olds (omega (arith, e)) in
-    let those : take i shards ≡ shards = take_all i shards (omega (arith, e, same)) in
-    record {
-      stops = s.stops;
-      each = subst (λ (vs : Shards). Zip3 ReapedTo vs shards s.stops) all (subst (λ (ws : Shards). Zip3 ReapedTo (take i olds) ws s.stops) those s.done);
-      returned = s.returned;
-      booked = s.booked;
-    }
+  abbrev v : ShardView ShardState Entry
+  v = get_or olds i d
+
+  at : was ≡ v
+  at = same_at olds shards i d so_far.rest
+
+  pub reaps_more : ReapsShard was.state.slots.terms moment wall was w pool' pool'' a' a'' → KeepsSettling was.state w.state a'.billing a''.billing → AreTenures moment w.state.slots
+      → HoldsOwn pool''.table w → ((n : ℕ) (ts : List Term) → n ≢ was.number → AreHeld n ts pool'.table → AreHeld n ts pool''.table) → ReapsSome moment wall olds (set shards i w) (i + 1) pool pool'' a a''
+  reaps_more one keeps tenures held others =
+      let within : i < length shards = omega (arith, lt, same) in
+      let sss = so_far.stops in
+      let ss = one.stops in
+      let all : joined (sss ++ ss ∷ []) ≡ joined sss ++ ss = joined_push sss ss in
+      let began = map key_in (news_in (states_of olds)) in
+      let among : AreAmong was.state.slots.terms (terms_in (states_of olds)) = subst (λ (x : ShardView ShardState Entry). AreAmong x.state.slots.terms (terms_in (states_of olds))) (sym at) (among_all olds i d lt) in
+      record {
+        stops = sss ++ ss ∷ [];
+        done = subst (λ (vs : Shards). Zip3 ReapedTo vs (take (i + 1) (set shards i w)) (sss ++ ss ∷ [])) (sym (take_more olds i d lt))
+            (subst (λ (ws : Shards). Zip3 ReapedTo (take i olds ++ v ∷ []) ws (sss ++ ss ∷ [])) (sym (take_more_set shards i w within))
+            (zip3_push ReapedTo (take i olds) (take i shards) sss v w ss so_far.done (subst (λ (x : ShardView ShardState Entry). ReapedTo x w ss) at one.reaped)));
+        rest = drop-set-lt (i + 1) shards i w (omega arith) ∙ tails shards olds i so_far.rest;
+        returned = subst (λ (xs : List Stop). IsReturned xs pool pool'') (sym all) (returned_more (joined sss) ss pool pool' pool'' so_far.returned one.returned);
+        order = order_set shards i w within d so_far.order one.reaped.number;
+        held = all_hold shards i w within d pool'.table pool''.table so_far.order held others so_far.held;
+        booked = subst (λ (xs : List Stop). BooksStops (terms_in (states_of olds)) moment wall xs a a'') (sym all)
+            (books_more (terms_in (states_of olds)) moment wall (joined sss) ss a a' a'' so_far.booked (books_wider was.state.slots.terms (terms_in (states_of olds)) moment wall ss a' a'' among one.booked));
+        within = λ most h. subst (λ (ls : List Line). LinesWithin most (set shards i w) ls) (sym one.booked.lines_are) (within_more most shards i d w ss a'.lines within one.reaped.rows (so_far.within most h));
+        tenures = all_set (λ (x : ShardView ShardState Entry). AreTenures moment x.state.slots) shards i w tenures so_far.tenures;
+        settling = settling_set shards i w began a''.billing within (keeps (keys_in (take i shards)) (keys_in (drop (i + 1) shards)) began (settling_at shards i d began a'.billing within so_far.settling));
+      }
+
+same_news : (vs ws : Shards) (sss : List (List Stop)) → Zip3 ReapedTo vs ws sss → news_in (states_of ws) ≡ news_in (states_of vs)
+same_news [] [] [] z = refl
+same_news (v ∷ vs) (w ∷ ws) (ss ∷ sss) z =
+    ap (λ (s : ShardState). s.slots.news ++ news_in (states_of ws)) z.0.state ∙ ap (λ (ts : List Tenure). v.state.slots.news ++ ts) (same_news vs ws sss z.1)
+same_news vs ws sss z = absurd z
+
+module _ (moment wall : ℕ) (olds shards : Shards) (i : ℕ) (pool pool' : PlainView) (a a' : Accounts) (e : i ≡ length olds) (same : length shards ≡ length olds) (s : ReapsSome moment wall olds shards i pool pool' a a') where
+  all_reaped : Zip3 ReapedTo olds shards s.stops
+  all_reaped =
+      let all : take i olds ≡ olds = take_all i olds (omega (arith, e)) in
+      let those : take i shards ≡ shards = take_all i shards (omega (arith, e, same)) in
+      subst (λ (vs : Shards). Zip3 ReapedTo vs shards s.stops) all (subst (λ (ws : Shards). Zip3 ReapedTo (take i olds) ws s.stops) those s.done)
+
+  pub reaps_them : ReapsAll moment wall olds shards pool pool' a a'
+  reaps_them = record { stops = s.stops; each = all_reaped; returned = s.returned; booked = s.booked }
+
+  -- those that began are what they were
+  pub settles_them : AreSettling (keys_in shards) (map key_in (news_in (states_of shards))) a'.billing
+  settles_them = subst (λ (ts : List Tenure). AreSettling (keys_in shards) (map key_in ts) a'.billing) (sym (same_news olds shards s.stops all_reaped)) s.settling
 
 -- What is left ----------------------------------------------------------------------------------------------------------
 
@@ -339,56 +368,3 @@ module _ (vs ws : Shards) (sss : List (List Stop)) (z : Zip3 ReapedTo vs ws sss)
 
   pub in_order : AreInOrder vs → AreInOrder ws
   in_order order k d lt = (each k d lt).number ∙ order k d (omega (arith, lt, count))
-
--- As the engine sees it -------------------------------------------------------------------------------------------------
-
-abbrev all_seen : Seens → Shards → List (List OutRecord) → List (List Stop) → Seens
-all_seen [] ws rss sss = []
-all_seen (x ∷ xs) [] rss sss = []
-all_seen (x ∷ xs) (w ∷ ws) [] sss = []
-all_seen (x ∷ xs) (w ∷ ws) (rs ∷ rss) [] = []
-all_seen (x ∷ xs) (w ∷ ws) (rs ∷ rss) (ss ∷ sss) = settled_as w x.journal x.outs rs ss ∷ all_seen xs ws rss sss
-
--- the shards once their round is settled
-pub record IsSeen (was now xs : Seens) (vs ws : Shards) (rss : List (List OutRecord)) (sss : List (List Stop)) : Type 0 where
-  pub settles : Zip3 (IsSettled pppoe) was now xs
-  pub left : AllZip IsLeftBy ws xs
-  pub allowances : AllZip (λ (x y : ShardView ShardState Handled). y.allowance ≡ x.allowance) now xs
-  pub sends : joined rss ≡ all_sends xs
-  pub stops : joined sss ≡ flat_map (λ v. v.stops) xs
-  pub journals : map (λ v. v.journal) vs ≡ map entries_of now
-
-reaped : (vs : Shards) (was now : Seens) (us : Shards) (rss : List (List OutRecord)) (ws : Shards) (sss : List (List Stop)) → Zip3 IsTurning vs was now → Zip3 SentTo vs us rss → Zip3 ReapedTo us ws sss → IsSeen was now (all_seen now ws rss sss) vs ws rss sss
-reaped [] [] [] [] [] [] [] t z y = record { settles = tt; left = tt; allowances = tt; sends = refl; stops = refl; journals = refl }
-reaped [] [] [] [] [] ws sss t z y = absurd y
-reaped [] [] [] us rss ws sss t z y = absurd z
-reaped (v ∷ vs) (b ∷ was) (x ∷ now) (u ∷ us) (rs ∷ rss) (w ∷ ws) (ss ∷ sss) t z y =
-    let more = reaped vs was now us rss ws sss t.1 z.1 y.1 in
-    let turn = z.0.turn b x t.0 in
-    record {
-      settles = (
-        record {
-          mid = with_lists u x.journal x.outs rs;
-          turn = turn;
-          journal = refl;
-          outs = refl;
-          settles = record { all = z.0.are_outs ∙ not_sent_yet v b x t.0; reaps = y.0.reaps b x.journal x.outs rs turn };
-        },
-        more.settles,
-      );
-      left = (record { number = refl; state = refl; rows = refl; books = refl }, more.left);
-      allowances = (y.0.allowance ∙ z.0.allowance ∙ ap (λ (y : ShardView ShardState Handled). y.allowance) t.0.shows.same, more.allowances);
-      sends = ap (λ (os : List OutRecord). rs ++ os) more.sends;
-      stops = ap (λ (os : List Stop). ss ++ os) more.stops;
-      journals = ap (λ (es : List Entry). es ∷ map (λ (y : ShardView ShardState Entry). y.journal) vs) (sym t.0.shows.entries) ∙ ap (λ (js : List (List Entry)). entries_of x ∷ js) more.journals;
-    }
-reaped (v ∷ vs) (b ∷ was) (x ∷ now) (u ∷ us) (rs ∷ rss) ws sss t z y = absurd y
-reaped (v ∷ vs) (b ∷ was) (x ∷ now) us rss ws sss t z y = absurd z
-reaped vs was now us rss ws sss t z y = absurd t
-
-pub record IsReaped (was now : Seens) (vs ws : Shards) (rss : List (List OutRecord)) (sss : List (List Stop)) : Type 0 where
-  pub settled : Seens
-  pub is : IsSeen was now settled vs ws rss sss
-
-pub as_seen : (vs : Shards) (was now : Seens) (us : Shards) (rss : List (List OutRecord)) (ws : Shards) (sss : List (List Stop)) → Zip3 IsTurning vs was now → Zip3 SentTo vs us rss → Zip3 ReapedTo us ws sss → IsReaped was now vs ws rss sss
-as_seen vs was now us rss ws sss t z y = record { settled = all_seen now ws rss sss; is = reaped vs was now us rss ws sss t z y }

@@ -2,6 +2,7 @@
 use Rattle.std.proofs.Common.{◌≡◌, ℕ, zero, suc, ◌+◌, Bool, true, false, cond, List, [], ◌∷◌, Option, None, map, filter, fold, slice_get, refl, sym, ap, ◌∙◌}
 use Rattle.std.specs.List.{AllZip}
 use Rattle.std.proofs.lemmas.List.Sums.{sum_by-cons}
+use Rattle.bng_base.specs.declared.address.Ip4.{Ip4}
 use Rattle.bng_base.specs.declared.book.Book.{Book}
 use Rattle.bng_base.specs.declared.item.Entry.{Entry}
 use Rattle.bng_base.specs.declared.item.Item.{Item}
@@ -35,13 +36,13 @@ sessions_rested (v ∷ vs) =
     let f = λ (x : ShardView ShardState Entry). sessions_of x.state in
     sum_by-cons f (rested v) (map rested vs) ∙ ap (λ (n : ℕ). sessions_of v.state + n) (sessions_rested vs) ∙ sym (sum_by-cons f v vs)
 
-traffic_rested : (vs : Shards) (n session : ℕ) → traffic_at (slice_get (map rested vs) n) session ≡ traffic_at (slice_get vs n) session
-traffic_rested [] n session = refl
-traffic_rested (v ∷ vs) zero session = refl
-traffic_rested (v ∷ vs) (suc n) session = traffic_rested vs n session
+traffic_rested : (vs : Shards) (n : ℕ) (a : Ip4) → traffic_at (slice_get (map rested vs) n) a ≡ traffic_at (slice_get vs n) a
+traffic_rested [] n a = refl
+traffic_rested (v ∷ vs) zero a = refl
+traffic_rested (v ∷ vs) (suc n) a = traffic_rested vs n a
 
 pub carried_rested : (vs : Shards) (l : Line) → carried_on (map rested vs) l ≡ carried_on vs l
-carried_rested vs l = ap (plus_traffic l.stopped) (traffic_rested vs _ l.session.0)
+carried_rested vs l = ap (plus_traffic l.stopped) (traffic_rested vs _ l.address)
 
 pub all_carried_rested : (vs : Shards) (ls : List Line) → map (carried_on vs) ls ≡ map (carried_on (map rested vs)) ls
 all_carried_rested vs [] = refl

@@ -2,22 +2,26 @@
 use Rattle.std.proofs.Common.{◌≡◌, ℕ, zero, suc, ◌+◌, ◌<◌, List, [], ◌∷◌, ◌++◌, length, take, drop, get_or, set, refl, sym, ap, subst, ◌∙◌, append-nil, arith}
 use Rattle.std.proofs.lemmas.Grind.{flat_map-append}
 use Rattle.bng_base.specs.declared.item.Entry.{Entry}
-use Rattle.bng_engine.specs.Terms.{Key}
-use Rattle.bng_engine.specs.Views.{ShardView, row_keys}
-use Rattle.bng_shard.specs.Protocol.{ShardState}
+use Rattle.bng_engine.specs.Terms.{Key, keys}
+use Rattle.bng_engine.specs.Views.{ShardView}
+use Rattle.bng_shard.specs.Protocol.{ShardState, terms_of}
 use Rattle.bng_desk.specs.Model.{keys_in}
 use Rattle.bng_desk.proofs.Parts.{StandsAt, stands_at}
 use Rattle.bng_desk.proofs.Readying.{Shards}
 
+-- the keys of the terms in a shard, in the order in which they began
+abbrev pub keys_of : ShardView ShardState Entry → List Key
+keys_of v = keys (terms_of v.state)
+
 keys_append : (vs ws : Shards) → keys_in (vs ++ ws) ≡ keys_in vs ++ keys_in ws
-keys_append vs ws = flat_map-append (λ (v : ShardView ShardState Entry). row_keys v.rows) vs ws
+keys_append vs ws = flat_map-append keys_of vs ws
 
 -- the keys of the first shards, of the one at a place, and of the others
-pub keys_split : (vs : Shards) (i : ℕ) (v : ShardView ShardState Entry) → StandsAt vs i v → keys_in vs ≡ keys_in (take i vs) ++ (row_keys v.rows ++ keys_in (drop (i + 1) vs))
+pub keys_split : (vs : Shards) (i : ℕ) (v : ShardView ShardState Entry) → StandsAt vs i v → keys_in vs ≡ keys_in (take i vs) ++ (keys_of v ++ keys_in (drop (i + 1) vs))
 keys_split vs i v at = ap keys_in at.whole ∙ keys_append (take i vs) (v ∷ drop (i + 1) vs)
 
-pub keys_next : (vs : Shards) (i : ℕ) (v : ShardView ShardState Entry) → StandsAt vs i v → keys_in (take (i + 1) vs) ≡ keys_in (take i vs) ++ row_keys v.rows
-keys_next vs i v at = ap keys_in at.next ∙ keys_append (take i vs) (v ∷ []) ∙ ap (λ (ks : List Key). keys_in (take i vs) ++ ks) (append-nil (row_keys v.rows))
+pub keys_next : (vs : Shards) (i : ℕ) (v : ShardView ShardState Entry) → StandsAt vs i v → keys_in (take (i + 1) vs) ≡ keys_in (take i vs) ++ keys_of v
+keys_next vs i v at = ap keys_in at.next ∙ keys_append (take i vs) (v ∷ []) ∙ ap (λ (ks : List Key). keys_in (take i vs) ++ ks) (append-nil (keys_of v))
 
 set_there : (vs : Shards) (i : ℕ) (w : ShardView ShardState Entry) → i < length vs → set vs i w ≡ take i vs ++ w ∷ drop (suc i) vs
 set_there [] i w lt = absurd (omega (arith, lt))
@@ -25,7 +29,7 @@ set_there (v ∷ vs) zero w lt = refl
 set_there (v ∷ vs) (suc i) w lt = ap (λ (us : Shards). v ∷ us) (set_there vs i w (omega (arith, lt)))
 
 -- another shard in its place
-pub keys_set : (vs : Shards) (i : ℕ) (w : ShardView ShardState Entry) → i < length vs → keys_in (set vs i w) ≡ keys_in (take i vs) ++ (row_keys w.rows ++ keys_in (drop (i + 1) vs))
+pub keys_set : (vs : Shards) (i : ℕ) (w : ShardView ShardState Entry) → i < length vs → keys_in (set vs i w) ≡ keys_in (take i vs) ++ (keys_of w ++ keys_in (drop (i + 1) vs))
 keys_set vs i w lt =
     let after : suc i ≡ i + 1 = omega arith in
     ap keys_in (set_there vs i w lt ∙ ap (λ (n : ℕ). take i vs ++ w ∷ drop n vs) after) ∙ keys_append (take i vs) (w ∷ drop (i + 1) vs)

@@ -2,6 +2,7 @@
 use Rattle.std.proofs.Common.{◌≡◌, ℕ, zero, suc, ◌+◌, ◌^◌, ◌≤◌, Bool, true, false, ◌&&◌, cond, List, [], ◌∷◌, Option, Some, None, get_or, slice_get, refl, ap, arith}
 use Rattle.std.specs.List.{AllZip, sum_by}
 use Rattle.std.proofs.lemmas.List.Sums.{sum_by-append, sum_by-cons, sum_by-le-sum_by}
+use Rattle.bng_base.specs.declared.address.Ip4.{Ip4}
 use Rattle.bng_base.specs.declared.book.Book.{Book}
 use Rattle.bng_base.specs.declared.item.Charge.{Charge}
 use Rattle.bng_base.specs.declared.item.Entry.{Entry}
@@ -12,7 +13,7 @@ use Rattle.bng_base.specs.Told.{PlantTold}
 use Rattle.bng_engine.specs.Calls.{Kept, all_outs}
 use Rattle.bng_engine.specs.Lists.{Zip3}
 use Rattle.bng_engine.specs.Quantities.{Quantity, Octets, amount, in_book}
-use Rattle.bng_engine.specs.Sums.{same, part_of_charge, charge_if, is_directed, is_picked, sent_sum, passed_sum, failed_sum, sent_where}
+use Rattle.bng_engine.specs.Sums.{has_lease, same, part_of_charge, charge_if, is_directed, is_picked, sent_sum, passed_sum, failed_sum, sent_where}
 use Rattle.bng_engine.specs.Terms.{Key, key_in}
 use Rattle.bng_engine.specs.Views.{Row, ShardView, rows_where}
 use Rattle.bng_engine.proofs.Adding.{sum_plus}
@@ -23,7 +24,7 @@ use Rattle.bng_shard.specs.Protocol.{ShardState, row_at}
 use Rattle.bng_shard.specs.Sums.{IsLow, traffic_in}
 use Rattle.bng_desk.specs.declared.drops.Drops.{Drops}
 use Rattle.bng_desk.specs.declared.line.Line.{Line}
-use Rattle.bng_desk.specs.Model.{is_of, no_traffic, traffic_at, traffic_or}
+use Rattle.bng_desk.specs.Model.{no_traffic, traffic_at, traffic_or}
 use Rattle.bng_desk.specs.Round.{views_of}
 use Rattle.bng_desk.specs.Taking.{AreTallied, CarriesWithin, Deals, IsTurning, LinesWithin, SendsAll, SentTo, far, joined, kept_in, stopped_in}
 use Rattle.bng_desk.proofs.Dealing.{Seens}
@@ -97,22 +98,22 @@ rows_kept q pick input (v ∷ vs) (w ∷ ws) h =
 pub lines_kept : (most : Bool → ℕ) (vs ws : Shards) (ls : List Line) → AllZip Kept vs ws → LinesWithin most vs ls → LinesWithin most ws ls
 lines_kept most vs ws ls kept within k e lt input =
     let l = get_or ls k e in
-    omega (arith, within k e lt input, rows_kept Octets (is_of l.session.0) input vs ws kept)
+    omega (arith, within k e lt input, rows_kept Octets (has_lease l.address) input vs ws kept)
 
 pub lines_far : (most : ℕ) (tally : Book) (vs : Shards) (ls : List Line) → most ≤ 2 ^ 63 → IsLow most tally → AreTallied tally vs ls → LinesWithin far vs ls
 lines_far most tally vs ls le low within k e lt input = omega (arith, within k e lt input, low Octets input, le)
 
 -- the outs of the shards were sent: what each circuit has carried stands in the tally still
-pub sent_tallied : (r : Rules) (pool : PlainView) (moment : ℕ) (items : List Item) (vs ws us : Shards) (loose : List Loose) (d d' d'' : Drops) (t t' t'' : Book) (p p' : PlantTold) (outs : List OutRecord) (journals : List (List Entry)) (ls : List Line)
-    → (deals : Deals r pool moment items vs ws loose d d' t t') → SendsAll ws us p p' outs journals d' d'' t' t'' → AreTallied t vs ls → AreTallied t'' us ls
-sent_tallied r pool moment items vs ws us loose d d' d'' t t' t'' p p' outs journals ls deals s within k e lt input =
+pub sent_tallied : (r : Rules) (pool pool' : PlainView) (moment : ℕ) (items : List Item) (vs ws us : Shards) (loose : List Loose) (d d' d'' : Drops) (t t' t'' : Book) (p p' : PlantTold) (outs : List OutRecord) (journals : List (List Entry)) (ls : List Line)
+    → (deals : Deals r pool pool' moment items vs ws loose d d' t t') → SendsAll ws us p p' outs journals d' d'' t' t'' → AreTallied t vs ls → AreTallied t'' us ls
+sent_tallied r pool pool' moment items vs ws us loose d d' d'' t t' t'' p p' outs journals ls deals s within k e lt input =
     let l = get_or ls k e in
-    let pick = is_of l.session.0 in
+    let pick = has_lease l.address in
     let f = charge_if Octets (is_directed input) in
     omega (
       arith,
       within k e lt input,
-      rows_sent Octets pick input vs ws deals.seen us s.sends (all_turning r pool moment items vs ws loose d d' t t' deals) s.each,
+      rows_sent Octets pick input vs ws deals.seen us s.sends (all_turning r pool pool' moment items vs ws loose d d' t t' deals) s.each,
       picked_less Octets pick input (joined s.sends),
       passed_is f (joined s.sends),
       joined_passed f ws us s.sends s.each,
@@ -141,20 +142,20 @@ row_by input true r rest n le = omega (arith, octets_in input r)
 row_by input false r rest n le = omega (arith, le)
 
 -- a row that is found is one of the rows
-row_within : (input : Bool) (n : ℕ) (rows : List Row) → octets_of input (traffic_or (row_at rows n)) ≤ rows_where Octets (is_of n) input rows
-row_within input n [] = omega (arith, none_of input)
-row_within input n (r ∷ rows) =
+row_within : (input : Bool) (a : Ip4) (rows : List Row) → octets_of input (traffic_or (row_at rows a)) ≤ rows_where Octets (has_lease a) input rows
+row_within input a [] = omega (arith, none_of input)
+row_within input a (r ∷ rows) =
     omega (
       arith,
-      row_by input (is_of n r.key) r (row_at rows n) (rows_where Octets (is_of n) input rows) (row_within input n rows),
-      sum_by-cons (λ (x : Row). cond (is_of n x.key) (in_book Octets input x.carried) 0) r rows,
+      row_by input (has_lease a r.key) r (row_at rows a) (rows_where Octets (has_lease a) input rows) (row_within input a rows),
+      sum_by-cons (λ (x : Row). cond (has_lease a x.key) (in_book Octets input x.carried) 0) r rows,
     )
 
-shard_within : (input : Bool) (l : Line) (vs : Shards) (n : ℕ) → octets_of input (traffic_at (slice_get vs n) l.session.0) ≤ sum_by (kept_in input l) vs
+shard_within : (input : Bool) (l : Line) (vs : Shards) (n : ℕ) → octets_of input (traffic_at (slice_get vs n) l.address) ≤ sum_by (kept_in input l) vs
 shard_within input l [] n = omega (arith, none_of input)
-shard_within input l (v ∷ vs) zero = omega (arith, row_within input l.session.0 v.rows, sum_by-cons (kept_in input l) v vs)
+shard_within input l (v ∷ vs) zero = omega (arith, row_within input l.address v.rows, sum_by-cons (kept_in input l) v vs)
 shard_within input l (v ∷ vs) (suc n) = omega (arith, shard_within input l vs n, sum_by-cons (kept_in input l) v vs)
 
 -- what its Stops say and what its row says, together, is no more than it has carried
-pub told_within : (most : Bool → ℕ) (input : Bool) (l : Line) (vs : Shards) (n : ℕ) → CarriesWithin most vs l → stopped_in input l + octets_of input (traffic_at (slice_get vs n) l.session.0) ≤ most input
+pub told_within : (most : Bool → ℕ) (input : Bool) (l : Line) (vs : Shards) (n : ℕ) → CarriesWithin most vs l → stopped_in input l + octets_of input (traffic_at (slice_get vs n) l.address) ≤ most input
 told_within most input l vs n within = omega (arith, within input, shard_within input l vs n)

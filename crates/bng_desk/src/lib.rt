@@ -11,6 +11,7 @@ mod allowing;
 mod answers;
 mod calls;
 mod control;
+mod copying;
 mod desk;
 mod drops;
 mod due;

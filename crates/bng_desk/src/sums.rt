@@ -64,7 +64,10 @@ pub(crate) fn carried_on(shards: &[Shard], line: &Line) -> Traffic
     requires { CarriesWithin far shards.now line.now }
     ensures { result ≡ carried_on shards.now line.now }
 {
-    plus(line.stopped, carried_now(shards, line.session, line.address))
+    plus(
+        line.stopped,
+        carried_now(shards, line.session, line.address),
+    )
 }
 
 /// What each circuit carried.

@@ -10,6 +10,10 @@ use Rattle.bng_desk.specs.Taking.{TakesIn}
 use Rattle.bng_desk.proofs.Lines.{IsAfter, all_after}
 use Rattle.bng_desk.proofs.accounts.add_carried.Goals as goal
 
+-- the line that stands in the loop's place where there is none
+abbrev no_line : Line
+no_line = record { session = record { 0 = 0 }; address = record { 0 = 0 }; stopped = record { input = 0; output = 0 } }
+
 pub loop-line-init : goal.loop-line-init
 loop-line-init c = walk_none (IsAfter (stop_of c.args.ended.now ∷ [])) c.deref_mut-line-items.result.now
 
@@ -19,11 +23,11 @@ add_to-requires c =
     let olds = c.deref_mut-line-items.result.now in
     let i = c.loop-line.line-index in
     let all : All (TakesIn stops) olds = subst (λ (ls : List Line). All (TakesIn stops) ls) (sym c.deref_mut-line-items.ensures.value) c.requires in
-    subst (λ (l : Line). TakesIn stops l) (sym (same_at olds c.loop-line.line-items i c.line-item.result c.loop-line.invariant.rest)) (all i c.line-item.result c.loop-line-test.true)
+    subst (λ (l : Line). TakesIn stops l) (sym (same_at olds c.loop-line.line-items i no_line c.loop-line.invariant.rest)) (all i no_line c.loop-line-test.true)
 
 pub loop-line-preserved : goal.loop-line-preserved
 loop-line-preserved c =
-    walk_more (IsAfter (stop_of c.args.ended.now ∷ [])) c.deref_mut-line-items.result.now c.loop-line.line-items c.loop-line.line-index c.line-item.result c.add_to.new.line c.loop-line-test.true c.loop-line.invariant c.add_to.ensures
+    walk_more (IsAfter (stop_of c.args.ended.now ∷ [])) c.deref_mut-line-items.result.now c.loop-line.line-items c.loop-line.line-index no_line c.add_to.new.line c.loop-line-test.true c.loop-line.invariant c.add_to.ensures
 
 pub returns : goal.returns
 returns c =

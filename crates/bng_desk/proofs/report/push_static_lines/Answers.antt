@@ -19,7 +19,8 @@ loop-place-preserved c =
     let n : ℕ = c.loop-place.place in
     let ss : List Line = c.args.circuits.now in
     let ts : List Traffic = c.args.traffic.now in
-    let circuit : Line = c.index-circuits-place.result in
+    let no_line : Line = record { session = record { 0 = 0 }; address = record { 0 = 0 }; stopped = no_traffic } in
+    let circuit = get_or ss n no_line in
     let traffic = get_or ts n no_traffic in
     let old = string_bytes c.args.text.now in
     let before = static_lines (take n ss) ts in
@@ -30,4 +31,4 @@ loop-place-preserved c =
     c.in_ok-push_static_line.ensures
     ∙ ap (λ (octets : List ℕ). octets ++ line) c.loop-place.invariant
     ∙ append_assoc old before line
-    ∙ ap (λ (octets : List ℕ). old ++ octets) (ap (λ (x : Line). before ++ static_line x.address traffic) c.index-circuits-place.is ∙ sym (lines_more ss ts n circuit in_circuits in_traffic) ∙ ap (λ (k : ℕ). static_lines (take k ss) ts) next)
+    ∙ ap (λ (octets : List ℕ). old ++ octets) (sym (lines_more ss ts n no_line in_circuits in_traffic) ∙ ap (λ (k : ℕ). static_lines (take k ss) ts) next)

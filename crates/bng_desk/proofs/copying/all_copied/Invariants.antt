@@ -1,5 +1,5 @@
 use Rattle.std.proofs.Common.{◌≡◌, ◌≤◌, length, take}
-use Rattle.bng_desk.proofs.opening.all_copied.Given as goal
+use Rattle.bng_desk.proofs.copying.all_copied.Given as goal
 
 -- the texts so far were copied
 abbrev pub invariant-loop-text : goal.invariant-loop-text

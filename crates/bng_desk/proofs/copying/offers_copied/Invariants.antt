@@ -1,5 +1,5 @@
 use Rattle.std.proofs.Common.{◌≡◌, ◌≤◌, length, take, vec_capacity}
-use Rattle.bng_desk.proofs.opening.offers_copied.Given as goal
+use Rattle.bng_desk.proofs.copying.offers_copied.Given as goal
 
 -- the offers so far were copied
 abbrev pub invariant-loop-offer : goal.invariant-loop-offer

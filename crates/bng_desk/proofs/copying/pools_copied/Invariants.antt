@@ -1,5 +1,5 @@
 use Rattle.std.proofs.Common.{◌≡◌, ◌≤◌, length, take, vec_capacity}
-use Rattle.bng_desk.proofs.opening.pools_copied.Given as goal
+use Rattle.bng_desk.proofs.copying.pools_copied.Given as goal
 
 -- the pools so far were copied
 abbrev pub invariant-loop-pool : goal.invariant-loop-pool
