@@ -29,6 +29,7 @@ pub mod Outfit
 pub mod Joining
 pub mod Tallied
 pub mod SameTerms
+pub mod Knowing
 pub mod Growing
 pub mod Newcomers
 pub mod Resting
