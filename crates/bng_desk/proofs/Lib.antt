@@ -31,6 +31,7 @@ pub mod Tallied
 pub mod SameTerms
 pub mod Knowing
 pub mod Growing
+pub mod Settles
 pub mod Newcomers
 pub mod Resting
 pub mod Dwindling
