@@ -267,7 +267,7 @@ told_as named allowances those journals loose outs refused same none =
     ∙ ap (λ (ns : List ℕ). told_of named ns journals loose outs) same
 
 -- reaping leaves the terms whose Starts are owed
-reaped_news : (us left : Shards) (sss : List (List Stop)) → Zip3 ReapedTo us left sss → news_in (states_of left) ≡ news_in (states_of us)
+pub reaped_news : (us left : Shards) (sss : List (List Stop)) → Zip3 ReapedTo us left sss → news_in (states_of left) ≡ news_in (states_of us)
 reaped_news [] [] [] z = refl
 reaped_news (u ∷ us) (w ∷ left) (ss ∷ sss) z =
     ap (λ (s : ShardState). s.slots.news ++ news_in (states_of left)) z.0.state ∙ ap (λ (ts : List Tenure). u.state.slots.news ++ ts) (reaped_news us left sss z.1)

@@ -27,6 +27,7 @@ pub mod RefusedLaws
 pub mod Staying
 pub mod Outfit
 pub mod Joining
+pub mod Overs
 pub mod Tallied
 pub mod SameTerms
 pub mod Knowing
