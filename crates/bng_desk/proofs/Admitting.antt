@@ -87,7 +87,7 @@ abbrev pub StandsOnce : Item → Whose → Type 0
 StandsOnce i w = (n : ℕ) → w ≡ Stands n → is_once i.kind ≡ true → i.target ≡ n
 
 pub stands_once : (r : Rules) (table : Table) (i : Item) (w : Whose) → IsWhose r table i w → StandsOnce i w
-stands_once r table i w is n at yes = once_target i.kind r table i n (subst (IsWhose r table i) at is) yes
+stands_once r table i w is n at once = once_target i.kind r table i n (subst (IsWhose r table i) at is) once
 
 not_here : (n : ℕ) (i : Item) (w : Whose) → StandsOnce i w → IsLower n i → stands_in n w ≡ true → is_once i.kind ≡ false
 not_here n i (IsLoose fate) is low e = absurd (false≢true e)

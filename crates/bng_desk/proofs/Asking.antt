@@ -12,6 +12,7 @@ use Rattle.bng_base.specs.declared.item.Entry.{Entry}
 use Rattle.bng_base.specs.declared.settings.NamedRange.{NamedRange}
 use Rattle.bng_engine.specs.Claims.{is_held, times_in}
 use Rattle.bng_engine.specs.Journals.{claims_of}
+use Rattle.bng_engine.specs.Lists.{one_if}
 use Rattle.bng_engine.specs.Pool.{Asks, ClaimsSoFar}
 use Rattle.bng_engine.specs.Turns.{journals_in}
 use Rattle.bng_engine.specs.Views.{ShardView}
@@ -104,7 +105,7 @@ within a first (suc n) some =
       | true ↦ λ e. let same = same_number first a e in (omega (arith, same), omega (arith, same))
       | false ↦ λ e.
           let later : 1 ≤ times_in a (range_with_len (first + 1) n) =
-          omega (arith, some, sum_by-cons (λ (y : ℕ). cond (eqb y a) 1 0) first (range_with_len (first + 1) n), ap (λ (b : Bool). cond b 1 0) e) in
+          omega (arith, some, sum_by-cons (λ (y : ℕ). cond (eqb y a) 1 0) first (range_with_len (first + 1) n), ap one_if e) in
           let rest = within a (first + 1) n later in
           (omega (arith, rest.0), omega (arith, rest.1))
     ] refl
