@@ -22,7 +22,9 @@ pub mod ShardKeys
 pub mod Reaping
 pub mod Admitting
 pub mod Dealing
+pub mod Asking
 pub mod OneMore
+pub mod Dealt
 pub mod RefusedLaws
 pub mod Staying
 pub mod Outfit
