@@ -1,5 +1,5 @@
 -- In a settlement a record of one of its terms is formed: what accounting keeps of the others is as it was.
-use Rattle.std.proofs.Common.{◌≡◌, ◌⊎◌, ⊎_elim, inl, inr, ℕ, zero, suc, ◌+◌, ◌<◌, ◌≤◌, Bool, true, false, not, cond, List, [], ◌∷◌, ◌++◌, Option, Some, None, is_some, length, take, drop, get_or, refl, sym, ap, subst, ◌∙◌, append-nil, arith}
+use Rattle.std.proofs.Common.{◌≡◌, ◌⊎◌, ⊎_elim, inl, inr, ℕ, zero, suc, ◌+◌, ◌<◌, ◌≤◌, Bool, true, false, not, List, [], ◌∷◌, ◌++◌, Option, Some, None, is_some, length, take, drop, get_or, refl, sym, ap, subst, ◌∙◌, append-nil, arith}
 use Rattle.std.specs.Prelude.{option_and_then, count_by, sum_by}
 use Rattle.std.specs.List.{All, AllPairs, Contains}
 use Rattle.std.proofs.lemmas.Bool.{cases_Bool}
@@ -18,6 +18,7 @@ use Rattle.bng_acct.proofs.Rosters.{is_same, same_is}
 use Rattle.bng_base.specs.declared.circuit.TermId.{TermId}
 use Rattle.bng_billing.specs.Records.{IsFormedBy}
 use Rattle.bng_billing.specs.State.{BillingState}
+use Rattle.bng_engine.specs.Lists.{one_if}
 use Rattle.bng_engine.specs.Terms.{Key}
 use Rattle.bng_desk.specs.Accounting.{AreBilled, AreSettling, is_unknown}
 use Rattle.bng_desk.proofs.Billed.{AreApart, apart_back, formed_others}
@@ -38,7 +39,7 @@ unknown_none None e = refl
 unknown_none (Some h) e = absurd cc
 
 -- a term of which nothing is held counts as unknown, and any other in what is held
-one_or_other : (o : Option Held) → weight (λ _. 1) o + cond (not (is_some o)) 1 0 ≡ 1
+one_or_other : (o : Option Held) → weight (λ _. 1) o + one_if (not (is_some o)) ≡ 1
 one_or_other None = omega arith
 one_or_other (Some h) = omega arith
 
@@ -67,16 +68,16 @@ module _ (j k : Key) (other : j ≡ k → ⊥) where
 abbrev unknown_of : BillingState → List Key → ℕ
 unknown_of b ks = count_by (is_unknown b) ks
 
-split_count : (b : BillingState) (front back : List Key) (k : Key) → unknown_of b (front ++ k ∷ back) ≡ unknown_of b front + (cond (is_unknown b k) 1 0 + unknown_of b back)
+split_count : (b : BillingState) (front back : List Key) (k : Key) → unknown_of b (front ++ k ∷ back) ≡ unknown_of b front + (one_if (is_unknown b k) + unknown_of b back)
 split_count b front back k =
-    let f = λ (x : Key). cond (is_unknown b x) 1 0 in
+    let f = λ (x : Key). one_if (is_unknown b x) in
     omega (arith, sum_by-append f front (k ∷ back), sum_by-cons f k back)
 
 -- one of which nothing is known is counted
 counted_one : (b : BillingState) (ks : List Key) (k : Key) → Contains ks k → is_unknown b k ≡ true → 1 ≤ unknown_of b ks
 counted_one b ks k (i, lt, e) unknown =
     let at : StandsAt ks i k = subst (λ (x : Key). StandsAt ks i x) e (stands_at ks i k lt) in
-    omega (arith, ap (unknown_of b) at.whole, split_count b (take i ks) (drop (i + 1) ks) k, ap (λ (x : Bool). cond x 1 0) unknown)
+    omega (arith, ap (unknown_of b) at.whole, split_count b (take i ks) (drop (i + 1) ks) k, ap one_if unknown)
 
 -- A record is formed of a term ------------------------------------------------------------------------------------------------
 
@@ -107,21 +108,21 @@ module _ (b b' : BillingState) (status : StatusType) (facts : TermFacts) (at : M
   known_now : (j : Key) → same k.term j.term ≡ true → is_unknown b' j ≡ false
   known_now j is = ap (λ (o : Option Held). not (is_some o)) (is_there j.term is)
 
-  fewer_at : (j : Key) → cond (is_unknown b' j) 1 0 ≤ cond (is_unknown b j) 1 0
+  fewer_at : (j : Key) → one_if (is_unknown b' j) ≤ one_if (is_unknown b j)
   fewer_at j = elim (cases_Bool (same k.term j.term)) [
-    | inl is ↦ omega (arith, ap (λ (x : Bool). cond x 1 0) (known_now j is))
-    | inr apart ↦ omega (arith, ap (λ (o : Option Held). cond (not (is_some o)) 1 0) (stays j.term apart))
+    | inl is ↦ omega (arith, ap one_if (known_now j is))
+    | inr apart ↦ omega (arith, ap (λ (o : Option Held). one_if (not (is_some o))) (stays j.term apart))
   ]
 
   fewer : (ks : List Key) → unknown_of b' ks ≤ unknown_of b ks
-  fewer ks = sum_by-le-sum_by (λ (j : Key). cond (is_unknown b' j) 1 0) (λ (j : Key). cond (is_unknown b j) 1 0) ks fewer_at
+  fewer ks = sum_by-le-sum_by (λ (j : Key). one_if (is_unknown b' j)) (λ (j : Key). one_if (is_unknown b j)) ks fewer_at
 
   one_fewer : (ks : List Key) → Contains ks k → is_unknown b k ≡ true → unknown_of b' ks + 1 ≤ unknown_of b ks
   one_fewer ks (i, lt, e) unknown =
       let there : StandsAt ks i k = subst (λ (x : Key). StandsAt ks i x) e (stands_at ks i k lt) in
       let xs = take i ks in
       let ys = drop (i + 1) ks in
-      omega (arith, ap (unknown_of b) there.whole, ap (unknown_of b') there.whole, split_count b xs ys k, split_count b' xs ys k, ap (λ (x : Bool). cond x 1 0) unknown, ap (λ (x : Bool). cond x 1 0) (known_now k (is_same k.term)), fewer xs, fewer ys)
+      omega (arith, ap (unknown_of b) there.whole, ap (unknown_of b') there.whole, split_count b xs ys k, split_count b' xs ys k, ap one_if unknown, ap one_if (known_now k (is_same k.term)), fewer xs, fewer ys)
 
 -- Those of a settlement -------------------------------------------------------------------------------------------------------
 
@@ -208,10 +209,13 @@ start_admitted terms front back b k s = by (of_term k.term b.spool.held) refl
   where
     by : (o : Option Held) → of_term k.term b.spool.held ≡ o → IsAdmitted b.spool k.term
     by (Some h) is = inl (ap is_some is)
-    by None is = inr (omega (arith, s.room, split_count b front back k, ap (λ (o : Option Held). cond (not (is_some o)) 1 0) is))
+    by None is = inr (omega (arith, s.room, split_count b front back k, ap (λ (o : Option Held). one_if (not (is_some o))) is))
 
 pub start_once : (terms front back : List Key) (b : BillingState) (k : Key) → AreSettling terms (front ++ k ∷ back) b → open_of k.term Start b.spool.held ≡ None
 start_once terms front back b k s = there (HasNoStart b) front back k s.unstarted
+
+not_both : (x : Bool) → x ≡ true → x ≡ false → ⊥
+not_both x is isnt = cc
 
 -- its Start was formed
 pub settling_started : (terms front back : List Key) (k : Key) (facts : TermFacts) (at : Moment) (n : ℕ) (b b' : BillingState) → IsFormedBy b Start facts at n b' → facts.term ≡ k.term → AreSettling terms (front ++ k ∷ back) b → AreSettling terms (front ++ back) b'
@@ -224,7 +228,7 @@ settling_started terms front back k facts at n b b' f term s =
       apart = s.apart;
       unstarted = λ i d lt. ap (option_and_then (number_of Start)) (stays b b' Start facts at n f k term (get_or keys i d).term (others i d lt)) ∙ before i d lt;
       apart_began = pairs_without AreApart front back k s.apart_began;
-      room = omega (arith, s.room, ap (λ (r : _). r.terms) f.formed.rules, split_count b front back k, sum_by-append (λ (j : Key). cond (is_unknown b j) 1 0) front back, fewer b b' Start facts at n f k term keys,
+      room = omega (arith, s.room, ap (λ (r : _). r.terms) f.formed.rules, split_count b front back k, sum_by-append (λ (j : Key). one_if (is_unknown b j)) front back, fewer b b' Start facts at n f k term keys,
       one_more b b' Start facts at n f k term, one_or_other (of_term k.term b.spool.held));
     }
   where
@@ -237,9 +241,6 @@ settling_started terms front back k facts at n b b' f term s =
           ⊎_elim (λ (live : is_live (of_term j.term b.spool.held) ≡ true). inl (subst (λ (x : Option Held). is_live x ≡ true) same_held live))
           (λ (new : (is_unknown b j ≡ true) × Contains (front ++ k ∷ back) j). inr (subst (λ (x : Option Held). not (is_some x) ≡ true) same_held new.0, contains_without j k other front back new.1)) known
     ]
-
-    not_both : (x : Bool) → x ≡ true → x ≡ false → ⊥
-    not_both x yes no = cc
 
 -- once each Start was formed, all that are there are live
 pub all_billed : (terms : List Key) (b : BillingState) → AreSettling terms [] b → AreBilled terms b

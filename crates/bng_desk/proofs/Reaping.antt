@@ -1,5 +1,5 @@
 -- The terms that ended leave the shards, one shard after the other.
-use Rattle.std.proofs.Common.{◌≡◌, ◌≢◌, ℕ, zero, suc, ◌+◌, ◌<◌, Bool, true, false, not, cond, List, [], ◌∷◌, ◌++◌, map, filter, length, take, drop, get_or, set, refl, sym, ap, subst, ◌∙◌, append_assoc, append-nil, arith}
+use Rattle.std.proofs.Common.{◌≡◌, ◌≢◌, ℕ, zero, suc, ◌+◌, ◌<◌, Bool, true, false, not, cond, List, [], ◌∷◌, ◌++◌, None, Some, map, filter, length, take, drop, get_or, set, refl, sym, ap, subst, ◌∙◌, append_assoc, append-nil, arith}
 use Rattle.std.specs.List.{All, AllPairs, AllZip, flat_map, sum_by}
 use Rattle.std.proofs.lemmas.List.{take_more, take_more_set, take_all, drop-set-lt, drop-drop}
 use Rattle.std.proofs.lemmas.List.Concat.{flat_map-append}
@@ -7,6 +7,7 @@ use Rattle.std.proofs.lemmas.List.Elements.{All-cons, All-head, All-tail}
 use Rattle.std.proofs.lemmas.List.Sums.{sum_by-cons}
 use Rattle.bng_acct.specs.declared.facts.StatusType.{StatusType}
 use Rattle.bng_acct.specs.declared.facts.StatusType.TheVariants.{Stop as OfStop}
+use Rattle.bng_acct.specs.Spool.{Agree, IsAdmitted, open_of}
 use Rattle.bng_base.specs.declared.book.Book.{Book}
 use Rattle.bng_base.specs.declared.item.Entry.{Entry}
 use Rattle.bng_base.specs.Listed.{Same}
@@ -147,10 +148,17 @@ module _ (front back began : List Key) (w w' : ShardView ShardState Entry) (t : 
   abbrev behind : List Key
   behind = keys_there left.after ++ back
 
-  pub among_them : (b : BillingState) → AreSettling (front ++ (keys (terms_of w.state) ++ back)) began b → AreSettling (ahead ++ k ∷ behind) began b
+  among_them : (b : BillingState) → AreSettling (front ++ (keys (terms_of w.state) ++ back)) began b → AreSettling (ahead ++ k ∷ behind) began b
   among_them b s =
       subst (λ (ks : List Key). AreSettling ks began b)
       (ap (λ (ks : List Key). front ++ (ks ++ back)) (keys_were w.state.slots.terms w'.state.slots.terms t k left is) ∙ around front (keys_there left.before) (keys_there left.after) back k) s
+
+  -- a Stop of it may be formed, and none is open
+  pub left_admitted : (b : BillingState) → AreSettling (front ++ (keys (terms_of w.state) ++ back)) began b → IsAdmitted b.spool k.term
+  left_admitted b s = stop_admitted ahead behind began b k (among_them b s)
+
+  pub left_once : (b : BillingState) → Agree b.spool.sheets b.spool.held → AreSettling (front ++ (keys (terms_of w.state) ++ back)) began b → open_of k.term OfStop b.spool.held ≡ None
+  left_once b agree s = stop_once ahead behind began b k agree (among_them b s)
 
   without_it : (b : BillingState) → AreSettling (ahead ++ behind) began b → AreSettling (front ++ (keys (terms_of w'.state) ++ back)) began b
   without_it b s =
@@ -284,7 +292,7 @@ settling_set vs i w began b lt s = subst (λ (ks : List Key). AreSettling ks beg
 
 -- each of the others keeps what it kept
 all_set : (P : ShardView ShardState Entry → Type 0) (vs : Shards) (i : ℕ) (w : ShardView ShardState Entry) → P w → All P vs → All P (set vs i w)
-all_set P [] i w here all k d lt = absurd (omega (arith, lt))
+all_set P [] i w here all = all
 all_set P (v ∷ vs) zero w here all = All-cons P w vs here (All-tail P v vs all)
 all_set P (v ∷ vs) (suc i) w here all = All-cons P v (set vs i w) (All-head P v vs all) (all_set P vs i w here (All-tail P v vs all))
 

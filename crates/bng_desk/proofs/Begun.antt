@@ -1,0 +1,1 @@
+-- The Starts of the terms that began in a round, one shard after the other.
