@@ -1,7 +1,8 @@
 -- Terms that begin in accounting at the opening.
-use Rattle.std.proofs.Common.{◌≡◌, ℕ, ◌+◌, ◌≤◌, true, false, List, [], ◌∷◌, ◌++◌, Option, None, Some, length, take, drop, get_or, refl, sym, ap, subst, ◌∙◌, arith}
+use Rattle.std.proofs.Common.{◌≡◌, ◌⊎◌, ⊎_elim, inl, inr, ℕ, ◌+◌, ◌≤◌, true, false, List, [], ◌∷◌, ◌++◌, Option, None, Some, length, take, drop, get_or, refl, sym, ap, subst, ◌∙◌, arith}
 use Rattle.std.specs.Prelude.{sum_by}
 use Rattle.std.specs.List.{All, AllPairs, AllZip}
+use Rattle.std.proofs.lemmas.Bool.{cases_Bool}
 use Rattle.std.proofs.lemmas.List.{length-append}
 use Rattle.std.proofs.lemmas.List.Elements.{All-nil, All-cons, All-head, All-tail}
 use Rattle.std.proofs.lemmas.List.Sums.{sum_by-cons}
@@ -12,13 +13,14 @@ use Rattle.bng_acct.specs.declared.held.Held.{Held}
 use Rattle.bng_acct.specs.Roster.{of_term, same, weight}
 use Rattle.bng_acct.specs.Spool.{ended_by, is_live, or_unknown, with_number}
 use Rattle.bng_acct.proofs.Marks.{formed, term-formed}
-use Rattle.bng_acct.proofs.Rosters.{is_same}
+use Rattle.bng_acct.proofs.Rosters.{is_same, same_is}
 use Rattle.bng_base.specs.declared.circuit.TermId.{TermId}
 use Rattle.bng_billing.specs.declared.rules.BillingRules.{BillingRules}
 use Rattle.bng_billing.specs.Records.{IsFormedBy}
 use Rattle.bng_billing.specs.State.{BillingState, IsNewBilling}
+use Rattle.bng_engine.specs.Lists.{AnyOf}
 use Rattle.bng_engine.specs.Terms.{Key}
-use Rattle.bng_desk.specs.declared.line.Line.{Line}
+use Rattle.bng_shard.specs.Tenures.{Tenure}
 use Rattle.bng_desk.specs.Accounting.{AreBilled, FormedRecord, Forms, IsStartOf}
 use Rattle.bng_desk.specs.Taking.{Accounts, BooksStarts}
 use Rattle.bng_desk.proofs.Billed.{AreApart, apart_back, formed_others}
@@ -77,17 +79,17 @@ module _ (b m : BillingState) (k : Key) (facts : TermFacts) (at : Moment) (n : �
   others u apart = formed_others b m Start facts at n f u (ap (λ (t : TermId). same t u) term ∙ apart)
 
 -- Starts were formed
-pub begun : (lines : List Line) (began wall : ℕ) (keys : List Key) (fs : List FormedRecord) (b b' : BillingState) → Forms b fs b' → AllZip (IsStartOf lines began wall) keys fs → AllPairs AreApart keys → All (IsNew b.spool.held) keys → Begun keys b b'
-begun lines began wall [] [] b b' forms starts apart new = subst (λ (c : BillingState). Begun [] b c) (sym forms) (none_begun b)
-begun lines began wall [] (f ∷ fs) b b' forms starts apart new = absurd starts
-begun lines began wall (k ∷ ks) [] b b' forms starts apart new = absurd starts
-begun lines began wall (k ∷ ks) (f ∷ fs) b b' (m, one, rest) starts apart new =
+pub begun : (terms : List Tenure) (moment wall : ℕ) (keys : List Key) (fs : List FormedRecord) (b b' : BillingState) → Forms b fs b' → AllZip (IsStartOf terms moment wall) keys fs → AllPairs AreApart keys → All (IsNew b.spool.held) keys → Begun keys b b'
+begun terms moment wall [] [] b b' forms starts apart new = subst (λ (c : BillingState). Begun [] b c) (sym forms) (none_begun b)
+begun terms moment wall [] (f ∷ fs) b b' forms starts apart new = absurd starts
+begun terms moment wall (k ∷ ks) [] b b' forms starts apart new = absurd starts
+begun terms moment wall (k ∷ ks) (f ∷ fs) b b' (m, one, rest) starts apart new =
     let first : IsFormedBy b Start f.facts f.moment f.number m = subst (λ s. IsFormedBy b s f.facts f.moment f.number m) starts.0.status one in
     let term : f.facts.term ≡ k.term = starts.0.facts.term in
     let fresh : IsNew b.spool.held k = All-head (IsNew b.spool.held) k ks new in
     let away : All (AreApart k) ks = pairs_head AreApart k ks apart in
     let stay = others b m k f.facts f.moment f.number first term fresh in
-    let more = begun lines began wall ks fs m b' rest starts.1 (pairs_tail AreApart k ks apart) (λ i d lt. stay (get_or ks i d).term (away i d lt) ∙ All-tail (IsNew b.spool.held) k ks new i d lt) in
+    let more = begun terms moment wall ks fs m b' rest starts.1 (pairs_tail AreApart k ks apart) (λ i d lt. stay (get_or ks i d).term (away i d lt) ∙ All-tail (IsNew b.spool.held) k ks new i d lt) in
     let still = more.others k.term (λ i d lt. apart_back k.term (get_or ks i d).term (away i d lt)) in
     record {
       live = All-cons (Lives b'.spool.held) k ks (ap is_live still ∙ lives b m k f.facts f.moment f.number first term fresh) more.live;
@@ -98,26 +100,52 @@ begun lines began wall (k ∷ ks) (f ∷ fs) b b' (m, one, rest) starts apart ne
 
 -- Some have begun, and more may -------------------------------------------------------------------------------------------
 
-pub may_begin : (wall : ℕ) (done here rest : List Key) (a b : Accounts) → MayBegin (done ++ (here ++ rest)) a.billing → BooksStarts wall done a b → MayBegin here b.billing
-may_begin wall done here rest a b may booked =
-    let all = begun a.lines a.began wall done booked.formed a.billing b.billing booked.forms booked.are_starts (pairs_left AreApart done (here ++ rest) may.apart) (all_left (IsNew a.billing.spool.held) done (here ++ rest) may.new) in
-    let fresh = all_left (IsNew a.billing.spool.held) here rest (all_right (IsNew a.billing.spool.held) done (here ++ rest) may.new) in
-    let away = all_left (λ (k : Key). All (λ (j : Key). AreApart j k) done) here rest (pairs_across AreApart done (here ++ rest) may.apart) in
-    record {
-      room = omega (arith, may.room, all.count, ap (λ r. r.terms) all.rules, length-append done (here ++ rest), length-append here rest);
-      new = λ i d lt. all.others (get_or here i d).term (away i d lt) ∙ fresh i d lt;
-      apart = pairs_left AreApart here rest (pairs_right AreApart done (here ++ rest) may.apart);
-    }
+module _ (terms : List Tenure) (moment wall : ℕ) where
+  pub may_begin : (done here rest : List Key) (a b : Accounts) → MayBegin (done ++ (here ++ rest)) a.billing → BooksStarts terms moment wall done a b → MayBegin here b.billing
+  may_begin done here rest a b may booked =
+      let all = begun terms moment wall done booked.formed a.billing b.billing booked.forms booked.are_starts (pairs_left AreApart done (here ++ rest) may.apart) (all_left (IsNew a.billing.spool.held) done (here ++ rest) may.new) in
+      let fresh = all_left (IsNew a.billing.spool.held) here rest (all_right (IsNew a.billing.spool.held) done (here ++ rest) may.new) in
+      let away = all_left (λ (k : Key). All (λ (j : Key). AreApart j k) done) here rest (pairs_across AreApart done (here ++ rest) may.apart) in
+      record {
+        room = omega (arith, may.room, all.count, ap (λ r. r.terms) all.rules, length-append done (here ++ rest), length-append here rest);
+        new = λ i d lt. all.others (get_or here i d).term (away i d lt) ∙ fresh i d lt;
+        apart = pairs_left AreApart here rest (pairs_right AreApart done (here ++ rest) may.apart);
+      }
 
--- all have begun
-pub all_billed : (wall : ℕ) (keys : List Key) (a b : Accounts) → MayBegin keys a.billing → BooksStarts wall keys a b → AreBilled keys b.billing
-all_billed wall keys a b may booked =
-    let all = begun a.lines a.began wall keys booked.formed a.billing b.billing booked.forms booked.are_starts may.apart may.new in
-    record { live = all.live; apart = may.apart }
+  -- all have begun
+  pub all_begun : (keys : List Key) (a b : Accounts) → MayBegin keys a.billing → BooksStarts terms moment wall keys a b → Begun keys a.billing b.billing
+  all_begun keys a b may booked = begun terms moment wall keys booked.formed a.billing b.billing booked.forms booked.are_starts may.apart may.new
 
--- the next may begin
-pub next_may : (wall i : ℕ) (keys : List Key) (k : Key) (a b : Accounts) → StandsAt keys i k → MayBegin keys a.billing → BooksStarts wall (take i keys) a b → MayBegin (k ∷ []) b.billing
-next_may wall i keys k a b at may booked = may_begin wall (take i keys) (k ∷ []) (drop (i + 1) keys) a b (subst (λ (ks : List Key). MayBegin ks a.billing) at.whole may) booked
+  pub all_billed : (keys : List Key) (a b : Accounts) → MayBegin keys a.billing → BooksStarts terms moment wall keys a b → AreBilled keys b.billing
+  all_billed keys a b may booked = record { live = (all_begun keys a b may booked).live; apart = may.apart }
+
+  -- the next may begin
+  pub next_may : (i : ℕ) (keys : List Key) (k : Key) (a b : Accounts) → StandsAt keys i k → MayBegin keys a.billing → BooksStarts terms moment wall (take i keys) a b → MayBegin (k ∷ []) b.billing
+  next_may i keys k a b at may booked = may_begin (take i keys) (k ∷ []) (drop (i + 1) keys) a b (subst (λ (ks : List Key). MayBegin ks a.billing) at.whole may) booked
+
+-- What is known -------------------------------------------------------------------------------------------------------------
+
+-- the term of a key
+abbrev pub IsTermOf : TermId → Key → Type 0
+IsTermOf t k = k.term ≡ t
+
+-- a term is that of one of these keys, or apart from all of them
+one_of : (t : TermId) (ks : List Key) → AnyOf (IsTermOf t) ks ⊎ All (λ (k : Key). same k.term t ≡ false) ks
+one_of t [] = inr (All-nil (λ (k : Key). same k.term t ≡ false))
+one_of t (k ∷ ks) = elim (cases_Bool (same k.term t)) [
+  | inl is ↦ inl (inl (same_is k.term t is))
+  | inr apart ↦ ⊎_elim (λ (there : AnyOf (IsTermOf t) ks). inl (inr there)) (λ (none : All (λ (j : Key). same j.term t ≡ false) ks). inr (All-cons (λ (j : Key). same j.term t ≡ false) k ks apart none)) (one_of t ks)
+]
+
+none_some : (h : Held) → None ≡ Some h → ⊥
+none_some h e = cc
+
+-- where nothing was known, nothing is known of others than those that have begun
+pub known_begun : (keys : List Key) (b b' : BillingState) → Begun keys b b' → ((t : TermId) → of_term t b.spool.held ≡ None) → (t : TermId) (h : Held) → of_term t b'.spool.held ≡ Some h → AnyOf (IsTermOf t) keys
+known_begun keys b b' all none t h found =
+    ⊎_elim (λ (there : AnyOf (IsTermOf t) keys). there)
+    (λ (apart : All (λ (k : Key). same k.term t ≡ false) keys). absurd (none_some h (sym (none t) ∙ (sym (all.others t apart) ∙ found))))
+    (one_of t keys)
 
 -- all may begin where nothing is held
 pub all_may : (rules : BillingRules) (keys : List Key) (b : BillingState) → IsNewBilling rules b → length keys ≤ rules.acct.terms → AllPairs AreApart keys → MayBegin keys b

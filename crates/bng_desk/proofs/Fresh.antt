@@ -9,22 +9,22 @@ use Rattle.bng_base.specs.declared.settings.Static.{Static}
 use Rattle.bng_base.specs.declared.book.Book.{Book}
 use Rattle.bng_engine.specs.Books.{book_at}
 use Rattle.bng_engine.specs.Quantities.{Quantity, Octets, Packets, in_book, empty_book}
-use Rattle.bng_engine.specs.Sums.{is_any}
+use Rattle.bng_engine.specs.Sums.{has_lease, is_any}
 use Rattle.bng_engine.specs.Views.{ShardView, Row, new_row, rows_where}
 use Rattle.bng_engine.specs.Terms.{Key, keys}
-use Rattle.bng_shard.specs.Protocol.{ShardState, opened, terms_of}
+use Rattle.bng_shard.specs.Protocol.{HasPools, ShardState, opened, terms_of}
 use Rattle.bng_shard.specs.Questions.{none_handed}
 use Rattle.bng_shard.specs.Sums.{IsLow, AreLow, RowsAreLow}
 use Rattle.bng_shard.specs.declared.rules.Rules.{Rules}
 use Rattle.bng_base.specs.declared.item.Item.{Item}
 use Rattle.bng_desk.specs.declared.drops.Drops.{Drops}
 use Rattle.bng_desk.specs.declared.line.Line.{Line}
-use Rattle.bng_desk.specs.Accounting.{AreBilled}
+use Rattle.bng_desk.specs.Accounting.{AreBilled, KnowsBegun}
 use Rattle.bng_desk.specs.Counting.{Within, no_drops}
 use Rattle.bng_desk.specs.Kept.{IsKept, IsUnended, is_verdict, all_turns, rested, octets_most, drops_most}
-use Rattle.bng_desk.specs.Model.{Desk, keys_in, is_of}
+use Rattle.bng_desk.specs.Model.{Desk, keys_in}
 use Rattle.bng_desk.specs.Opening.{line_of}
-use Rattle.bng_desk.specs.Taking.{IsEmpty, IsPlainly, HasFewSessions, AreInOrder, AreTallied, CarriesWithin, kept_in, stopped_in}
+use Rattle.bng_desk.specs.Taking.{IsEmpty, KeepsTerms, HasFewSessions, AreInOrder, AreTallied, CarriesWithin, kept_in, stopped_in}
 use Rattle.bng_desk.proofs.Readying.{WorksBy}
 use Rattle.bng_desk.proofs.Returning.{HoldsOwn}
 use Rattle.bng_desk.proofs.Keeping.{AreKept, none_kept, one_low, unended_left}
@@ -85,7 +85,7 @@ module _ (rules : Rules) (statics : ℕ → List Static) (now : ℕ) where
   -- and no circuit has carried anything
   kept_none : (input : Bool) (l : Line) (ns : List ℕ) → sum_by (kept_in input l) (map fresh ns) ≡ 0
   kept_none input l [] = refl
-  kept_none input l (n ∷ ns) = omega (arith, sum_by-cons (kept_in input l) (fresh n) (map fresh ns), none_carried Octets (is_of l.session.0) input (keys (terms_of (fresh n).state)), kept_none input l ns)
+  kept_none input l (n ∷ ns) = omega (arith, sum_by-cons (kept_in input l) (fresh n) (map fresh ns), none_carried Octets (has_lease l.address) input (keys (terms_of (fresh n).state)), kept_none input l ns)
 
 none_stopped : (input : Bool) (c : Static) → stopped_in input (line_of c) ≡ 0
 none_stopped true c = refl
@@ -97,8 +97,8 @@ fresh_tallied rules statics now tally ns cs =
 
 -- a desk with such shards, in which nothing has happened
 pub kept_fresh : (d : Desk) (statics : ℕ → List Static) (now : ℕ) (cs : List Static) → d.shards ≡ map (λ n. opened n d.rules (statics n) now) (range_with_len 0 d.rules.shards) → All HasFewSessions d.shards → d.lines ≡ map line_of cs → 1 ≤ length d.rules.access → length d.rules.access ≤ 16 → 1 ≤ d.rules.shards → d.rules.shards ≤ 64
-    → d.rules.pools ≡ [] → d.pool.shards ≡ d.rules.shards → All (HoldsOwn d.pool.table) d.shards → All IsPlainly d.shards → d.rounds ≤ 2 ^ 40 → d.turns ≡ 0 → d.endings ≡ 0 → d.unopened ≡ 0 → d.closed ≡ false → d.told ≡ 0 → d.drawn ≡ 1 → d.drops ≡ no_drops → d.tallies ≡ empty_book ∷ [] → d.kept ≡ [] → d.handed ≡ map (λ n. none_handed) (range_with_len 0 d.rules.shards) → d.began ≡ d.moment → d.closing ≡ d.moment → d.graces ≡ 0 → AreBilled (keys_in d.shards) d.billing → IsKept d
-kept_fresh d statics now cs shards few lines some_port few_ports some_shard few_shards no_pools places held plain most turns endings unopened closed told drawn drops tallies kept handed began closing graces billed =
+    → HasPools d.rules.pools d.pool.ranges → d.pool.shards ≡ d.rules.shards → All (HoldsOwn d.pool.table) d.shards → All (KeepsTerms d.moment) d.shards → d.rounds ≤ 2 ^ 40 → d.turns ≡ 0 → d.endings ≡ 0 → d.unopened ≡ 0 → d.closed ≡ false → d.told ≡ 0 → d.drawn ≡ 1 → d.drops ≡ no_drops → d.tallies ≡ empty_book ∷ [] → d.kept ≡ [] → d.handed ≡ map (λ n. none_handed) (range_with_len 0 d.rules.shards) → d.closing ≡ d.moment → d.graces ≡ 0 → AreBilled (keys_in d.shards) d.billing → KnowsBegun d.shards d.billing → IsKept d
+kept_fresh d statics now cs shards few lines some_port few_ports some_shard few_shards pools places held terms most turns endings unopened closed told drawn drops tallies kept handed closing graces billed knows =
     let staying = subst (λ (is : List Item). AreKept d is) (sym kept) (none_kept d) in
     let unended : IsUnended d = record { endings = endings; unopened = unopened; closed = closed; graces = graces } in
     let count = ap (λ (xs : List (ShardView ShardState Entry)). length xs) shards ∙ length-map-range_with_len (λ (n : ℕ). opened n d.rules (statics n) now) 0 d.rules.shards in
@@ -112,10 +112,10 @@ kept_fresh d statics now cs shards few lines some_port few_ports some_shard few_
       rules = subst (λ (xs : List (ShardView ShardState Entry)). All (WorksBy d.rules) xs) (sym shards) (fresh_rules d.rules statics now d.rules.shards);
       sessions = few;
       empty = subst (λ (xs : List (ShardView ShardState Entry)). All IsEmpty xs) (sym shards) (fresh_empty d.rules statics now d.rules.shards);
-      no_pools = no_pools;
+      pools = pools;
       places = places;
       held = held;
-      plain = plain;
+      terms = terms;
       most = most;
       made = omega (arith, turns);
       serving = λ _. unended;
@@ -135,8 +135,8 @@ kept_fresh d statics now cs shards few lines some_port few_ports some_shard few_
       stays = staying.stays;
       while_serving = λ _. subst (λ (is : List Item). All is_verdict is) (sym kept) (λ k e l. absurd (omega arith));
       handed = ap (λ (hs : List (List ℕ)). length hs) handed ∙ length-map-range_with_len (λ (n : ℕ). none_handed) 0 d.rules.shards ∙ sym count;
-      began = omega (arith, began);
       closing = omega (arith, closing);
       graces = omega (arith, graces);
       billed = billed;
+      knows = knows;
     }

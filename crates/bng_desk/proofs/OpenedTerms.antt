@@ -1,30 +1,44 @@
--- The terms of the shards at the opening: no two are one, and they are no more than the circuits.
-use Rattle.std.proofs.Common.{◌≡◌, ◌≢◌, ℕ, zero, suc, ◌+◌, ◌*◌, ◌/◌, ◌<◌, ◌≤◌, ◌==◌, ◌&&◌, Bool, true, false, cond, eqb, List, [], ◌∷◌, map, filter, length, get_or, refl, ap, arith}
-use Rattle.std.specs.List.{All, AllPairs, flat_map, range_with_len, sum_by}
+-- The terms of the shards at the opening: no two are one, they are no more than the circuits, and their numbers were given.
+use Rattle.std.proofs.Common.{◌≡◌, ◌≢◌, ℕ, zero, suc, ◌+◌, ◌*◌, ◌/◌, ◌<◌, ◌≤◌, ◌==◌, ◌&&◌, Bool, true, false, cond, eqb, List, [], ◌∷◌, map, filter, length, get_or, ⊎_elim, Some, refl, sym, ap, subst, ◌∙◌, arith}
+use Rattle.std.specs.List.{All, AllByRecursion, AllPairs, flat_map, range_with_len, sum_by}
 use Rattle.std.proofs.lemmas.Bool.Decides.{nat_tests}
 use Rattle.std.proofs.lemmas.List.{length-append}
 use Rattle.std.proofs.lemmas.List.Concat.{length-flat_map}
-use Rattle.std.proofs.lemmas.List.Elements.{All-append}
+use Rattle.std.proofs.lemmas.List.Elements.{All-append, recursion_from_All}
 use Rattle.std.proofs.lemmas.List.Sums.{sum_by-cons}
-use Rattle.bng_acct.specs.Roster.{same}
+use Rattle.bng_acct.specs.declared.held.Held.{Held}
+use Rattle.bng_acct.specs.Roster.{of_term, same}
 use Rattle.bng_base.specs.declared.address.SessionNo.{SessionNo}
+use Rattle.bng_base.specs.declared.circuit.TermId.{TermId}
+use Rattle.bng_base.specs.declared.item.Entry.{Entry}
 use Rattle.bng_base.specs.declared.settings.Static.{Static}
+use Rattle.bng_billing.specs.State.{BillingState}
 use Rattle.bng_engine.specs.Terms.{Key, keys}
-use Rattle.bng_engine.specs.Views.{row_keys}
+use Rattle.bng_engine.specs.Lists.{AnyOf}
+use Rattle.bng_engine.specs.Views.{ShardView}
 use Rattle.bng_engine.proofs.Adding.{sum_plus}
 use Rattle.bng_config.specs.declared.config.Config.{Config}
 use Rattle.bng_config.specs.Rules.{IsSessionOf, KeepsRules}
 use Rattle.bng_shard.specs.declared.rules.Rules.{Rules}
-use Rattle.bng_shard.specs.Opening.{circuit_at, in_order, opened_slots, tenures_after}
-use Rattle.bng_shard.specs.Protocol.{opened, profiles_there, term_in, terms_of}
+use Rattle.bng_shard.specs.Lasting.{IsTenureOf}
+use Rattle.bng_shard.specs.Opening.{circuit_at, in_order, tenures_after}
+use Rattle.bng_shard.specs.Protocol.{ShardState, opened, profiles_there, term_in, terms_of}
+use Rattle.bng_shard.specs.Tenures.{Tenure}
+use Rattle.bng_shard.proofs.Numbered.{tenures_opened}
 use Rattle.bng_shard.proofs.OpenedKeys.{rows_apart, rows_of_shard}
 use Rattle.bng_shard.proofs.RowLaws.{new_keys}
+use Rattle.bng_shard.proofs.SoundOpening.{opened_sound}
 use Rattle.bng_slots.specs.Sessions.{IsNumberOf}
+use Rattle.bng_desk.specs.Accounting.{KnowsBegun}
 use Rattle.bng_desk.specs.Model.{keys_in}
 use Rattle.bng_desk.specs.Opening.{AreServed, shard_of}
+use Rattle.bng_desk.specs.Taking.{AreInOrder, KeepsTerms}
+use Rattle.bng_desk.proofs.Beginning.{IsTermOf}
 use Rattle.bng_desk.proofs.Billed.{AreApart}
 use Rattle.bng_desk.proofs.Outfit.{are_of, of_shard}
 use Rattle.bng_desk.proofs.Parts.{pairs_append}
+use Rattle.bng_desk.proofs.Readying.{Shards}
+use Rattle.bng_desk.proofs.ShardKeys.{of_one}
 
 -- How many there are ------------------------------------------------------------------------------------------------------
 
@@ -94,14 +108,13 @@ apart_by j k other = other_session j k (eqb j.term.session.0 k.term.session.0) r
 
 module _ (r : Rules) (circuits : List Static) (now : ℕ) (served : AreServed r circuits) where
   abbrev opens : ℕ → List Key
-  opens n = row_keys (opened n r (of_shard circuits n) now).rows
+  opens n = keys (terms_of (opened n r (of_shard circuits n) now).state)
 
   opens_count : (n : ℕ) → length (opens n) ≤ length (of_shard circuits n)
   opens_count n =
       let cs = of_shard circuits n in
       omega (
         arith,
-        ap (λ (ks : List Key). length ks) (new_keys (keys (terms_of (record { rules = r; slots = opened_slots n cs now })))),
         terms_count now 0 (in_order n cs),
         in_order_few n cs,
       )
@@ -122,7 +135,10 @@ module _ (r : Rules) (circuits : List Static) (now : ℕ) (served : AreServed r 
   few_terms = omega (arith, keys_count 0 r.shards, few_numbered shard_of 0 r.shards circuits)
 
   of_this : (n : ℕ) → n < 64 → All (λ (k : Key). k.term.session.0 / 1024 ≡ n) (opens n)
-  of_this n low = rows_of_shard n r (of_shard circuits n) now (are_of r circuits n served).own
+  of_this n low = subst (All (λ (k : Key). k.term.session.0 / 1024 ≡ n)) (new_keys (opens n)) (rows_of_shard n r (of_shard circuits n) now (are_of r circuits n served).own)
+
+  sessions_apart : (n : ℕ) → AllPairs (λ (j k : Key). j.term.session ≢ k.term.session) (opens n)
+  sessions_apart n = subst (AllPairs (λ (j k : Key). j.term.session ≢ k.term.session)) (new_keys (opens n)) (rows_apart n r (of_shard circuits n) now (are_of r circuits n served).sessions)
 
   from_this : (a k : ℕ) → a + k ≤ 64 → All (λ (x : Key). a ≤ x.term.session.0 / 1024) (keys_in (map (λ n. opened n r (of_shard circuits n) now) (range_with_len a k)))
   from_this a zero low = λ i d lt. absurd (omega (arith, lt))
@@ -136,16 +152,44 @@ module _ (r : Rules) (circuits : List Static) (now : ℕ) (served : AreServed r 
   apart_from a (suc k) low =
       let later = keys_in (map (λ n. opened n r (of_shard circuits n) now) (range_with_len (a + 1) k)) in
       pairs_append AreApart (opens a) later
-      (λ i j d lt within. apart_by (get_or (opens a) i d) (get_or (opens a) j d) (rows_apart a r (of_shard circuits a) now (are_of r circuits a served).sessions i j d lt within))
+      (λ i j d lt within. apart_by (get_or (opens a) i d) (get_or (opens a) j d) (sessions_apart a i j d lt within))
       (apart_from (a + 1) k (omega (arith, low)))
       (λ i d lt j e within.
       apart_by (get_or (opens a) i d) (get_or later j e)
       (λ (is : (get_or (opens a) i d).term.session ≡ (get_or later j e).term.session).
       omega (arith, ap (λ (s : SessionNo). s.0) is, of_this a (omega (arith, low)) i d lt, from_this (a + 1) k (omega (arith, low)) j e within)))
 
+  -- what lasts of each shard
+  pub opened_keeps : (n : ℕ) → n < 64 → KeepsTerms now (opened n r (of_shard circuits n) now)
+  opened_keeps n low =
+      let of = are_of r circuits n served in
+      record { sound = opened_sound n (of_shard circuits n) of.sessions now low of.own; number = refl; tenures = tenures_opened n now (of_shard circuits n) of.own; owes_none = refl }
+
   -- and no two of them are one
   pub terms_apart : r.shards ≤ 64 → AllPairs (λ (j k : Key). same j.term k.term ≡ false) (keys_in (map (λ n. opened n r (of_shard circuits n) now) (range_with_len 0 r.shards)))
   terms_apart few = apart_from 0 r.shards (omega (arith, few))
+
+-- Numbers that were given ---------------------------------------------------------------------------------------------------
+
+one_began : (shard count moment : ℕ) (t : TermId) (ts : List Tenure) → AllByRecursion (IsTenureOf shard count moment) ts → AnyOf (IsTermOf t) (keys (map term_in ts)) → (t.session.0 / 1024 ≡ shard) × (t.serial ≤ count)
+one_began shard count moment t [] all any = absurd any
+one_began shard count moment t (x ∷ ts) all any =
+    ⊎_elim (λ (is : x.term ≡ t). (sym (ap (λ (u : TermId). u.session.0 / 1024) is) ∙ all.0.session, omega (arith, ap (λ (u : TermId). u.serial) is, all.0.number)))
+    (λ (later : AnyOf (IsTermOf t) (keys (map term_in ts))). one_began shard count moment t ts all.1 later) any
+
+-- where accounting knows of no other terms than those that are there, all have begun
+pub knows_there : (moment : ℕ) (vs : Shards) (b : BillingState) → AreInOrder vs → All (KeepsTerms moment) vs → ((t : TermId) (h : Held) → of_term t b.spool.held ≡ Some h → AnyOf (IsTermOf t) (keys_in vs)) → KnowsBegun vs b
+knows_there moment vs b order keeps known t h found =
+    let o = of_one (IsTermOf t) vs (known t h found) in
+    let v = o.shard in
+    let its : KeepsTerms moment v = subst (KeepsTerms moment) (o.is v) (keeps o.place v o.within) in
+    let terms = v.state.slots.terms in
+    let began = one_began v.state.slots.sessions.shard v.state.slots.begun moment t terms (recursion_from_All (IsTenureOf v.state.slots.sessions.shard v.state.slots.begun moment) terms its.tenures.each) o.there in
+    let at : t.session.0 / 1024 ≡ o.place = began.0 ∙ its.number ∙ sym (ap (λ (w : ShardView ShardState Entry). w.number) (o.is v)) ∙ order o.place v o.within in
+    record {
+      within = omega (arith, at, o.within);
+      number = λ d. omega (arith, began.1, ap (λ (k : ℕ). (get_or vs k d).state.slots.begun) at, ap (λ (w : ShardView ShardState Entry). w.state.slots.begun) (o.is d));
+    }
 
 -- a session number of a shard
 number_of : (s : Static) (shards : ℕ) → IsSessionOf shards s.session.0 → IsNumberOf (shard_of s) s.session.0

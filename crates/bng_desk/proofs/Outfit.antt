@@ -1,5 +1,5 @@
--- What a desk is opened with: what its ports offer, and the circuits of each shard.
-use Rattle.std.proofs.Common.{◌≡◌, ◌≢◌, ℕ, suc, ◌+◌, ◌<◌, ◌≤◌, ◌==◌, Bool, true, false, cond, if◌then◌else◌, List, [], ◌∷◌, ◌++◌, map, filter, length, take, get_or, set, eqb, refl, sym, ap, subst, ◌∙◌, arith, append-nil, length-set, get_or-set_same, get_or-set_other}
+-- What a desk is opened with: what its ports offer, its pools, and the circuits of each shard.
+use Rattle.std.proofs.Common.{◌≡◌, ◌≢◌, ℕ, zero, suc, ◌+◌, ◌<◌, ◌≤◌, ◌==◌, Bool, true, false, cond, if◌then◌else◌, List, [], ◌∷◌, ◌++◌, Some, option_map, map, filter, length, take, get_or, set, eqb, refl, sym, ap, subst, ◌∙◌, arith, append-nil, length-set, get_or-set_same, get_or-set_other}
 use Rattle.std.specs.List.{All, AllPairs, range_with_len}
 use Rattle.std.proofs.lemmas.Bool.{false≢true}
 use Rattle.std.proofs.lemmas.Bool.Decides.{nat_tests}
@@ -9,10 +9,11 @@ use Rattle.std.proofs.lemmas.List.FromFn.{fill_by_all, get_or-map-range_with_len
 use Rattle.std.proofs.lemmas.List.Kept.{AllPairs-filter}
 use Rattle.arrayvec.specs.ArrayVec.{ArrayVec}
 use Rattle.bng_base.specs.declared.settings.AccessPort.{AccessPort}
+use Rattle.bng_base.specs.declared.settings.NamedRange.{NamedRange}
 use Rattle.bng_base.specs.declared.settings.Static.{Static}
 use Rattle.bng_discovery.specs.declared.port.PortRules.{PortRules}
 use Rattle.bng_shard.specs.declared.rules.Rules.{Rules}
-use Rattle.bng_shard.specs.Protocol.{profiles_there}
+use Rattle.bng_shard.specs.Protocol.{HasPools, profiles_there}
 use Rattle.bng_slots.specs.Sessions.{IsNumberOf}
 use Rattle.bng_desk.specs.Opening.{AreOffersOf, AreServed, IsOfferOf, shard_of}
 
@@ -38,6 +39,14 @@ offers_next name services key access n d offer offers offers' lt are more one =
     subst (λ (os : List PortRules). AreOffersOf name services key 1 (take (n + 1) access) os) (sym more)
     (subst (λ (ports : List AccessPort). AreOffersOf name services key 1 ports (offers ++ offer ∷ [])) (sym (take_more access n d lt))
     (offers_more name services key 1 (take n access) (get_or access n d) offers offer are (subst (λ (k : ℕ). IsOfferOf name services key k (get_or access n d) offer) same one)))
+
+-- Pools -----------------------------------------------------------------------------------------------------------------
+
+-- the ranges are those of the pools, in their order
+pub ranges_of : (pools : List NamedRange) → HasPools pools (map (λ (p : NamedRange). p.range) pools)
+ranges_of [] k p e = absurd cc
+ranges_of (x ∷ pools) zero p e = ap (option_map (λ (q : NamedRange). q.range)) e
+ranges_of (x ∷ pools) (suc k) p e = ranges_of pools k p e
 
 -- Circuits --------------------------------------------------------------------------------------------------------------
 

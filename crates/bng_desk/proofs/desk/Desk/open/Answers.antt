@@ -1,33 +1,39 @@
 use Rattle.std.proofs.Common.{◌≡◌, ℕ, ◌+◌, ◌==◌, false, List, [], ◌∷◌, length, map, filter, refl, sym, ap, subst, arith, ◌∙◌}
 use Rattle.std.specs.List.{All, AllPairs, AllZip, range_with_len}
+use Rattle.std.proofs.lemmas.List.{length-map}
 use Rattle.bng_base.specs.declared.book.Book.{Book}
+use Rattle.bng_base.specs.declared.book.Range.{Range}
 use Rattle.bng_base.specs.declared.item.Entry.{Entry}
 use Rattle.bng_base.specs.declared.item.Item.{Item}
 use Rattle.bng_base.specs.declared.settings.AccessPort.{AccessPort}
+use Rattle.bng_base.specs.declared.settings.NamedRange.{NamedRange}
 use Rattle.bng_base.specs.declared.settings.Static.{Static}
 use Rattle.bng_base.specs.Books.{empty_book}
 use Rattle.bng_acct.specs.Roster.{same}
 use Rattle.bng_billing.specs.declared.rules.BillingRules.{BillingRules}
 use Rattle.bng_billing.specs.State.{IsNewBilling}
+use Rattle.bng_engine.specs.Lists.{AnyOf}
 use Rattle.bng_engine.specs.Terms.{Key}
 use Rattle.bng_engine.specs.Views.{ShardView}
 use Rattle.bng_discovery.specs.declared.port.PortRules.{PortRules}
 use Rattle.bng_shard.specs.declared.rules.Rules.{Rules}
-use Rattle.bng_shard.specs.Protocol.{ShardState, opened}
+use Rattle.bng_shard.specs.Lasting.{AreTenures}
+use Rattle.bng_shard.specs.Protocol.{HasPools, ShardState, opened}
 use Rattle.bng_shard.specs.Questions.{none_handed}
-use Rattle.bng_shard.proofs.Poolless.{logins_opened}
 use Rattle.bng_desk.specs.declared.line.Line.{Line}
-use Rattle.bng_desk.specs.Accounting.{AreBilled, IsStartOf}
+use Rattle.bng_desk.specs.Accounting.{AreBilled, IsStartOf, KnowsBegun}
 use Rattle.bng_desk.specs.Counting.{no_drops}
 use Rattle.bng_desk.specs.Kept.{rested}
 use Rattle.bng_desk.specs.Model.{Desk, keys_in}
 use Rattle.bng_desk.specs.Opening.{AreOffersOf, AreRules, AreServed, IsOpenedPool, OpensAccounts, line_of, shard_of, opened_shards, dns_of}
 use Rattle.bng_desk.specs.Random.{Drawn, draw}
-use Rattle.bng_desk.specs.Taking.{IsPlainly}
-use Rattle.bng_desk.proofs.Fresh.{fresh_all, fresh_rested, kept_fresh}
+use Rattle.bng_desk.specs.Round.{terms_in}
+use Rattle.bng_desk.specs.Taking.{AreInOrder, KeepsTerms, states_of}
+use Rattle.bng_desk.proofs.Beginning.{IsTermOf}
+use Rattle.bng_desk.proofs.Fresh.{fresh_all, fresh_order, fresh_rested, kept_fresh}
 use Rattle.bng_desk.proofs.Leases.{opened_holds}
-use Rattle.bng_desk.proofs.OpenedTerms.{are_served, few_terms, terms_apart}
-use Rattle.bng_desk.proofs.Outfit.{are_of, of_shard, offers_count}
+use Rattle.bng_desk.proofs.OpenedTerms.{are_served, few_terms, knows_there, opened_keeps, terms_apart}
+use Rattle.bng_desk.proofs.Outfit.{of_shard, offers_count, ranges_of}
 use Rattle.bng_desk.proofs.Returning.{HoldsOwn}
 use Rattle.bng_desk.proofs.desk.Desk.open.Goals as goal
 use Rattle.bng_desk.proofs.desk.Desk.open.Goals.{After-as_slice-2, After-new-2}
@@ -39,7 +45,7 @@ module _ (c : After-new-2) where
   abbrev made : Rules
   made = c.in_ok-rules.rules
 
-  made_as : made ≡ record { shards = c.args.config.shards; core_peer = c.args.config.core_peer; access = c.args.config.access; offers = c.in_ok-offers.offers.items; pools = []; link = record { name = c.args.config.name; address = c.args.config.address; dns = dns_of c.args.config.dns.items; auth = c.args.config.auth; echo = c.args.config.echo } }
+  made_as : made ≡ record { shards = c.args.config.shards; core_peer = c.args.config.core_peer; access = c.args.config.access; offers = c.in_ok-offers.offers.items; pools = c.args.config.pools; link = record { name = c.args.config.name; address = c.args.config.address; dns = dns_of c.args.config.dns.items; auth = c.args.config.auth; echo = c.args.config.echo } }
   made_as = c.in_ok-rules.ensures
 
   circuits : c.into_vec.result.items ≡ c.args.config.statics
@@ -48,7 +54,7 @@ module _ (c : After-new-2) where
   shards_are : c.in_ok-opens.opens.items ≡ map (λ n. opened n made (statics n) c.args.now) (range_with_len 0 made.shards)
   shards_are = c.in_ok-opens.ensures.opened ∙ ap (λ (ss : List Static). map (λ n. opened n made (filter (λ (s : Static). shard_of s == n) ss) c.args.now) (range_with_len 0 made.shards)) circuits
 
-  opens_accounts : OpensAccounts c.billing_rules-billing.result c.in_ok-lines.lines.items (keys_in c.as_slice-2.result.now) c.args.now c.in_ok-accounts.accounts
+  opens_accounts : OpensAccounts c.billing_rules-billing.result c.in_ok-lines.lines.items c.as_slice-2.result.now c.args.now c.in_ok-accounts.accounts
   opens_accounts = c.in_ok-accounts.ensures
 
   circuits_named : c.in_ok-lines.lines.items ≡ map line_of c.args.config.statics
@@ -103,10 +109,19 @@ module _ (c : After-new-2) where
   held = subst (λ (vs : List (ShardView ShardState Entry)). All (HoldsOwn c.in_ok-pool.pool.table) vs) (sym shards_are)
       (fresh_all made statics c.args.now (HoldsOwn c.in_ok-pool.pool.table) made.shards (λ n lt. opened_holds c.args.config.statics c.in_ok-pool.pool.table served.addresses is_pool.table made c.args.now n))
 
-  -- and no session that discovery made has a term
-  plain : All IsPlainly c.in_ok-opens.opens.items
-  plain = subst (λ (vs : List (ShardView ShardState Entry)). All IsPlainly vs) (sym shards_are)
-      (fresh_all made statics c.args.now IsPlainly made.shards (λ n lt. (logins_opened n (statics n) c.args.now (are_of made c.args.config.statics n served).sessions, refl)))
+  -- its terms have numbers that it gave, and a Start each
+  terms : All (KeepsTerms c.args.now) c.in_ok-opens.opens.items
+  terms = subst (λ (vs : List (ShardView ShardState Entry)). All (KeepsTerms c.args.now) vs) (sym shards_are)
+      (fresh_all made statics c.args.now (KeepsTerms c.args.now) made.shards (λ n lt. opened_keeps made c.args.config.statics c.args.now served n (omega (arith, lt, are_rules.shards, c.requires.rules.few_shards))))
+
+  -- and accounting knows of no other
+  knows : KnowsBegun c.in_ok-opens.opens.items c.in_ok-accounts.accounts.billing
+  knows = knows_there c.args.now c.in_ok-opens.opens.items c.in_ok-accounts.accounts.billing (subst AreInOrder (sym shards_are) (fresh_order made statics c.args.now made.shards)) terms
+      (λ t h found. subst (λ (ks : List Key). AnyOf (IsTermOf t) ks) keys_are (opens_accounts.known t h found))
+
+  -- each pool has its range in the table
+  pools : HasPools made.pools c.in_ok-pool.pool.ranges
+  pools = subst (λ (rs : List Range). HasPools made.pools rs) (sym is_pool.ranges) (subst (λ (ps : List NamedRange). HasPools ps (map (λ (p : NamedRange). p.range) c.args.config.pools)) (sym are_rules.pools) (ranges_of c.args.config.pools))
 
 pub invariant_of-result : goal.invariant_of-result
 invariant_of-result c =
@@ -114,9 +129,9 @@ invariant_of-result c =
       kept_fresh _ (statics c) c.args.now c.args.config.statics (shards_are c) c.in_ok-opens.ensures.sessions (lines_are c)
           (omega (arith, c.requires.rules.some_port, ap (λ (ps : List AccessPort). length ps) rules.access)) (omega (arith, c.requires.rules.few_ports, ap (λ (ps : List AccessPort). length ps) rules.access))
           (omega (arith, c.requires.rules.some_shard, rules.shards)) (omega (arith, c.requires.rules.few_shards, rules.shards))
-          rules.pools ((is_pool c).shards ∙ sym rules.shards) (held c) (plain c)
-          c.requires.most refl refl refl refl refl (ap (λ (x : Drawn). x.drawn) (draws_are c)) refl (tallies_are c) c.in_ok-kept.ensures.0 (handed_are c) (opens_accounts c).booked.began refl refl
-          (subst (λ (ks : List Key). AreBilled ks c.in_ok-accounts.accounts.billing) (keys_are c) (opens_accounts c).billed),
+          (pools c) ((is_pool c).shards ∙ sym rules.shards) (held c) (terms c)
+          c.requires.most refl refl refl refl refl (ap (λ (x : Drawn). x.drawn) (draws_are c)) refl (tallies_are c) c.in_ok-kept.ensures.0 (handed_are c) refl refl
+          (subst (λ (ks : List Key). AreBilled ks c.in_ok-accounts.accounts.billing) (keys_are c) (opens_accounts c).billed) (knows c),
       c.in_ok-kept.ensures.1,
     )
 
@@ -125,7 +140,7 @@ returns c =
     let b = (goal.at.returns c).After-new-2 in
     let config = c.args.config in
     let r = made b in
-    let desk = λ (tallies : List Book) (lines : List Line) (shards : List (ShardView ShardState Entry)) (draws : Drawn) (handed : List (List ℕ)) (kept : List Item) (began : ℕ). let x : Desk = record {
+    let desk = λ (tallies : List Book) (lines : List Line) (shards : List (ShardView ShardState Entry)) (draws : Drawn) (handed : List (List ℕ)) (kept : List Item). let x : Desk = record {
       rules = r;
       lines = lines;
       rounds = c.args.rounds;
@@ -141,7 +156,6 @@ returns c =
       told = 0;
       lane = c.in_ok-lane.lane;
       handed = handed;
-      began = began;
       billing = c.in_ok-accounts.accounts.billing;
       endings = 0;
       unopened = 0;
@@ -166,19 +180,17 @@ returns c =
       new_billing = accounts.new_billing;
       is_new = subst (λ (rules : BillingRules). IsNewBilling rules accounts.new_billing) c.billing_rules-billing.ensures accounts.is_new;
       starts = accounts.booked.formed;
-      are_starts = subst (λ (ls : List Line). AllZip (IsStartOf ls c.args.now c.args.wall) (keys_in opens) accounts.booked.formed) (circuits_named b)
-          (subst (λ (ks : List Key). AllZip (IsStartOf c.in_ok-lines.lines.items c.args.now c.args.wall) ks accounts.booked.formed) (keys_are b ∙ ap keys_in opened_all)
-          (subst (λ (wall : ℕ). AllZip (IsStartOf c.in_ok-lines.lines.items c.args.now wall) (keys_in c.as_slice-2.result.now) accounts.booked.formed) (ap (λ (rules : BillingRules). rules.acct.wall) c.billing_rules-billing.ensures) accounts.booked.are_starts));
+      are_starts = subst (λ (vs : List (ShardView ShardState Entry)). AllZip (IsStartOf (terms_in (states_of vs)) c.args.now c.args.wall) (keys_in vs) accounts.booked.formed) (c.as_slice-2.ensures.value ∙ opened_all)
+          (subst (λ (wall : ℕ). AllZip (IsStartOf (terms_in (states_of c.as_slice-2.result.now)) c.args.now wall) (keys_in c.as_slice-2.result.now) accounts.booked.formed) (ap (λ (rules : BillingRules). rules.acct.wall) c.billing_rules-billing.ensures) accounts.booked.are_starts);
       billing = c.in_ok-accounts.accounts.billing;
       forms = accounts.booked.forms;
       desk =
-          ap (λ (bs : List Book). desk bs c.in_ok-accounts.accounts.lines (map rested c.in_ok-opens.opens.items) c.sixteen-key.new.self c.in_ok-handed.handed.items c.in_ok-kept.kept.items c.in_ok-accounts.accounts.began) (tallies_are b)
-          ∙ ap (λ (ls : List Line). desk (empty_book ∷ []) ls (map rested c.in_ok-opens.opens.items) c.sixteen-key.new.self c.in_ok-handed.handed.items c.in_ok-kept.kept.items c.in_ok-accounts.accounts.began) (lines_are b)
-          ∙ ap (λ (xs : List (ShardView ShardState Entry)). desk (empty_book ∷ []) (map line_of config.statics) xs c.sixteen-key.new.self c.in_ok-handed.handed.items c.in_ok-kept.kept.items c.in_ok-accounts.accounts.began) shards
-          ∙ ap (λ (x : Drawn). desk (empty_book ∷ []) (map line_of config.statics) opens x c.in_ok-handed.handed.items c.in_ok-kept.kept.items c.in_ok-accounts.accounts.began) (draws_are b)
-          ∙ ap (λ (ls : List (List ℕ)). desk (empty_book ∷ []) (map line_of config.statics) opens first ls c.in_ok-kept.kept.items c.in_ok-accounts.accounts.began) c.in_ok-handed.ensures
-          ∙ ap (λ (is : List Item). desk (empty_book ∷ []) (map line_of config.statics) opens first (map (λ n. none_handed) (range_with_len 0 config.shards)) is c.in_ok-accounts.accounts.began) c.in_ok-kept.ensures.0
-          ∙ ap (λ (n : ℕ). desk (empty_book ∷ []) (map line_of config.statics) opens first (map (λ n. none_handed) (range_with_len 0 config.shards)) [] n) accounts.booked.began;
+          ap (λ (bs : List Book). desk bs c.in_ok-accounts.accounts.lines (map rested c.in_ok-opens.opens.items) c.sixteen-key.new.self c.in_ok-handed.handed.items c.in_ok-kept.kept.items) (tallies_are b)
+          ∙ ap (λ (ls : List Line). desk (empty_book ∷ []) ls (map rested c.in_ok-opens.opens.items) c.sixteen-key.new.self c.in_ok-handed.handed.items c.in_ok-kept.kept.items) (lines_are b)
+          ∙ ap (λ (xs : List (ShardView ShardState Entry)). desk (empty_book ∷ []) (map line_of config.statics) xs c.sixteen-key.new.self c.in_ok-handed.handed.items c.in_ok-kept.kept.items) shards
+          ∙ ap (λ (x : Drawn). desk (empty_book ∷ []) (map line_of config.statics) opens x c.in_ok-handed.handed.items c.in_ok-kept.kept.items) (draws_are b)
+          ∙ ap (λ (ls : List (List ℕ)). desk (empty_book ∷ []) (map line_of config.statics) opens first ls c.in_ok-kept.kept.items) c.in_ok-handed.ensures
+          ∙ ap (λ (is : List Item). desk (empty_book ∷ []) (map line_of config.statics) opens first (map (λ n. none_handed) (range_with_len 0 config.shards)) is) c.in_ok-kept.ensures.0;
     }
 
 pub shards-requires-clause-circuits : goal.shards-requires-clause-circuits
@@ -215,6 +227,14 @@ accounts-requires-clause-apart c =
     subst (λ (vs : List (ShardView ShardState Entry)). AllPairs (λ (j k : Key). same j.term k.term ≡ false) (keys_in vs)) (sym (there b))
     (terms_apart c.in_ok-rules.rules c.args.config.statics c.args.now (served_by b) (omega (arith, ap (λ (r : Rules). r.shards) c.in_ok-rules.ensures, c.requires.rules.few_shards)))
 
+pub accounts-requires-clause-terms : goal.accounts-requires-clause-terms
+accounts-requires-clause-terms c =
+    let b = (goal.at.accounts-requires-clause-terms c).After-as_slice-2 in
+    let made = c.in_ok-rules.rules in
+    let low = ap (λ (r : Rules). r.shards) c.in_ok-rules.ensures in
+    subst (λ (vs : List (ShardView ShardState Entry)). All (λ v. AreTenures c.args.now v.state.slots) vs) (sym (there b))
+    (fresh_all made (of_shard c.args.config.statics) c.args.now (λ v. AreTenures c.args.now v.state.slots) made.shards (λ n lt. (opened_keeps made c.args.config.statics c.args.now (served_by b) n (omega (arith, lt, low, c.requires.rules.few_shards))).tenures))
+
 pub pool-requires-clause-inside : goal.pool-requires-clause-inside
 pool-requires-clause-inside c k d lt = (c.requires.rules.sharded k d lt).shard
 
@@ -228,3 +248,6 @@ shards-requires-clause-offers c =
       offers_count c.args.config.name.items c.args.config.services.items c.sixteen-key.result 1 c.as_slice-access.result.now c.in_ok-offers.offers.items c.in_ok-offers.ensures,
       ap (λ (ps : List AccessPort). length ps) c.as_slice-access.ensures,
     )
+
+pub shards-requires-clause-few_pools : goal.shards-requires-clause-few_pools
+shards-requires-clause-few_pools c = omega (arith, ap (λ (r : Rules). length r.pools) c.in_ok-rules.ensures, length-map c.args.config.pools (λ (p : NamedRange). p.range), c.requires.pools.few)
