@@ -69,7 +69,7 @@ held_one true n e = refl
 held_one false n e = refl
 
 -- an address is held where the table has it
-held_in : (t : Table) (a : ℕ) → list_any (λ (i : Ip4). eqb i.0 a) (map (λ (e : ℕ × ℕ). let i : Ip4 = record { 0 = e.0 } in i) t) ≡ is_some (entry t a)
+pub held_in : (t : Table) (a : ℕ) → list_any (λ (i : Ip4). eqb i.0 a) (map (λ (e : ℕ × ℕ). let i : Ip4 = record { 0 = e.0 } in i) t) ≡ is_some (entry t a)
 held_in [] a = refl
 held_in (e ∷ t) a = ap (λ (b : Bool). eqb e.0 a || b) (held_in t a) ∙ held_one (eqb e.0 a) e.1 (entry t a)
 

@@ -355,6 +355,7 @@ pub record RoundHeld (r : Rules) (pool pool' : PlainView) (accounts accounts' : 
   pub mid : Accounts
   pub ends : BooksStops (terms_in (handled_states shards round.shards)) named.moment named.wall (stops_of round) accounts mid
   pub begins : BooksStarts (news_in (handled_states shards round.shards)) named.moment named.wall (starts_of round) mid accounts'
+  pub allowed : map (λ v. v.allowance) round.shards ≡ map (λ v. v.allowance) shards
   pub tallies_are : round.tallies ≡ tally' ∷ []
   pub drops_are : drops' ≡ plus drops (drops_in (items ∷ []) round)
   pub told : ExtendsPlant old new (sends_stretch (all_sends round.shards))
