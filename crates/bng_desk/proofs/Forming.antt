@@ -3,7 +3,7 @@ use Rattle.std.proofs.Common.{◌≡◌, ◌⊎◌, ⊎_elim, inl, inr, ℕ, zer
 use Rattle.std.specs.Prelude.{option_and_then, count_by, sum_by}
 use Rattle.std.specs.List.{All, AllPairs, Contains}
 use Rattle.std.proofs.lemmas.Bool.{cases_Bool}
-use Rattle.std.proofs.lemmas.List.Elements.{All-cons, All-head, All-tail}
+use Rattle.std.proofs.lemmas.List.Elements.{All-cons, All-head, All-nil, All-tail}
 use Rattle.std.proofs.lemmas.List.Sums.{sum_by-append, sum_by-cons, sum_by-le-sum_by}
 use Rattle.bng_acct.specs.declared.facts.Moment.{Moment}
 use Rattle.bng_acct.specs.declared.facts.StatusType.{StatusType}
@@ -241,6 +241,16 @@ settling_started terms front back k facts at n b b' f term s =
           ⊎_elim (λ (live : is_live (of_term j.term b.spool.held) ≡ true). inl (subst (λ (x : Option Held). is_live x ≡ true) same_held live))
           (λ (new : (is_unknown b j ≡ true) × Contains (front ++ k ∷ back) j). inr (subst (λ (x : Option Held). not (is_some x) ≡ true) same_held new.0, contains_without j k other front back new.1)) known
     ]
+
+-- some of those that began, with no term
+pub settling_part : (terms here back : List Key) (b : BillingState) → AreSettling terms (here ++ back) b → AreSettling [] here b
+settling_part terms here back b s = record {
+  known = All-nil (IsKnown here b);
+  apart = pairs_left AreApart [] terms s.apart;
+  unstarted = all_left (HasNoStart b) here back s.unstarted;
+  apart_began = pairs_left AreApart here back s.apart_began;
+  room = omega (arith, s.room, sum_by-append (λ (k : Key). one_if (is_unknown b k)) here back);
+}
 
 -- once each Start was formed, all that are there are live
 pub all_billed : (terms : List Key) (b : BillingState) → AreSettling terms [] b → AreBilled terms b

@@ -42,7 +42,7 @@ use Rattle.bng_desk.proofs.Parts.{stands_at}
 use Rattle.bng_desk.proofs.Readying.{Shards}
 use Rattle.bng_desk.proofs.Returning.{HoldsOwn, all_hold, order_set, others_hold, returned_more, returned_none, returned_one}
 use Rattle.bng_desk.proofs.ShardKeys.{keys_set, keys_split}
-use Rattle.bng_desk.proofs.TermsLeft.{all_stay, it_was, its_classes, keys_are, keys_there, keys_were, tenures_left, tenures_reaped}
+use Rattle.bng_desk.proofs.TermsLeft.{all_stay, around, keys_are, keys_there, keys_were, outside, tenures_left, tenures_reaped}
 use Rattle.bng_desk.proofs.Zips.{zip3_push, zip3_at, zip3_length}
 
 -- One shard -------------------------------------------------------------------------------------------------------------
@@ -130,13 +130,6 @@ pub takes_in : (w w' : ShardView ShardState Entry) (s : Stop) (ls : List Line) �
 takes_in w w' s ls one within k e lt input =
     let l = get_or ls k e in
     omega (arith, within k e lt input, one.rows Octets (has_lease l.address) input, sum_by-cons (kept_in input l) w [])
-
--- the keys before the one that leaves, that one, and those after it
-around : (front before after back : List Key) (k : Key) → front ++ ((before ++ k ∷ after) ++ back) ≡ (front ++ before) ++ k ∷ (after ++ back)
-around front before after back k = ap (λ (ks : List Key). front ++ ks) (append_assoc before (k ∷ after) back) ∙ sym (append_assoc front before (k ∷ (after ++ back)))
-
-outside : (front before after back : List Key) → (front ++ before) ++ (after ++ back) ≡ front ++ ((before ++ after) ++ back)
-outside front before after back = append_assoc front before (after ++ back) ∙ ap (λ (ks : List Key). front ++ ks) (sym (append_assoc before after back))
 
 -- One has left, of which the records say this ----------------------------------------------------------------------------
 

@@ -1,5 +1,5 @@
 -- The terms of a shard once one of them has left, or is told to have begun.
-use Rattle.std.proofs.Common.{◌≡◌, ℕ, Bool, true, false, not, cond, List, [], ◌∷◌, ◌++◌, map, filter, get_or, refl, sym, ap, subst, ◌∙◌}
+use Rattle.std.proofs.Common.{◌≡◌, ℕ, Bool, true, false, not, cond, List, [], ◌∷◌, ◌++◌, map, filter, get_or, refl, sym, ap, subst, ◌∙◌, append_assoc}
 use Rattle.std.specs.List.{All, AllPairs}
 use Rattle.std.proofs.lemmas.List.Elements.{All-head, All-tail}
 use Rattle.bng_acct.specs.Request.{AreClasses}
@@ -29,7 +29,7 @@ pub keys_are : (ts ts' : List Tenure) (t : Tenure) → (l : LeavesTerms ts ts' t
 keys_are ts ts' t l = ap keys_there l.are ∙ their_keys l.before l.after
 
 -- the same of the terms themselves
-names_of : (ts us : List Tenure) → map key_in (ts ++ us) ≡ map key_in ts ++ map key_in us
+pub names_of : (ts us : List Tenure) → map key_in (ts ++ us) ≡ map key_in ts ++ map key_in us
 names_of [] us = refl
 names_of (t ∷ ts) us = ap (λ (ks : List Key). key_in t ∷ ks) (names_of ts us)
 
@@ -39,6 +39,13 @@ names_were ts ts' t k l is =
 
 pub names_are : (ts ts' : List Tenure) (t : Tenure) → (l : LeavesTerms ts ts' t) → map key_in ts' ≡ map key_in l.before ++ map key_in l.after
 names_are ts ts' t l = ap (map key_in) l.are ∙ names_of l.before l.after
+
+-- the keys before the one that leaves, that one, and those after it
+pub around : (front before after back : List Key) (k : Key) → front ++ ((before ++ k ∷ after) ++ back) ≡ (front ++ before) ++ k ∷ (after ++ back)
+around front before after back k = ap (λ (ks : List Key). front ++ ks) (append_assoc before (k ∷ after) back) ∙ sym (append_assoc front before (k ∷ (after ++ back)))
+
+pub outside : (front before after back : List Key) → (front ++ before) ++ (after ++ back) ≡ front ++ ((before ++ after) ++ back)
+outside front before after back = append_assoc front before (after ++ back) ∙ ap (λ (ks : List Key). front ++ ks) (sym (append_assoc before after back))
 
 pub all_left : (P : Tenure → Type 0) (ts ts' : List Tenure) (t : Tenure) → LeavesTerms ts ts' t → All P ts → All P ts'
 all_left P ts ts' t l all = subst (λ (us : List Tenure). All P us) (sym l.are) (all_without P l.before l.after t (subst (λ (us : List Tenure). All P us) l.were all))

@@ -1,4 +1,4 @@
-use Rattle.std.proofs.Common.{◌<◌, length, map, drop, take, arith}
+use Rattle.std.proofs.Common.{◌+◌, ◌<◌, length, map, drop, take, arith}
 use Rattle.bng_base.specs.declared.item.Entry.{Entry}
 use Rattle.bng_engine.specs.Views.{ShardView}
 use Rattle.bng_shard.specs.Protocol.{ShardState, key_in}
