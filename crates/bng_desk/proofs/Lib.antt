@@ -15,6 +15,7 @@ pub mod Parts
 pub mod Lines
 pub mod Billed
 pub mod Booking
+pub mod Begun
 pub mod Forming
 pub mod TermsLeft
 pub mod Begun
