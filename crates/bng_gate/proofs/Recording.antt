@@ -70,9 +70,9 @@ round_said shards moment wall round formed is =
       starts = is.starts;
       are = is.are;
       are_stops = subst (λ (ss : List Stop). AllZip SaysStop ss is.stops) (sym (flat_map-map (λ (t : ShardTurn Handled). t.settlement.stops) turn_in round.shards))
-      (each_said (IsStopOf (terms_in states) moment wall) SaysStop (stop_said (terms_in states) moment wall) (stops_of round) is.stops is.are_stops);
+          (each_said (IsStopOf (terms_in states) moment wall) SaysStop (stop_said (terms_in states) moment wall) (stops_of round) is.stops is.are_stops);
       are_starts = subst (λ (ks : List Key). AllZip SaysStart ks is.starts) (sym (flat_map-map (λ (t : ShardTurn Handled). t.settlement.starts) turn_in round.shards))
-      (each_said (IsStartOf (news_in states) moment wall) SaysStart (start_said (news_in states) moment wall) (starts_of round) is.starts is.are_starts);
+          (each_said (IsStartOf (news_in states) moment wall) SaysStart (start_said (news_in states) moment wall) (starts_of round) is.starts is.are_starts);
     }
 
 -- before the records of these rounds, those of one more
