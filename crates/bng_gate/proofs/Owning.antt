@@ -17,7 +17,8 @@ use Rattle.bng_shard.specs.Reader.{IsWhole}
 use Rattle.bng_shard.proofs.StepLaws.{step_whole}
 use Rattle.bng_gate.specs.Headline.{HaveTerms}
 use Rattle.bng_gate.proofs.Keys.{IsOurs, all_ours}
-use Rattle.bng_gate.proofs.Lists.{all_left, all_right, contained}
+use Rattle.bng_gate.proofs.Lists.{all_left, all_right}
+use Rattle.bng_gate.proofs.Replying.{contained}
 
 -- What is whole --------------------------------------------------------------------------------------------------------
 
@@ -48,8 +49,7 @@ module _ (P : OutRecord → Type 0) where
   round_sent [] [] [] next all = (tt, tt)
   round_sent (h ∷ hs) (t ∷ ts) (h' ∷ hs') next all =
       let here : AllByRecursion P (h.sends ++ t.settlement.sends) = subst (AllByRecursion P) next.0.settlement.sends all.0 in
-      let rest = round_sent hs ts hs' next.1 all.1 in
-      (
+      let rest = round_sent hs ts hs' next.1 all.1 in (
         (all_left P h.sends t.settlement.sends here, rest.0),
         all_append P t.settlement.sends (sends_in ts) (all_right P h.sends t.settlement.sends here) rest.1,
       )
