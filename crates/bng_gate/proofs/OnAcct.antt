@@ -28,7 +28,7 @@ use Rattle.bng_gate.specs.Granted.{Stage, stage_in, end_stage_in, stages_of}
 use Rattle.bng_gate.specs.Rounds.{end_round_in, is_acct, on_acct, plant_of, round_in, rounds_in, rounds_of}
 use Rattle.bng_gate.specs.Serving.{Made, MadeEnd, Late, Ends, Waits, late_stretch, run_stretch, ending_stretch}
 use Rattle.bng_gate.proofs.Keys.{IsOurs}
-use Rattle.bng_gate.proofs.Stopping.{all_left, all_right}
+use Rattle.bng_gate.proofs.Lists.{all_left, all_right}
 use Rattle.bng_gate.proofs.Telling.{end_out, grace_out, requested, sends_are, sends_in, turn_out}
 
 abbrev pub IsElse : OutRecord → Type 0
