@@ -31,6 +31,7 @@ pub mod Causes
 pub mod Lists
 pub mod Follows
 pub mod Going
+pub mod Columns
 pub mod Living
 pub mod Pooling
 pub mod Openings

@@ -9,7 +9,6 @@ use Rattle.std.proofs.lemmas.List.Kept.{AllPairs-filter}
 use Rattle.std.proofs.lemmas.List.Sums.{sum_by-cons}
 use Rattle.std.proofs.lemmas.Nat.{div-add-mod'}
 use Rattle.bng_base.specs.declared.address.Ip4.{Ip4}
-use Rattle.bng_base.specs.declared.address.SessionNo.{SessionNo}
 use Rattle.bng_base.specs.declared.settings.Static.{Static}
 use Rattle.bng_config.specs.declared.config.Config.{Config}
 use Rattle.bng_config.specs.Rules.{KeepsRules, IsSessionOf}
@@ -38,20 +37,11 @@ use Rattle.bng_gate.proofs.Lists.{Apart, apart_of, IsWithin, sum_parts}
 
 -- What a configuration keeps, by recursion ------------------------------------------------------------------------------
 
-same_session : (x y : SessionNo) → x.0 ≡ y.0 → x ≡ y
-same_session x y e = let make : ℕ → SessionNo = λ n. record { 0 = n } in ap make e
-
 same_address : (x y : Ip4) → x.0 ≡ y.0 → x ≡ y
 same_address x y e = let make : ℕ → Ip4 = λ n. record { 0 = n } in ap make e
 
-abbrev pub session_in : Static → ℕ
-session_in c = c.session.0
-
 abbrev pub address_in : Static → ℕ
 address_in c = c.address.0
-
-pub sessions_apart : (config : Config) → KeepsRules config → Apart session_in config.statics
-sessions_apart config rules = apart_of session_in config.statics (λ i j d lt within e. rules.sessions i j d lt within (same_session _ _ e))
 
 pub addresses_apart : (config : Config) → KeepsRules config → Apart address_in config.statics
 addresses_apart config rules = apart_of address_in config.statics (λ i j d lt within e. rules.addresses i j d lt within (same_address _ _ e))

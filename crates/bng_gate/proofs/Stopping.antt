@@ -1,280 +1,332 @@
--- Each term of a circuit is live until it has its Stop, and what is sent is theirs.
-use Rattle.std.proofs.Common.{◌≡◌, inl, inr, ℕ, ◌+◌, Bool, true, false, not, cond, List, [], ◌∷◌, ◌++◌, map, filter, IfSome, eqb, refl, sym, ap, subst, ◌∙◌, arith}
-use Rattle.std.specs.List.{AllByRecursion, AllZip, sum_by, count_by}
-use Rattle.std.proofs.lemmas.Bool.{eqb-true, eq-eqb, false≢true, true≢false}
-use Rattle.std.proofs.lemmas.List.Filters.{sum_by-filter_both}
+-- The terms of a run: those of the circuits and those of the Starts, each of which has its Stop or is live. And why the terms of circuits
+-- ended.
+use Rattle.std.proofs.Common.{◌≡◌, inl, inr, ℕ, zero, suc, ◌+◌, ◌/◌, ◌<◌, ◌≤◌, Bool, true, false, not, ◌&&◌, cond, List, [], ◌∷◌, ◌++◌, map, filter, length, Option, Some, eqb, refl, sym, ap, subst, ◌∙◌, arith, append-nil, zero-add}
+use Rattle.std.specs.Prelude.{slice_get}
+use Rattle.std.specs.List.{All, AllByRecursion, AllZip, Contains, sum_by, count_by, range_with_len}
+use Rattle.std.proofs.lemmas.Bool.{and_parts, eqb-true, eq-eqb}
+use Rattle.std.proofs.lemmas.List.Concat.{flat_map-cons}
+use Rattle.std.proofs.lemmas.List.Elements.{All-contains, All-from_recursion}
 use Rattle.std.proofs.lemmas.List.Kept.{AllPairs-filter}
 use Rattle.std.proofs.lemmas.List.Sums.{sum_by-cons, sum_by-append}
-use Rattle.bng_base.specs.declared.item.OutRecord.{OutRecord}
+use Rattle.std.proofs.lemmas.Option.{none-some, same_Some}
+use Rattle.bng_base.specs.declared.settings.Static.{Static}
+use Rattle.bng_base.specs.Chain.{Chain}
+use Rattle.bng_base.specs.Listed.{Same}
 use Rattle.bng_config.specs.declared.config.Config.{Config}
 use Rattle.bng_config.specs.Rules.{KeepsRules}
-use Rattle.bng_engine.specs.Accounted.{nothing_yet}
-use Rattle.bng_engine.specs.Histories.{History, ShardHistory, ShardTurn, NextInShard, Run, sends_in, stops_in}
-use Rattle.bng_engine.specs.Journals.{after, outs_of, unsent, AreSteps}
-use Rattle.bng_engine.specs.Laws.{sends_of, stops_of}
-use Rattle.bng_engine.specs.Lists.{one_if, Zip3}
-use Rattle.bng_engine.specs.Protocol.{IsOwned}
-use Rattle.bng_engine.specs.Terms.{Key, Stop, Term, is_ended, is_live, keys, key_in, stopped_keys}
+use Rattle.bng_engine.specs.Accounted.{nothing_yet, opening}
+use Rattle.bng_engine.specs.Histories.{History, ShardHistory, ShardTurn, NextInShard, NextRound, Run, stops_in}
+use Rattle.bng_engine.specs.Laws.{stops_of}
+use Rattle.bng_engine.specs.Lists.{AnyOf, one_if}
+use Rattle.bng_engine.specs.Settlements.{OneEach}
+use Rattle.bng_engine.specs.Terms.{Key, Stop, Term, is_ended, is_live, keys, same_key, stopped_keys}
+use Rattle.bng_engine.specs.Views.{DeskView, ShardView}
+use Rattle.bng_engine.proofs.Accounts.{parted}
 use Rattle.bng_engine.proofs.Adding.{sum_map}
-use Rattle.bng_engine.proofs.Everywhere.{all_weaker, all_append, all_mapped}
-use Rattle.bng_engine.proofs.Journals.{run_outs, run_owned}
+use Rattle.bng_engine.proofs.Deciding.{key_itself, key_same}
+use Rattle.bng_engine.proofs.Everywhere.{all_append, all_weaker, any_all}
 use Rattle.bng_engine.proofs.Rounds.{in_shards}
+use Rattle.bng_slots.specs.Sessions.{IsNumberOf}
 use Rattle.bng_shard.specs.declared.rules.Rules.{Rules}
+use Rattle.bng_shard.specs.Lasting.{AreHoused}
 use Rattle.bng_shard.specs.Link.{nas_request}
-use Rattle.bng_shard.specs.Opening.{in_order}
-use Rattle.bng_shard.specs.Protocol.{HasNoLogins, ShardState, StaysOrEnds, Handled, opened, pppoe, terms_of}
-use Rattle.bng_shard.specs.Reader.{IsWhole}
-use Rattle.bng_shard.proofs.InOrder.{opened_terms}
-use Rattle.bng_shard.proofs.Poolless.{logins_kept, logins_opened, logins_settled, terms_end, terms_stay}
-use Rattle.bng_shard.proofs.StepLaws.{pppoe_laws, step_whole}
-use Rattle.bng_desk.specs.Opening.{shard_of, statics_of}
+use Rattle.bng_shard.specs.Opening.{in_order, tenures_after}
+use Rattle.bng_shard.specs.Protocol.{ShardState, Handled, opened, pppoe, term_in, terms_of}
+use Rattle.bng_shard.proofs.InOrder.{all_in_order, opened_terms}
+use Rattle.bng_shard.proofs.OpenedKeys.{of_shard}
+use Rattle.bng_shard.proofs.StepLaws.{pppoe_laws}
+use Rattle.bng_desk.specs.Opening.{opened_shards, shard_of, statics_of}
 use Rattle.bng_desk.specs.Round.{views_of}
-use Rattle.bng_gate.specs.Headline.{HaveTerms}
-use Rattle.bng_gate.proofs.Keys.{IsOurs, keys_at, owned_known, all_ours, same_known}
-use Rattle.bng_gate.proofs.Living.{HaveCircuits, opened_have, settled_have, step_have}
-use Rattle.bng_gate.proofs.Openings.{IsLive, all_live, shard_apart}
+use Rattle.bng_gate.specs.Headline.{HaveTerms, IsOfCircuit, starts_at, starts_in, terms_of_run}
+use Rattle.bng_gate.proofs.Columns.{GoesAt, all_flat, at_second, came, column, run_length, zip_by_place}
+use Rattle.bng_gate.proofs.Keys.{keys_at}
+use Rattle.bng_gate.proofs.Lists.{all_by_place}
+use Rattle.bng_gate.proofs.Living.{EndsWell, Keeps, end_well, opened_keeps, run_keeps, settled_keeps}
+use Rattle.bng_gate.proofs.Openings.{IsLive, all_live, as_many, shard_own}
 
--- Where there are no pools, no session that discovery made has a term, and each live term is that of a circuit that stands.
-pub record IsPoolless (s : ShardState) : Type 0 where
-  pub pools : s.rules.pools ≡ []
-  pub logins : HasNoLogins s.slots
-  pub circuits : HaveCircuits s.slots
-
--- each of these terms has its Stop, or it is live, and those that are there are live
-pub record IsRight (h : ShardHistory ShardState) (ks : List Key) : Type 0 where
-  pub terms : HaveTerms h ks
+-- all terms that are there are live, and none outlasts its session
+pub record IsHoused (h : ShardHistory ShardState) : Type 0 where
   pub live : AllByRecursion IsLive (terms_of h.state)
-  pub poolless : IsPoolless h.state
+  pub housed : AreHoused h.state.slots
 
--- a Stop says that the gateway stopped, and is of a key of which this holds
-pub record IsOurStop (Q : Key → Type 0) (s : Stop) : Type 0 where
-  pub cause : s.cause ≡ nas_request
-  pub known : Q s.key
+-- Starts and Stops -----------------------------------------------------------------------------------------------------------
 
-pub opened_right : (r : Rules) → r.pools ≡ [] → (now : ℕ) (config : Config) → KeepsRules config → (ns : List ℕ) → AllZip IsRight (map nothing_yet (views_of (map (λ n. opened n r (statics_of config n) now) ns))) (map (keys_at config) ns)
-opened_right r pools now config rules [] = tt
-opened_right r pools now config rules (n ∷ ns) =
-    let circuits = statics_of config n in
-    let apart = shard_apart config rules n in (
-      record {
-        terms = λ f. ap (λ (ts : List Term). sum_by f (keys ts)) (opened_terms r n circuits now);
-        live = all_live now 0 (in_order n circuits);
-        poolless = record { pools = pools; logins = logins_opened n circuits now (AllPairs-filter (λ a b. a.session ≡ b.session → ⊥) (λ c. eqb (shard_of c) n) config.statics rules.sessions); circuits = opened_have n circuits now apart };
-      },
-      opened_right r pools now config rules ns,
+-- the terms of a shard so far: those that have a Stop, and those that are there
+abbrev pub terms_so_far : ShardHistory ShardState → List Key
+terms_so_far h = stopped_keys h.stops ++ keys (terms_of h.state)
+
+-- a round adds those of its Starts
+next_terms : (h : ShardHistory ShardState) (t : ShardTurn Handled) (h' : ShardHistory ShardState) → NextInShard pppoe h t h' → Same (terms_so_far h') (terms_so_far h ++ t.settlement.starts)
+next_terms h t h' n f =
+    let now = keys (terms_of h'.state) in
+    let left : Same (terms_of h'.state) (filter is_live (terms_of n.mid)) = λ g. ap (λ (s : ShardState). sum_by g (terms_of s)) n.settlement.state ∙ pppoe_laws.settles n.mid g in
+    omega (
+      arith,
+      sum_by-append f (stopped_keys h.stops) (keys (terms_of h.state)),
+      sum_by-append f (terms_so_far h) t.settlement.starts,
+      sum_by-append f (stopped_keys h'.stops) now,
+      sum_map (λ (s : Stop). s.key) f h.stops,
+      sum_map (λ (s : Stop). s.key) f h'.stops,
+      sum_map (λ (s : Stop). s.key) f t.settlement.stops,
+      ap (sum_by (λ (s : Stop). f s.key)) n.settlement.all_stops,
+      sum_by-append (λ (s : Stop). f s.key) h.stops t.settlement.stops,
+      parted t.settlement.stops (terms_of n.mid) (terms_of h'.state) n.settlement.stops.each left f,
+      sum_by-append f (stopped_keys t.settlement.stops) now,
+      n.settlement.starts.each f,
+      sum_by-append f (keys (terms_of h.state)) t.settlement.starts,
     )
 
--- Without pools --------------------------------------------------------------------------------------------------------
+-- and so do rounds
+rounds_terms : (n : ℕ) (h h' : ShardHistory ShardState) (rounds : List (List (ShardTurn Handled))) → Chain (GoesAt n) h rounds h' → Same (terms_so_far h') (terms_so_far h ++ starts_at n rounds)
+rounds_terms n h h' [] run f = ap (λ (x : ShardHistory ShardState). sum_by f (terms_so_far x)) run ∙ ap (sum_by f) (sym (append-nil (terms_so_far h)))
+rounds_terms n h h' (ts ∷ rounds) run f =
+    let here = run.1 in
+    let starts = here.turn.settlement.starts in
+    omega (
+      arith,
+      next_terms h here.turn run.0 here.next f,
+      rounds_terms n run.0 h' rounds run.2 f,
+      sum_by-append f (terms_so_far h) starts,
+      sum_by-append f (terms_so_far run.0) (starts_at n rounds),
+      sum_by-append f (terms_so_far h) (starts_at n (ts ∷ rounds)),
+      ap (sum_by f) (flat_map-cons (λ (us : List (ShardTurn Handled)). starts_in (slice_get us n)) ts rounds),
+      sum_by-append f (starts_in (slice_get ts n)) (starts_at n rounds),
+      ap (λ (o : Option (ShardTurn Handled)). sum_by f (starts_in o)) here.at,
+    )
 
-step_poolless : (s : ShardState) (e : Handled) → pppoe.is_step s e → IsPoolless s → IsPoolless (pppoe.next s e)
-step_poolless s e is h = record {
-  pools = h.pools;
-  logins = logins_kept s.rules s.slots e.limited e.deed is.step h.pools h.logins;
-  circuits = step_have s.rules s.slots e.limited e.deed is.step (terms_stay s.rules s.slots e.limited e.deed is.step h.pools h.logins) h.circuits;
-}
-
-run_poolless : (s : ShardState) (es : List Handled) → AreSteps pppoe s es → IsPoolless s → IsPoolless (after pppoe s es)
-run_poolless s [] is h = h
-run_poolless s (e ∷ es) is h = run_poolless (pppoe.next s e) es is.1 (step_poolless s e is.0 h)
-
-settled_poolless : (s : ShardState) → IsPoolless s → IsPoolless (pppoe.settled s)
-settled_poolless s h = record { pools = h.pools; logins = logins_settled s.slots h.logins; circuits = settled_have s.slots h.circuits }
-
--- each term is as it was, or has ended
-one_stays : (s : ShardState) (e : Handled) → pppoe.is_step s e → IsPoolless s → AllZip StaysOrEnds (terms_of s) (terms_of (pppoe.next s e))
-one_stays s e is h = terms_end s.rules s.slots e.limited e.deed is.step h.pools h.logins
-
--- Parts of lists -------------------------------------------------------------------------------------------------------
-
-pub all_left : {X : Type 0} (P : X → Type 0) (xs ys : List X) → AllByRecursion P (xs ++ ys) → AllByRecursion P xs
-all_left P [] ys h = tt
-all_left P (x ∷ xs) ys h = (h.0, all_left P xs ys h.1)
-
-pub all_right : {X : Type 0} (P : X → Type 0) (xs ys : List X) → AllByRecursion P (xs ++ ys) → AllByRecursion P ys
-all_right P [] ys h = h
-all_right P (x ∷ xs) ys h = all_right P xs ys h.1
-
--- where none is counted, none passes
-uncounted : (b : Bool) (n : ℕ) → one_if b + n ≡ 0 → (b ≡ false) × (n ≡ 0)
-uncounted true n e = absurd (omega (arith, e))
-uncounted false n e = (refl, omega (arith, e))
-
-none_pass : {X : Type 0} (test : X → Bool) (xs : List X) → count_by test xs ≡ 0 → AllByRecursion (λ x. test x ≡ false) xs
-none_pass test [] e = tt
-none_pass {X} test (x ∷ xs) e =
-    let parts = uncounted (test x) (count_by test xs) (sym (sum_by-cons (λ (y : X). one_if (test y)) x xs) ∙ e) in
-    (parts.0, none_pass test xs parts.1)
+-- Live terms ------------------------------------------------------------------------------------------------------------------
 
 live_where : (b : Bool) (t : Term) (ts : List Term) → t.ended ≡ b → count_by is_ended ts ≡ 0 → count_by is_ended (cond (not b) (t ∷ ts) ts) ≡ 0
 live_where true t ts e rest = rest
-live_where false t ts e rest = omega (arith, sum_by-cons (λ (x : Term). one_if x.ended) t ts, ap one_if e, rest)
+live_where false t ts e rest = omega (arith, sum_by-cons (λ (u : Term). one_if u.ended) t ts, ap one_if e, rest)
 
 -- of those that are live none has ended
 live_count : (ts : List Term) → count_by is_ended (filter is_live ts) ≡ 0
 live_count [] = refl
 live_count (t ∷ ts) = live_where t.ended t (filter is_live ts) refl (live_count ts)
 
--- Causes ---------------------------------------------------------------------------------------------------------------
+uncounted : (b : Bool) (n : ℕ) → one_if b + n ≡ 0 → (b ≡ false) × (n ≡ 0)
+uncounted true n e = absurd (omega (arith, e))
+uncounted false n e = (refl, omega (arith, e))
 
--- the cause of a term that has ended is the gateway's own stop
-abbrev EndsByStop : Term → Type 0
-EndsByStop t = t.ended ≡ true → t.cause ≡ nas_request
+none_ended : (ts : List Term) → count_by is_ended ts ≡ 0 → AllByRecursion IsLive ts
+none_ended [] e = tt
+none_ended (t ∷ ts) e =
+    let parts = uncounted t.ended (count_by is_ended ts) (sym (sum_by-cons (λ (u : Term). one_if u.ended) t ts) ∙ e) in
+    (parts.0, none_ended ts parts.1)
 
-by_stop : (t u : Term) → StaysOrEnds t u → EndsByStop t → EndsByStop u
-by_stop t u (inl e) h = subst EndsByStop (sym e) h
-by_stop t u (inr (live, e)) h = λ over. ap (λ (w : Term). w.cause) e
+-- once a round is settled, all terms that are there are live
+settled_live : (s : ShardState) → AllByRecursion IsLive (terms_of (pppoe.settled s))
+settled_live s = none_ended (terms_of (pppoe.settled s)) (pppoe_laws.settles s (λ (t : Term). one_if t.ended) ∙ live_count (terms_of s))
 
-all_by_stop : (ts us : List Term) → AllZip StaysOrEnds ts us → AllByRecursion EndsByStop ts → AllByRecursion EndsByStop us
-all_by_stop [] [] h all = tt
-all_by_stop [] (u ∷ us) h all = absurd h
-all_by_stop (t ∷ ts) [] h all = absurd h
-all_by_stop (t ∷ ts) (u ∷ us) h all = (by_stop t u h.0 all.0, all_by_stop ts us h.1 all.1)
+-- The Stops of a round -------------------------------------------------------------------------------------------------------
 
-run_caused : (s : ShardState) (es : List Handled) → AreSteps pppoe s es → IsPoolless s → AllByRecursion EndsByStop (terms_of s) → AllByRecursion EndsByStop (terms_of (after pppoe s es))
-run_caused s [] is plain h = h
-run_caused s (e ∷ es) is plain h = run_caused (pppoe.next s e) es is.1 (step_poolless s e is.0 plain) (all_by_stop (terms_of s) (terms_of (pppoe.next s e)) (one_stays s e is.0 plain) h)
+-- a term that a Stop is of
+abbrev IsStopOf : Key → ℕ → Term → Type 0
+IsStopOf k c t = (t.key ≡ k) × (t.cause ≡ c)
 
-abbrev other_cause : ℕ → ℕ
-other_cause c = one_if (not (eqb c nas_request))
+abbrev is_stop : Key → ℕ → Key → ℕ → Bool
+is_stop k c j d = same_key j k && eqb d c
 
-none_other : (t : Term) → (t.cause ≡ nas_request) → other_cause t.cause ≡ 0
-none_other t e = ap (λ (b : Bool). one_if (not b)) (eq-eqb t.cause nas_request e)
+stop_itself : (k : Key) (c : ℕ) → is_stop k c k c ≡ true
+stop_itself k c = both (same_key k k) (eqb c c) (key_itself k) (eq-eqb c c refl)
+  where
+    both : (a b : Bool) → a ≡ true → b ≡ true → (a && b) ≡ true
+    both true b e f = f
+    both false b e f = e
 
-ended_where : (b : Bool) (t : Term) (ts : List Term) → t.ended ≡ b → EndsByStop t → sum_by (λ x. other_cause x.cause) ts ≡ 0 → sum_by (λ x. other_cause x.cause) (cond b (t ∷ ts) ts) ≡ 0
-ended_where true t ts e h rest = omega (arith, sum_by-cons (λ (x : Term). other_cause x.cause) t ts, none_other t (h e), rest)
-ended_where false t ts e h rest = rest
+counted_at : (k : Key) (c : ℕ) (t : Term) (ts : List Term) (b : Bool) → is_stop k c t.key t.cause ≡ b → 1 ≤ one_if b + count_by (λ u. is_stop k c u.key u.cause) ts
+    → (1 ≤ count_by (λ u. is_stop k c u.key u.cause) ts → AnyOf (IsStopOf k c) ts) → AnyOf (IsStopOf k c) (t ∷ ts)
+counted_at k c t ts true e some rest =
+    let parts = and_parts (same_key t.key k) (eqb t.cause c) e in
+    inl (key_same t.key k parts.0, eqb-true t.cause c parts.1)
+counted_at k c t ts false e some rest = inr (rest (omega (arith, some)))
 
--- those that have ended have no other cause
-ended_count : (ts : List Term) → AllByRecursion EndsByStop ts → sum_by (λ t. other_cause t.cause) (filter is_ended ts) ≡ 0
-ended_count [] h = refl
-ended_count (t ∷ ts) h = ended_where t.ended t (filter is_ended ts) refl h.0 (ended_count ts h.1)
+counted : (k : Key) (c : ℕ) (ts : List Term) → 1 ≤ count_by (λ t. is_stop k c t.key t.cause) ts → AnyOf (IsStopOf k c) ts
+counted k c [] some = absurd (omega (arith, some))
+counted k c (t ∷ ts) some = counted_at k c t ts (is_stop k c t.key t.cause) refl (omega (arith, some, sum_by-cons (λ (u : Term). one_if (is_stop k c u.key u.cause)) t ts)) (counted k c ts)
 
-not_other : (c : ℕ) (b : Bool) → eqb c nas_request ≡ b → not b ≡ false → c ≡ nas_request
-not_other c true e f = eqb-true c nas_request e
-not_other c false e f = absurd (true≢false f)
+-- what a list of Stops counts of each of these
+abbrev CountIn : List Stop → Stop → Type 0
+CountIn all s = 1 ≤ count_by (λ (r : Stop). is_stop s.key s.cause r.key r.cause) all
 
-our_stops : (Q : Key → Type 0) (ss : List Stop) → AllByRecursion (λ s. not (eqb s.cause nas_request) ≡ false) ss → AllByRecursion (λ s. Q s.key) ss → AllByRecursion (IsOurStop Q) ss
-our_stops Q [] h i = tt
-our_stops Q (s ∷ ss) h i = (record { cause = not_other s.cause (eqb s.cause nas_request) refl h.0; known = i.0 }, our_stops Q ss h.1 i.1)
+count_each : (ss : List Stop) → AllByRecursion (CountIn ss) ss
+count_each [] = tt
+count_each (s ∷ ss) = (
+  omega (arith, sum_by-cons (λ (r : Stop). one_if (is_stop s.key s.cause r.key r.cause)) s ss, ap one_if (stop_itself s.key s.cause)),
+  all_weaker (CountIn ss) (CountIn (s ∷ ss)) (λ u some. omega (arith, some, sum_by-cons (λ (r : Stop). one_if (is_stop u.key u.cause r.key r.cause)) s ss)) ss (count_each ss),
+)
 
--- One shard ------------------------------------------------------------------------------------------------------------
+-- each is of a term that has ended
+stops_of_terms : (stops : List Stop) (terms : List Term) → OneEach stops terms → AllByRecursion (λ s. AnyOf (IsStopOf s.key s.cause) (filter is_ended terms)) stops
+stops_of_terms stops terms each =
+    all_weaker (CountIn stops) (λ s. AnyOf (IsStopOf s.key s.cause) (filter is_ended terms))
+    (λ s some. counted s.key s.cause (filter is_ended terms) (omega (arith, some, each (λ k c. one_if (is_stop s.key s.cause k c)))))
+    stops (count_each stops)
 
-same_key : (t u : Term) → StaysOrEnds t u → u.key ≡ t.key
-same_key t u (inl e) = ap (λ (w : Term). w.key) e
-same_key t u (inr (live, e)) = ap (λ (w : Term). w.key) e
+-- The terms of circuits ------------------------------------------------------------------------------------------------------
 
-same_keys : (ts us : List Term) → AllZip StaysOrEnds ts us → keys us ≡ keys ts
-same_keys [] [] h = refl
-same_keys [] (u ∷ us) h = absurd h
-same_keys (t ∷ ts) [] h = absurd h
-same_keys (t ∷ ts) (u ∷ us) h = ap (λ (k : Key). k ∷ keys us) (same_key t u h.0) ∙ ap (λ (ks : List Key). t.key ∷ ks) (same_keys ts us h.1)
+-- how many circuits a shard has
+abbrev pub circuits_in : Config → ℕ → ℕ
+circuits_in config n = length (statics_of config n)
 
--- a journal keeps the keys
-run_keys : (s : ShardState) (es : List Handled) → AreSteps pppoe s es → IsPoolless s → keys (terms_of (after pppoe s es)) ≡ keys (terms_of s)
-run_keys s [] is plain = refl
-run_keys s (e ∷ es) is plain = run_keys (pppoe.next s e) es is.1 (step_poolless s e is.0 plain) ∙ same_keys (terms_of s) (terms_of (pppoe.next s e)) (one_stays s e is.0 plain)
+-- a circuit's term has a session of its shard, and one of its shard's first numbers
+pub record IsNumbered (config : Config) (k : Key) (n : ℕ) : Type 0 where
+  pub session : k.term.session.0 / 1024 ≡ n
+  pub few : k.term.serial ≤ circuits_in config n
 
-module _ (h : ShardHistory ShardState) (t : ShardTurn Handled) (h' : ShardHistory ShardState) (n : NextInShard pppoe h t h') (ks : List Key) (right : IsRight h ks) where
-  abbrev mid : List Term
-  mid = terms_of n.mid
+numbered_from : (n j most : ℕ) (cs : List Static) → j + length cs ≤ most → AllByRecursion (λ c. IsNumberOf n c.session.0) cs → AllByRecursion (λ k. (k.term.session.0 / 1024 ≡ n) × (k.term.serial ≤ most)) (keys (map term_in (tenures_after 0 j cs)))
+numbered_from n j most [] few own = tt
+numbered_from n j most (c ∷ cs) few own = ((of_shard n c.session.0 own.0, omega (arith, few)), numbered_from n (j + 1) most cs (omega (arith, few)) own.1)
 
-  mid_keys : keys mid ≡ keys (terms_of h.state)
-  mid_keys = ap (λ (s : ShardState). keys (terms_of s)) n.round.state ∙ run_keys h.state t.round.journal n.round.steps right.poolless
+module _ (config : Config) (rules : KeepsRules config) where
+  keys_numbered : (n : ℕ) (k : Key) → Contains (keys_at config n) k → IsNumbered config k n
+  keys_numbered n k among =
+      let cs = statics_of config n in
+      let own = shard_own config rules n in
+      let Numbered : Key → Type 0 = λ j. (j.term.session.0 / 1024 ≡ n) × (j.term.serial ≤ length cs) in
+      let all : AllByRecursion Numbered (keys_at config n) =
+      numbered_from n 0 (length cs) (in_order n cs) (omega (arith, as_many n cs own)) (all_in_order (λ c. IsNumberOf n c.session.0) n cs own) in
+      let its = All-contains Numbered (keys_at config n) k (All-from_recursion Numbered (keys_at config n) all) among in
+      record { session = its.0; few = its.1 }
 
-  terms_next : HaveTerms h' ks
-  terms_next f =
-      omega (
-        arith,
-        right.terms f,
-        sum_by-append f (stopped_keys h.stops) (keys (terms_of h.state)),
-        sum_by-append f (stopped_keys h'.stops) (keys (terms_of h'.state)),
-        sum_map (λ (s : Stop). s.key) f h.stops,
-        sum_map (λ (s : Stop). s.key) f h'.stops,
-        ap (sum_by (λ (s : Stop). f s.key)) n.settlement.all_stops,
-        sum_by-append (λ (s : Stop). f s.key) h.stops t.settlement.stops,
-        n.settlement.stops.each (λ k c. f k),
-        sum_by-filter_both is_ended is_live (λ x. refl) (λ (x : Term). f x.key) mid,
-        sum_map (λ (x : Term). x.key) f mid,
-        ap (sum_by f) mid_keys,
-        sum_map (λ (x : Term). x.key) f (terms_of h'.state),
-        ap (λ (s : ShardState). sum_by (λ (x : Term). f x.key) (terms_of s)) n.settlement.state,
-        pppoe_laws.settles n.mid (λ (x : Term). f x.key),
-      )
+  found_numbered : (k : Key) (ns : List ℕ) → AnyOf (λ ks. Contains ks k) (map (keys_at config) ns) → (n : ℕ) × IsNumbered config k n
+  found_numbered k [] h = absurd h
+  found_numbered k (n ∷ ns) (inl h) = (n, keys_numbered n k h)
+  found_numbered k (n ∷ ns) (inr h) = found_numbered k ns h
 
-  live_next : AllByRecursion IsLive (terms_of h'.state)
-  live_next =
-      none_pass is_ended (terms_of h'.state)
-      (ap (λ (s : ShardState). count_by is_ended (terms_of s)) n.settlement.state ∙ pppoe_laws.settles n.mid (λ (x : Term). one_if x.ended) ∙ live_count mid)
+  -- a Stop of a circuit's term says that the gateway stopped
+  abbrev pub StopsByUs : Stop → Type 0
+  StopsByUs s = IsOfCircuit config s.key → s.cause ≡ nas_request
 
-  right_next : IsRight h' ks
-  right_next = record {
-    terms = terms_next;
-    live = live_next;
-    poolless = subst IsPoolless (sym n.settlement.state) (settled_poolless n.mid (subst IsPoolless (sym n.round.state) (run_poolless h.state t.round.journal n.round.steps right.poolless)));
-  }
+  by_us : (n : ℕ) (s : Stop) (t : Term) → IsStopOf s.key s.cause t → EndsWell n (circuits_in config n) t → StopsByUs s
+  by_us n s t of well circuit =
+      let its = found_numbered s.key (range_with_len 0 config.shards) circuit in
+      let here : its.0 ≡ n = sym its.1.session ∙ ap (λ (k : Key). k.term.session.0 / 1024) (sym of.0) ∙ well.session in
+      let few : s.key.term.serial ≤ circuits_in config n = subst (λ (m : ℕ). s.key.term.serial ≤ circuits_in config m) here its.1.few in
+      sym of.1 ∙ well.cause (subst (λ (k : Key). k.term.serial ≤ circuits_in config n) (sym of.0) few)
 
-  mid_caused : AllByRecursion EndsByStop mid
-  mid_caused =
-      subst (λ (s : ShardState). AllByRecursion EndsByStop (terms_of s)) (sym n.round.state)
-      (run_caused h.state t.round.journal n.round.steps right.poolless (all_weaker IsLive EndsByStop (λ x live over. absurd (false≢true (sym live ∙ over))) (terms_of h.state) right.live))
+  -- Shards ---------------------------------------------------------------------------------------------------------------------
 
-  module _ (Q : Key → Type 0) (all : AllByRecursion Q ks) where
-    stops_ours : AllByRecursion (IsOurStop Q) t.settlement.stops
-    stops_ours =
-        let there : AllByRecursion Q (stopped_keys h'.stops) = all_left Q (stopped_keys h'.stops) (keys (terms_of h'.state)) (same_known Q (stopped_keys h'.stops ++ keys (terms_of h'.state)) ks terms_next all) in
-        let known : AllByRecursion (λ (s : Stop). Q s.key) (h.stops ++ t.settlement.stops) = subst (AllByRecursion (λ (s : Stop). Q s.key)) n.settlement.all_stops (all_mapped Q (λ (s : Stop). s.key) h'.stops there) in
-        our_stops Q t.settlement.stops
-        (none_pass (λ (s : Stop). not (eqb s.cause nas_request)) t.settlement.stops (n.settlement.stops.each (λ k c. other_cause c) ∙ ended_count mid mid_caused))
-        (all_right (λ (s : Stop). Q s.key) h.stops t.settlement.stops known)
+  -- what is live, and what lasts, in the shard at this place
+  pub record IsKept (n : ℕ) (h : ShardHistory ShardState) : Type 0 where
+    pub live : AllByRecursion IsLive (terms_of h.state)
+    pub keeps : Keeps n (circuits_in config n) h.state.slots
 
-    sends_ours : AllByRecursion (IsOurs Q) t.settlement.sends
-    sends_ours =
-        let last = keys (terms_of (after pppoe h.state t.round.journal)) in
-        let there : AllByRecursion Q (keys (terms_of h.state)) = all_right Q (stopped_keys h.stops) (keys (terms_of h.state)) (same_known Q (stopped_keys h.stops ++ keys (terms_of h.state)) ks right.terms all) in
-        let known : AllByRecursion Q last = subst (AllByRecursion Q) (sym (run_keys h.state t.round.journal n.round.steps right.poolless)) there in
-        let outs = outs_of pppoe h.state t.round.journal in
-        let whole : AllByRecursion IsWhole outs = run_outs pppoe IsWhole (λ s e is. step_whole s.rules s.slots e.limited e.deed is.step) h.state t.round.journal n.round.steps in
-        let owned : AllByRecursion (IsOwned last) outs = run_owned pppoe pppoe_laws h.state t.round.journal n.round.steps in
-        let ours : AllByRecursion (IsOurs Q) outs = all_ours Q outs whole (all_weaker (IsOwned last) (λ o. IfSome o.charge (λ c. Q (key_in c))) (λ o is. owned_known Q last o known is) outs owned) in
-        let before : AllByRecursion (IsOurs Q) (map unsent t.settlement.sends) = subst (AllByRecursion (IsOurs Q)) (sym n.settlement.outs) ours in
-        all_weaker (λ o. IsOurs Q (unsent o)) (IsOurs Q) (λ o is. record { whole = is.whole; known = is.known }) t.settlement.sends (all_mapped (IsOurs Q) unsent t.settlement.sends before)
+  abbrev AreKept : History ShardState → Type 0
+  AreKept h = (n : ℕ) (x : ShardHistory ShardState) → slice_get h.shards n ≡ Some x → IsKept n x
 
--- All shards, and all rounds -------------------------------------------------------------------------------------------
+  module _ (n : ℕ) (h : ShardHistory ShardState) (t : ShardTurn Handled) (h' : ShardHistory ShardState) (next : NextInShard pppoe h t h') (kept : IsKept n h) where
+    mid_keeps : Keeps n (circuits_in config n) next.mid.slots
+    mid_keeps =
+        subst (λ (s : ShardState). Keeps n (circuits_in config n) s.slots) (sym next.round.state)
+        (run_keeps n (circuits_in config n) h.state t.round.journal next.round.steps kept.keeps)
 
--- what rounds sent and stopped is of keys of which this holds, and each shard is right after them
-pub record AreRight (Q : Key → Type 0) (sends : List OutRecord) (stops : List Stop) (hs : List (ShardHistory ShardState)) (kss : List (List Key)) : Type 0 where
-  pub sends_are : AllByRecursion (IsOurs Q) sends
-  pub stops_are : AllByRecursion (IsOurStop Q) stops
-  pub right : AllZip IsRight hs kss
+    kept_next : IsKept n h'
+    kept_next = record {
+      live = subst (λ (s : ShardState). AllByRecursion IsLive (terms_of s)) (sym next.settlement.state) (settled_live next.mid);
+      keeps = subst (λ (s : ShardState). Keeps n (circuits_in config n) s.slots) (sym next.settlement.state) (settled_keeps n (circuits_in config n) next.mid.slots mid_keeps);
+    }
 
-module _ (Q : Key → Type 0) where
-  round_right : (hs : List (ShardHistory ShardState)) (ts : List (ShardTurn Handled)) (hs' : List (ShardHistory ShardState)) (kss : List (List Key)) → Zip3 (NextInShard pppoe) hs ts hs' → AllZip IsRight hs kss → AllByRecursion (AllByRecursion Q) kss
-      → AreRight Q (sends_in ts) (stops_in ts) hs' kss
-  round_right [] [] [] kss next right all = record { sends_are = tt; stops_are = tt; right = right }
-  round_right (h ∷ hs) (t ∷ ts) (h' ∷ hs') [] next right all = absurd right
-  round_right (h ∷ hs) (t ∷ ts) (h' ∷ hs') (ks ∷ kss) next right all =
-      let rest = round_right hs ts hs' kss next.1 right.1 all.1 in
-      record {
-        sends_are = all_append (IsOurs Q) t.settlement.sends (sends_in ts) (sends_ours h t h' next.0 ks right.0 Q all.0) rest.sends_are;
-        stops_are = all_append (IsOurStop Q) t.settlement.stops (stops_in ts) (stops_ours h t h' next.0 ks right.0 Q all.0) rest.stops_are;
-        right = (right_next h t h' next.0 ks right.0, rest.right);
-      }
-  round_right hs ts hs' kss next right all = absurd next
+    stops_by_us : AllByRecursion StopsByUs t.settlement.stops
+    stops_by_us =
+        let ended = filter is_ended (terms_of next.mid) in
+        all_weaker (λ s. AnyOf (IsStopOf s.key s.cause) ended) StopsByUs
+        (λ s any. any_all (IsStopOf s.key s.cause) (EndsWell n (circuits_in config n)) (StopsByUs s) (by_us n s) ended any (end_well n (circuits_in config n) next.mid mid_keeps))
+        t.settlement.stops (stops_of_terms t.settlement.stops (terms_of next.mid) next.settlement.stops.each)
 
-  pub run_right : (h h' : History ShardState) (rounds : List (List (ShardTurn Handled))) (kss : List (List Key)) → Run pppoe h rounds h' → AllZip IsRight h.shards kss → AllByRecursion (AllByRecursion Q) kss
-      → AreRight Q (sends_of rounds) (stops_of rounds) h'.shards kss
-  run_right h h' [] kss run right all = record { sends_are = tt; stops_are = tt; right = subst (λ (x : History ShardState). AllZip IsRight x.shards kss) (sym run) right }
-  run_right h h' (ts ∷ rounds) kss run right all =
-      let here = round_right h.shards ts run.0.shards kss (in_shards pppoe h run.0 ts run.1) right all in
-      let rest = run_right run.0 h' rounds kss run.2 here.right all in
-      record {
-        sends_are = all_append (IsOurs Q) (sends_in ts) (sends_of rounds) here.sends_are rest.sends_are;
-        stops_are = all_append (IsOurStop Q) (stops_in ts) (stops_of rounds) here.stops_are rest.stops_are;
-        right = rest.right;
-      }
+  -- Rounds ---------------------------------------------------------------------------------------------------------------------
 
-pub all_terms : (hs : List (ShardHistory ShardState)) (kss : List (List Key)) → AllZip IsRight hs kss → AllZip HaveTerms hs kss
-all_terms [] [] h = tt
-all_terms [] (ks ∷ kss) h = absurd h
-all_terms (x ∷ hs) [] h = absurd h
-all_terms (x ∷ hs) (ks ∷ kss) h = (h.0.terms, all_terms hs kss h.1)
+  round_kept : (h h' : History ShardState) (ts : List (ShardTurn Handled)) → NextRound pppoe h ts h' → AreKept h → AreKept h'
+  round_kept h h' ts next kept n x' at =
+      let here = came n h h' ts next x' at in
+      kept_next n here.before here.goes.turn x' here.goes.next (kept n here.before here.at)
+
+  round_stops : (h h' : History ShardState) (ts : List (ShardTurn Handled)) → NextRound pppoe h ts h' → AreKept h → AllByRecursion StopsByUs (stops_in ts)
+  round_stops h h' ts next kept =
+      all_flat StopsByUs (λ (t : ShardTurn Handled). t.settlement.stops) ts (λ n t at.
+      let here = at_second (NextInShard pppoe) h.shards ts h'.shards (in_shards pppoe h h' ts next) n t at in
+      let same : here.y ≡ t = same_Some here.y t (sym here.at_y ∙ at) in
+      subst (λ (u : ShardTurn Handled). AllByRecursion StopsByUs u.settlement.stops) same (stops_by_us n here.x here.y here.z here.so (kept n here.x here.at_x)))
+
+  rounds_kept : (h h' : History ShardState) (rounds : List (List (ShardTurn Handled))) → Run pppoe h rounds h' → AreKept h → AreKept h'
+  rounds_kept h h' [] run kept = subst AreKept (sym run) kept
+  rounds_kept h h' (ts ∷ rounds) run kept = rounds_kept run.0 h' rounds run.2 (round_kept h run.0 ts run.1 kept)
+
+  rounds_stops : (h h' : History ShardState) (rounds : List (List (ShardTurn Handled))) → Run pppoe h rounds h' → AreKept h → AllByRecursion StopsByUs (stops_of rounds)
+  rounds_stops h h' [] run kept = tt
+  rounds_stops h h' (ts ∷ rounds) run kept =
+      subst (AllByRecursion StopsByUs) (sym (flat_map-cons (λ (us : List (ShardTurn Handled)). stops_in us) ts rounds))
+      (all_append StopsByUs (stops_in ts) (stops_of rounds) (round_stops h run.0 ts run.1 kept) (rounds_stops run.0 h' rounds run.2 (round_kept h run.0 ts run.1 kept)))
+
+  -- The opening ----------------------------------------------------------------------------------------------------------------
+
+  module _ (r : Rules) (now : ℕ) where
+    -- a shard before the first round
+    abbrev shard_before : ℕ → ShardHistory ShardState
+    shard_before n = nothing_yet (opened n r (statics_of config n) now)
+
+    kept_before : (n : ℕ) → n < config.shards → IsKept n (shard_before n)
+    kept_before n low =
+        let cs = statics_of config n in
+        let apart = AllPairs-filter (λ a b. a.session ≡ b.session → ⊥) (λ c. eqb (shard_of c) n) config.statics rules.sessions in
+        record {
+          live = all_live now 0 (in_order n cs);
+          keeps = opened_keeps n cs now (omega (arith, low, rules.few_shards)) (All-from_recursion (λ c. IsNumberOf n c.session.0) cs (shard_own config rules n)) apart;
+        }
+
+    terms_before : (n : ℕ) → terms_so_far (shard_before n) ≡ keys_at config n
+    terms_before n = ap (λ (ts : List Term). keys ts) (opened_terms r n (statics_of config n) now)
+
+    -- what stands at a place then
+    pub record IsBefore (n : ℕ) (x : ShardHistory ShardState) : Type 0 where
+      pub low : n < config.shards
+      pub is : x ≡ shard_before n
+
+    before_from : (a k n : ℕ) (x : ShardHistory ShardState) → slice_get (map nothing_yet (views_of (map (λ m. opened m r (statics_of config m) now) (range_with_len a k)))) n ≡ Some x
+        → (n < k) × (x ≡ shard_before (a + n))
+    before_from a zero n x at = absurd (none-some x at)
+    before_from a (suc k) zero x at =
+        let here : a ≡ a + 0 = omega arith in
+        (omega arith, sym (same_Some (shard_before a) x at) ∙ ap shard_before here)
+    before_from a (suc k) (suc n) x at =
+        let rest = before_from (a + 1) k n x at in
+        let next : a + 1 + n ≡ a + suc n = omega arith in
+        (omega (arith, rest.0), rest.1 ∙ ap shard_before next)
+
+    many_from : (a k : ℕ) → length (map nothing_yet (views_of (map (λ m. opened m r (statics_of config m) now) (range_with_len a k)))) ≡ k
+    many_from a zero = refl
+    many_from a (suc k) = omega (arith, many_from (a + 1) k)
+
+    module _ (v : DeskView ShardState Handled) (is : v.shards ≡ views_of (opened_shards config r now)) where
+      before_at : (n : ℕ) (x : ShardHistory ShardState) → slice_get (opening v).shards n ≡ Some x → IsBefore n x
+      before_at n x at =
+          let there = before_from 0 config.shards n x (ap (λ (vs : List (ShardView ShardState Handled)). slice_get (map nothing_yet vs) n) (sym is) ∙ at) in
+          record { low = there.0; is = there.1 ∙ ap shard_before (zero-add n) }
+
+      all_before : AreKept (opening v)
+      all_before n x at = let before = before_at n x at in subst (IsKept n) (sym before.is) (kept_before n before.low)
+
+      as_many_before : length (opening v).shards ≡ config.shards
+      as_many_before = ap (λ (vs : List (ShardView ShardState Handled)). length (map nothing_yet vs)) is ∙ many_from 0 config.shards
+
+      -- what a run leaves
+      module _ (h : History ShardState) (rounds : List (List (ShardTurn Handled))) (run : Run pppoe (opening v) rounds h) where
+        have_at : (n : ℕ) (x : ShardHistory ShardState) → slice_get h.shards n ≡ Some x → HaveTerms x (keys_at config n ++ starts_at n rounds)
+        have_at n x at f =
+            let here = column n (opening v) h rounds run x at in
+            let first : terms_so_far here.first ≡ keys_at config n = ap terms_so_far (before_at n here.first here.at).is ∙ terms_before n in
+            rounds_terms n here.first x rounds here.goes f ∙ ap (λ (ks : List Key). sum_by f (ks ++ starts_at n rounds)) first
+
+        -- each term, of a circuit or of which a Start was formed, has its Stop or is live
+        pub run_terms : AllZip HaveTerms h.shards (terms_of_run config rounds)
+        run_terms =
+            zip_by_place HaveTerms (λ (n : ℕ). keys_at config n ++ starts_at n rounds) 0 config.shards h.shards (run_length (opening v) h rounds run ∙ as_many_before)
+            (λ n x at. subst (λ (m : ℕ). HaveTerms x (keys_at config m ++ starts_at m rounds)) (sym (zero-add n)) (have_at n x at))
+
+        pub run_causes : All (λ s. IsOfCircuit config s.key → s.cause ≡ nas_request) (stops_of rounds)
+        run_causes = All-from_recursion StopsByUs (stops_of rounds) (rounds_stops (opening v) h rounds run all_before)
+
+        -- in each shard all terms are live, and none outlasts its session
+        pub run_stays : AllByRecursion IsHoused h.shards
+        run_stays = all_by_place IsHoused h.shards (λ n x at. let kept = rounds_kept (opening v) h rounds run all_before n x at in record { live = kept.live; housed = kept.keeps.housed })
