@@ -29,6 +29,8 @@ const TERMINATE: &[u8; 6] = b"\xc0\x21\x05\x09\x00\x04";
 const FROM_IT: &[u8; 30] =
     b"\0\x21\x45\0\0\x1c\0\0\0\0\x40\x11\xae\xce\x0a\0\0\x02\xc0\0\x02\x01\x30\x39\x30\x39\0\x08\0\0";
 
+const NOT_OPEN: Fate = Fate::Dropped(DropCause::NotOpen);
+
 // The outs of one item at moment 0. The round is not settled.
 fn hear(rt: &impl Abort, alloc: Global, bench: &mut Bench, item: Item) -> Vec<OutRecord>
     requires whole { item.frame.headroom ≡ 64 }
@@ -53,14 +55,40 @@ fn accepted(
     hear(rt, alloc, bench, verdict(u16::from(host), ask, ACCEPT))
 }
 
-// The fates of a packet of the first host and of one towards it.
-fn fates(rt: &impl Abort, alloc: Global, bench: &mut Bench) -> [Fate; 2] {
+// A packet of the first host and one towards it have this fate.
+fn assert_fate(rt: &impl Abort, alloc: Global, bench: &mut Bench, fate: Fate) {
     let mut tally = NOTHING;
     let (up, _sent_up) = bench.handled(rt, alloc, &mut tally, 0, in_session_of(1, FROM_IT));
+    assert!(rt; up == fate);
     let mut core = item(ItemKind::Core, &TO_IT);
     core.from = peer(9001);
     let (down, _sent_down) = bench.handled(rt, alloc, &mut tally, 0, core);
-    [up, down]
+    assert!(rt; down == fate);
+}
+
+// IPCP opens for the first host.
+fn open_ipcp(rt: &impl Abort, alloc: Global, bench: &mut Bench) {
+    let _acknowledged = hear(rt, alloc, bench, in_session_of(1, ASKS));
+    let _opened = hear(rt, alloc, bench, in_session_of(1, TAKES));
+}
+
+// The term that began is told, with this number, and once.
+fn assert_tells(rt: &impl Abort, bench: &mut Bench, serial: u64) {
+    let Some(told) = bench.fresh() else {
+        assert!(rt; false);
+        return;
+    };
+    assert_eq!(rt; told.term.serial, serial);
+    assert_eq!(rt; told.address, ADDRESS);
+    assert!(rt; bench.fresh().is_none());
+}
+
+// The Authenticate-Nak says that there is no address, and LCP does Close.
+fn assert_refused(rt: &impl Abort, outs: &[OutRecord]) {
+    assert_eq!(rt; outs.len(), 2);
+    assert_eq!(rt; octets(outs, 0).len(), 37);
+    assert_eq!(rt; span(outs, 0, 20, 37), NO_ADDRESS.as_slice());
+    assert_eq!(rt; span(outs, 1, 20, 23), b"\xc0\x21\x05".as_slice());
 }
 
 // The term that ended leaves: of the first host, with this number and by this cause; its address is held until then.
@@ -78,28 +106,31 @@ fn assert_reaps(rt: &impl Abort, bench: &mut Bench, serial: u64, cause: u8) {
     assert!(rt; bench.reap().is_none());
 }
 
-const NOT_OPEN: Fate = Fate::Dropped(DropCause::NotOpen);
-
 #[test]
-fn an_accept_begins_a_term_and_a_terminate_request_ends_it(rt: HostRuntime) -> Result<(), Fail> {
+fn an_accept_begins_a_term_that_is_told_once(rt: HostRuntime) -> Result<(), Fail> {
     let alloc = rt.alloc();
     let mut bench = open_bench(alloc, rules_with(alloc, ONE)?, ONE)?;
     let outs = accepted(&rt, alloc, &mut bench, 1, 1);
     assert_eq!(rt; outs.len(), 2);
     assert_eq!(rt; span(&outs, 1, 20, 32), OWN.as_slice());
     assert_eq!(rt; bench.pool.look(ADDRESS), Some(0));
-    let fresh = bench.fresh().map(|term| (term.term.serial, term.address));
-    assert_eq!(rt; fresh, Some((1, ADDRESS)));
-    assert!(rt; bench.fresh().is_none());
-    assert_eq!(rt; fates(&rt, alloc, &mut bench), [NOT_OPEN, NOT_OPEN]);
-    let _acknowledged = hear(&rt, alloc, &mut bench, in_session_of(1, ASKS));
-    let _opened = hear(&rt, alloc, &mut bench, in_session_of(1, TAKES));
-    assert_eq!(rt;
-        fates(&rt, alloc, &mut bench),
-        [Fate::Forwarded, Fate::Forwarded]
-    );
+    assert_eq!(rt; bench.shard.allowance(), 1);
+    assert_tells(&rt, &mut bench, 1);
+    Ok(())
+}
+
+#[test]
+fn packets_pass_from_the_opening_of_ipcp_to_a_terminate_request(
+    rt: HostRuntime,
+) -> Result<(), Fail> {
+    let alloc = rt.alloc();
+    let mut bench = open_bench(alloc, rules_with(alloc, ONE)?, ONE)?;
+    let _accepted = accepted(&rt, alloc, &mut bench, 1, 1);
+    assert_fate(&rt, alloc, &mut bench, NOT_OPEN);
+    open_ipcp(&rt, alloc, &mut bench);
+    assert_fate(&rt, alloc, &mut bench, Fate::Forwarded);
     let _ended = hear(&rt, alloc, &mut bench, in_session_of(1, TERMINATE));
-    assert_eq!(rt; fates(&rt, alloc, &mut bench), [NOT_OPEN, NOT_OPEN]);
+    assert_fate(&rt, alloc, &mut bench, NOT_OPEN);
     assert_reaps(&rt, &mut bench, 1, 1);
     Ok(())
 }
@@ -110,12 +141,8 @@ fn an_address_that_is_held_is_given_to_nobody_else(rt: HostRuntime) -> Result<()
     let mut bench = open_bench(alloc, rules_with(alloc, ONE)?, ONE)?;
     let first = accepted(&rt, alloc, &mut bench, 1, 1);
     assert_eq!(rt; first.len(), 2);
-    // the Authenticate-Nak says why, and LCP does Close
     let second = accepted(&rt, alloc, &mut bench, 2, 2);
-    assert_eq!(rt; second.len(), 2);
-    assert_eq!(rt; octets(&second, 0).len(), 37);
-    assert_eq!(rt; span(&second, 0, 20, 37), NO_ADDRESS.as_slice());
-    assert_eq!(rt; span(&second, 1, 20, 23), b"\xc0\x21\x05".as_slice());
+    assert_refused(&rt, &second);
     // a Configure-Request in Opened ends the term; then the address is free, and it is leased again
     let _again = hear(&rt, alloc, &mut bench, in_session_of(1, REQUEST));
     assert_reaps(&rt, &mut bench, 1, 1);
