@@ -15,7 +15,7 @@ use crate::sums::{Traffic, enter};
 use crate::term::{EndedTerm, LiveTerm};
 use crate::terms::Running;
 use arrayvec::ArrayVec;
-use bng_base::{Book, Charge, Ip4, SessionNo};
+use bng_base::{Book, Charge, Ip4};
 
 /// A copy of a list of octets. It takes no memory.
 pub(crate) fn copied<const N: usize>(octets: &ArrayVec<u8, N>) -> ArrayVec<u8, N>
