@@ -18,7 +18,6 @@ pub mod Booking
 pub mod Begun
 pub mod Forming
 pub mod TermsLeft
-pub mod Begun
 pub mod Beginning
 pub mod ShardKeys
 pub mod Reaping

@@ -112,9 +112,6 @@ reap_all-requires-clause-held g c =
 
 -- the round was settled
 module _ (g : Over) (c : After-begin_all g) where
-  abbrev sent_all : After-send_all g
-  sent_all = (goal.at.note_allowances-requires g c).After-send_all
-
   count_kept : length c.begin_all.new.shards ≡ length c.args.shards.now
   count_kept =
       let sent = c.send_all.ensures.sends in
@@ -132,8 +129,8 @@ module _ (g : Over) (c : After-begin_all g) where
   all_left : (P : Shown → Type 0) → ((w : Shown) → P w → P (started w)) → All P c.reap_all.new.shards → All P c.begin_all.new.shards
   all_left P f all = all_started c.reap_all.new.shards c.begin_all.new.shards c.begin_all.ensures.begins.starts c.begin_all.ensures.begins.each P f all
 
-pub note_allowances-requires : goal.note_allowances-requires
-note_allowances-requires g c = omega (arith, count_kept g c, ap (λ (ns : List ℕ). length ns) c.requires.allowances, length-replicate (length c.args.shards.now) 0)
+pub note-requires : goal.note-requires
+note-requires g c = omega (arith, count_kept g (goal.at.note-requires g c).After-begin_all, ap (λ (ns : List ℕ). length ns) c.requires.allowances, length-replicate {A = ℕ} (length c.args.shards.now) 0)
 
 pub returns-clause-places : goal.returns-clause-places
 returns-clause-places g c = c.reap_all.ensures.reaps.returned.shards ∙ c.deal_all.ensures.deals.claimed.places
@@ -151,7 +148,7 @@ returns-clause-round g c =
     c.deal_all.ensures.deals c.send_all.ensures.sends c.reap_all.ensures.reaps c.begin_all.ensures.begins
     (recursion_from_All OwesNone c.args.shards.now (λ k d lt. (c.requires.terms k d lt).owes_none)) c.recorded.result
     (c.recorded.ensures
-    ∙ told_as c.args.named c.note_allowances.new.allowances.items (allowances_in c.begin_all.new.shards) c.send_all.new.journals.items c.deal_all.new.loose.items c.send_all.new.outs.items c.args.lists.refused.items c.note_allowances.ensures c.requires.refused)
+    ∙ told_as c.args.named c.note.new.allowances.items (allowances_in c.begin_all.new.shards) c.send_all.new.journals.items c.deal_all.new.loose.items c.send_all.new.outs.items c.args.lists.refused.items c.note.ensures c.requires.refused)
 
 pub returns-clause-empty : goal.returns-clause-empty
 returns-clause-empty g c =
@@ -206,18 +203,18 @@ returns-clause-lines g c =
 
 pub returns-clause-knows : goal.returns-clause-knows
 returns-clause-knows g c =
-    let b = (goal.at.returns-clause-knows g c).After-begin_all in
+    let b = (goal.at.returns-clause-knows g c).After-send_all in
     let reaped = c.reap_all.ensures.reaps in
     let begun = c.begin_all.ensures.begins in
-    round_knows c.args.named.moment c.args.named.wall c.args.shards.now c.send_all.new.shards c.reap_all.new.shards c.begin_all.new.shards c.args.accounts.now c.reap_all.new.accounts c.begin_all.new.accounts (all_grow g (sent_all g b)) c.requires.numbers
+    round_knows c.args.named.moment c.args.named.wall c.args.shards.now c.send_all.new.shards c.reap_all.new.shards c.begin_all.new.shards c.args.accounts.now c.reap_all.new.accounts c.begin_all.new.accounts (all_grow g b) c.requires.numbers
     reaped.stops begun.starts reaped.each begun.each reaped.booked begun.booked c.requires.knows
 
 pub returns-clause-terms : goal.returns-clause-terms
 returns-clause-terms g c =
-    let b = (goal.at.returns-clause-terms g c).After-begin_all in
+    let b = (goal.at.returns-clause-terms g c).After-send_all in
     let reaped = c.reap_all.ensures.reaps in
     let begun = c.begin_all.ensures.begins in
-    terms_kept c.args.named.moment c.args.shards.now c.send_all.new.shards c.reap_all.new.shards c.begin_all.new.shards (all_grow g (sent_all g b)) reaped.stops begun.starts reaped.each begun.each
+    terms_kept c.args.named.moment c.args.shards.now c.send_all.new.shards c.reap_all.new.shards c.begin_all.new.shards (all_grow g b) reaped.stops begun.starts reaped.each begun.each
 
 pub returns-clause-held : goal.returns-clause-held
 returns-clause-held g c =
