@@ -117,8 +117,8 @@ stands_in shard (Stands n) = n == shard
 abbrev pub without_claim : Entry → Entry
 without_claim e = record e { claim = NoClaim }
 
--- The entries of a shard from a seat's list, without their claims: of its items, from this place on, those that stand in the shard, each with its place, at
--- the round's moment.
+-- The entries of a shard from a seat's list, without their claims: of its items, from this place on, those that stand in the shard, each
+-- with its place, at the round's moment.
 abbrev pub entries_in : ℕ → ℕ → ℕ → ℕ → List Item → List Whose → List Entry
 entries_in seat shard place moment [] whose = []
 entries_in seat shard place moment (i ∷ is) [] = []
