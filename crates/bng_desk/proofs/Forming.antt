@@ -1,5 +1,5 @@
 -- In a settlement a record of one of its terms is formed: what accounting keeps of the others is as it was.
-use Rattle.std.proofs.Common.{◌≡◌, ◌⊎◌, ⊎_elim, inl, inr, ℕ, zero, suc, ◌+◌, ◌<◌, ◌≤◌, Bool, true, false, not, List, [], ◌∷◌, ◌++◌, Option, Some, None, is_some, length, take, drop, get_or, refl, sym, ap, subst, ◌∙◌, append-nil, arith}
+use Rattle.std.proofs.Common.{◌≡◌, ◌⊎◌, ⊎_elim, inl, inr, ℕ, zero, suc, ◌+◌, ◌<◌, ◌≤◌, Bool, true, false, not, List, [], ◌∷◌, ◌++◌, Option, Some, None, is_some, length, take, drop, get_or, refl, sym, ap, subst, ◌∙◌, arith}
 use Rattle.std.specs.Prelude.{option_and_then, count_by, sum_by}
 use Rattle.std.specs.List.{All, AllPairs, Contains}
 use Rattle.std.proofs.lemmas.Bool.{cases_Bool}
@@ -22,7 +22,7 @@ use Rattle.bng_engine.specs.Lists.{one_if}
 use Rattle.bng_engine.specs.Terms.{Key}
 use Rattle.bng_desk.specs.Accounting.{AreBilled, AreSettling, is_unknown}
 use Rattle.bng_desk.proofs.Billed.{AreApart, apart_back, formed_others}
-use Rattle.bng_desk.proofs.Parts.{StandsAt, all_left, all_right, all_without, pairs_head, pairs_left, pairs_right, pairs_tail, pairs_without, stands_at}
+use Rattle.bng_desk.proofs.Parts.{StandsAt, all_left, all_without, pairs_head, pairs_left, pairs_tail, pairs_without, stands_at}
 
 -- What is held of one term ------------------------------------------------------------------------------------------------
 
