@@ -228,8 +228,16 @@ settling_started terms front back k facts at n b b' f term s =
       apart = s.apart;
       unstarted = λ i d lt. ap (option_and_then (number_of Start)) (stays b b' Start facts at n f k term (get_or keys i d).term (others i d lt)) ∙ before i d lt;
       apart_began = pairs_without AreApart front back k s.apart_began;
-      room = omega (arith, s.room, ap (λ (r : _). r.terms) f.formed.rules, split_count b front back k, sum_by-append (λ (j : Key). one_if (is_unknown b j)) front back, fewer b b' Start facts at n f k term keys,
-      one_more b b' Start facts at n f k term, one_or_other (of_term k.term b.spool.held));
+      room = omega (
+        arith,
+        s.room,
+        ap (λ (r : _). r.terms) f.formed.rules,
+        split_count b front back k,
+        sum_by-append (λ (j : Key). one_if (is_unknown b j)) front back,
+        fewer b b' Start facts at n f k term keys,
+        one_more b b' Start facts at n f k term,
+        one_or_other (of_term k.term b.spool.held),
+      );
     }
   where
     still : (j : Key) → IsKnown (front ++ k ∷ back) b j → IsKnown (front ++ back) b' j
