@@ -30,9 +30,10 @@ use Rattle.bng_lane.specs.Sends.{LaneSend}
 use Rattle.bng_shard.specs.Lasting.{AreTenures, IsTenureOf}
 use Rattle.bng_shard.specs.Protocol.{SaysOf, ShardState, key_in}
 use Rattle.bng_shard.specs.Tenures.{Tenure}
+use Rattle.bng_shard.proofs.Numbered.{tenures_later}
 use Rattle.bng_desk.specs.Accounting.{Acknowledged, AreFactsOf, FormedRecord, Forms, Gives, HasBegun, HearsRecords, IsStartOf, IsStopOf, KnowsBegun, RecordRequests, RecordSend, Resends, SettlesRecords}
 use Rattle.bng_desk.specs.Round.{news_in, terms_in}
-use Rattle.bng_desk.specs.Taking.{Accounts, AreInOrder, BooksStarts, BooksStops, Shown, states_of}
+use Rattle.bng_desk.specs.Taking.{Accounts, AreInOrder, BooksStarts, BooksStops, KeepsTerms, Shown, states_of}
 use Rattle.bng_desk.specs.Turn.{Closes}
 use Rattle.bng_desk.proofs.Billed.{formed_others}
 use Rattle.bng_desk.proofs.Readying.{Shards}
@@ -239,3 +240,9 @@ knows_later R rises vs us z b knows t h e =
       within = omega (arith, has.within, length_all_zip R vs us z);
       number = λ d. omega (arith, has.number d, rises (get_or vs n d) (get_or us n d) (AllZip-get_or R vs us n d d z has.within));
     }
+
+-- the terms of the shards last to a later moment
+pub terms_later : (m n : ℕ) (vs : Shards) → m ≤ n → All (KeepsTerms m) vs → All (KeepsTerms n) vs
+terms_later m n vs le all k d lt =
+    let here = all k d lt in
+    record { sound = here.sound; number = here.number; tenures = tenures_later m n (get_or vs k d).state.slots le here.tenures; owes_none = here.owes_none }

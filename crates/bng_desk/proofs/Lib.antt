@@ -15,9 +15,9 @@ pub mod Parts
 pub mod Lines
 pub mod Billed
 pub mod Booking
+pub mod Begun
 pub mod Forming
 pub mod TermsLeft
-pub mod Begun
 pub mod Beginning
 pub mod ShardKeys
 pub mod Reaping
