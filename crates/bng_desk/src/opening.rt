@@ -11,7 +11,7 @@ ghost use Rattle.bng_lane.specs.State.{IsNewLane};
 ghost use Rattle.bng_shard.specs.Questions.{none_handed};
 ghost use Rattle.bng_desk.specs.Opening.{line_of, shard_of, circuit_with, dns_of, lane_rules, billing_rules, AreOffersOf, AreServed, IsOpenedPool, OpensAccounts};
 ghost use Rattle.bng_desk.specs.Model.{keys_in};
-ghost use Rattle.bng_desk.specs.Taking.{HasFewSessions};
+ghost use Rattle.bng_desk.specs.Taking.{HasFewSessions, HasRows};
 
 use crate::accounts::Accounts;
 use crate::copying::{all_copied, copied, kinds_copied, pools_copied, ports_copied, rules_copied};
@@ -131,7 +131,8 @@ pub(crate) fn billing_rules(config: &Config, wall: u64) -> BillingRules
 }
 
 /// Accounting over these lines, with the Start of each term that the shards have, of the first shard first and in each in the order in
-/// which they began, at this moment and at the rules' second on the wall. There is room for the terms, and no two are one.
+/// which they began, at this moment and at the rules' second on the wall. There is room for the terms, no two are one,
+/// and each has a row.
 pub(crate) fn accounts(
     alloc: Global,
     rules: BillingRules,
@@ -142,6 +143,7 @@ pub(crate) fn accounts(
     requires most { rules.acct.terms ≤ 262144 }
     requires room { length (keys_in shards.now) ≤ rules.acct.terms }
     requires apart { AllPairs (λ j k. same j.term k.term ≡ false) (keys_in shards.now) }
+    requires rows { All HasRows shards.now }
     requires terms { All (λ v. AreTenures now v.state.slots) shards.now }
     ensures { IfOk result (λ a. OpensAccounts rules lines.items shards.now now a) }
 {

@@ -9,18 +9,19 @@ ghost use Rattle.bng_shard.specs.Tenures.{Tenure};
 ghost use Rattle.bng_desk.specs.Accounting.{AreBilled, AreSettling};
 ghost use Rattle.bng_desk.specs.Model.{keys_in};
 ghost use Rattle.bng_desk.specs.Round.{news_in};
-ghost use Rattle.bng_desk.specs.Taking.{states_of, BeginsAll, BeginsShard, BooksStarts, OwesNone};
+ghost use Rattle.bng_desk.specs.Taking.{states_of, BeginsAll, BeginsShard, BooksStarts, HasRows, OwesNone};
 
 use crate::accounts::Accounts;
 use bng_shard::Shard;
 
 /// Forms the Starts of the terms that a shard has at its opening, in the order in which they began, at this moment and this second on the
-/// wall. There is room for them, and nothing of them is held.
+/// wall. There is room for them, and nothing of them is held. It has a row for each.
 pub(crate) fn start_all(shard: &Shard, accounts: &mut Accounts, moment: u64, wall: u64)
     requires few { length (keys (terms_of shard.now.state)) ≤ 2 ^ 32 }
     requires room { length accounts.old.billing.spool.held + length (keys (terms_of shard.now.state)) ≤ accounts.old.billing.spool.rules.terms }
     requires fresh { All (λ k. of_term k.term accounts.old.billing.spool.held ≡ None) (keys (terms_of shard.now.state)) }
     requires apart { AllPairs (λ j k. same j.term k.term ≡ false) (keys (terms_of shard.now.state)) }
+    requires rows { HasRows shard.now }
     requires terms { AreTenures moment shard.now.state.slots }
     ensures { BooksStarts shard.now.state.slots.terms moment wall (keys (terms_of shard.now.state)) accounts.old accounts.new }
 {

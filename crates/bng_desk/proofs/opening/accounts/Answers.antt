@@ -1,7 +1,8 @@
-use Rattle.std.proofs.Common.{◌≡◌, ◌++◌, ◌+◌, List, length, length-append, take, drop, sym, ap, subst, arith}
+use Rattle.std.proofs.Common.{◌≡◌, ◌++◌, ◌+◌, List, None, length, length-append, take, drop, sym, ap, subst, arith}
 use Rattle.std.proofs.lemmas.List.{take_all}
 use Rattle.bng_acct.specs.declared.held.Held.{Held}
 use Rattle.bng_acct.specs.Roster.{of_term}
+use Rattle.bng_base.specs.declared.circuit.TermId.{TermId}
 use Rattle.bng_base.specs.declared.item.Entry.{Entry}
 use Rattle.bng_engine.specs.Terms.{Key}
 use Rattle.bng_engine.specs.Views.{ShardView}
@@ -9,7 +10,7 @@ use Rattle.bng_shard.specs.Lasting.{AreTenures}
 use Rattle.bng_shard.specs.Protocol.{ShardState}
 use Rattle.bng_desk.specs.Model.{keys_in}
 use Rattle.bng_desk.specs.Round.{terms_in}
-use Rattle.bng_desk.specs.Taking.{Accounts, BooksStarts, states_of}
+use Rattle.bng_desk.specs.Taking.{Accounts, BooksStarts, HasRows, states_of}
 use Rattle.bng_desk.proofs.Beginning.{MayBegin, all_begun, all_billed, all_may, known_begun, may_begin}
 use Rattle.bng_desk.proofs.Booking.{starts_more, starts_none, starts_wider}
 use Rattle.bng_desk.proofs.ShardKeys.{keys_next, keys_of, keys_split, shard_at, tenures_among}
@@ -35,6 +36,7 @@ start_all-requires c =
       room = may.room;
       fresh = may.new;
       apart = may.apart;
+      rows = subst HasRows (sym c.shard-item.is) (c.requires.rows i v c.loop-shard-test.true);
       terms = subst (λ (w : ShardView ShardState Entry). AreTenures c.args.now w.state.slots) (sym c.shard-item.is) (c.requires.terms i v c.loop-shard-test.true);
     }
 
@@ -63,7 +65,7 @@ returns c =
     let all : take c.loop-shard.shard-index shards ≡ shards = take_all c.loop-shard.shard-index shards (omega arith) in
     let booked = subst (λ vs. BooksStarts terms now wall (keys_in vs) first c.loop-shard.accounts) all c.loop-shard.invariant in
     let may = all_may c.args.rules keys c.in-Ok.billing c.in-Ok.ensures c.requires.room c.requires.apart in
-    let none = λ t. ap (λ (hs : List Held). of_term t hs) c.in-Ok.ensures.spool.none_held in
+    let none : (t : TermId) → of_term t c.in-Ok.billing.spool.held ≡ None = λ t. ap (λ (hs : List Held). of_term t hs) c.in-Ok.ensures.spool.none_held in
     record {
       new_billing = c.in-Ok.billing;
       is_new = c.in-Ok.ensures;

@@ -13,12 +13,13 @@ use Rattle.bng_acct.specs.Roster.{same}
 use Rattle.bng_billing.specs.declared.rules.BillingRules.{BillingRules}
 use Rattle.bng_billing.specs.State.{IsNewBilling}
 use Rattle.bng_engine.specs.Lists.{AnyOf}
-use Rattle.bng_engine.specs.Terms.{Key}
+use Rattle.bng_engine.specs.Terms.{Key, keys}
 use Rattle.bng_engine.specs.Views.{ShardView}
 use Rattle.bng_discovery.specs.declared.port.PortRules.{PortRules}
 use Rattle.bng_shard.specs.declared.rules.Rules.{Rules}
 use Rattle.bng_shard.specs.Lasting.{AreTenures}
-use Rattle.bng_shard.specs.Protocol.{HasPools, ShardState, opened}
+use Rattle.bng_shard.specs.Protocol.{HasPools, ShardState, opened, terms_of}
+use Rattle.bng_shard.proofs.RowLaws.{new_keys}
 use Rattle.bng_shard.specs.Questions.{none_handed}
 use Rattle.bng_desk.specs.declared.line.Line.{Line}
 use Rattle.bng_desk.specs.Accounting.{AreBilled, IsStartOf, KnowsBegun}
@@ -28,7 +29,7 @@ use Rattle.bng_desk.specs.Model.{Desk, keys_in}
 use Rattle.bng_desk.specs.Opening.{AreOffersOf, AreRules, AreServed, IsOpenedPool, OpensAccounts, line_of, shard_of, opened_shards, dns_of}
 use Rattle.bng_desk.specs.Random.{Drawn, draw}
 use Rattle.bng_desk.specs.Round.{terms_in}
-use Rattle.bng_desk.specs.Taking.{AreInOrder, KeepsTerms, states_of}
+use Rattle.bng_desk.specs.Taking.{AreInOrder, HasRows, KeepsTerms, states_of}
 use Rattle.bng_desk.proofs.Beginning.{IsTermOf}
 use Rattle.bng_desk.proofs.Fresh.{fresh_all, fresh_order, fresh_rested, kept_fresh}
 use Rattle.bng_desk.proofs.Leases.{opened_holds}
@@ -226,6 +227,12 @@ accounts-requires-clause-apart c =
     let b = (goal.at.accounts-requires-clause-apart c).After-as_slice-2 in
     subst (λ (vs : List (ShardView ShardState Entry)). AllPairs (λ (j k : Key). same j.term k.term ≡ false) (keys_in vs)) (sym (there b))
     (terms_apart c.in_ok-rules.rules c.args.config.statics c.args.now (served_by b) (omega (arith, ap (λ (r : Rules). r.shards) c.in_ok-rules.ensures, c.requires.rules.few_shards)))
+
+pub accounts-requires-clause-rows : goal.accounts-requires-clause-rows
+accounts-requires-clause-rows c =
+    let b = (goal.at.accounts-requires-clause-rows c).After-as_slice-2 in
+    let made = c.in_ok-rules.rules in
+    subst (λ (vs : List (ShardView ShardState Entry)). All HasRows vs) (sym (there b)) (fresh_all made (of_shard c.args.config.statics) c.args.now HasRows made.shards (λ n lt. new_keys (keys (terms_of (opened n made (of_shard c.args.config.statics n) c.args.now).state))))
 
 pub accounts-requires-clause-terms : goal.accounts-requires-clause-terms
 accounts-requires-clause-terms c =
