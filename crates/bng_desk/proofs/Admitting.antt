@@ -1,5 +1,5 @@
 -- A round has at most one Tick and one End for a shard.
-use Rattle.std.proofs.Common.{◌≡◌, ℕ, ◌+◌, ◌<◌, Bool, true, false, ◌||◌, cond, List, [], ◌∷◌, ◌++◌, length, get_or, if◌then◌else◌, ⊎_elim, refl, sym, ap, subst, ◌∙◌, arith, eqb}
+use Rattle.std.proofs.Common.{◌≡◌, ℕ, ◌+◌, ◌<◌, Bool, true, false, ◌||◌, cond, List, [], ◌∷◌, ◌++◌, map, length, get_or, if◌then◌else◌, ⊎_elim, refl, sym, ap, subst, ◌∙◌, arith, eqb}
 use Rattle.std.specs.List.{AllByRecursion, AllPairs, AllZip, filter}
 use Rattle.std.proofs.lemmas.Bool.{false≢true}
 use Rattle.std.proofs.lemmas.Bool.Decides.{nat_tests}
@@ -11,7 +11,7 @@ use Rattle.bng_base.specs.declared.item.Item.{Item}
 use Rattle.bng_base.specs.declared.item.ItemKind.{ItemKind}
 use Rattle.bng_base.specs.declared.item.ItemKind.TheVariants.{Access, Core, Tunnel, Verdict, Change, Tick, End}
 use Rattle.bng_engine.specs.Views.{ShardView}
-use Rattle.bng_engine.proofs.Everywhere.{all_append, all_weaker}
+use Rattle.bng_engine.proofs.Everywhere.{all_append, all_mapped, all_weaker}
 use Rattle.bng_pool.specs.Tables.{Table}
 use Rattle.bng_shard.specs.declared.rules.Rules.{Rules}
 use Rattle.bng_shard.specs.declared.whose.Whose.{Whose}
@@ -20,7 +20,7 @@ use Rattle.bng_shard.specs.Protocol.{entry_of}
 use Rattle.bng_shard.specs.Room.{Admits, is_tick, is_end}
 use Rattle.bng_shard.specs.Protocol.{ShardState}
 use Rattle.bng_shard.specs.Whose.{IsWhose, IsForKind, IsForTarget}
-use Rattle.bng_desk.specs.Items.{entries_in, stands_in}
+use Rattle.bng_desk.specs.Items.{entries_in, stands_in, without_claim}
 use Rattle.bng_desk.specs.Taking.{is_once, AreOnce}
 
 -- Lists -----------------------------------------------------------------------------------------------------------------
@@ -82,19 +82,26 @@ none_in : (b : Bool) (n place moment : ℕ) (i : Item) → (b ≡ true → is_on
 none_in true n place moment i h = (h refl, tt)
 none_in false n place moment i h = tt
 
-not_here : (r : Rules) (table : Table) (n : ℕ) (i : Item) (w : Whose) → IsWhose r table i w → IsLower n i → stands_in n w ≡ true → is_once i.kind ≡ false
-not_here r table n i (IsLoose fate) is low e = absurd (false≢true e)
-not_here r table n i (Stands m) is low e =
-    let same : m ≡ n = same_number m n e in
-    not_true (is_once i.kind) (λ (yes : is_once i.kind ≡ true). let target = once_target i.kind r table i m is yes in let lower = low yes in omega (arith, same, target, lower))
+-- each Tick and each End stands in the shard that it is for
+abbrev pub StandsOnce : Item → Whose → Type 0
+StandsOnce i w = (n : ℕ) → w ≡ Stands n → is_once i.kind ≡ true → i.target ≡ n
 
-none_once : (r : Rules) (table : Table) (n place moment : ℕ) (done : List Item) (whose : List Whose) → AllZip (IsWhose r table) done whose → AllByRecursion (IsLower n) done → AllByRecursion NotOnce (entries_in 0 n place moment done whose)
-none_once r table n place moment [] whose is low = tt
-none_once r table n place moment (i ∷ done) [] is low = tt
-none_once r table n place moment (i ∷ done) (w ∷ whose) is low =
+pub stands_once : (r : Rules) (table : Table) (i : Item) (w : Whose) → IsWhose r table i w → StandsOnce i w
+stands_once r table i w is n at once = once_target i.kind r table i n (subst (IsWhose r table i) at is) once
+
+not_here : (n : ℕ) (i : Item) (w : Whose) → StandsOnce i w → IsLower n i → stands_in n w ≡ true → is_once i.kind ≡ false
+not_here n i (IsLoose fate) is low e = absurd (false≢true e)
+not_here n i (Stands m) is low e =
+    let same : m ≡ n = same_number m n e in
+    not_true (is_once i.kind) (λ (yes : is_once i.kind ≡ true). let target = is m refl yes in let lower = low yes in omega (arith, same, target, lower))
+
+none_once : (n place moment : ℕ) (done : List Item) (whose : List Whose) → AllZip StandsOnce done whose → AllByRecursion (IsLower n) done → AllByRecursion NotOnce (entries_in 0 n place moment done whose)
+none_once n place moment [] whose is low = tt
+none_once n place moment (i ∷ done) [] is low = tt
+none_once n place moment (i ∷ done) (w ∷ whose) is low =
     all_append NotOnce (if stands_in n w then entry_of 0 place moment i ∷ [] else []) (entries_in 0 n (place + 1) moment done whose)
-    (none_in (stands_in n w) n place moment i (not_here r table n i w is.0 low.0))
-    (none_once r table n (place + 1) moment done whose is.1 low.1)
+    (none_in (stands_in n w) n place moment i (not_here n i w is.0 low.0))
+    (none_once n (place + 1) moment done whose is.1 low.1)
 
 tick_once : (kind : ItemKind) → is_tick kind ≡ true → is_once kind ≡ true
 tick_once kind e = ap (λ (b : Bool). b || is_end kind) e
@@ -120,8 +127,8 @@ none_admits v kind h = record {
 
 -- the shard of the next item admits it
 pub admits_next : (r : Rules) (table : Table) (moment : ℕ) (done : List Item) (whose : List Whose) (item : Item) (left : List Item) (n : ℕ) (v : ShardView ShardState Entry)
-    → AreOnce (done ++ item ∷ left) → AllZip (IsWhose r table) done whose → IsWhose r table item (Stands n) → v.journal ≡ entries_in 0 n 0 moment done whose → Admits v item.kind
+    → AreOnce (done ++ item ∷ left) → AllZip StandsOnce done whose → IsWhose r table item (Stands n) → map without_claim v.journal ≡ entries_in 0 n 0 moment done whose → Admits v item.kind
 admits_next r table moment done whose item left n v once are is journal = none_admits v item.kind (λ yes.
     let target : item.target ≡ n = once_target item.kind r table item n is yes in
     let low : AllByRecursion (IsLower n) done = subst (λ (m : ℕ). AllByRecursion (IsLower m) done) target (once_before done item left once yes) in
-    subst (λ (es : List Entry). AllByRecursion NotOnce es) (sym journal) (none_once r table n 0 moment done whose are low))
+    all_mapped NotOnce without_claim v.journal (subst (λ (es : List Entry). AllByRecursion NotOnce es) (sym journal) (none_once n 0 moment done whose are low)))

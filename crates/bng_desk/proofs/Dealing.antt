@@ -11,15 +11,12 @@ use Rattle.bng_base.specs.declared.item.Entry.{Entry}
 use Rattle.bng_base.specs.declared.item.Item.{Item}
 use Rattle.bng_base.specs.declared.item.Loose.{Loose}
 use Rattle.bng_engine.specs.Views.{ShardView}
-use Rattle.bng_pool.specs.Tables.{Table}
-use Rattle.bng_shard.specs.declared.rules.Rules.{Rules}
 use Rattle.bng_shard.specs.declared.whose.Whose.{Whose}
 use Rattle.bng_shard.specs.declared.whose.Whose.TheVariants.{Stands}
 use Rattle.bng_shard.specs.Protocol.{ShardState, Handled, entry_of}
-use Rattle.bng_shard.specs.Whose.{IsWhose}
 use Rattle.bng_desk.specs.declared.drops.Drops.{Drops}
 use Rattle.bng_desk.specs.Counting.{with_fate, is_dropped, drops_of, plus}
-use Rattle.bng_desk.specs.Items.{entries_in, loose_item, loose_in, stands_in}
+use Rattle.bng_desk.specs.Items.{entries_in, loose_item, loose_in, stands_in, without_claim}
 use Rattle.bng_desk.specs.Round.{entries_of}
 use Rattle.bng_desk.specs.Taking.{AreDealt}
 use Rattle.bng_desk.proofs.DropLaws.{drops_more, same}
@@ -75,14 +72,18 @@ shard_fates loose vs n d v done cause lt e =
 
 -- Entries and loose items -----------------------------------------------------------------------------------------------
 
+-- what was handed to a shard: its entries, without their claims
+abbrev pub handed_to : ShardView ShardState Handled → List Entry
+handed_to v = map without_claim (entries_of v)
+
 abbrev entry_if : ℕ → ℕ → ℕ → Item → Whose → List Entry
 entry_if shard place moment i w = if stands_in shard w then entry_of 0 place moment i ∷ [] else []
 
 next_place : (place n : ℕ) → place + 1 + n ≡ place + suc n
 next_place place n = omega arith
 
-module _ (r : Rules) (table : Table) (moment : ℕ) where
-  pub entries_push : (shard place : ℕ) (is : List Item) (ws : List Whose) (i : Item) (w : Whose) → AllZip (IsWhose r table) is ws
+module _ (R : Item → Whose → Type 0) (moment : ℕ) where
+  pub entries_push : (shard place : ℕ) (is : List Item) (ws : List Whose) (i : Item) (w : Whose) → AllZip R is ws
       → entries_in 0 shard place moment (is ++ i ∷ []) (ws ++ w ∷ []) ≡ entries_in 0 shard place moment is ws ++ entry_if shard (place + length is) moment i w
   entries_push shard place [] [] i w h = append-nil (entry_if shard place moment i w) ∙ ap (λ (n : ℕ). entry_if shard n moment i w) (sym (add-zero place))
   entries_push shard place [] (x ∷ ws) i w h = absurd h
@@ -91,7 +92,7 @@ module _ (r : Rules) (table : Table) (moment : ℕ) where
       ap (λ (es : List Entry). entry_if shard place moment x y ++ es) (entries_push shard (place + 1) is ws i w h.1 ∙ ap (λ (n : ℕ). entries_in 0 shard (place + 1) moment is ws ++ entry_if shard n moment i w) (next_place place (length is)))
       ∙ sym (append_assoc (entry_if shard place moment x y) (entries_in 0 shard (place + 1) moment is ws) (entry_if shard (place + suc (length is)) moment i w))
 
-  pub loose_push : (place : ℕ) (is : List Item) (ws : List Whose) (i : Item) (w : Whose) → AllZip (IsWhose r table) is ws
+  pub loose_push : (place : ℕ) (is : List Item) (ws : List Whose) (i : Item) (w : Whose) → AllZip R is ws
       → loose_in 0 place (is ++ i ∷ []) (ws ++ w ∷ []) ≡ loose_in 0 place is ws ++ loose_item 0 (place + length is) i w
   loose_push place [] [] i w h = append-nil (loose_item 0 place i w) ∙ ap (λ (n : ℕ). loose_item 0 n i w) (sym (add-zero place))
   loose_push place [] (x ∷ ws) i w h = absurd h
@@ -101,7 +102,7 @@ module _ (r : Rules) (table : Table) (moment : ℕ) where
       ∙ sym (append_assoc (loose_item 0 place x y) (loose_in 0 (place + 1) is ws) (loose_item 0 (place + suc (length is)) i w))
 
   -- the shards in which the item does not stand
-  pub dealt_others : (shard : ℕ) (is : List Item) (ws : List Whose) (i : Item) (w : Whose) (vs : Seens) → AllZip (IsWhose r table) is ws
+  pub dealt_others : (shard : ℕ) (is : List Item) (ws : List Whose) (i : Item) (w : Whose) (vs : Seens) → AllZip R is ws
       → ((k : ℕ) → shard ≤ k → stands_in k w ≡ false) → AreDealt shard moment is ws vs → AreDealt shard moment (is ++ i ∷ []) (ws ++ w ∷ []) vs
   dealt_others shard is ws i w [] h not_in so_far = tt
   dealt_others shard is ws i w (v ∷ vs) h not_in so_far =
@@ -117,8 +118,8 @@ module _ (r : Rules) (table : Table) (moment : ℕ) where
   other_is a b e = grind (arith, nat_tests)
 
   -- the shard in which it stands has one entry more
-  pub dealt_at : (shard n m : ℕ) (is : List Item) (ws : List Whose) (i : Item) (vs : Seens) (d v : ShardView ShardState Handled) → AllZip (IsWhose r table) is ws → n < length vs → m ≡ shard + n
-      → entries_of v ≡ entries_of (get_or vs n d) ++ entry_of 0 (length is) moment i ∷ []
+  pub dealt_at : (shard n m : ℕ) (is : List Item) (ws : List Whose) (i : Item) (vs : Seens) (d v : ShardView ShardState Handled) → AllZip R is ws → n < length vs → m ≡ shard + n
+      → handed_to v ≡ handed_to (get_or vs n d) ++ entry_of 0 (length is) moment i ∷ []
       → AreDealt shard moment is ws vs → AreDealt shard moment (is ++ i ∷ []) (ws ++ Stands m ∷ []) (set vs n v)
   dealt_at shard n m is ws i [] d v h lt at more so_far = absurd (omega (arith, lt))
   dealt_at shard zero m is ws i (x ∷ vs) d v h lt at more so_far =
@@ -135,7 +136,7 @@ module _ (r : Rules) (table : Table) (moment : ℕ) where
       )
 
   -- the entries of one shard
-  pub dealt_in : (shard n : ℕ) (is : List Item) (ws : List Whose) (vs : Seens) (d : ShardView ShardState Handled) → n < length vs → AreDealt shard moment is ws vs → entries_of (get_or vs n d) ≡ entries_in 0 (shard + n) 0 moment is ws
+  pub dealt_in : (shard n : ℕ) (is : List Item) (ws : List Whose) (vs : Seens) (d : ShardView ShardState Handled) → n < length vs → AreDealt shard moment is ws vs → handed_to (get_or vs n d) ≡ entries_in 0 (shard + n) 0 moment is ws
   dealt_in shard n is ws [] d lt so_far = absurd (omega (arith, lt))
   dealt_in shard zero is ws (v ∷ vs) d lt so_far = so_far.0 ∙ ap (λ (k : ℕ). entries_in 0 k 0 moment is ws) (sym (add-zero shard))
   dealt_in shard (suc n) is ws (v ∷ vs) d lt so_far = dealt_in (shard + 1) n is ws vs d (omega (arith, lt)) so_far.1 ∙ ap (λ (k : ℕ). entries_in 0 k 0 moment is ws) (next_place shard n)

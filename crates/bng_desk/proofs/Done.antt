@@ -1,5 +1,5 @@
 -- A round that was held or refused, as a turn of the desk has it.
-use Rattle.std.proofs.Common.{◌≡◌, inl, inr, ℕ, ◌+◌, ◌&&◌, Bool, List, [], ◌∷◌, Option, None, Some, map, length, refl, sym, ap, subst, ◌∙◌}
+use Rattle.std.proofs.Common.{◌≡◌, inl, inr, ℕ, ◌+◌, ◌&&◌, Bool, List, [], ◌∷◌, ◌++◌, Option, None, Some, map, length, refl, sym, ap, subst, ◌∙◌}
 use Rattle.std.specs.List.{AllZip}
 use Rattle.std.proofs.lemmas.List.{length-map}
 use Rattle.bng_base.specs.declared.book.Book.{Book}
@@ -8,23 +8,27 @@ use Rattle.bng_base.specs.declared.item.Item.{Item}
 use Rattle.bng_base.specs.declared.round.RoundRecord.{RoundRecord}
 use Rattle.bng_base.specs.Stretch.{ExtendsPlant, PlantStretch, plant_none, plant_joined}
 use Rattle.bng_base.specs.Told.{PlantTold}
+use Rattle.bng_base.proofs.ChainLaws.{chain_append}
 use Rattle.bng_base.proofs.StretchLaws.{plant_assoc, plant_more, plant_stays}
+use Rattle.bng_billing.specs.Records.{IsFormedBy}
 use Rattle.bng_billing.specs.State.{BillingState}
+use Rattle.bng_engine.specs.Journals.{after as after_journal}
 use Rattle.bng_engine.specs.Views.{ShardView}
 use Rattle.bng_ppp.specs.LinkRelation.{earliest}
 use Rattle.bng_pool.specs.Plain.{PlainView}
-use Rattle.bng_shard.specs.Protocol.{ShardState}
+use Rattle.bng_shard.specs.Protocol.{Handled, ShardState, pppoe}
 use Rattle.bng_desk.specs.declared.drops.Drops.{Drops}
 use Rattle.bng_desk.specs.declared.holding.Named.{Named}
 use Rattle.bng_desk.specs.declared.line.Line.{Line}
-use Rattle.bng_desk.specs.Accounting.{FormedRecord, Forms, IsStopOf, acct_reading, records_stretch}
+use Rattle.bng_desk.specs.Accounting.{FormedRecord, Forms, IsStartOf, IsStopOf, acct_reading, records_stretch}
+use Rattle.bng_desk.specs.Allowing.{Allows, allowance_of, free_in}
 use Rattle.bng_desk.specs.Control.{control_stretch}
 use Rattle.bng_desk.specs.Kept.{rested}
 use Rattle.bng_desk.specs.Logins.{requests_stretch}
 use Rattle.bng_desk.specs.Model.{Desk}
-use Rattle.bng_desk.specs.Round.{Round, IsRound, record_of, refused_record}
+use Rattle.bng_desk.specs.Round.{Round, IsRound, handled_states, news_in, record_of, refused_record, starts_of, stops_of, terms_in}
 use Rattle.bng_desk.specs.Taking.{Accounts, Holds}
-use Rattle.bng_desk.specs.Turn.{Turn, RoundOf, after_round, is_opened, round_stretch, round_told, after, auth_stretch, plant_stretch, data_stretch, reading_stretch, stops_in, waiting_stretch, is_idle, wait_for, deadline_in}
+use Rattle.bng_desk.specs.Turn.{Turn, FormsRecords, RoundOf, after_round, is_opened, round_stretch, round_told, after, auth_stretch, plant_stretch, data_stretch, reading_stretch, waiting_stretch, is_idle, wait_for, deadline_in}
 use Rattle.bng_desk.proofs.Resting.{kept_rested, left_rested, round_rested}
 
 abbrev Shards : Type 0
@@ -37,10 +41,10 @@ pub record RoundDone (d : Desk) (heard : BillingState) (moment wall : ℕ) (item
   pub shards_are : shards ≡ (after_round d items round).shards
   pub pool_is : pool ≡ (after_round d items round).pool
   pub lines_are : accounts.lines ≡ (after_round d items round).lines
+  pub allows : Allows heard d.shards round
   pub formed : List FormedRecord
   pub forms : Forms heard formed accounts.billing
-  pub stops : AllZip (IsStopOf d.lines d.began moment wall) (stops_in round) formed
-  pub began_is : accounts.began ≡ d.began
+  pub of_round : FormsRecords d.shards moment wall round formed
   pub drops_are : drops ≡ (after_round d items round).drops
   pub tallies_are : tally ∷ [] ≡ (after_round d items round).tallies
   pub told : ExtendsPlant old new (round_stretch round)
@@ -49,24 +53,47 @@ pub record RoundDone (d : Desk) (heard : BillingState) (moment wall : ℕ) (item
   pub kept_is : kept ≡ (after_round d items round).kept
 
 abbrev accounts_of : Desk → BillingState → Accounts
-accounts_of d heard = record { lines = d.lines; billing = heard; began = d.began }
+accounts_of d heard = record { lines = d.lines; billing = heard }
+
+-- a round over shards is one over these shards at rest
+states_rested : (vs : Shards) (xs : List (ShardView ShardState Handled)) → handled_states (map rested vs) xs ≡ handled_states vs xs
+states_rested [] xs = refl
+states_rested (v ∷ vs) [] = refl
+states_rested (v ∷ vs) (x ∷ xs) = ap (λ (ss : List ShardState). after_journal pppoe v.state x.journal ∷ ss) (states_rested vs xs)
+
+allowances_rested : (free n : ℕ) (vs : Shards) → map (allowance_of free n) (map rested vs) ≡ map (allowance_of free n) vs
+allowances_rested free n [] = refl
+allowances_rested free n (v ∷ vs) = ap (λ (ns : List ℕ). allowance_of free n v ∷ ns) (allowances_rested free n vs)
+
+allows_rested : (b : BillingState) (vs : Shards) (round : Round) (shards : Shards) → shards ≡ map rested vs → Allows b vs (Some round) → Allows b shards (Some round)
+allows_rested b vs round shards same allows =
+    subst (λ (xs : Shards). Allows b xs (Some round)) (sym same)
+    (allows ∙ sym (allowances_rested (free_in b) (length vs) vs) ∙ ap (λ (n : ℕ). map (allowance_of (free_in b) n) (map rested vs)) (sym (length-map vs rested)))
 
 pub round_done : (d : Desk) (heard : BillingState) (named : Named) (items : List Item) (p p' : PlantTold) (vs ws : Shards) (pool' : PlainView) (accounts' : Accounts) (drops' : Drops) (tally tally' : Book) (told_is : RoundRecord) (opened : Bool) (kept : List Item) → Holds d.rules d.pool pool' (accounts_of d heard) accounts' named items p p' vs ws d.drops drops' tally tally' told_is opened kept
     → d.shards ≡ map rested vs → d.tallies ≡ tally ∷ [] → named.number ≡ d.told + 1 → RoundDone d heard named.moment named.wall items p p' (map rested ws) pool' accounts' drops' tally' told_is opened kept
 round_done d heard named items p p' vs ws pool' accounts' drops' tally tally' told_is opened kept (inl (opened_is, kept_is, h)) shards tallies number =
     let same : map rested h.ready ≡ d.shards = kept_rested vs h.ready h.kept ∙ sym shards in
     let lists : List (List Item) = items ∷ [] in
+    let states : handled_states h.ready h.held.round.shards ≡ handled_states d.shards h.held.round.shards =
+    sym (states_rested h.ready h.held.round.shards) ∙ ap (λ (xs : Shards). handled_states xs h.held.round.shards) same in
     record {
       round = Some h.held.round;
       is = subst (λ (bs : List Book). IsRound d.rules d.shards d.pool bs named.moment lists h.held.round) (sym tallies)
           (subst (λ (xs : Shards). IsRound d.rules xs d.pool (tally ∷ []) named.moment lists h.held.round) same (round_rested d.rules h.ready d.pool (tally ∷ []) named.moment lists h.held.round h.held.is));
       shards_are = left_rested ws h.held.round.shards h.held.shards_are;
       pool_is = sym h.held.pool_is;
-      lines_are = h.held.booked.lines_are;
-      formed = h.held.booked.formed;
-      forms = h.held.booked.forms;
-      stops = h.held.booked.are_stops;
-      began_is = h.held.booked.began;
+      lines_are = h.held.begins.lines_are ∙ h.held.ends.lines_are;
+      allows = allows_rested heard vs h.held.round d.shards shards h.allows;
+      formed = h.held.ends.formed ++ h.held.begins.formed;
+      forms = chain_append (λ b (f : FormedRecord) b'. IsFormedBy b f.status f.facts f.moment f.number b') heard h.held.mid.billing accounts'.billing h.held.ends.formed h.held.begins.formed h.held.ends.forms h.held.begins.forms;
+      of_round = record {
+        stops = h.held.ends.formed;
+        starts = h.held.begins.formed;
+        are = refl;
+        are_stops = subst (λ (ss : List ShardState). AllZip (IsStopOf (terms_in ss) named.moment named.wall) (stops_of h.held.round) h.held.ends.formed) states h.held.ends.are_stops;
+        are_starts = subst (λ (ss : List ShardState). AllZip (IsStartOf (news_in ss) named.moment named.wall) (starts_of h.held.round) h.held.begins.formed) states h.held.begins.are_starts;
+      };
       drops_are = h.held.drops_are;
       tallies_are = sym h.held.tallies_are;
       told = h.held.told;
@@ -82,10 +109,10 @@ round_done d heard named items p p' vs ws pool' accounts' drops' tally tally' to
       shards_are = kept_rested vs ws h.kept ∙ sym shards;
       pool_is = h.pool_is;
       lines_are = ap (λ (a : Accounts). a.lines) h.accounts_are;
+      allows = tt;
       formed = [];
       forms = ap (λ (a : Accounts). a.billing) h.accounts_are;
-      stops = tt;
-      began_is = ap (λ (a : Accounts). a.began) h.accounts_are;
+      of_round = refl;
       drops_are = h.drops_are;
       tallies_are = ap (λ (b : Book). let bs : List Book = b ∷ [] in bs) h.tally_is ∙ sym tallies;
       told = subst (λ (q : PlantTold). ExtendsPlant p q plant_none) (sym h.told) (plant_stays p);

@@ -27,27 +27,26 @@ use Rattle.bng_shard.specs.declared.session.Session.{Session}
 use Rattle.bng_shard.specs.Deed.{Deed}
 use Rattle.bng_shard.specs.Link.{Told}
 use Rattle.bng_shard.specs.Made.{Question}
-use Rattle.bng_shard.specs.Protocol.{ShardState, HasNoLogins, Handled, pppoe, entry_of, sessions_of}
+use Rattle.bng_shard.specs.Protocol.{ShardState, Handled, pppoe, entry_of, sessions_of}
 use Rattle.bng_shard.specs.State.{State, count_in}
 use Rattle.bng_shard.specs.Step.{Hears}
 use Rattle.bng_shard.specs.Verdicts.{HearsVerdict, Judges, next_lease, settled_by}
-use Rattle.bng_shard.specs.Whose.{IsWhose, IsForKind, IsForTarget}
+use Rattle.bng_shard.specs.Whose.{IsForKind, IsForTarget}
 use Rattle.bng_shard.proofs.Fewer.{end_leaves_fewer}
 use Rattle.bng_shard.proofs.Values.{sum_by-replaced}
 use Rattle.bng_desk.specs.declared.drops.Drops.{Drops}
 use Rattle.bng_desk.specs.declared.holding.Named.{Named}
-use Rattle.bng_desk.specs.Items.{entries_in, for_shard, stands_in}
+use Rattle.bng_desk.specs.Items.{entries_in, for_shard, stands_in, without_claim}
 use Rattle.bng_desk.specs.Kept.{rested, undrawn, AreEndsOf, is_verdict}
 use Rattle.bng_desk.specs.Model.{sessions_in, unopened_most}
-use Rattle.bng_desk.specs.Round.{AreParts, entries_of, views_of}
-use Rattle.bng_desk.specs.Taking.{Accounts, IsLeftBy, IsPlainly, IsHeld, Holds}
+use Rattle.bng_desk.specs.Round.{AreParts, IsWhoseIn, entries_of, views_of}
+use Rattle.bng_desk.specs.Taking.{Accounts, IsLeftBy, IsHeld, Holds}
 use Rattle.bng_desk.proofs.Dealing.{Seens}
 use Rattle.bng_desk.proofs.Joining.{OfSeat, all_kept}
-use Rattle.bng_shard.proofs.Poolless.{logins_settled}
 use Rattle.bng_desk.proofs.Readying.{Shards, WorksBy, all_onward}
 use Rattle.bng_desk.proofs.Resting.{kept_rested, sessions_rested}
 use Rattle.bng_desk.proofs.Staying.{AreEnds}
-use Rattle.bng_desk.proofs.Unclaiming.{after_rules, logins_stay}
+use Rattle.bng_desk.proofs.Unclaiming.{after_rules}
 use Rattle.bng_desk.proofs.Zips.{zip_length}
 
 -- Rules -----------------------------------------------------------------------------------------------------------------
@@ -64,20 +63,6 @@ moved_rules r (v ∷ vs) [] (x ∷ xs) moves left rules = absurd left
 moved_rules r (v ∷ vs) (w ∷ ws) (x ∷ xs) moves left rules =
     (ap (λ (s : ShardState). s.rules) left.0.state ∙ ap (λ (s : ShardState). s.rules) moves.0.state ∙ after_rules v.state x.journal ∙ rules.0, moved_rules r vs ws xs moves.1 left.1 rules.1)
 
--- no session that discovery made has a term, and no Start is owed
-moved_plain : (r : Rules) (vs ws : Shards) (xs : Seens) → r.pools ≡ [] → AllZip (Moves pppoe) (views_of vs) xs → AllZip IsLeftBy ws xs → AllByRecursion (WorksBy r) vs → AllByRecursion IsPlainly vs → AllByRecursion IsPlainly ws
-moved_plain r [] [] [] none moves left rules plain = tt
-moved_plain r [] (w ∷ ws) [] none moves left rules plain = absurd left
-moved_plain r [] ws (x ∷ xs) none moves left rules plain = absurd moves
-moved_plain r (v ∷ vs) ws [] none moves left rules plain = absurd moves
-moved_plain r (v ∷ vs) [] (x ∷ xs) none moves left rules plain = absurd left
-moved_plain r (v ∷ vs) (w ∷ ws) (x ∷ xs) none moves left rules plain =
-    let over = after pppoe v.state x.journal in
-    let logins = logins_settled over.slots (logins_stay v.state x.journal moves.0.steps (ap (λ (q : Rules). q.pools) rules.0 ∙ none) plain.0.0) in (
-      subst (λ (s : ShardState). HasNoLogins s.slots × (s.slots.news ≡ [])) (sym (left.0.state ∙ moves.0.state)) (logins, refl),
-      moved_plain r vs ws xs none moves.1 left.1 rules.1 plain.1,
-    )
-
 -- Ends ------------------------------------------------------------------------------------------------------------------
 
 same_number : (a n : ℕ) → eqb a n ≡ true → a ≡ n
@@ -90,9 +75,9 @@ not_same : (a n : ℕ) → eqb a n ≡ false → a ≢ n
 not_same a n e = grind (arith, nat_tests)
 
 -- an End stands in the shard that it is for
-end_whose : (r : Rules) (table : Table) (i : Item) (w : Whose) → IsWhose r table i w → i.kind ≡ End → i.target < r.shards → w ≡ Stands i.target
-end_whose r table i w is kind lt =
-    let h : IsForTarget r i.target w = subst (λ (k : ItemKind). IsForKind k r table i w) kind is in
+end_whose : (r : Rules) (opening last : Table) (i : Item) (w : Whose) → IsWhoseIn r opening last i w → i.kind ≡ End → i.target < r.shards → w ≡ Stands i.target
+end_whose r opening last i w is kind lt =
+    let h : IsForTarget r i.target w = subst (λ (k : ItemKind). IsForKind k r is.table i w) kind is.is in
     ⊎_elim (λ h. h.1) (λ h. absurd (omega (arith, h.0, lt))) h
 
 -- one entry, of an End
@@ -116,12 +101,15 @@ one_more : (b : Bool) (e : Entry) (es : List Entry) → IsVerdict e → EndLast 
 one_more true e es v l = record { front = e ∷ l.front; all = All-cons IsVerdict e l.front v l.all; last = l.last; is = ap (λ (xs : List Entry). e ∷ xs) l.is; kind = l.kind }
 one_more false e es v l = l
 
-module _ (r : Rules) (table : Table) (moment : ℕ) where
+module _ (r : Rules) (opening last : Table) (moment : ℕ) where
+  abbrev Whoses : List Item → List Whose → Type 0
+  Whoses = AllZip (IsWhoseIn r opening last)
+
   abbrev entry_if : ℕ → ℕ → Item → Whose → List Entry
   entry_if k place i w = if stands_in k w then entry_of 0 place moment i ∷ [] else []
 
   -- Ends for higher shards have no entry in this one
-  none_before : (k m n place : ℕ) (is : List Item) (ws : List Whose) → k < m → m + n ≤ r.shards → map undrawn is ≡ map (for_shard End) (range_with_len m n) → AllZip (IsWhose r table) is ws → entries_in 0 k place moment is ws ≡ []
+  none_before : (k m n place : ℕ) (is : List Item) (ws : List Whose) → k < m → m + n ≤ r.shards → map undrawn is ≡ map (for_shard End) (range_with_len m n) → Whoses is ws → entries_in 0 k place moment is ws ≡ []
   none_before k m n place [] ws lt few same are = refl
   none_before k m n place (i ∷ is) [] lt few same are = refl
   none_before k m zero place (i ∷ is) (w ∷ ws) lt few same are = let no : ⊥ = cc in absurd no
@@ -129,14 +117,14 @@ module _ (r : Rules) (table : Table) (moment : ℕ) where
       let head : undrawn i ≡ for_shard End m = cc in
       let tail : map undrawn is ≡ map (for_shard End) (range_with_len (m + 1) n) = cc in
       let target : i.target ≡ m = ap (λ (x : Item). x.target) head in
-      let stands : w ≡ Stands i.target = end_whose r table i w are.0 (ap (λ (x : Item). x.kind) head) (omega (arith, target, few)) in
+      let stands : w ≡ Stands i.target = end_whose r opening last i w are.0 (ap (λ (x : Item). x.kind) head) (omega (arith, target, few)) in
       let here : stands_in k w ≡ false = ap (stands_in k) stands ∙ other_number i.target k (λ e. omega (arith, e, target, lt)) in
       ap (λ (b : Bool). (if b then entry_of 0 place moment i ∷ [] else []) ++ entries_in 0 k (place + 1) moment is ws) here
       ∙ none_before k (m + 1) n (place + 1) is ws (omega (arith, lt)) (omega (arith, few)) tail are.1
 
   -- the first of these Ends is for this shard, or a later one is
   one_by : (b : Bool) (k m n place : ℕ) (i : Item) (w : Whose) (is : List Item) (ws : List Whose) → eqb m k ≡ b → w ≡ Stands m → i.kind ≡ End → m ≤ k → m + suc n ≤ r.shards
-      → map undrawn is ≡ map (for_shard End) (range_with_len (m + 1) n) → AllZip (IsWhose r table) is ws → (m + 1 ≤ k → OneEnd (entries_in 0 k (place + 1) moment is ws)) → OneEnd (entry_if k place i w ++ entries_in 0 k (place + 1) moment is ws)
+      → map undrawn is ≡ map (for_shard End) (range_with_len (m + 1) n) → Whoses is ws → (m + 1 ≤ k → OneEnd (entries_in 0 k (place + 1) moment is ws)) → OneEnd (entry_if k place i w ++ entries_in 0 k (place + 1) moment is ws)
   one_by true k m n place i w is ws e stands kind low few tail are later =
       let here : stands_in k w ≡ true = ap (stands_in k) stands ∙ e in
       let rest = none_before k (m + 1) n (place + 1) is ws (omega (arith, same_number m k e)) (omega (arith, few)) tail are in
@@ -157,7 +145,7 @@ module _ (r : Rules) (table : Table) (moment : ℕ) where
       }
 
   -- of an End for each shard, each shard has one
-  one_at : (k m n place : ℕ) (is : List Item) (ws : List Whose) → m ≤ k → k < m + n → m + n ≤ r.shards → map undrawn is ≡ map (for_shard End) (range_with_len m n) → AllZip (IsWhose r table) is ws → OneEnd (entries_in 0 k place moment is ws)
+  one_at : (k m n place : ℕ) (is : List Item) (ws : List Whose) → m ≤ k → k < m + n → m + n ≤ r.shards → map undrawn is ≡ map (for_shard End) (range_with_len m n) → Whoses is ws → OneEnd (entries_in 0 k place moment is ws)
   one_at k m zero place [] ws low high few same are = absurd (omega (arith, low, high))
   one_at k m (suc n) place [] ws low high few same are = let no : ⊥ = cc in absurd no
   one_at k m n place (i ∷ is) [] low high few same are = absurd are
@@ -167,12 +155,12 @@ module _ (r : Rules) (table : Table) (moment : ℕ) where
       let tail : map undrawn is ≡ map (for_shard End) (range_with_len (m + 1) n) = cc in
       let target : i.target ≡ m = ap (λ (x : Item). x.target) head in
       let kind : i.kind ≡ End = ap (λ (x : Item). x.kind) head in
-      let stands : w ≡ Stands m = end_whose r table i w are.0 kind (omega (arith, target, few)) ∙ ap Stands target in
+      let stands : w ≡ Stands m = end_whose r opening last i w are.0 kind (omega (arith, target, few)) ∙ ap Stands target in
       one_by (eqb m k) k m n place i w is ws refl stands kind low few tail are.1
       (λ later. one_at k (m + 1) n (place + 1) is ws later (omega (arith, high)) (omega (arith, few)) tail are.1)
 
   -- verdicts, and one End after them
-  end_last : (k n : ℕ) (vs es : List Item) → (place : ℕ) (ws : List Whose) → k < n → n ≤ r.shards → All is_verdict vs → AreEndsOf n es → AllZip (IsWhose r table) (vs ++ es) ws → EndLast (entries_in 0 k place moment (vs ++ es) ws)
+  end_last : (k n : ℕ) (vs es : List Item) → (place : ℕ) (ws : List Whose) → k < n → n ≤ r.shards → All is_verdict vs → AreEndsOf n es → Whoses (vs ++ es) ws → EndLast (entries_in 0 k place moment (vs ++ es) ws)
   end_last k n [] es place ws high few verdicts ends are =
       let one = one_at k 0 n place es ws (omega arith) (omega (arith, high)) (omega (arith, few)) ends are in
       record { front = []; all = All-nil IsVerdict; last = one.entry; is = one.is; kind = one.kind }
@@ -201,10 +189,14 @@ less_sum a b c d (inl x) (inr y) = inr (omega (arith, x.0, x.1, y))
 less_sum a b c d (inr x) (inl y) = inr (omega (arith, x, y.0, y.1))
 less_sum a b c d (inr x) (inr y) = inr (omega (arith, x, y))
 
-one_step : (s : ShardState) (es : List Handled) (e : Entry) → map (λ (h : Handled). h.deed.entry) es ≡ e ∷ [] → e.item.kind ≡ End → AreSteps pppoe s es → Less (sessions_of s) (sessions_of (pppoe.settled (after pppoe s es)))
+-- the entries of a journal, without their claims
+abbrev claimless : List Handled → List Entry
+claimless es = map without_claim (map (λ (h : Handled). h.deed.entry) es)
+
+one_step : (s : ShardState) (es : List Handled) (e : Entry) → claimless es ≡ e ∷ [] → e.item.kind ≡ End → AreSteps pppoe s es → Less (sessions_of s) (sessions_of (pppoe.settled (after pppoe s es)))
 one_step s [] e is kind steps = let no : ⊥ = cc in absurd no
 one_step s (h ∷ []) e is kind steps =
-    let of : h.deed.entry ≡ e = cc in
+    let of : without_claim h.deed.entry ≡ e = cc in
     less_by (sessions_of s) (sessions_of (pppoe.settled (pppoe.next s h))) (end_leaves_fewer s h steps.0 (ap (λ (x : Entry). x.item.kind) of ∙ kind))
 one_step s (h ∷ g ∷ es) e is kind steps = let no : ⊥ = cc in absurd no
 
@@ -233,16 +225,16 @@ verdict_leaves_all s h is kind =
     ⊎_elim (λ told. judged s.slots d.entry d s.rules told.1 told.3)
     (λ none. ⊎_elim (λ silent. ap (λ (x : Deed). count_in x.next) silent.2) (λ other. ap (λ (x : Deed). count_in x.next) other.2) none) hears
 
-last_step : (front : List Entry) (s : ShardState) (es : List Handled) (e : Entry) → map (λ (h : Handled). h.deed.entry) es ≡ front ++ e ∷ [] → All IsVerdict front → e.item.kind ≡ End → AreSteps pppoe s es → Less (sessions_of s) (sessions_of (pppoe.settled (after pppoe s es)))
+last_step : (front : List Entry) (s : ShardState) (es : List Handled) (e : Entry) → claimless es ≡ front ++ e ∷ [] → All IsVerdict front → e.item.kind ≡ End → AreSteps pppoe s es → Less (sessions_of s) (sessions_of (pppoe.settled (after pppoe s es)))
 last_step [] s es e is all kind steps = one_step s es e is kind steps
 last_step (f ∷ front) s [] e is all kind steps = let no : ⊥ = cc in absurd no
 last_step (f ∷ front) s (h ∷ es) e is all kind steps =
-    let first : h.deed.entry ≡ f = cc in
-    let rest : map (λ (x : Handled). x.deed.entry) es ≡ front ++ e ∷ [] = cc in
+    let first : without_claim h.deed.entry ≡ f = cc in
+    let rest : claimless es ≡ front ++ e ∷ [] = cc in
     let same = verdict_leaves_all s h steps.0 (ap (λ (x : Entry). x.item.kind) first ∙ All-head IsVerdict f front all) in
     subst (λ (n : ℕ). Less n (sessions_of (pppoe.settled (after pppoe (pppoe.next s h) es)))) same (last_step front (pppoe.next s h) es e rest (All-tail IsVerdict f front all) kind steps.1)
 
-module _ (r : Rules) (table : Table) (moment : ℕ) (vs₀ es₀ : List Item) (whose : List Whose) (n : ℕ) (few : n ≤ r.shards) (verdicts : All is_verdict vs₀) (ends : AreEndsOf n es₀) (are : AllZip (IsWhose r table) (vs₀ ++ es₀) whose) where
+module _ (r : Rules) (opening last : Table) (moment : ℕ) (vs₀ es₀ : List Item) (whose : List Whose) (n : ℕ) (few : n ≤ r.shards) (verdicts : All is_verdict vs₀) (ends : AreEndsOf n es₀) (are : AllZip (IsWhoseIn r opening last) (vs₀ ++ es₀) whose) where
   abbrev items : List Item
   items = vs₀ ++ es₀
 
@@ -253,14 +245,14 @@ module _ (r : Rules) (table : Table) (moment : ℕ) (vs₀ es₀ : List Item) (w
   dwindles k (v ∷ vs) ws [] within parts moves left = absurd moves
   dwindles k (v ∷ vs) [] (x ∷ xs) within parts moves left = absurd left
   dwindles k (v ∷ vs) (w ∷ ws) (x ∷ xs) within parts moves left =
-      let entries = entries_of x in
+      let entries = map without_claim (entries_of x) in
       let seats : AllByRecursion OfSeat entries = all_weaker (λ (e : Entry). e.seat < 1) OfSeat (λ e lt. omega (arith, lt)) entries (recursion_from_All (λ (e : Entry). e.seat < 1) entries parts.0.seats) in
       let those : entries ≡ entries_in 0 k 0 moment items whose = sym (all_kept entries seats) ∙ parts.0.each 0 (omega arith) in
-      let last = end_last r table moment k n vs₀ es₀ 0 whose (omega (arith, within)) few verdicts ends are in
+      let ends_last = end_last r opening last moment k n vs₀ es₀ 0 whose (omega (arith, within)) few verdicts ends are in
       let m = moves.0 in
       let state : w.state ≡ pppoe.settled (after pppoe v.state x.journal) = left.0.state ∙ m.state in
       let here : Less (sessions_of v.state) (sessions_of w.state) =
-      subst (λ (s : ShardState). Less (sessions_of v.state) (sessions_of s)) (sym state) (last_step last.front v.state x.journal last.last (those ∙ last.is) last.all last.kind m.steps) in
+      subst (λ (s : ShardState). Less (sessions_of v.state) (sessions_of s)) (sym state) (last_step ends_last.front v.state x.journal ends_last.last (those ∙ ends_last.is) ends_last.all ends_last.kind m.steps) in
       let f = λ (y : ShardView ShardState Entry). sessions_of y.state in
       let more = dwindles (k + 1) vs ws xs (omega (arith, within)) parts.1 moves.1 left.1 in
       subst (λ (a : ℕ). Less a (sessions_in (w ∷ ws))) (sym (sum_by-cons f v vs))
@@ -285,33 +277,23 @@ module _ (r : Rules) (pool pool' : PlainView) (accounts accounts' : Accounts) (n
   all_work by opened kept (inl h) works = held_works by h.2 works
   all_work by opened kept (inr h) works = kept_works by ws h.2.kept works
 
-  kept_plain : (ready : Shards) → AllZip Kept vs ready → All IsPlainly vs → All IsPlainly ready
-  kept_plain ready kept plain = all_onward Kept IsPlainly (λ x y k here. subst (λ (s : ShardState). HasNoLogins s.slots × (s.slots.news ≡ [])) (sym k.state) here) vs ready kept plain
-
-  pub all_plain : (opened : Bool) (kept : List Item) → Holds r pool pool' accounts accounts' named items old new vs ws drops drops' tally tally' record_is opened kept → r.pools ≡ [] → All (WorksBy r) vs → All IsPlainly vs → All IsPlainly ws
-  all_plain opened kept (inl h) none works plain =
-      All-from_recursion IsPlainly ws
-      (moved_plain r h.2.ready ws h.2.held.round.shards none h.2.held.is.turn.shards h.2.held.shards_are (recursion_from_All (WorksBy r) h.2.ready (kept_works r h.2.ready h.2.kept works))
-      (recursion_from_All IsPlainly h.2.ready (kept_plain h.2.ready h.2.kept plain)))
-  all_plain opened kept (inr h) none works plain = kept_plain ws h.2.kept plain
-
   same_sessions : (ready : Shards) → AllZip Kept vs ready → sessions_in ready ≡ sessions_in vs
   same_sessions ready kept = sym (sessions_rested ready) ∙ ap sessions_in (kept_rested vs ready kept) ∙ sessions_rested vs
 
-  dwindled : (whose : List (List Whose)) (xs : Seens) (ready : Shards) (n : ℕ) → n ≤ r.shards → (e : AreEnds n items) → length ready ≤ n → AllZip (AllZip (IsWhose r pool.table)) (items ∷ []) whose → AreParts (items ∷ []) whose 0 named.moment xs
+  dwindled : (last : Table) (whose : List (List Whose)) (xs : Seens) (ready : Shards) (n : ℕ) → n ≤ r.shards → (e : AreEnds n items) → length ready ≤ n → AllZip (AllZip (IsWhoseIn r pool.table last)) (items ∷ []) whose → AreParts (items ∷ []) whose 0 named.moment xs
       → AllZip (Moves pppoe) (views_of ready) xs → AllZip IsLeftBy ws xs → Less (sessions_in ready) (sessions_in ws)
-  dwindled [] xs ready n few e within are parts moves left = absurd are
-  dwindled (w ∷ []) xs ready n few e within are parts moves left =
-      dwindles r pool.table named.moment e.verdicts e.ends w n few e.all_verdicts e.each (subst (λ (is : List Item). AllZip (IsWhose r pool.table) is w) e.are are.0) 0 ready ws xs (omega (arith, within))
+  dwindled last [] xs ready n few e within are parts moves left = absurd are
+  dwindled last (w ∷ []) xs ready n few e within are parts moves left =
+      dwindles r pool.table last named.moment e.verdicts e.ends w n few e.all_verdicts e.each (subst (λ (is : List Item). AllZip (IsWhoseIn r pool.table last) is w) e.are are.0) 0 ready ws xs (omega (arith, within))
       (subst (λ (is : List Item). AreParts (is ∷ []) (w ∷ []) 0 named.moment xs) e.are parts) moves left
-  dwindled (w ∷ x ∷ more) xs ready n few e within are parts moves left = absurd are.1
+  dwindled last (w ∷ x ∷ more) xs ready n few e within are parts moves left = absurd are.1
 
   held_dwindles : IsHeld r pool pool' accounts accounts' named items old new vs ws drops drops' tally tally' record_is → length vs ≡ r.shards → AreEnds (length vs) items → Less (sessions_in vs) (sessions_in ws)
   held_dwindles h count ends =
       let is = h.held.is in
       let same : length vs ≡ length h.ready = zip_length Kept vs h.ready h.kept in
       subst (λ (n : ℕ). Less n (sessions_in ws)) (same_sessions h.ready h.kept)
-      (dwindled h.held.round.whose h.held.round.shards h.ready (length vs) (omega (arith, count)) ends (omega (arith, same)) is.dealt.whose is.dealt.parts is.turn.shards h.held.shards_are)
+      (dwindled h.held.round.claimed.table h.held.round.whose h.held.round.shards h.ready (length vs) (omega (arith, count)) ends (omega (arith, same)) is.dealt.whose is.dealt.parts is.turn.shards h.held.shards_are)
 
   pub nears : (opened : Bool) (kept : List Item) → Holds r pool pool' accounts accounts' named items old new vs ws drops drops' tally tally' record_is opened kept → length vs ≡ r.shards → AreEnds (length vs) items → Nears opened (sessions_in vs) (sessions_in ws)
   nears opened kept (inl h) count ends = subst (λ (b : Bool). Nears b (sessions_in vs) (sessions_in ws)) (sym h.0) (held_dwindles h.2 count ends)

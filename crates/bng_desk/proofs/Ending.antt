@@ -59,7 +59,7 @@ module _ (d : Desk) (w w' : Works) (draws : Drawn) (none : Vec Item Global) (lis
           later,
           done.is,
           done.asks,
-          record { booked = done.booked; forms = done.forms; stops = done.stops; settled = w'.accounts.billing; settles = done.bills; closes = subst (λ (b : Bool). Closes b w'.accounts.billing billing) gone closes },
+          record { allows = done.allows; booked = done.booked; forms = done.forms; of_round = done.of_round; settled = w'.accounts.billing; settles = done.bills; closes = subst (λ (b : Bool). Closes b w'.accounts.billing billing) gone closes },
           ap (λ (k : ℕ). after_ending billed k closed closing moment told') (unopened_is ∙ ap (λ (b : Bool). cond b 0 (d.unopened + 1)) done.opened_is)
               ∙ ap (λ (b : Bool). after_ending billed n b closing moment told') closed_as
               ∙ ap (λ (k : ℕ). after_ending billed n c k moment told') (closing_is ∙ ap (λ (b : Bool). cond b moment d.closing) done.opened_is)

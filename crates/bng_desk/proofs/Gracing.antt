@@ -1,6 +1,7 @@
 -- A turn of the grace, from its phases, and what the desk keeps in it.
 use Rattle.std.proofs.Common.{◌≡◌, ℕ, ◌+◌, ◌≤◌, Bool, true, false, cond, [], ◌∷◌, Option, Some, refl, sym, subst, arith, ◌∙◌}
 use Rattle.std.proofs.lemmas.Bool.{false≢true}
+use Rattle.bng_acct.specs.Spool.{Agree}
 use Rattle.bng_base.specs.declared.address.Peer.{Peer}
 use Rattle.bng_base.specs.declared.outside.ClockAnswer.TheVariants.{Now, Wall}
 use Rattle.bng_base.specs.Stretch.{ExtendsPlant}
@@ -20,11 +21,12 @@ use Rattle.bng_desk.specs.Reading.{is_empty}
 use Rattle.bng_desk.specs.Turn.{Closes, MakesGrace, reading_stretch, wait_for, waiting_stretch}
 use Rattle.bng_desk.proofs.Billed.{billed_kept, closed_billed, heard_keeps, settled_keeps}
 use Rattle.bng_desk.proofs.Keeping.{Graces, IsLeft}
+use Rattle.bng_desk.proofs.Knowing.{closed_forgets, heard_forgets, knows_less, settled_forgets, terms_later}
 use Rattle.bng_desk.proofs.Works.{billed_by, kept_with, seen_with}
 
 -- a settlement leaves what it does, also where all but Stops are forgotten after it
-pub left_closed : (d : Desk) (w : Works) (ended : Bool) (billing : BillingState) → Closes ended w.accounts.billing billing → IsLeft d w → IsLeft d (billed_by w billing)
-left_closed d w ended billing closes l = record {
+pub left_closed : (d : Desk) (moment : ℕ) (w : Works) (ended : Bool) (billing : BillingState) → Agree w.accounts.billing.spool.sheets w.accounts.billing.spool.held → Closes ended w.accounts.billing billing → IsLeft d moment w → IsLeft d moment (billed_by w billing)
+left_closed d moment w ended billing agree closes l = record {
   shards = l.shards;
   order = l.order;
   rules = l.rules;
@@ -34,14 +36,15 @@ left_closed d w ended billing closes l = record {
   books = l.books;
   places = l.places;
   held = l.held;
-  plain = l.plain;
+  ranges = l.ranges;
+  terms = l.terms;
   tally_low = l.tally_low;
   tallied = l.tallied;
   counts = l.counts;
   drawn_is = l.drawn_is;
   handed_is = l.handed_is;
-  began_is = l.began_is;
   billed = closed_billed (keys_in w.shards.items) ended w.accounts.billing billing closes l.billed;
+  knows = knows_less w.shards.items w.accounts.billing billing (closed_forgets ended w.accounts.billing billing agree closes) l.knows;
 }
 
 -- the moment of the last round of Ends is no later than that of the turn
@@ -65,10 +68,10 @@ module _ (d : Desk) (w : Works) (heard billing : BillingState) (moment : ℕ) (q
     rules = k.rules;
     empty = k.empty;
     sessions = k.sessions;
-    no_pools = k.no_pools;
+    pools = k.pools;
     places = k.places;
     held = k.held;
-    plain = k.plain;
+    terms = terms_later d.moment moment w.shards.items later k.terms;
     most = k.most;
     made = k.made;
     serving = λ serves. absurd (false≢true (sym serves ∙ g.over));
@@ -87,11 +90,12 @@ module _ (d : Desk) (w : Works) (heard billing : BillingState) (moment : ℕ) (q
     stays = k.stays;
     while_serving = λ serves. absurd (false≢true (sym serves ∙ g.over));
     handed = k.handed;
-    began = omega (arith, k.began, later);
     closing = omega (arith, k.closing, later);
     graces = omega (arith, g.few);
     billed = billed_kept (keys_in w.shards.items) heard billing (settled_keeps moment heard billing sends.requests sends.settles)
         (billed_kept (keys_in w.shards.items) w.accounts.billing heard (heard_keeps w.accounts.billing heard takes.acknowledged takes.hears) k.billed);
+    knows = knows_less w.shards.items heard billing (settled_forgets moment heard billing sends.requests sends.settles)
+        (knows_less w.shards.items w.accounts.billing heard (heard_forgets w.accounts.billing heard takes.acknowledged takes.hears) k.knows);
   }
 
   pub graced : d.moment ≤ moment → (due : Option ℕ) → IsDeadline (places_of billing) due → (wait : ℕ) → wait ≡ wait_for (earliest due (Some (d.closing + grace_most))) moment → (p₃ : PlantTold) → ExtendsPlant p₂ p₃ (waiting_stretch quiet wait)

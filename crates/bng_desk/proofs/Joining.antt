@@ -1,6 +1,6 @@
 -- A round that was dealt and settled, and what the trace is to be told of it.
 use Rattle.std.proofs.Common.{◌≡◌, ℕ, zero, suc, eqb, ◌+◌, ◌<◌, ◌≤◌, Bool, true, false, cond, List, [], ◌∷◌, ◌++◌, map, length, get_or, replicate, refl, sym, ap, subst, ◌∙◌, arith, append-nil}
-use Rattle.std.specs.List.{All, AllByRecursion, AllZip, count_by, flat_map, sum_by}
+use Rattle.std.specs.List.{All, AllByRecursion, AllZip, Contains, count_by, flat_map, sum_by}
 use Rattle.std.proofs.lemmas.List.Elements.{All-from_recursion, recursion_from_All}
 use Rattle.std.proofs.lemmas.List.Sums.{sum_by-append, sum_by-cons}
 use Rattle.bng_base.specs.declared.book.Book.{Book}
@@ -15,36 +15,39 @@ use Rattle.bng_base.specs.Stretch.{ExtendsPlant}
 use Rattle.bng_base.specs.Told.{PlantTold}
 use Rattle.bng_engine.specs.Books.{book_at, passed_by, failed_by, TalliesSoFar}
 use Rattle.bng_engine.specs.Calls.{Kept, InTurn, IsSettled, all_outs, all_sends}
-use Rattle.bng_engine.specs.Journals.{unsent}
+use Rattle.bng_engine.specs.Journals.{claims_of, unsent}
 use Rattle.bng_engine.specs.Lists.{Zip3}
 use Rattle.bng_engine.specs.Quantities.{Quantity, in_book}
 use Rattle.bng_engine.specs.Showing.{Shows}
 use Rattle.bng_engine.specs.Sums.{part_of_charge, charge_if, is_directed, passed_sum, failed_sum}
-use Rattle.bng_engine.specs.Terms.{Stop}
-use Rattle.bng_engine.specs.Turns.{HasSeat}
+use Rattle.bng_engine.specs.Pool.{ClaimsSoFar}
+use Rattle.bng_engine.specs.Terms.{Key, Stop}
+use Rattle.bng_engine.specs.Turns.{HasSeat, journals_in}
 use Rattle.bng_engine.specs.Views.{Row, ShardView}
 use Rattle.bng_engine.proofs.Everywhere.{all_append, all_mapped}
 use Rattle.bng_engine.proofs.Joining.{turn_made}
 use Rattle.bng_engine.proofs.Journals.{run_seated}
+use Rattle.bng_engine.proofs.Zips.{zip3_left}
 use Rattle.bng_pool.specs.Plain.{PlainView}
 use Rattle.bng_shard.specs.declared.rules.Rules.{Rules}
 use Rattle.bng_shard.specs.declared.whose.Whose.{Whose}
 use Rattle.bng_shard.specs.Protocol.{ShardState, Handled, pppoe, entry_of, sessions_of}
 use Rattle.bng_shard.specs.Sums.{AreLow, RowsAreLow}
+use Rattle.bng_shard.specs.Tenures.{Tenure}
 use Rattle.bng_shard.proofs.StepLaws.{pppoe_laws}
 use Rattle.bng_desk.specs.declared.drops.Drops.{Drops}
 use Rattle.bng_desk.specs.declared.holding.Named.{Named}
 use Rattle.bng_desk.specs.Counting.{plus, drops_of}
-use Rattle.bng_desk.specs.Items.{entries_in, loose_in, all_loose, stands_in}
-use Rattle.bng_desk.specs.Round.{Round, AreParts, StandsWithin, views_of, IsReturned, held_by, entries_of, of_seat, is_failed, with_failed, fates_in, sends_stretch}
-use Rattle.bng_desk.specs.Taking.{Accounts, BooksStops, HasFewSessions, AreDealt, Deals, Falls, IsPlain, IsTurning, AllTurn, SendsAll, ReapsAll, RoundHeld}
+use Rattle.bng_desk.specs.Items.{entries_in, loose_in, all_loose, stands_in, without_claim}
+use Rattle.bng_desk.specs.Round.{Round, AreClaimed, AreParts, StandsWithin, views_of, IsReturned, held_by, entries_of, of_seat, is_failed, with_failed, fates_in, handled_states, news_in, sends_stretch, starts_of, stops_of, terms_in}
+use Rattle.bng_desk.specs.Taking.{Accounts, BeginsAll, BegunTo, BooksStarts, BooksStops, HasAllowance, HasFewSessions, AreDealt, Deals, Falls, IsTurning, AllTurn, OwesNone, ReapedTo, SendsAll, SentTo, ReapsAll, RoundHeld, Shown, Sight, states_of}
 use Rattle.bng_desk.proofs.Dealing.{Seens}
 use Rattle.bng_desk.proofs.DropLaws.{same}
-use Rattle.bng_desk.proofs.OneMore.{dealt_count}
+use Rattle.bng_desk.proofs.Growing.{states_handled}
 use Rattle.bng_desk.proofs.Readying.{Shards, all_onward}
-use Rattle.bng_desk.proofs.Reaping.{as_seen}
+use Rattle.bng_desk.proofs.Settles.{as_seen}
 use Rattle.bng_desk.proofs.Returning.{gives_back}
-use Rattle.bng_desk.proofs.Zips.{zip_length}
+use Rattle.bng_desk.proofs.Zips.{zip_at, zip_length}
 
 pub plus_assoc : (a b c : Drops) → plus (plus a b) c ≡ plus a (plus b c)
 plus_assoc a b c = same _ _ (omega arith) (omega arith) (omega arith) (omega arith) (omega arith) (omega arith) (omega arith) (omega arith) (omega arith)
@@ -82,7 +85,7 @@ turning (w ∷ ws) was [] turns shown sends = absurd shown
 turning (w ∷ ws) [] (x ∷ now) turns shown sends = absurd turns
 turning (w ∷ ws) (b ∷ was) (x ∷ now) turns shown sends = (record { turn = turns.0; shows = shown.0; sends = sends.0 }, turning ws was now turns.1 shown.1 sends.1)
 
-module _ (r : Rules) (pool : PlainView) (moment : ℕ) (items : List Item) (vs ws : Shards) (loose : List Loose) (d d' : Drops) (t t' : Book) (deals : Deals r pool moment items vs ws loose d d' t t') where
+module _ (r : Rules) (pool pool' : PlainView) (moment : ℕ) (items : List Item) (vs ws : Shards) (loose : List Loose) (d d' : Drops) (t t' : Book) (deals : Deals r pool pool' moment items vs ws loose d d' t t') where
   pub all_turning : Zip3 IsTurning ws (views_of vs) deals.seen
   all_turning = turning ws (views_of vs) deals.seen deals.round.shards deals.shown deals.round.unsent
 
@@ -145,7 +148,7 @@ shown_outs f (w ∷ ws) (x ∷ now) h =
       shown_outs f ws now h.1,
     )
 
-module _ (r : Rules) (pool : PlainView) (moment : ℕ) (items : List Item) (vs ws : Shards) (loose : List Loose) (d d' : Drops) (t t' : Book) (deals : Deals r pool moment items vs ws loose d d' t t') where
+module _ (r : Rules) (pool pool' : PlainView) (moment : ℕ) (items : List Item) (vs ws : Shards) (loose : List Loose) (d d' : Drops) (t t' : Book) (deals : Deals r pool pool' moment items vs ws loose d d' t t') where
   -- what is to be sent stands in the tally
   pub dealt_covered : (q : Quantity) (input : Bool) → sum_by (λ (v : ShardView ShardState Entry). passed_sum (charge_if q (is_directed input)) v.outs) ws ≤ in_book q input t'
   dealt_covered q input =
@@ -166,27 +169,53 @@ fall_each t t' sends seats falls q (suc i) input lt = absurd (omega (arith, lt))
 abbrev fates_by : ShardView ShardState Handled → List Fate
 fates_by v = map (λ (h : Handled). h.deed.fate) v.journal
 
--- a settlement keeps the journals, and the allowances
+-- a settlement keeps the journals
 record Carries (now xs : Seens) : Type 0 where
   fates : flat_map fates_by xs ≡ flat_map fates_by now
   entries : map entries_of xs ≡ map entries_of now
   dealt : (n moment : ℕ) (items : List Item) (whose : List Whose) → AreDealt n moment items whose now → AreDealt n moment items whose xs
   count : length xs ≡ length now
-  allowances : AllByRecursion IsPlain now → AllByRecursion (λ v. v.allowance ≡ 0) xs
+  journals : journals_in xs ≡ journals_in now
+  each : AllZip (λ (x y : Sight). y.journal ≡ x.journal) now xs
 
-carries : (was now xs : Seens) → Zip3 (IsSettled pppoe) was now xs → AllZip (λ (x y : ShardView ShardState Handled). y.allowance ≡ x.allowance) now xs → Carries now xs
-carries [] [] [] s a = record { fates = refl; entries = refl; dealt = λ n moment items whose h. tt; count = refl; allowances = λ h. tt }
-carries (b ∷ was) (x ∷ now) (v ∷ xs) s a =
-    let more = carries was now xs s.1 a.1 in
+carries : (was now xs : Seens) → Zip3 (IsSettled pppoe) was now xs → Carries now xs
+carries [] [] [] s = record { fates = refl; entries = refl; dealt = λ n moment items whose h. tt; count = refl; journals = refl; each = tt }
+carries (b ∷ was) (x ∷ now) (v ∷ xs) s =
+    let more = carries was now xs s.1 in
     let here : v.journal ≡ x.journal = s.0.settles.reaps.journal ∙ s.0.journal in
     record {
       fates = ap (λ (es : List Handled). map (λ (h : Handled). h.deed.fate) es ++ flat_map fates_by xs) here ∙ ap (λ (fs : List Fate). fates_by x ++ fs) more.fates;
       entries = ap (λ (es : List Handled). map (λ (h : Handled). h.deed.entry) es ∷ map entries_of xs) here ∙ ap (λ (ess : List (List Entry)). entries_of x ∷ ess) more.entries;
-      dealt = λ n moment items whose h. (ap (map (λ (h : Handled). h.deed.entry)) here ∙ h.0, more.dealt (n + 1) moment items whose h.1);
+      dealt = λ n moment items whose h. (ap (λ (es : List Handled). map without_claim (map (λ (y : Handled). y.deed.entry) es)) here ∙ h.0, more.dealt (n + 1) moment items whose h.1);
       count = ap suc more.count;
-      allowances = λ h. (a.0 ∙ h.0.allowance, more.allowances h.1);
+      journals = ap (λ (es : List Handled). es ∷ journals_in xs) here ∙ ap (λ (ess : List (List Handled)). x.journal ∷ ess) more.journals;
+      each = (here, more.each);
     }
-carries was now xs s a = absurd s
+carries was now xs s = absurd s
+
+-- and so the claims
+claimed_still : (pool pool' : PlainView) (now xs : Seens) → Carries now xs → AreClaimed pool pool' now → AreClaimed pool pool' xs
+claimed_still pool pool' now xs c claimed = record {
+  keeps = claimed.keeps;
+  claims = subst (λ (js : List (List Handled)). ClaimsSoFar pppoe (held_by pool) js (held_by pool')) (sym c.journals) claimed.claims;
+  holders = λ n d a lt among.
+      let within : n < length now = omega (arith, lt, c.count) in
+      let same : (get_or xs n d).journal ≡ (get_or now n d).journal = zip_at (λ (x y : Sight). y.journal ≡ x.journal) now xs n d d c.each within in
+      claimed.holders n d a within (subst (λ (es : List Handled). Contains (claims_of pppoe es) a) same among);
+  ranges = claimed.ranges;
+  places = claimed.places;
+}
+
+-- Allowances --------------------------------------------------------------------------------------------------------------
+
+abbrev pub allowances_in : {E : Type 0} → List (ShardView ShardState E) → List ℕ
+allowances_in vs = map (λ v. v.allowance) vs
+
+same_allowances : {D E : Type 0} (R : ShardView ShardState D → ShardView ShardState E → Type 0) → ((x : ShardView ShardState D) (y : ShardView ShardState E) → R x y → y.allowance ≡ x.allowance) → (xs : List (ShardView ShardState D)) (ys : List (ShardView ShardState E)) → AllZip R xs ys → allowances_in ys ≡ allowances_in xs
+same_allowances R f [] [] z = refl
+same_allowances R f [] (y ∷ ys) z = absurd z
+same_allowances R f (x ∷ xs) [] z = absurd z
+same_allowances R f (x ∷ xs) (y ∷ ys) z = ap (λ (n : ℕ). n ∷ allowances_in ys) (f x y z.0) ∙ ap (λ (ns : List ℕ). x.allowance ∷ ns) (same_allowances R f xs ys z.1)
 
 -- Parts -----------------------------------------------------------------------------------------------------------------
 
@@ -220,78 +249,102 @@ parts items whose shard moment [] h = tt
 parts items whose shard moment (x ∷ xs) h =
     let all = subst (λ (es : List Entry). AllByRecursion OfSeat es) (sym h.0) (entries_seat shard 0 moment items whose) in (
       record {
-        each = part_each items whose shard moment (entries_of x) h.0;
-        seats = All-from_recursion (λ (e : Entry). e.seat < 1) (entries_of x) (seat_low (entries_of x) all);
+        each = part_each items whose shard moment (map without_claim (entries_of x)) h.0;
+        seats = All-from_recursion (λ (e : Entry). e.seat < 1) (map without_claim (entries_of x)) (seat_low (map without_claim (entries_of x)) all);
       },
       parts items whose (shard + 1) moment xs h.1,
     )
 
-zeros : (xs : Seens) (n : ℕ) → AllByRecursion (λ v. v.allowance ≡ 0) xs → length xs ≡ n → map (λ (v : ShardView ShardState Handled). v.allowance) xs ≡ replicate n 0
-zeros [] zero h e = refl
-zeros [] (suc n) h e = absurd (omega (arith, e))
-zeros (x ∷ xs) zero h e = absurd (omega (arith, e))
-zeros (x ∷ xs) (suc n) h e = ap (λ (m : ℕ). m ∷ map (λ (v : ShardView ShardState Handled). v.allowance) xs) h.0 ∙ ap (λ (ns : List ℕ). 0 ∷ ns) (zeros xs n h.1 (omega (arith, e)))
-
 -- The whole of it -------------------------------------------------------------------------------------------------------
 
-abbrev made : Named → List ℕ → List (List Entry) → List Loose → List OutRecord → List Item → RoundRecord
-made named allowances journals loose outs refused = record { number = named.number; moment = named.moment; wall = named.wall; allowances = allowances; journals = journals; loose = loose; outs = outs; refused = refused }
+abbrev pub told_of : Named → List ℕ → List (List Entry) → List Loose → List OutRecord → RoundRecord
+told_of named allowances journals loose outs = record { number = named.number; moment = named.moment; wall = named.wall; allowances = allowances; journals = journals; loose = loose; outs = outs; refused = [] }
 
-abbrev pub told_of : Named → ℕ → List (List Entry) → List Loose → List OutRecord → RoundRecord
-told_of named shards journals loose outs = record { number = named.number; moment = named.moment; wall = named.wall; allowances = replicate shards 0; journals = journals; loose = loose; outs = outs; refused = [] }
+pub told_as : (named : Named) (allowances those : List ℕ) (journals : List (List Entry)) (loose : List Loose) (outs : List OutRecord) (refused : List Item) → allowances ≡ those → refused ≡ []
+    → record { number = named.number; moment = named.moment; wall = named.wall; allowances = allowances; journals = journals; loose = loose; outs = outs; refused = refused } ≡ told_of named those journals loose outs
+told_as named allowances those journals loose outs refused same none =
+    ap (λ (rs : List Item). let r : RoundRecord = record { number = named.number; moment = named.moment; wall = named.wall; allowances = allowances; journals = journals; loose = loose; outs = outs; refused = rs } in r) none
+    ∙ ap (λ (ns : List ℕ). told_of named ns journals loose outs) same
 
-pub told_as : (named : Named) (n : ℕ) (allowances : List ℕ) (journals : List (List Entry)) (loose : List Loose) (outs : List OutRecord) (refused : List Item) → allowances ≡ replicate n 0 → refused ≡ []
-    → record { number = named.number; moment = named.moment; wall = named.wall; allowances = allowances; journals = journals; loose = loose; outs = outs; refused = refused } ≡ told_of named n journals loose outs
-told_as named n allowances journals loose outs refused none_begin none =
-    ap (λ (zs : List ℕ). made named zs journals loose outs refused) none_begin ∙ ap (λ (rs : List Item). made named (replicate n 0) journals loose outs rs) none
+-- reaping leaves the terms whose Starts are owed
+pub reaped_news : (us left : Shards) (sss : List (List Stop)) → Zip3 ReapedTo us left sss → news_in (states_of left) ≡ news_in (states_of us)
+reaped_news [] [] [] z = refl
+reaped_news (u ∷ us) (w ∷ left) (ss ∷ sss) z =
+    ap (λ (s : ShardState). s.slots.news ++ news_in (states_of left)) z.0.state ∙ ap (λ (ts : List Tenure). u.state.slots.news ++ ts) (reaped_news us left sss z.1)
+reaped_news us left sss z = absurd z
 
-pub round_held : (r : Rules) (pool pool' : PlainView) (accounts accounts' : Accounts) (named : Named) (items : List Item) (p p' : PlantTold) (vs ws us left : Shards) (loose : List Loose) (outs : List OutRecord) (journals : List (List Entry)) (d d' d'' : Drops) (t t' t'' : Book) (told : RoundRecord)
-    → (deals : Deals r pool named.moment items vs ws loose d d' t t')
-    → SendsAll ws us p p' outs journals d' d'' t' t'' → ReapsAll named.moment named.wall us left pool pool' accounts accounts'
-    → told ≡ told_of named (length vs) journals loose outs → RoundHeld r pool pool' accounts accounts' named items p p' vs left d d'' t t'' told
-round_held r pool pool' accounts accounts' named items p p' vs ws us left loose outs journals d d' d'' t t' t'' told deals s y is =
-    let reaped = as_seen ws (views_of vs) deals.seen us s.sends left y.stops (all_turning r pool named.moment items vs ws loose d d' t t' deals) s.each y.each in
-    let xs = reaped.settled in
-    let seen = reaped.is in
-    let back : IsReturned (flat_map (λ (v : ShardView ShardState Handled). v.stops) xs) pool pool' = subst (λ (ss : List Stop). IsReturned ss pool pool') seen.stops y.returned in
-    let c = carries (views_of vs) deals.seen xs seen.settles seen.allowances in
-    let allowances = c.allowances (recursion_from_All IsPlain deals.seen deals.plain) in
-    let round : Round = record { whose = deals.whose ∷ []; shards = xs; tallies = t'' ∷ []; pool = pool' } in
-    let seats = sends_seats (views_of vs) deals.seen xs seen.settles deals.round.seats in
-    let falls : Falls t' (all_sends xs) t'' = subst (λ (os : List OutRecord). Falls t' os t'') seen.sends s.falls in
-    let fall : TalliesSoFar (t' ∷ []) [] (all_sends xs) (t'' ∷ []) = record { count = refl; each = fall_each t' t'' (all_sends xs) seats falls } in
-    let count : length xs ≡ length vs =
-    c.count ∙ sym (zip_length (Shows pppoe) ws deals.seen deals.shown) ∙ dealt_count r pool named.moment items vs ws loose d d' t t' deals in
-    let n = count_by is_failed (all_sends xs) in
-    let first = map (λ (l : Loose). l.fate) (loose_in 0 0 items deals.whose) in
-    let ls : loose_in 0 0 items deals.whose ≡ all_loose 0 (items ∷ []) (deals.whose ∷ []) = sym (append-nil (loose_in 0 0 items deals.whose)) in
-    record {
-      round = round;
-      is = record {
-        dealt = record {
-          whose = (deals.is_whose, tt);
-          inside = All-from_recursion (λ (ws : List Whose). All (StandsWithin (length xs)) ws) (deals.whose ∷ [])
-              (All-from_recursion (StandsWithin (length xs)) deals.whose (subst (λ (n : ℕ). AllByRecursion (StandsWithin n) deals.whose) (sym count) deals.inside), tt);
-          parts = parts items deals.whose 0 named.moment xs (c.dealt 0 named.moment items deals.whose deals.dealt);
-          allowances = All-from_recursion (λ (v : ShardView ShardState Handled). v.allowance ≡ 0) xs allowances;
+-- no Start is owed before the round
+views_owe : (vs : Shards) → AllByRecursion OwesNone vs → AllByRecursion (λ (x : Sight). x.state.slots.news ≡ []) (views_of vs)
+views_owe [] none = tt
+views_owe (v ∷ vs) none = (none.0, views_owe vs none.1)
+
+module _ (r : Rules) (pool mid pool' : PlainView) (a b c : Accounts) (named : Named) (items : List Item) (p p' : PlantTold) (vs ws us left zs : Shards) (loose : List Loose) (outs : List OutRecord) (journals : List (List Entry)) (d d' d'' : Drops) (t t' t'' : Book)
+    (deals : Deals r pool mid named.moment items vs ws loose d d' t t') (s : SendsAll ws us p p' outs journals d' d'' t' t'') (y : ReapsAll named.moment named.wall us left mid pool' a b) (n : BeginsAll named.moment named.wall left zs b c) (none : AllByRecursion OwesNone vs) where
+  abbrev turned : Zip3 IsTurning ws (views_of vs) deals.seen
+  turned = all_turning r pool mid named.moment items vs ws loose d d' t t' deals
+
+  -- what the shards have done since is all that they were allowed
+  pub allowances_kept : allowances_in zs ≡ allowances_in vs
+  allowances_kept =
+      same_allowances (λ x z. z.allowance ≡ x.allowance) (λ x z e. e) left zs (zip3_left BegunTo (λ x z. z.allowance ≡ x.allowance) (λ x z ks h. ap (λ (v : Shown). v.allowance) h.after) left zs n.starts n.each)
+      ∙ same_allowances (λ x z. z.allowance ≡ x.allowance) (λ x z e. e) us left (zip3_left ReapedTo (λ x z. z.allowance ≡ x.allowance) (λ x z ks h. h.allowance) us left y.stops y.each)
+      ∙ same_allowances (λ x z. z.allowance ≡ x.allowance) (λ x z e. e) ws us (zip3_left SentTo (λ x z. z.allowance ≡ x.allowance) (λ x z ks h. h.allowance) ws us s.sends s.each)
+      ∙ same_allowances HasAllowance (λ x z e. e) vs ws deals.allowances
+
+  pub round_held : (told : RoundRecord) → told ≡ told_of named (allowances_in zs) journals loose outs → RoundHeld r pool pool' a c named items p p' vs zs d d'' t t'' told
+  round_held told is =
+      let settled = as_seen ws (views_of vs) deals.seen us s.sends left y.stops zs n.starts turned s.each y.each n.each (views_owe vs none) in
+      let xs = settled.settled in
+      let seen = settled.is in
+      let back : IsReturned (flat_map (λ (v : Sight). v.stops) xs) mid pool' = subst (λ (ss : List Stop). IsReturned ss mid pool') seen.stops y.returned in
+      let k = carries (views_of vs) deals.seen xs seen.settles in
+      let allowed : allowances_in xs ≡ allowances_in vs =
+      same_allowances (λ (x z : Sight). z.allowance ≡ x.allowance) (λ x z e. e) deals.seen xs seen.allowances
+      ∙ same_allowances (Shows pppoe) (λ x z h. sym (ap (λ (v : Sight). v.allowance) h.same)) ws deals.seen deals.shown
+      ∙ same_allowances HasAllowance (λ x z e. e) vs ws deals.allowances in
+      let round : Round = record { whose = deals.whose ∷ []; shards = xs; tallies = t'' ∷ []; claimed = mid; pool = pool' } in
+      let seats = sends_seats (views_of vs) deals.seen xs seen.settles deals.round.seats in
+      let falls : Falls t' (all_sends xs) t'' = subst (λ (os : List OutRecord). Falls t' os t'') seen.sends s.falls in
+      let fall : TalliesSoFar (t' ∷ []) [] (all_sends xs) (t'' ∷ []) = record { count = refl; each = fall_each t' t'' (all_sends xs) seats falls } in
+      let count : length xs ≡ length vs =
+      k.count ∙ sym (zip_length (Shows pppoe) ws deals.seen deals.shown) ∙ sym (zip_length HasAllowance vs ws deals.allowances) in
+      let states : handled_states vs xs ≡ states_of us = states_handled vs ws deals.seen xs us s.sends turned s.each k.each in
+      let failed = count_by is_failed (all_sends xs) in
+      let first = map (λ (l : Loose). l.fate) (loose_in 0 0 items deals.whose) in
+      let ls : loose_in 0 0 items deals.whose ≡ all_loose 0 (items ∷ []) (deals.whose ∷ []) = sym (append-nil (loose_in 0 0 items deals.whose)) in
+      record {
+        round = round;
+        is = record {
+          dealt = record {
+            whose = (deals.is_whose, tt);
+            inside = All-from_recursion (λ (ws : List Whose). All (StandsWithin (length xs)) ws) (deals.whose ∷ [])
+                (All-from_recursion (StandsWithin (length xs)) deals.whose (subst (λ (n : ℕ). AllByRecursion (StandsWithin n) deals.whose) (sym count) deals.inside), tt);
+            parts = parts items deals.whose 0 named.moment xs (k.dealt 0 named.moment items deals.whose deals.dealt);
+            claimed = claimed_still pool mid deals.seen xs k deals.claimed;
+          };
+          turn = turn_made pppoe (views_of vs) deals.seen xs (held_by pool) (held_by mid) (held_by pool') (t ∷ []) (t' ∷ []) (t'' ∷ []) deals.round seen.settles (gives_back xs mid pool' back) fall;
+          returned = back;
         };
-        turn = turn_made pppoe (views_of vs) deals.seen xs (held_by pool) (held_by pool) (held_by pool') (t ∷ []) (t' ∷ []) (t'' ∷ []) deals.round seen.settles (gives_back xs pool pool' back) fall;
-        returned = back;
-      };
-      shards_are = seen.left;
-      pool_is = refl;
-      booked = subst (λ (ss : List Stop). BooksStops named.moment named.wall ss accounts accounts') seen.stops y.booked;
-      tallies_are = refl;
-      drops_are = s.drops_are
-          ∙ ap (λ (os : List OutRecord). plus d' (with_failed (count_by is_failed os))) seen.sends
-          ∙ ap (λ (x : Drops). plus x (with_failed n)) deals.drops_are
-          ∙ ap (λ (fs : List Fate). plus (plus d (drops_of (first ++ fs))) (with_failed n)) (sym c.fates)
-          ∙ ap (λ (ys : List Loose). plus (plus d (drops_of (map (λ (l : Loose). l.fate) ys ++ flat_map fates_by xs))) (with_failed n)) ls
-          ∙ plus_assoc d (drops_of (fates_in (items ∷ []) round)) (with_failed n);
-      told = subst (λ (os : List OutRecord). ExtendsPlant p p' (sends_stretch os)) seen.sends s.told;
-      record_told = is
-          ∙ ap (λ (zs : List ℕ). made named zs journals loose outs []) (sym (zeros xs (length vs) allowances count))
-          ∙ ap (λ (js : List (List Entry)). made named (map (λ (v : ShardView ShardState Handled). v.allowance) xs) js loose outs []) (s.journals_are ∙ seen.journals ∙ sym c.entries)
-          ∙ ap (λ (ys : List Loose). made named (map (λ (v : ShardView ShardState Handled). v.allowance) xs) (map entries_of xs) ys outs []) (deals.loose_are ∙ ls)
-          ∙ ap (λ (os : List OutRecord). made named (map (λ (v : ShardView ShardState Handled). v.allowance) xs) (map entries_of xs) (all_loose 0 (items ∷ []) (deals.whose ∷ [])) os []) (s.outs_are ∙ seen.sends);
-    }
+        shards_are = seen.left;
+        pool_is = refl;
+        mid = b;
+        ends = subst (λ (ss : List ShardState). BooksStops (terms_in ss) named.moment named.wall (stops_of round) a b) (sym states)
+            (subst (λ (ss : List Stop). BooksStops (terms_in (states_of us)) named.moment named.wall ss a b) seen.stops y.booked);
+        begins = subst (λ (ss : List ShardState). BooksStarts (news_in ss) named.moment named.wall (starts_of round) b c) (sym states)
+            (subst (λ (ts : List Tenure). BooksStarts ts named.moment named.wall (starts_of round) b c) (reaped_news us left y.stops y.each)
+            (subst (λ (ks : List Key). BooksStarts (news_in (states_of left)) named.moment named.wall ks b c) seen.starts n.booked));
+        allowed = allowed;
+        tallies_are = refl;
+        drops_are = s.drops_are
+            ∙ ap (λ (os : List OutRecord). plus d' (with_failed (count_by is_failed os))) seen.sends
+            ∙ ap (λ (x : Drops). plus x (with_failed failed)) deals.drops_are
+            ∙ ap (λ (fs : List Fate). plus (plus d (drops_of (first ++ fs))) (with_failed failed)) (sym k.fates)
+            ∙ ap (λ (ys : List Loose). plus (plus d (drops_of (map (λ (l : Loose). l.fate) ys ++ flat_map fates_by xs))) (with_failed failed)) ls
+            ∙ plus_assoc d (drops_of (fates_in (items ∷ []) round)) (with_failed failed);
+        told = subst (λ (os : List OutRecord). ExtendsPlant p p' (sends_stretch os)) seen.sends s.told;
+        record_told = is
+            ∙ ap (λ (zs : List ℕ). told_of named zs journals loose outs) (allowances_kept ∙ sym allowed)
+            ∙ ap (λ (js : List (List Entry)). told_of named (allowances_in xs) js loose outs) (s.journals_are ∙ seen.journals ∙ sym k.entries)
+            ∙ ap (λ (ys : List Loose). told_of named (allowances_in xs) (map entries_of xs) ys outs) (deals.loose_are ∙ ls)
+            ∙ ap (λ (os : List OutRecord). told_of named (allowances_in xs) (map entries_of xs) (all_loose 0 (items ∷ []) (deals.whose ∷ [])) os) (s.outs_are ∙ seen.sends);
+      }

@@ -9,12 +9,13 @@ use Rattle.std.proofs.lemmas.List.Sums.{sum_by-le}
 use Rattle.bng_acct.specs.Spool.{unacked_stops}
 use Rattle.bng_base.specs.declared.item.Entry.{Entry}
 use Rattle.bng_base.specs.declared.book.Book.{Book}
+use Rattle.bng_base.specs.declared.book.Range.{Range}
 use Rattle.bng_base.specs.declared.item.Item.{Item}
 use Rattle.bng_desk.specs.declared.desk.DeskState.{DeskState}
 use Rattle.bng_desk.specs.declared.desk.DeskState.TheVariants.{Serving, Ending, Grace, Ended, Starved}
 use Rattle.bng_base.specs.Told.{PlantTold}
 use Rattle.bng_desk.specs.declared.settlement.Works.{Works}
-use Rattle.bng_desk.specs.Accounting.{AreBilled}
+use Rattle.bng_desk.specs.Accounting.{AreBilled, KnowsBegun}
 use Rattle.bng_desk.specs.Counting.{Within}
 use Rattle.bng_base.specs.FateOf.{Arrival}
 use Rattle.bng_lane.specs.State.{LaneState}
@@ -28,14 +29,14 @@ use Rattle.bng_desk.specs.Model.{Desk, keys_in, is_over, grace_is_over, graces_m
 use Rattle.bng_desk.specs.Items.{kept_of, stays}
 use Rattle.bng_desk.specs.Random.{Drawn}
 use Rattle.bng_desk.specs.Reading.{EndsRight, is_empty}
-use Rattle.bng_desk.specs.Taking.{IsEmpty, IsPlainly, HasFewSessions, AreInOrder, AreItems, AreTallied}
+use Rattle.bng_desk.specs.Taking.{IsEmpty, KeepsTerms, HasFewSessions, AreInOrder, AreItems, AreTallied}
 use Rattle.bng_desk.proofs.Readying.{Shards, WorksBy}
 use Rattle.bng_desk.proofs.Returning.{HoldsOwn}
 use Rattle.bng_desk.specs.Turn.{ending_items, ending_draws, has_end, told_after, ReadsWhere}
 use Rattle.bng_desk.proofs.DropLaws.{within_wider}
 use Rattle.bng_desk.proofs.Ending.{after_ending}
 use Rattle.bng_desk.proofs.ItemLaws.{IsWhole}
-use Rattle.bng_shard.specs.Protocol.{ShardState, sessions_of}
+use Rattle.bng_shard.specs.Protocol.{HasPools, ShardState, sessions_of}
 use Rattle.bng_shard.specs.Sums.{IsLow, AreLow}
 use Rattle.bng_engine.specs.Books.{book_at}
 use Rattle.bng_engine.specs.Views.{ShardView}
@@ -149,7 +150,7 @@ pub one_low : (most : ℕ) (tally : Book) → IsLow most tally → AreLow most (
 one_low most tally low = low_at most tally low
 
 -- what a settlement leaves
-pub record IsLeft (d : Desk) (w : Works) : Type 0 where
+pub record IsLeft (d : Desk) (moment : ℕ) (w : Works) : Type 0 where
   pub shards : length w.shards.items ≡ length d.shards
   pub order : AreInOrder w.shards.items
   pub rules : All (WorksBy d.rules) w.shards.items
@@ -159,14 +160,15 @@ pub record IsLeft (d : Desk) (w : Works) : Type 0 where
   pub books : All (HasLowBooks (octets_most * all_turns d + octets_most)) w.shards.items
   pub places : w.pool.shards ≡ d.pool.shards
   pub held : All (HoldsOwn w.pool.table) w.shards.items
-  pub plain : All IsPlainly w.shards.items
+  pub ranges : w.pool.ranges ≡ d.pool.ranges
+  pub terms : All (KeepsTerms moment) w.shards.items
   pub tally_low : IsLow (octets_most * all_turns d + octets_most) w.tally
   pub tallied : AreTallied w.tally w.shards.items w.accounts.lines
   pub counts : Within (drops_most * all_turns d + drops_most) w.drops
   pub drawn_is : w.draws.drawn ≤ d.drawn + 1024
   pub handed_is : length w.handed.items ≡ length d.handed
-  pub began_is : w.accounts.began ≡ d.began
   pub billed : AreBilled (keys_in w.shards.items) w.accounts.billing
+  pub knows : KnowsBegun w.shards.items w.accounts.billing
 
 -- what stays of the round
 pub record AreKept (d : Desk) (kept : List Item) : Type 0 where
@@ -179,7 +181,7 @@ none_kept d = record {
   stays = record { verdicts = []; ends = []; are = refl; all_verdicts = λ k e l. absurd (omega arith); few = omega arith; one_each = inl refl };
 }
 
-pub kept_served : (d : Desk) (w : Works) (stopped : Bool) (moment told : ℕ) → IsKept d → is_over d ≡ false → d.turns < d.rounds → d.moment ≤ moment → IsLeft d w → told ≤ d.told + 1 → AreKept d w.kept.items → All is_verdict w.kept.items
+pub kept_served : (d : Desk) (w : Works) (stopped : Bool) (moment told : ℕ) → IsKept d → is_over d ≡ false → d.turns < d.rounds → d.moment ≤ moment → IsLeft d moment w → told ≤ d.told + 1 → AreKept d w.kept.items → All is_verdict w.kept.items
     → IsKept (after_turn (kept_with d w) stopped moment told)
 kept_served d w stopped moment told k serves turns later l up staying verdicts =
     let u = k.serving serves in
@@ -193,10 +195,10 @@ kept_served d w stopped moment told k serves turns later l up staying verdicts =
       rules = l.rules;
       empty = l.empty;
       sessions = l.sessions;
-      no_pools = k.no_pools;
+      pools = subst (λ (rs : List Range). HasPools d.rules.pools rs) (sym l.ranges) k.pools;
       places = l.places ∙ k.places;
       held = l.held;
-      plain = l.plain;
+      terms = l.terms;
       most = k.most;
       made = omega (arith, turns);
       serving = λ _. record { endings = u.endings; unopened = u.unopened; closed = u.closed; graces = u.graces };
@@ -215,10 +217,10 @@ kept_served d w stopped moment told k serves turns later l up staying verdicts =
       stays = subst (λ (n : ℕ). Stays n w.kept.items) (sym l.shards) staying.stays;
       while_serving = λ _. verdicts;
       handed = l.handed_is ∙ k.handed ∙ sym l.shards;
-      began = omega (arith, l.began_is, k.began, later);
       closing = omega (arith, k.closing, later);
       graces = k.graces;
       billed = l.billed;
+      knows = l.knows;
     }
 
 -- what a turn of the ending leaves of those that there may be
@@ -242,7 +244,7 @@ not_served : (b : Bool) (X : Type 0) → b ≡ true → b ≡ false → X
 not_served true X e f = absurd (false≢true (sym f))
 not_served false X e f = absurd (false≢true e)
 
-pub kept_ended : (d : Desk) (w : Works) (unopened : ℕ) (closed : Bool) (closing moment told : ℕ) → IsKept d → is_over d ≡ true → IsNearer d w.shards.items unopened closed → d.moment ≤ moment → closing ≤ moment → IsLeft d w → told ≤ d.told + 1 → AreKept d w.kept.items
+pub kept_ended : (d : Desk) (w : Works) (unopened : ℕ) (closed : Bool) (closing moment told : ℕ) → IsKept d → is_over d ≡ true → IsNearer d w.shards.items unopened closed → d.moment ≤ moment → closing ≤ moment → IsLeft d moment w → told ≤ d.told + 1 → AreKept d w.kept.items
     → IsKept (after_ending (kept_with d w) unopened closed closing moment told)
 kept_ended d w unopened closed closing moment told k over near later before l up staying = record {
   some_port = k.some_port;
@@ -254,10 +256,10 @@ kept_ended d w unopened closed closing moment told k over near later before l up
   rules = l.rules;
   empty = l.empty;
   sessions = l.sessions;
-  no_pools = k.no_pools;
+  pools = subst (λ (rs : List Range). HasPools d.rules.pools rs) (sym l.ranges) k.pools;
   places = l.places ∙ k.places;
   held = l.held;
-  plain = l.plain;
+  terms = l.terms;
   most = k.most;
   made = k.made;
   serving = λ serves. not_served (is_over d) (IsUnended (after_ending (kept_with d w) unopened closed closing moment told)) over serves;
@@ -276,10 +278,10 @@ kept_ended d w unopened closed closing moment told k over near later before l up
   stays = subst (λ (n : ℕ). Stays n w.kept.items) (sym l.shards) staying.stays;
   while_serving = λ serves. not_served (is_over d) (All is_verdict w.kept.items) over serves;
   handed = l.handed_is ∙ k.handed ∙ sym l.shards;
-  began = omega (arith, l.began_is, k.began, later);
   closing = before;
   graces = k.graces;
   billed = l.billed;
+  knows = l.knows;
 }
 
 -- the number of the last round that the trace took rises by one at most

@@ -9,7 +9,7 @@ use Rattle.bng_desk.specs.declared.holding.Named.{Named}
 use Rattle.bng_desk.specs.declared.lists.Lists.{Lists}
 use Rattle.bng_desk.specs.declared.settlement.Settled.{Settled}
 use Rattle.bng_desk.specs.declared.settlement.Works.{Works}
-use Rattle.bng_desk.specs.Accounting.{AreBilled}
+use Rattle.bng_desk.specs.Accounting.{AreBilled, KnowsBegun}
 use Rattle.bng_desk.specs.Items.{kept_of}
 use Rattle.bng_desk.specs.Kept.{IsKept, all_turns, octets_most, drops_most}
 use Rattle.bng_desk.specs.Model.{Desk, keys_in, sessions_in}
@@ -20,14 +20,15 @@ use Rattle.bng_desk.proofs.DropLaws.{within_wider}
 use Rattle.bng_desk.proofs.Dwindling.{Nears, all_work, nears}
 use Rattle.bng_desk.proofs.Joining.{low_wider, books_wider}
 use Rattle.bng_desk.proofs.Keeping.{IsLeft}
+use Rattle.bng_desk.proofs.Knowing.{terms_later}
 use Rattle.bng_desk.proofs.OneMore.{low_more}
 use Rattle.bng_desk.proofs.Staying.{AreEnds}
 use Rattle.bng_desk.proofs.Works.{gathered, kept_with}
 
 module _ (d : Desk) (w : Works) (heard : BillingState) (lane : LaneState) (draws : Drawn) (none : Vec Item Global) (emptied : Lists) (named : Named) (lists : Lists) where
-  pub is_ready : IsKept (kept_with d w) → AreBilled (keys_in w.shards.items) heard → d.moment ≤ named.moment → named.moment < 2 ^ 60 → draws.drawn ≤ w.draws.drawn + 640 → none.items ≡ [] → length (kept_of lists.items.items) ≤ vec_capacity none
+  pub is_ready : IsKept (kept_with d w) → AreBilled (keys_in w.shards.items) heard → KnowsBegun w.shards.items heard → d.moment ≤ named.moment → named.moment < 2 ^ 60 → draws.drawn ≤ w.draws.drawn + 640 → none.items ≡ [] → length (kept_of lists.items.items) ≤ vec_capacity none
       → AreItems lists.items.items → outs_of_items lists.items.items ≤ 5760 + 320 * length w.shards.items → AreBlank (length w.shards.items) lists → IsReady d.rules named lists (gathered w heard lane draws none emptied)
-  is_ready k billed later early few none_kept room items few_outs blank =
+  is_ready k billed knows later early few none_kept room items few_outs blank =
       let turns = all_turns d in
       let most : octets_most * turns ≤ 2 ^ 62 + 2 ^ 61 = omega (arith, k.made, k.most, k.endings) in
       record {
@@ -39,15 +40,15 @@ module _ (d : Desk) (w : Works) (heard : BillingState) (lane : LaneState) (draws
         sessions = k.sessions;
         places = k.places;
         held = k.held;
-        no_pools = k.no_pools;
+        pools = k.pools;
         one_rule = k.rules;
-        plain = k.plain;
+        terms = terms_later d.moment named.moment w.shards.items later k.terms;
         low = low_wider (octets_most * turns) (2 ^ 62 + 2 ^ 61) w.shards.items most k.low;
         books = books_wider (octets_most * turns) (2 ^ 62 + 2 ^ 61) w.shards.items most k.books;
         tally = low_more (octets_most * turns) (2 ^ 62 + 2 ^ 61) w.tally most (k.tallies 0 (omega arith));
         tallied = k.tallied;
         billed = billed;
-        began = omega (arith, k.began, later);
+        knows = knows;
         moment = early;
         counts = within_wider (drops_most * turns) (2 ^ 61) w.drops (omega (arith, k.made, k.most, k.endings)) k.counts;
         drawn = omega (arith, few, k.drawn, k.made, k.most, k.endings);
@@ -69,11 +70,6 @@ module _ (d : Desk) (w w' : Works) (heard : BillingState) (lane : LaneState) (dr
   abbrev Held : PlantTold → RoundRecord → BillingState → Type 0
   Held sent round booked = Holds d.rules w.pool w'.pool before (record w'.accounts { billing = booked }) named items p sent w.shards.items w'.shards.items w.drops w'.drops w.tally w'.tally round s.is_opened w'.kept.items
 
-  -- the terms began when they did
-  began_kept : (sent : PlantTold) (round : RoundRecord) (booked : BillingState) → Held sent round booked → w'.accounts.began ≡ w.accounts.began
-  began_kept sent round booked (inl h) = h.2.held.booked.began
-  began_kept sent round booked (inr h) = ap (λ (a : Accounts). a.began) h.2.accounts_are
-
   -- what stays is nothing, or what the items keep
   kept_as : (P : List Item → Type 0) (sent : PlantTold) (round : RoundRecord) (booked : BillingState) → Held sent round booked → P [] → P (kept_of items) → P w'.kept.items
   kept_as P sent round booked (inl h) empty some = subst P (sym h.1) empty
@@ -87,7 +83,7 @@ module _ (d : Desk) (w w' : Works) (heard : BillingState) (lane : LaneState) (dr
   ends_near k ends settles =
       nears d.rules w.pool w'.pool before (record w'.accounts { billing = settles.booked }) named items p settles.sent w.shards.items w'.shards.items w.drops w'.drops w.tally w'.tally settles.round s.is_opened w'.kept.items settles.holds k.shards ends
 
-  pub is_left : IsKept (kept_with d w) → Settles d.rules named items mid w' p p' t t' s → KeepsWorks mid w' → draws.drawn ≤ w.draws.drawn + 640 → IsLeft (kept_with d w) w'
+  pub is_left : IsKept (kept_with d w) → Settles d.rules named items mid w' p p' t t' s → KeepsWorks named.moment mid w' → draws.drawn ≤ w.draws.drawn + 640 → IsLeft (kept_with d w) named.moment w'
   is_left k settles keeps few = record {
     shards = keeps.count;
     order = keeps.order;
@@ -98,12 +94,13 @@ module _ (d : Desk) (w w' : Works) (heard : BillingState) (lane : LaneState) (dr
     books = keeps.books (octets_most * all_turns d) k.books;
     places = keeps.places;
     held = keeps.held;
-    plain = keeps.plain;
+    ranges = keeps.ranges;
+    terms = keeps.terms;
     tally_low = keeps.tally (octets_most * all_turns d) (k.tallies 0 (omega arith));
     tallied = keeps.tallied;
     counts = keeps.counts (drops_most * all_turns d) k.counts;
     drawn_is = omega (arith, few, keeps.drawn);
     handed_is = keeps.handed;
-    began_is = began_kept settles.sent settles.round settles.booked settles.holds;
     billed = keeps.billed;
+    knows = keeps.knows;
   }

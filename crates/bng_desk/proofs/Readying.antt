@@ -8,6 +8,7 @@ use Rattle.bng_engine.specs.Views.{ShardView}
 use Rattle.bng_engine.proofs.Walks.{Walked, walk_all, walk_more, walk_stop, walk_weaker}
 use Rattle.bng_shard.specs.declared.rules.Rules.{Rules}
 use Rattle.bng_shard.specs.Protocol.{ShardState}
+use Rattle.bng_desk.specs.Allowing.{allowance_of}
 use Rattle.bng_desk.specs.Taking.{IsEmpty, HasRows, AreInOrder}
 
 abbrev pub Shards : Type 0
@@ -37,10 +38,10 @@ all_onward R P f vs ws zip all k d lt =
     let within : k < length vs = omega (arith, lt, length_all_zip R vs ws zip) in
     f (get_or vs k d) (get_or ws k d) (AllZip-get_or R vs ws k d d zip within) (all k d within)
 
--- a shard that was made ready, and one that was only kept
-pub record IsMadeReady (items : ℕ) (v v' : ShardView ShardState Entry) : Type 0 where
+-- a shard that was made ready, by its share of so many new terms, and one that was only kept
+pub record IsMadeReady (items free shards : ℕ) (v v' : ShardView ShardState Entry) : Type 0 where
   pub kept : Kept v v'
-  pub ready : IsReady items 0 v'
+  pub ready : IsReady items (allowance_of free shards v) v'
   pub rows : HasRows v'
 
 pub record IsLeft (v v' : ShardView ShardState Entry) : Type 0 where
@@ -50,14 +51,18 @@ pub record IsLeft (v v' : ShardView ShardState Entry) : Type 0 where
 left_itself : (v : ShardView ShardState Entry) → IsLeft v v
 left_itself v = record { kept = record { number = refl; state = refl; rows = refl; books = refl }; empty = λ h. h }
 
-ready_left : (n : ℕ) (v w : ShardView ShardState Entry) → IsMadeReady n v w → IsLeft v w
-ready_left n v w h = record { kept = h.kept; empty = λ e. (h.ready.journal, h.ready.outs) }
+module _ (n free count : ℕ) where
+  abbrev Ready : ShardView ShardState Entry → ShardView ShardState Entry → Type 0
+  Ready v w = IsMadeReady n free count v w
 
--- all were made ready
-pub all_ready : (n : ℕ) (olds shards : Shards) (i : ℕ) → i ≡ length olds → length shards ≡ length olds → Walked (IsMadeReady n) olds shards i → AllZip (IsMadeReady n) olds shards
-all_ready n olds shards i e same w = walk_all (IsMadeReady n) olds shards same (subst (λ (k : ℕ). Walked (IsMadeReady n) olds shards k) e w)
+  ready_left : (v w : ShardView ShardState Entry) → Ready v w → IsLeft v w
+  ready_left v w h = record { kept = h.kept; empty = λ e. (h.ready.journal, h.ready.outs) }
 
--- where one wanted memory, those after it are as they were
-pub some_ready : (n : ℕ) (olds shards : Shards) (i : ℕ) (d v : ShardView ShardState Entry) → i < length olds → Walked (IsMadeReady n) olds shards i → IsLeft (get_or shards i d) v → AllZip IsLeft olds (set shards i v)
-some_ready n olds shards i d v lt w here =
-    walk_stop IsLeft left_itself olds (set shards i v) (i + 1) (walk_more IsLeft olds shards i d v lt (walk_weaker (IsMadeReady n) IsLeft (ready_left n) olds shards i w) here)
+  -- all were made ready
+  pub all_ready : (olds shards : Shards) (i : ℕ) → i ≡ length olds → length shards ≡ length olds → Walked Ready olds shards i → AllZip Ready olds shards
+  all_ready olds shards i e same w = walk_all Ready olds shards same (subst (λ (k : ℕ). Walked Ready olds shards k) e w)
+
+  -- where one wanted memory, those after it are as they were
+  pub some_ready : (olds shards : Shards) (i : ℕ) (d v : ShardView ShardState Entry) → i < length olds → Walked Ready olds shards i → IsLeft (get_or shards i d) v → AllZip IsLeft olds (set shards i v)
+  some_ready olds shards i d v lt w here =
+      walk_stop IsLeft left_itself olds (set shards i v) (i + 1) (walk_more IsLeft olds shards i d v lt (walk_weaker Ready IsLeft ready_left olds shards i w) here)

@@ -1,5 +1,5 @@
 -- Addresses are given back to the table of those that are held, and each term that is left holds its own.
-use Rattle.std.proofs.Common.{◌≡◌, ◌≢◌, ◌⊎◌, ⊎_elim, ℕ, ◌<◌, Bool, true, false, not, ◌&&◌, ◌||◌, cond, eqb, List, [], ◌∷◌, ◌++◌, Option, Some, None, is_some, map, filter, length, get_or, set, refl, sym, ap, subst, ◌∙◌, arith, length-set, get_or-set_same, get_or-set_other}
+use Rattle.std.proofs.Common.{◌≡◌, ◌≢◌, ⊎_elim, ℕ, ◌<◌, Bool, true, false, not, ◌&&◌, ◌||◌, cond, eqb, List, [], ◌∷◌, ◌++◌, Option, Some, None, is_some, map, filter, length, get_or, set, refl, sym, ap, subst, ◌∙◌, arith, length-set, get_or-set_same, get_or-set_other}
 use Rattle.std.specs.List.{All, AllZip, flat_map, list_any}
 use Rattle.std.proofs.lemmas.Bool.Decides.{nat_tests}
 use Rattle.std.proofs.lemmas.List.{map-append}
@@ -69,7 +69,7 @@ held_one true n e = refl
 held_one false n e = refl
 
 -- an address is held where the table has it
-held_in : (t : Table) (a : ℕ) → list_any (λ (i : Ip4). eqb i.0 a) (map (λ (e : ℕ × ℕ). let i : Ip4 = record { 0 = e.0 } in i) t) ≡ is_some (entry t a)
+pub held_in : (t : Table) (a : ℕ) → list_any (λ (i : Ip4). eqb i.0 a) (map (λ (e : ℕ × ℕ). let i : Ip4 = record { 0 = e.0 } in i) t) ≡ is_some (entry t a)
 held_in [] a = refl
 held_in (e ∷ t) a = ap (λ (b : Bool). eqb e.0 a || b) (held_in t a) ∙ held_one (eqb e.0 a) e.1 (entry t a)
 

@@ -1,6 +1,5 @@
 -- The settlement of a turn, as the turn has it.
 use Rattle.std.proofs.Common.{◌≡◌, ℕ, ◌+◌, List, [], ◌∷◌, Option, Vec, Global, map, length, refl, ap, subst, ◌∙◌}
-use Rattle.std.specs.List.{AllZip}
 use Rattle.bng_base.specs.declared.address.Peer.{Peer}
 use Rattle.bng_base.specs.declared.item.Item.{Item}
 use Rattle.bng_base.specs.declared.round.RoundRecord.{RoundRecord}
@@ -13,7 +12,8 @@ use Rattle.bng_desk.specs.declared.holding.Named.{Named}
 use Rattle.bng_desk.specs.declared.lists.Lists.{Lists}
 use Rattle.bng_desk.specs.declared.settlement.Settled.{Settled}
 use Rattle.bng_desk.specs.declared.settlement.Works.{Works}
-use Rattle.bng_desk.specs.Accounting.{FormedRecord, Forms, IsStopOf, RecordRequests, SettlesRecords, records_stretch}
+use Rattle.bng_desk.specs.Accounting.{FormedRecord, Forms, RecordRequests, SettlesRecords, records_stretch}
+use Rattle.bng_desk.specs.Allowing.{Allows}
 use Rattle.bng_desk.specs.Kept.{rested}
 use Rattle.bng_desk.specs.Logins.{Requests, SettlesLane, requests_stretch}
 use Rattle.bng_desk.specs.Model.{Desk}
@@ -21,7 +21,7 @@ use Rattle.bng_desk.specs.Random.{Drawn}
 use Rattle.bng_desk.specs.Round.{Round}
 use Rattle.bng_desk.specs.Settlement.{Settles}
 use Rattle.bng_desk.specs.Taking.{Accounts, Holds}
-use Rattle.bng_desk.specs.Turn.{RoundOf, after_round, is_opened, round_stretch, round_told, stops_in, told_if}
+use Rattle.bng_desk.specs.Turn.{FormsRecords, RoundOf, after_round, is_opened, round_stretch, round_told, told_if}
 use Rattle.bng_desk.proofs.Done.{is_after_round, round_done}
 use Rattle.bng_desk.proofs.Lanes.{forms_server, settles_rested}
 use Rattle.bng_desk.proofs.Readying.{Shards}
@@ -31,10 +31,11 @@ use Rattle.bng_desk.proofs.Works.{gathered, seen_with}
 pub record SettlementDone (d : Desk) (heard : BillingState) (lane : LaneState) (drawn : ℕ) (named : Named) (items : List Item) (w' : Works) (p p' : PlantTold) (t t' : TraceTold) (s : Settled) : Type 0 where
   pub round : Option Round
   pub is : RoundOf d named.moment items round
+  pub allows : Allows heard d.shards round
   pub formed : List FormedRecord
   pub booked : BillingState
   pub forms : Forms heard formed booked
-  pub stops : AllZip (IsStopOf d.lines d.began named.moment named.wall) (stops_in round) formed
+  pub of_round : FormsRecords d.shards named.moment named.wall round formed
   pub requests : Requests
   pub asks : SettlesLane named.moment lane (after_round d items round).shards d.handed d.seed drawn requests w'.lane w'.handed.items
   pub records : RecordRequests
@@ -59,15 +60,16 @@ module _ (d : Desk) (w w' : Works) (heard : BillingState) (lane : LaneState) (dr
       (subst (λ (x : Drawn). SettlesLane moment lane (map rested w'.shards.items) w.handed.items x.seed x.drawn q w'.lane w'.handed.items) drew (settles_rested moment lane w'.lane w'.shards.items w.handed.items w'.handed.items draws.seed draws.drawn q s.asks.settles)) in
       let billed = subst (λ (to : Peer). ExtendsPlant s.asked p' (records_stretch to s.bills.requests)) (forms_server done.formed heard s.booked done.forms) s.bills.told in
       let drew_all : w'.draws ≡ record { seed = w.draws.seed; drawn = drawn + length q.asked } = s.asks.draws_are ∙ ap (λ (x : Drawn). let y : Drawn = record x { drawn = x.drawn + length q.asked } in y) drew in
-      let with_draws = λ (x : Drawn) (began : ℕ). let y : Desk = record (seen_with d w') { seed = x.seed; drawn = x.drawn; began = began } in y in
+      let with_draws = λ (x : Drawn). let y : Desk = record (seen_with d w') { seed = x.seed; drawn = x.drawn } in y in
       let settled_as = λ (x : Desk). let y : Desk = record x { drawn = drawn + length q.asked; lane = w'.lane; handed = w'.handed.items; billing = w'.accounts.billing } in y in
       record {
         round = done.round;
         is = done.is;
+        allows = done.allows;
         formed = done.formed;
         booked = s.booked;
         forms = done.forms;
-        stops = done.stops;
+        of_round = done.of_round;
         requests = q;
         asks = asks;
         records = s.bills.requests;
@@ -76,7 +78,6 @@ module _ (d : Desk) (w w' : Works) (heard : BillingState) (lane : LaneState) (dr
             (plant_more s.sent s.asked p' (requests_stretch lane.client.auth_server q) (records_stretch heard.client.acct_server s.bills.requests) s.asks.told billed);
         opened_is = done.opened_is;
         rounds = subst (λ (r : RoundRecord). Grows t.rounds t'.rounds (told_if settled.noted r)) done.record_told s.rounds;
-        after = ap (λ (x : Drawn). with_draws x w'.accounts.began) drew_all
-            ∙ ap (λ (n : ℕ). with_draws (record { seed = w.draws.seed; drawn = drawn + length q.asked }) n) done.began_is
+        after = ap with_draws drew_all
             ∙ ap settled_as (is_after_round was all done.round (map rested w'.shards.items) w'.pool w'.accounts.lines w'.drops (w'.tally ∷ []) w'.kept.items done.shards_are done.pool_is done.lines_are done.drops_are done.tallies_are done.kept_is);
       }

@@ -115,7 +115,7 @@ module _ (d : Desk) (w w' : Works) (heard : BillingState) (lane : LaneState) (dr
           record { moment = later; control = heeds.ends; acct = a.ends; auth = g.auth; roles = g.are_roles; read = g.read },
           done.is,
           record { hears = g.hears; times_out = g.times_out; settles = done.asks; due = deadline },
-          record { heard = heard; hears = a.hears; booked = done.booked; forms = done.forms; stops = done.stops; settles = done.bills; due = record_deadline },
+          record { heard = heard; hears = a.hears; allows = done.allows; booked = done.booked; forms = done.forms; of_round = done.of_round; settles = done.bills; due = record_deadline },
           after_as,
         );
         told = record {

@@ -22,7 +22,6 @@ with_works d w shards = record d {
   drops = w.drops;
   lane = w.lane;
   handed = w.handed.items;
-  began = w.accounts.began;
   billing = w.accounts.billing;
   kept = w.kept.items;
 }

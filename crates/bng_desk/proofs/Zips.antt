@@ -31,6 +31,12 @@ zip_set_both R (a ∷ xs) [] k x y h here = absurd h
 zip_set_both R (a ∷ xs) (b ∷ ys) zero x y h here = (here, h.1)
 zip_set_both R (a ∷ xs) (b ∷ ys) (suc k) x y h here = (h.0, zip_set_both R xs ys k x y h.1 here)
 
+pub zip_onward : {A B : Type 0} (R Q : A → B → Type 0) → ((x : A) (y : B) → R x y → Q x y) → (xs : List A) (ys : List B) → AllZip R xs ys → AllZip Q xs ys
+zip_onward R Q f [] [] h = tt
+zip_onward R Q f [] (b ∷ ys) h = absurd h
+zip_onward R Q f (a ∷ xs) [] h = absurd h
+zip_onward R Q f (a ∷ xs) (b ∷ ys) h = (f a b h.0, zip_onward R Q f xs ys h.1)
+
 -- three of them: one more of each
 pub zip3_push : {A B C : Type 0} (R : A → B → C → Type 0) (xs : List A) (ys : List B) (zs : List C) (x : A) (y : B) (z : C) → Zip3 R xs ys zs → R x y z → Zip3 R (xs ++ x ∷ []) (ys ++ y ∷ []) (zs ++ z ∷ [])
 zip3_push R [] [] [] x y z h here = (here, tt)

@@ -2,6 +2,7 @@
 use Rattle.std.specs.Prelude.{ℕ, ◌+◌, ◌==◌, Bool, true, false, nat_le, List, [], ◌∷◌, ◌++◌, Option, Some, None, map, filter, if◌then◌else◌}
 use Rattle.std.specs.List.{flat_map, range_with_len}
 use Rattle.bng_base.specs.declared.address.Peer.{Peer}
+use Rattle.bng_base.specs.declared.item.Claim.TheVariants.{NoClaim}
 use Rattle.bng_base.specs.declared.item.Entry.{Entry}
 use Rattle.bng_base.specs.declared.item.Item.{Item}
 use Rattle.bng_base.specs.declared.item.ItemKind.{ItemKind}
@@ -112,7 +113,11 @@ abbrev pub stands_in : ℕ → Whose → Bool
 stands_in shard (IsLoose fate) = false
 stands_in shard (Stands n) = n == shard
 
--- The entries of a shard from a seat's list: of its items, from this place on, those that stand in the shard, each with its place, at
+-- an entry without what was answered where it asked for an address
+abbrev pub without_claim : Entry → Entry
+without_claim e = record e { claim = NoClaim }
+
+-- The entries of a shard from a seat's list, without their claims: of its items, from this place on, those that stand in the shard, each with its place, at
 -- the round's moment.
 abbrev pub entries_in : ℕ → ℕ → ℕ → ℕ → List Item → List Whose → List Entry
 entries_in seat shard place moment [] whose = []

@@ -27,7 +27,7 @@ use Rattle.bng_shard.specs.Tenures.{Tenure}
 use Rattle.bng_shard.specs.Whose.{IsWhose}
 use Rattle.bng_desk.specs.declared.drops.Drops.{Drops}
 use Rattle.bng_desk.specs.Counting.{no_drops, drops_of, plus}
-use Rattle.bng_desk.specs.Items.{entries_in, all_loose, is_from_outside}
+use Rattle.bng_desk.specs.Items.{entries_in, all_loose, is_from_outside, without_claim}
 
 -- Whose each item of each seat's list was; each shard as the engine sees it once the round is settled: with what its entries did, what
 -- they had to send and the answers to these sends, and the terms that ended and began; the tally of each seat; who held which address
@@ -116,10 +116,10 @@ pub record IsPart (lists : List (List Item)) (whose : List (List Whose)) (shard 
   pub each : (seat : ℕ) → seat < length lists → of_seat seat journal ≡ entries_in seat shard 0 moment (slice_index_or lists seat []) (slice_index_or whose seat [])
   pub seats : All (λ (e : Entry). e.seat < length lists) journal
 
--- so in each shard, from the first shard on
+-- so in each shard, from the first shard on, its entries taken without their claims
 abbrev pub AreParts : List (List Item) → List (List Whose) → ℕ → ℕ → List (ShardView ShardState Handled) → Type 0
 AreParts lists whose shard moment [] = Unit {0}
-AreParts lists whose shard moment (v ∷ vs) = IsPart lists whose shard moment (entries_of v) × AreParts lists whose (shard + 1) moment vs
+AreParts lists whose shard moment (v ∷ vs) = IsPart lists whose shard moment (map without_claim (entries_of v)) × AreParts lists whose (shard + 1) moment vs
 
 -- an item stands in one of so many shards, or in none
 abbrev pub StandsWithin : ℕ → Whose → Type 0

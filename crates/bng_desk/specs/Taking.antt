@@ -44,7 +44,7 @@ use Rattle.bng_desk.specs.declared.holding.Named.{Named}
 use Rattle.bng_desk.specs.declared.line.Line.{Line}
 use Rattle.bng_desk.specs.Accounting.{FormedRecord, Forms, IsStartOf, IsStopOf}
 use Rattle.bng_desk.specs.Counting.{drops_of, plus}
-use Rattle.bng_desk.specs.Items.{entries_in, kept_of, loose_item, loose_in}
+use Rattle.bng_desk.specs.Items.{entries_in, kept_of, loose_item, loose_in, without_claim}
 use Rattle.bng_desk.specs.Allowing.{Allows}
 use Rattle.bng_desk.specs.Model.{line_after}
 use Rattle.bng_desk.specs.Round.{Round, IsRound, StandsWithin, AreClaimed, IsWhoseIn, views_of, held_by, stops_of, starts_of, terms_in, news_in, handled_states, IsReturned, is_failed, with_failed, sends_stretch, drops_in, record_of, refused_of, refused_record, with_refused, entries_of}
@@ -143,10 +143,10 @@ pub record DealsOne (r : Rules) (pool pool' : PlainView) (place moment : ℕ) (i
   pub is_whose : IsWhose r pool.table item whose
   pub deals : DealsTo pool pool' whose place moment item shards shards' loose loose' tally tally' fate
 
--- the shards, from this one on, have the entries of the items that stand in them
+-- the shards, from this one on, have the entries of the items that stand in them, which are taken without their claims
 abbrev pub AreDealt : ℕ → ℕ → List Item → List Whose → List Sight → Type 0
 AreDealt shard moment items whose [] = Unit {0}
-AreDealt shard moment items whose (v ∷ vs) = (entries_of v ≡ entries_in 0 shard 0 moment items whose) × AreDealt (shard + 1) moment items whose vs
+AreDealt shard moment items whose (v ∷ vs) = (map without_claim (entries_of v) ≡ entries_in 0 shard 0 moment items whose) × AreDealt (shard + 1) moment items whose vs
 
 -- no Stop and no Start is formed yet
 pub record IsPlain (v : Sight) : Type 0 where
@@ -355,6 +355,7 @@ pub record RoundHeld (r : Rules) (pool pool' : PlainView) (accounts accounts' : 
   pub mid : Accounts
   pub ends : BooksStops (terms_in (handled_states shards round.shards)) named.moment named.wall (stops_of round) accounts mid
   pub begins : BooksStarts (news_in (handled_states shards round.shards)) named.moment named.wall (starts_of round) mid accounts'
+  pub allowed : map (λ v. v.allowance) round.shards ≡ map (λ v. v.allowance) shards
   pub tallies_are : round.tallies ≡ tally' ∷ []
   pub drops_are : drops' ≡ plus drops (drops_in (items ∷ []) round)
   pub told : ExtendsPlant old new (sends_stretch (all_sends round.shards))

@@ -176,6 +176,8 @@ impl Desk {
         self.closed = either(self.closed, is_opened);
         self.closing = closing_after(is_opened, now, self.closing);
         let sessions = sessions_in(self.works.shards.as_slice());
+        // What accounting knows of terms agrees with its records, so it forgets no term of which a Stop is open.
+        prove!(self.works.accounts.free() <= u32::MAX);
         self.works.accounts.close(both(self.closed, sessions == 0));
         answer(noted)
     }

@@ -1,22 +1,28 @@
-use Rattle.std.proofs.Common.{◌≤◌, ◌+◌, ◌^◌, List, Vec, Global, length, ap, sym, subst, ◌∙◌, arith}
+use Rattle.std.proofs.Common.{◌≡◌, ◌≤◌, ◌+◌, ◌^◌, true, sum_by, List, Vec, Global, length, ap, sym, subst, ◌∙◌, arith}
 use Rattle.std.proofs.lemmas.List.Sums.{count_by-le-length, length-filter}
 use Rattle.bng_base.specs.declared.item.Item.{Item}
-use Rattle.bng_engine.specs.Calls.{Kept}
+use Rattle.std.specs.List.{AllZip}
+use Rattle.bng_engine.specs.Calls.{IsReady, Kept}
 use Rattle.bng_engine.specs.Quantities.{Octets, in_book}
 use Rattle.bng_engine.specs.Terms.{Key}
 use Rattle.bng_shard.specs.Protocol.{ShardState}
 use Rattle.bng_desk.specs.Accounting.{AreBilled}
+use Rattle.bng_desk.specs.Allowing.{allowance_of}
 use Rattle.bng_desk.specs.Counting.{Within}
 use Rattle.bng_desk.specs.Items.{is_from_outside}
 use Rattle.bng_desk.specs.Kept.{octets_most, drops_most}
 use Rattle.bng_desk.specs.Round.{refused_of}
+use Rattle.bng_desk.specs.Taking.{Shown}
 use Rattle.bng_desk.proofs.Joining.{sessions_kept, low_kept, low_wider, books_kept, books_wider}
 use Rattle.bng_desk.proofs.OneMore.{low_more}
-use Rattle.bng_desk.proofs.Readying.{OwesNone, WorksBy, all_onward, order_kept}
+use Rattle.bng_desk.proofs.Readying.{WorksBy, all_onward, order_kept}
+use Rattle.bng_desk.proofs.Shares.{allowed_sum, shares_few}
 use Rattle.bng_desk.proofs.Returning.{held_kept}
-use Rattle.bng_desk.proofs.SameTerms.{kept_keys}
+use Rattle.bng_desk.proofs.SameTerms.{allowed_as, kept_keys, knows_held, ready_each, terms_held}
 use Rattle.bng_desk.proofs.Tallied.{lines_kept}
+use Rattle.bng_desk.proofs.holding.hold.Given.{Over}
 use Rattle.bng_desk.proofs.holding.hold.Goals as goal
+use Rattle.bng_desk.proofs.holding.hold.Goals.{After-prepare_all}
 
 pub opened-requires-clause-numbers : goal.opened-requires-clause-numbers
 opened-requires-clause-numbers g c = order_kept Kept (λ x y k. k.number) c.args.shards.now c.prepare_all.new.shards c.prepare_all.ensures.kept c.requires.numbers
@@ -36,8 +42,28 @@ opened-requires-clause-billed g c = subst (λ (ks : List Key). AreBilled ks c.ar
 pub opened-requires-clause-one_rule : goal.opened-requires-clause-one_rule
 opened-requires-clause-one_rule g c = all_onward Kept (WorksBy c.args.rules.now) (λ x y k here. ap (λ (s : ShardState). s.rules) k.state ∙ here) c.args.shards.now c.prepare_all.new.shards c.prepare_all.ensures.kept c.requires.one_rule
 
-pub opened-requires-clause-no_news : goal.opened-requires-clause-no_news
-opened-requires-clause-no_news g c = all_onward Kept OwesNone (λ x y k here. ap (λ (s : ShardState). s.slots.news) k.state ∙ here) c.args.shards.now c.prepare_all.new.shards c.prepare_all.ensures.kept c.requires.no_news
+pub opened-requires-clause-terms : goal.opened-requires-clause-terms
+opened-requires-clause-terms g c = terms_held c.args.named.moment c.args.shards.now c.prepare_all.new.shards c.prepare_all.ensures.kept c.requires.terms
+
+pub opened-requires-clause-knows : goal.opened-requires-clause-knows
+opened-requires-clause-knows g c = knows_held c.args.shards.now c.prepare_all.new.shards c.args.accounts.now.billing c.prepare_all.ensures.kept c.requires.knows
+
+-- the shards were made ready, each with its allowance
+module _ (g : Over) (c : After-prepare_all g) (ready : c.prepare_all.result ≡ true) where
+  each_ready : AllZip (λ v w. IsReady (length c.args.lists.items.items) (allowance_of c.free.result (length c.args.shards.now) v) w) c.args.shards.now c.prepare_all.new.shards
+  each_ready = c.prepare_all.ensures.ready ready
+
+  room : length c.args.accounts.now.billing.spool.held + sum_by (λ (v : Shown). v.allowance) c.prepare_all.new.shards ≤ c.args.accounts.now.billing.spool.rules.terms
+  room =
+      let n = length c.args.lists.items.items in
+      let shards = c.args.shards.now in
+      omega (arith, c.free.ensures.free, allowed_sum n c.free.result (length shards) shards c.prepare_all.new.shards each_ready, shares_few c.free.result shards (omega (arith, c.requires.count, c.requires.some)) c.requires.numbers)
+
+pub opened-requires-clause-ready : goal.opened-requires-clause-ready
+opened-requires-clause-ready g c = ?
+
+pub opened-requires-clause-free : goal.opened-requires-clause-free
+opened-requires-clause-free g c = ?
 
 pub opened-requires-clause-held : goal.opened-requires-clause-held
 opened-requires-clause-held g c = held_kept c.args.pool.now.table c.args.shards.now c.prepare_all.new.shards c.prepare_all.ensures.kept c.requires.held
@@ -47,6 +73,15 @@ returns-clause-held g c = held_kept c.args.pool.now.table c.args.shards.now c.pr
 
 pub returns-clause-billed : goal.returns-clause-billed
 returns-clause-billed g c = subst (λ (ks : List Key). AreBilled ks c.args.accounts.now.billing) (sym (kept_keys c.args.shards.now c.prepare_all.new.shards c.prepare_all.ensures.kept)) c.requires.billed
+
+pub returns-clause-terms : goal.returns-clause-terms
+returns-clause-terms g c = terms_held c.args.named.moment c.args.shards.now c.prepare_all.new.shards c.prepare_all.ensures.kept c.requires.terms
+
+pub returns-clause-knows : goal.returns-clause-knows
+returns-clause-knows g c = knows_held c.args.shards.now c.prepare_all.new.shards c.args.accounts.now.billing c.prepare_all.ensures.kept c.requires.knows
+
+pub returns-then-prepare_all-clause-round : goal.returns-then-prepare_all-clause-round
+returns-then-prepare_all-clause-round g c = ?
 
 pub returns-clause-lines : goal.returns-clause-lines
 returns-clause-lines g c = lines_kept (λ input. in_book Octets input c.args.tally.now) c.args.shards.now c.prepare_all.new.shards c.args.accounts.now.lines c.prepare_all.ensures.kept c.requires.lines

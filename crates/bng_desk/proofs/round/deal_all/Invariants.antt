@@ -8,9 +8,8 @@ use Rattle.bng_desk.proofs.round.deal_all.Given as goal
 
 abbrev pub invariant-loop-item : goal.invariant-loop-item
 invariant-loop-item l = record {
-  deals : Deals l.rules l.fn.pool l.now l.yielded l.fn.shards l.shards l.loose.items l.fn.drops l.drops l.fn.tally l.tally;
-  pool : l.pool ≡ l.fn.pool;
-  held : All (λ v. AreHeld v.number (terms_of v.state) l.fn.pool.table) l.shards;
+  deals : Deals l.rules l.fn.pool l.pool l.now l.yielded l.fn.shards l.shards l.loose.items l.fn.drops l.drops l.fn.tally l.tally;
+  held : All (λ v. AreHeld v.number (terms_of v.state) l.pool.table) l.shards;
   whole : l.fn.items.items ≡ l.yielded ++ l.item-iterator.rest.items;
   place : length l.yielded ≡ l.place;
   room : All (λ v. length l.fn.items.items ≤ v.room + length l.yielded) l.shards;

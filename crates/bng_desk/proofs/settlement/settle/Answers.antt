@@ -3,15 +3,15 @@ use Rattle.std.specs.List.{All}
 use Rattle.std.specs.Vec.{with_items}
 use Rattle.std.proofs.lemmas.List.{with_items_is}
 use Rattle.bng_desk.specs.declared.line.Line.{Line}
-use Rattle.bng_desk.specs.Accounting.{AreBilled}
+use Rattle.bng_desk.specs.Accounting.{AreBilled, KnowsBegun}
 use Rattle.bng_desk.specs.Intake.{SendsRequests}
 use Rattle.bng_desk.specs.Kept.{octets_most}
 use Rattle.bng_desk.specs.Model.{keys_in}
-use Rattle.bng_desk.specs.Taking.{Accounts, IsEmpty, IsPlainly, HasFewSessions, AreInOrder, AreTallied, Holds, outs_of_items}
+use Rattle.bng_desk.specs.Taking.{Accounts, IsEmpty, KeepsTerms, HasFewSessions, AreInOrder, AreTallied, Holds, outs_of_items}
 use Rattle.bng_desk.proofs.Billed.{billed_kept, settled_keeps}
-use Rattle.bng_desk.proofs.Dwindling.{all_plain}
 use Rattle.bng_desk.proofs.Joining.{HasLow, HasLowBooks}
-use Rattle.bng_desk.proofs.Readying.{Shards, OwesNone, WorksBy}
+use Rattle.bng_desk.proofs.Readying.{Shards, WorksBy}
+use Rattle.bng_desk.proofs.Knowing.{knows_less, settled_forgets}
 use Rattle.bng_desk.proofs.Returning.{HoldsOwn}
 use Rattle.bng_desk.proofs.settlement.settle.Given.{Over}
 use Rattle.bng_desk.proofs.settlement.settle.Goals as goal
@@ -41,8 +41,11 @@ hold-record-requires-clause-few_outs g c = subst (λ (vs : Shards). outs_of_item
 pub hold-record-requires-clause-one_rule : goal.hold-record-requires-clause-one_rule
 hold-record-requires-clause-one_rule g c = subst (λ (vs : Shards). All (WorksBy c.args.rules.now) vs) (sym c.as_mut_slice.ensures.value) c.requires.ready.one_rule
 
-pub hold-record-requires-clause-no_news : goal.hold-record-requires-clause-no_news
-hold-record-requires-clause-no_news g c = subst (λ (vs : Shards). All OwesNone vs) (sym c.as_mut_slice.ensures.value) (λ k d lt. (c.requires.ready.plain k d lt).1)
+pub hold-record-requires-clause-terms : goal.hold-record-requires-clause-terms
+hold-record-requires-clause-terms g c = subst (λ (vs : Shards). All (KeepsTerms c.args.named.moment) vs) (sym c.as_mut_slice.ensures.value) c.requires.ready.terms
+
+pub hold-record-requires-clause-knows : goal.hold-record-requires-clause-knows
+hold-record-requires-clause-knows g c = subst (λ (vs : Shards). KnowsBegun vs c.args.works.now.accounts.billing) (sym c.as_mut_slice.ensures.value) c.requires.ready.knows
 
 pub hold-record-requires-clause-held : goal.hold-record-requires-clause-held
 hold-record-requires-clause-held g c = subst (λ (vs : Shards). All (HoldsOwn c.args.works.now.pool.table) vs) (sym c.as_mut_slice.ensures.value) c.requires.ready.held
@@ -103,7 +106,6 @@ returns-clause-keeps g c =
     let before = sym c.as_mut_slice.ensures.value in
     let behind = sym (shards_are g b) in
     let ws = c.hold-record.new.shards in
-    let before_all = c.as_mut_slice.result.now in
     let booked = c.hold-record.new.accounts.billing in
     let bills = c.send.ensures.sends in
     record {
@@ -124,7 +126,8 @@ returns-clause-keeps g c =
       room = c.hold-record.ensures.kept_room;
       places = c.hold-record.ensures.places;
       held = subst (λ (vs : Shards). All (HoldsOwn c.hold-record.new.pool.table) vs) behind c.hold-record.ensures.held;
-      plain = subst (λ (vs : Shards). All IsPlainly vs) behind
-          (all_plain c.args.rules.now w.pool c.hold-record.new.pool w.accounts c.hold-record.new.accounts c.args.named c.args.lists.items.items (g.P.Plant.told c.args.plant.now) (g.P.Plant.told c.hold-record.new.plant) before_all ws w.drops c.hold-record.new.drops w.tally c.hold-record.new.tally c.hold-record.result.record
-          c.hold-record.result.is_opened c.hold-record.new.kept.items c.hold-record.ensures.round ready.no_pools (subst (λ (vs : Shards). All (WorksBy c.args.rules.now) vs) before ready.one_rule) (subst (λ (vs : Shards). All IsPlainly vs) before ready.plain));
+      ranges = c.hold-record.ensures.ranges;
+      terms = subst (λ (vs : Shards). All (KeepsTerms c.args.named.moment) vs) behind c.hold-record.ensures.terms;
+      knows = subst (λ (vs : Shards). KnowsBegun vs c.send.new.self.billing) behind
+          (knows_less ws booked c.send.new.self.billing (settled_forgets c.args.named.moment booked c.send.new.self.billing bills.requests bills.settles) c.hold-record.ensures.knows);
     }

@@ -47,7 +47,6 @@ module _ (g : Over) (c : After-to_end g) where
     told = c.self.inside.told;
     lane = works.lane;
     handed = works.handed.items;
-    began = works.accounts.began;
     billing = works.accounts.billing;
     endings = c.self.inside.endings;
     unopened = c.self.inside.unopened;
@@ -107,10 +106,10 @@ invariant_of-self g c =
         rules = was.rules;
         empty = was.empty;
         sessions = was.sessions;
-        no_pools = was.no_pools;
+        pools = was.pools;
         places = was.places;
         held = was.held;
-        plain = was.plain;
+        terms = was.terms;
         most = was.most;
         made = was.made;
         serving = λ serves. absurd (false≢true (sym serves ∙ over));
@@ -129,10 +128,10 @@ invariant_of-self g c =
         stays = was.stays;
         while_serving = λ serves. absurd (false≢true (sym serves ∙ over));
         handed = was.handed;
-        began = was.began;
         closing = was.closing;
         graces = was.graces;
         billed = was.billed;
+        knows = was.knows;
       },
       c.self.invariant.1,
     )
@@ -151,7 +150,7 @@ settle-noted-requires g c =
     let n = length w.shards.items in
     let taken = c.in-Ok.ensures in
     record {
-      ready = is_ready d w w.accounts.billing w.lane c.to_end.new.draws c.to_end.new.kept c.take.new.self (named g b) _ c.self.invariant.0 c.self.invariant.0.billed (later g b) c.now-now.ensures.bound (few_drawn g b) c.to_end.ensures.none_kept
+      ready = is_ready d w w.accounts.billing w.lane c.to_end.new.draws c.to_end.new.kept c.take.new.self (named g b) _ c.self.invariant.0 c.self.invariant.0.billed c.self.invariant.0.knows (later g b) c.now-now.ensures.bound (few_drawn g b) c.to_end.ensures.none_kept
           (omega (arith, ends_few_kept d c.to_end.new.items.items c.self.invariant.0 (are_ends g b), c.to_end.ensures.kept_room, c.self.invariant.1)) (items_of_ends n c.to_end.new.items.items (few_shards g b) (are_ends g b)) (outs_of_ending n c.to_end.new.items.items (are_ends g b))
           (record {
             loose = taken.loose.0;
@@ -202,7 +201,7 @@ invariant_of-self-2 g c =
       subst (λ (a : Accounts). IsKept (after_ending (kept_with d (record after { accounts = a })) c.unopened_after-self-inside.result c.either-self-inside.result c.closing_after-self-inside.result c.now-now.result c.told_after-self-inside.result)) (sym (accounts_are g c))
           (kept_ended d (billed_by after c.close.new.self.billing) c.unopened_after-self-inside.result c.either-self-inside.result c.closing_after-self-inside.result c.now-now.result c.told_after-self-inside.result c.self.invariant.0 e.over near (later g b)
           (closing_low c.settle-noted.result.is_opened c.self.inside.closing c.now-now.result c.closing_after-self-inside.result (omega (arith, c.self.invariant.0.closing, later g b)) c.closing_after-self-inside.ensures)
-          (left_closed d after (c.either-self-inside.result && (sessions_in after.shards.items == 0)) c.close.new.self.billing (closes g c) (is_left d w after w.accounts.billing w.lane c.to_end.new.draws c.to_end.new.kept c.take.new.self (named g b) items (told c.args.plant.now) (told c.settle-noted.new.plant) (trace c.args.trace.now) (trace c.settle-noted.new.trace) c.settle-noted.result c.self.invariant.0 settles keeps (few_drawn g b)))
+          (left_closed d c.now-now.result after (c.either-self-inside.result && (sessions_in after.shards.items == 0)) c.close.new.self.billing c.free.ensures.agree (closes g c) (is_left d w after w.accounts.billing w.lane c.to_end.new.draws c.to_end.new.kept c.take.new.self (named g b) items (told c.args.plant.now) (told c.settle-noted.new.plant) (trace c.args.trace.now) (trace c.settle-noted.new.trace) c.settle-noted.result c.self.invariant.0 settles keeps (few_drawn g b)))
           (subst (λ (n : ℕ). n ≤ c.self.inside.told + 1) (sym c.told_after-self-inside.ensures) (few_told c.settle-noted.result.noted c.self.inside.told))
           (kept_by d w after w.accounts.billing w.lane c.to_end.new.draws c.to_end.new.kept c.take.new.self (named g b) items (told c.args.plant.now) (told c.settle-noted.new.plant) (trace c.args.trace.now) (trace c.settle-noted.new.trace) c.settle-noted.result (AreKept d) settles (none_kept d) (ends_kept d items c.self.invariant.0 (are_ends g b)))),
       omega (arith, keeps.room, c.to_end.ensures.kept_room, c.self.invariant.1),

@@ -36,7 +36,6 @@ module _ (g : Over) (c : After-wait_if g) where
     told = c.self.inside.told;
     lane = works.lane;
     handed = works.handed.items;
-    began = works.accounts.began;
     billing = works.accounts.billing;
     endings = c.self.inside.endings;
     unopened = c.self.inside.unopened;

@@ -7,7 +7,7 @@ use Rattle.bng_ppp.specs.LinkRelation.{earliest}
 use Rattle.bng_desk.specs.declared.holding.Named.{Named}
 use Rattle.bng_desk.specs.declared.lists.Lists.{Lists}
 use Rattle.bng_desk.specs.declared.settlement.Works.{Works}
-use Rattle.bng_desk.specs.Accounting.{AreBilled}
+use Rattle.bng_desk.specs.Accounting.{AreBilled, KnowsBegun}
 use Rattle.bng_desk.specs.Intake.{Gathers}
 use Rattle.bng_desk.specs.Items.{kept_of}
 use Rattle.bng_desk.specs.Kept.{is_verdict, octets_most, drops_most}
@@ -19,6 +19,7 @@ use Rattle.bng_desk.proofs.Billed.{billed_kept, heard_keeps}
 use Rattle.bng_desk.proofs.DropLaws.{within_wider}
 use Rattle.bng_desk.proofs.Joining.{low_wider, books_wider}
 use Rattle.bng_desk.proofs.Keeping.{AreKept, StaysServing, few_kept, kept_served, few_told, none_kept, not_over, serving_staying, turns_left, one_low}
+use Rattle.bng_desk.proofs.Knowing.{heard_forgets, knows_less}
 use Rattle.bng_desk.proofs.Leaving.{is_left, is_ready, kept_by}
 use Rattle.bng_desk.proofs.OneMore.{low_more}
 use Rattle.bng_desk.proofs.Readying.{Shards}
@@ -50,7 +51,6 @@ module _ (g : Over) (c : After-gather-quiet g) where
     told = c.self.inside.told;
     lane = works.lane;
     handed = works.handed.items;
-    began = works.accounts.began;
     billing = works.accounts.billing;
     endings = c.self.inside.endings;
     unopened = c.self.inside.unopened;
@@ -83,6 +83,11 @@ module _ (g : Over) (c : After-gather-quiet g) where
       let takes = c.hear-unacknowledged.ensures.takes in
       billed_kept (keys_in works.shards.items) works.accounts.billing heard (heard_keeps works.accounts.billing heard takes.acknowledged takes.hears) c.self.invariant.0.billed
 
+  knows : KnowsBegun works.shards.items heard
+  knows =
+      let takes = c.hear-unacknowledged.ensures.takes in
+      knows_less works.shards.items works.accounts.billing heard (heard_forgets works.accounts.billing heard takes.acknowledged takes.hears) c.self.invariant.0.knows
+
   gathers : Gathers desk.rules works.shards.items c.now-now.result works.kept.items (g.P.Plant.told c.hear-unacknowledged.new.plant) (g.P.Plant.told c.gather-quiet.new.plant) works.lane c.gather-quiet.new.lane works.draws c.gather-quiet.new.draws c.gather-quiet.new.items.items c.gather-quiet.result
   gathers =
       subst (λ (xs : Shards). Gathers desk.rules xs c.now-now.result works.kept.items (g.P.Plant.told c.hear-unacknowledged.new.plant) (g.P.Plant.told c.gather-quiet.new.plant) works.lane c.gather-quiet.new.lane works.draws c.gather-quiet.new.draws c.gather-quiet.new.items.items c.gather-quiet.result)
@@ -109,7 +114,7 @@ settle-noted-requires g c =
     let taken = c.in-Ok.ensures in
     record {
       ready = subst (λ (a : Accounts). IsReady c.self.inside.rules (named g b) (lists g b) (mid g b a)) (sym c.hear-unacknowledged.ensures.others)
-          (is_ready (desk g b) (works g b) (heard g b) c.gather-quiet.new.lane c.gather-quiet.new.draws c.gather-quiet.new.kept c.take.new.self (named g b) (lists g b) c.self.invariant.0 (billed g b) (later g b) c.now-now.ensures.bound c.gather-quiet.ensures.few_drawn c.gather-quiet.ensures.none_kept
+          (is_ready (desk g b) (works g b) (heard g b) c.gather-quiet.new.lane c.gather-quiet.new.draws c.gather-quiet.new.kept c.take.new.self (named g b) (lists g b) c.self.invariant.0 (billed g b) (knows g b) (later g b) c.now-now.ensures.bound c.gather-quiet.ensures.few_drawn c.gather-quiet.ensures.none_kept
           (omega (arith, (stay g b).few, c.gather-quiet.ensures.kept_room, c.self.invariant.1)) c.gather-quiet.ensures.items (subst (λ (vs : Shards). outs_of_items c.gather-quiet.new.items.items ≤ 5760 + 320 * length vs) c.as_slice.ensures.value c.gather-quiet.ensures.few_outs)
           (record {
             loose = taken.loose.0;
@@ -134,8 +139,8 @@ module _ (g : Over) (c : After-answer g) where
       subst (λ (a : Accounts). Settles c.self.inside.rules (named g so_far) c.gather-quiet.new.items.items (mid g so_far a) c.settle-noted.new.works (g.P.Plant.told c.gather-quiet.new.plant) (g.P.Plant.told c.settle-noted.new.plant) (g.T.Trace.told c.args.trace.now) (g.T.Trace.told c.settle-noted.new.trace) c.settle-noted.result)
       c.hear-unacknowledged.ensures.others c.settle-noted.ensures.settles
 
-  keeps : KeepsWorks (gathered (works g so_far) (heard g so_far) c.gather-quiet.new.lane c.gather-quiet.new.draws c.gather-quiet.new.kept c.take.new.self) c.settle-noted.new.works
-  keeps = subst (λ (a : Accounts). KeepsWorks (mid g so_far a) c.settle-noted.new.works) c.hear-unacknowledged.ensures.others c.settle-noted.ensures.keeps
+  keeps : KeepsWorks c.now-now.result (gathered (works g so_far) (heard g so_far) c.gather-quiet.new.lane c.gather-quiet.new.draws c.gather-quiet.new.kept c.take.new.self) c.settle-noted.new.works
+  keeps = subst (λ (a : Accounts). KeepsWorks c.now-now.result (mid g so_far a) c.settle-noted.new.works) c.hear-unacknowledged.ensures.others c.settle-noted.ensures.keeps
 
   kept_as : (P : List Item → Type 0) → P [] → P (kept_of c.gather-quiet.new.items.items) → P c.settle-noted.new.works.kept.items
   kept_as P =
@@ -162,10 +167,10 @@ invariant_of-self g c =
         rules = was.rules;
         empty = was.empty;
         sessions = was.sessions;
-        no_pools = was.no_pools;
+        pools = was.pools;
         places = was.places;
         held = was.held;
-        plain = was.plain;
+        terms = was.terms;
         most = was.most;
         made = omega (arith, left);
         serving = λ _. record { endings = u.endings; unopened = u.unopened; closed = u.closed; graces = u.graces };
@@ -184,10 +189,10 @@ invariant_of-self g c =
         stays = was.stays;
         while_serving = λ _. was.while_serving serves;
         handed = was.handed;
-        began = was.began;
         closing = was.closing;
         graces = was.graces;
         billed = was.billed;
+        knows = was.knows;
       },
       c.self.invariant.1,
     )
