@@ -185,8 +185,8 @@ module _ (pool mid pool' : PlainView) (seen : Seens) (n : ℕ) (d v' : ShardView
       ∙ flat_map-append pppoe.claimed v.journal (h ∷ [])
       ∙ ap (λ (xs : List ℕ). claims_of pppoe v.journal ++ xs) (append-nil (pppoe.claimed h) ∙ ap claimed_by says) in
       let new : Contains (claimed_by claim) a → entry pool'.table a ≡ Some n = λ among.
-          All-contains (λ (x : ℕ). entry pool'.table x ≡ Some shard) (claimed_by claim) a (All-from_recursion (λ (x : ℕ). entry pool'.table x ≡ Some shard) (claimed_by claim) (claimed_all shard claim mid pool' answers)) among
-          ∙ ap Some number in
+      All-contains (λ (x : ℕ). entry pool'.table x ≡ Some shard) (claimed_by claim) a (All-from_recursion (λ (x : ℕ). entry pool'.table x ≡ Some shard) (claimed_by claim) (claimed_all shard claim mid pool' answers)) among
+      ∙ ap Some number in
       ⊎_elim
       (λ (among : Contains (claims_of pppoe v.journal) a). (grows shard claim mid pool' answers).keeps a n (so_far.holders n d a lt among))
       new (Contains-append_cases (claims_of pppoe v.journal) (claimed_by claim) a (subst (λ (xs : List ℕ). Contains xs a) split in_journal))
