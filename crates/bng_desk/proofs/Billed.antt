@@ -1,10 +1,8 @@
 -- Which terms accounting keeps as live.
-use Rattle.std.proofs.Common.{◌≡◌, inl, inr, ℕ, ◌||◌, Bool, true, false, List, [], ◌∷◌, ◌++◌, Option, Some, None, get_or, refl, sym, ap, subst, ◌∙◌, arith}
+use Rattle.std.proofs.Common.{◌≡◌, inl, inr, ℕ, ◌||◌, Bool, true, false, List, Option, Some, None, get_or, refl, sym, ap, subst, ◌∙◌, arith}
 use Rattle.std.specs.Prelude.{MatchBool, is_some}
-use Rattle.std.specs.List.{All, AllPairs}
 use Rattle.std.proofs.lemmas.Bool.{cases_Bool}
 use Rattle.std.proofs.lemmas.Bool.Decides.{nat_tests}
-use Rattle.std.proofs.lemmas.List.Elements.{All-cons, All-head, All-tail}
 use Rattle.bng_acct.specs.declared.facts.Moment.{Moment}
 use Rattle.bng_acct.specs.declared.facts.RecordNo.{RecordNo}
 use Rattle.bng_acct.specs.declared.facts.StatusType.{StatusType}
@@ -27,7 +25,6 @@ use Rattle.bng_engine.specs.Terms.{Key}
 use Rattle.bng_lane.specs.Sends.{LaneSend}
 use Rattle.bng_desk.specs.Accounting.{Acknowledged, AreBilled, Gives, HearsRecords, RecordRequests, RecordSend, Resends, SettlesRecords}
 use Rattle.bng_desk.specs.Turn.{Closes}
-use Rattle.bng_desk.proofs.Parts.{all_left, all_right, all_without, pairs_head, pairs_left, pairs_right, pairs_tail, pairs_without}
 
 -- the same server, and the same terms are live
 pub record KeepsTerms (b b' : BillingState) : Type 0 where
@@ -147,44 +144,3 @@ apart_back s t e = grind (arith, nat_tests)
 
 abbrev pub AreApart : Key → Key → Type 0
 AreApart j k = same j.term k.term ≡ false
-
--- the one that leaves is apart from the others
-one_apart : (front back : List Key) (k : Key) → AllPairs AreApart (front ++ k ∷ back) → All (AreApart k) (front ++ back)
-one_apart [] back k pairs = pairs_head AreApart k back pairs
-one_apart (j ∷ front) back k pairs =
-    All-cons (AreApart k) j (front ++ back) (apart_back j.term k.term (here front (pairs_head AreApart j (front ++ k ∷ back) pairs))) (one_apart front back k (pairs_tail AreApart j (front ++ k ∷ back) pairs))
-  where
-    here : (xs : List Key) → All (AreApart j) (xs ++ k ∷ back) → AreApart j k
-    here [] all = All-head (AreApart j) k back all
-    here (x ∷ xs) all = here xs (All-tail (AreApart j) x (xs ++ k ∷ back) all)
-
--- a term has left by its Stop
-pub billed_without : (front back : List Key) (k : Key) (b b' : BillingState) → ((u : TermId) → same k.term u ≡ false → of_term u b'.spool.held ≡ of_term u b.spool.held) → AreBilled (front ++ k ∷ back) b → AreBilled (front ++ back) b'
-billed_without front back k b b' others billed =
-    let keys = front ++ back in
-    let live = all_without (λ (j : Key). is_live (of_term j.term b.spool.held) ≡ true) front back k billed.live in
-    let apart = one_apart front back k billed.apart in
-    record {
-      live = λ i d lt. ap is_live (others (get_or keys i d).term (apart i d lt)) ∙ live i d lt;
-      apart = pairs_without AreApart front back k billed.apart;
-    }
-
--- some of those that are billed
-pub billed_part : (front here back : List Key) (b : BillingState) → AreBilled (front ++ (here ++ back)) b → AreBilled here b
-billed_part front here back b billed =
-    let lives = λ (k : Key). is_live (of_term k.term b.spool.held) ≡ true in
-    record {
-      live = all_left lives here back (all_right lives front (here ++ back) billed.live);
-      apart = pairs_left AreApart here back (pairs_right AreApart front (here ++ back) billed.apart);
-    }
-
--- each of them is live
-pub billed_there : (front back : List Key) (k : Key) (b : BillingState) → AreBilled (front ++ k ∷ back) b → is_live (of_term k.term b.spool.held) ≡ true
-billed_there front back k b billed = there front billed.live
-  where
-    lives : Key → Type 0
-    lives j = is_live (of_term j.term b.spool.held) ≡ true
-
-    there : (xs : List Key) → All lives (xs ++ k ∷ back) → lives k
-    there [] all = All-head lives k back all
-    there (x ∷ xs) all = there xs (All-tail lives x (xs ++ k ∷ back) all)

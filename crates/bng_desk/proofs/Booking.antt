@@ -1,6 +1,5 @@
 -- Records that are formed of terms, some after others.
-use Rattle.std.proofs.Common.{◌≡◌, inl, inr, ⊎_elim, ℕ, List, [], ◌∷◌, ◌++◌, map, refl, sym, ap, subst, ◌∙◌, append_assoc}
-use Rattle.std.specs.List.{AllZip}
+use Rattle.std.proofs.Common.{◌≡◌, inl, inr, ⊎_elim, ℕ, List, [], ◌∷◌, ◌++◌, map, refl, sym, ap, subst, ◌∙◌}
 use Rattle.bng_acct.specs.declared.facts.Moment.{Moment}
 use Rattle.bng_acct.specs.declared.facts.StatusType.TheVariants.{Start, Stop as OfStop}
 use Rattle.bng_acct.specs.declared.facts.TermFacts.{TermFacts}
@@ -14,7 +13,6 @@ use Rattle.bng_engine.specs.Terms.{Key, Stop}
 use Rattle.bng_engine.proofs.Everywhere.{any_either, any_left, any_right}
 use Rattle.bng_shard.specs.Protocol.{SaysOf}
 use Rattle.bng_shard.specs.Tenures.{LeavesTerms, Tenure}
-use Rattle.bng_desk.specs.declared.line.Line.{Line}
 use Rattle.bng_desk.specs.Accounting.{AreFactsOf, FormedRecord, Forms, IsStartOf, IsStopOf}
 use Rattle.bng_desk.specs.Model.{line_after}
 use Rattle.bng_desk.specs.Taking.{Accounts, BooksStarts, BooksStops}

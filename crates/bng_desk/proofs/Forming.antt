@@ -1,5 +1,5 @@
 -- In a settlement a record of one of its terms is formed: what accounting keeps of the others is as it was.
-use Rattle.std.proofs.Common.{◌≡◌, ◌⊎◌, ⊎_elim, inl, inr, ℕ, zero, suc, ◌+◌, ◌<◌, ◌≤◌, Bool, true, false, not, List, [], ◌∷◌, ◌++◌, Option, Some, None, is_some, length, take, drop, get_or, refl, sym, ap, subst, ◌∙◌, append-nil, arith}
+use Rattle.std.proofs.Common.{◌≡◌, ◌⊎◌, ⊎_elim, inl, inr, ℕ, zero, suc, ◌+◌, ◌<◌, ◌≤◌, Bool, true, false, not, List, [], ◌∷◌, ◌++◌, Option, Some, None, is_some, length, take, drop, get_or, refl, sym, ap, subst, ◌∙◌, arith}
 use Rattle.std.specs.Prelude.{option_and_then, count_by, sum_by}
 use Rattle.std.specs.List.{All, AllPairs, Contains}
 use Rattle.std.proofs.lemmas.Bool.{cases_Bool}
@@ -22,7 +22,7 @@ use Rattle.bng_engine.specs.Lists.{one_if}
 use Rattle.bng_engine.specs.Terms.{Key}
 use Rattle.bng_desk.specs.Accounting.{AreBilled, AreSettling, is_unknown}
 use Rattle.bng_desk.proofs.Billed.{AreApart, apart_back, formed_others}
-use Rattle.bng_desk.proofs.Parts.{StandsAt, all_left, all_right, all_without, pairs_head, pairs_left, pairs_right, pairs_tail, pairs_without, stands_at}
+use Rattle.bng_desk.proofs.Parts.{StandsAt, all_left, all_without, pairs_head, pairs_left, pairs_tail, pairs_without, stands_at}
 
 -- What is held of one term ------------------------------------------------------------------------------------------------
 
@@ -228,8 +228,16 @@ settling_started terms front back k facts at n b b' f term s =
       apart = s.apart;
       unstarted = λ i d lt. ap (option_and_then (number_of Start)) (stays b b' Start facts at n f k term (get_or keys i d).term (others i d lt)) ∙ before i d lt;
       apart_began = pairs_without AreApart front back k s.apart_began;
-      room = omega (arith, s.room, ap (λ (r : _). r.terms) f.formed.rules, split_count b front back k, sum_by-append (λ (j : Key). one_if (is_unknown b j)) front back, fewer b b' Start facts at n f k term keys,
-      one_more b b' Start facts at n f k term, one_or_other (of_term k.term b.spool.held));
+      room = omega (
+        arith,
+        s.room,
+        ap (λ (r : _). r.terms) f.formed.rules,
+        split_count b front back k,
+        sum_by-append (λ (j : Key). one_if (is_unknown b j)) front back,
+        fewer b b' Start facts at n f k term keys,
+        one_more b b' Start facts at n f k term,
+        one_or_other (of_term k.term b.spool.held),
+      );
     }
   where
     still : (j : Key) → IsKnown (front ++ k ∷ back) b j → IsKnown (front ++ back) b' j

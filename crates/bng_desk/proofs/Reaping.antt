@@ -1,6 +1,6 @@
 -- The terms that ended leave the shards, one shard after the other.
-use Rattle.std.proofs.Common.{◌≡◌, ◌≢◌, ℕ, zero, suc, ◌+◌, ◌<◌, Bool, true, false, not, cond, List, [], ◌∷◌, ◌++◌, None, Some, map, filter, length, take, drop, get_or, set, refl, sym, ap, subst, ◌∙◌, append_assoc, append-nil, arith}
-use Rattle.std.specs.List.{All, AllPairs, AllZip, flat_map, sum_by}
+use Rattle.std.proofs.Common.{◌≡◌, ◌≢◌, ℕ, zero, suc, ◌+◌, ◌<◌, Bool, List, [], ◌∷◌, ◌++◌, None, Some, map, filter, length, take, drop, get_or, set, refl, sym, ap, subst, ◌∙◌, append-nil, arith}
+use Rattle.std.specs.List.{All, AllZip, sum_by}
 use Rattle.std.proofs.lemmas.List.{take_more, take_more_set, take_all, drop-set-lt, drop-drop}
 use Rattle.std.proofs.lemmas.List.Concat.{flat_map-append}
 use Rattle.std.proofs.lemmas.List.Elements.{All-cons, All-head, All-tail}
@@ -14,9 +14,9 @@ use Rattle.bng_base.specs.Listed.{Same}
 use Rattle.bng_billing.specs.Records.{IsFormedBy}
 use Rattle.bng_billing.specs.State.{BillingState}
 use Rattle.bng_engine.specs.Calls.{InReaping}
-use Rattle.bng_engine.specs.Lists.{AnyOf, Zip3}
-use Rattle.bng_engine.specs.Quantities.{Quantity, Octets}
-use Rattle.bng_engine.specs.Sums.{has_lease, is_any, stopped_where}
+use Rattle.bng_engine.specs.Lists.{Zip3}
+use Rattle.bng_engine.specs.Quantities.{Octets}
+use Rattle.bng_engine.specs.Sums.{has_lease, is_any}
 use Rattle.bng_engine.specs.Terms.{Key, Term, Stop, is_ended, keys}
 use Rattle.bng_engine.specs.Views.{Row, ShardView, row_keys, rows_where}
 use Rattle.bng_engine.proofs.Reaping.{reaping_begins, reaping_goes_on, reaping_ends}
@@ -26,7 +26,7 @@ use Rattle.bng_pool.specs.Plain.{PlainView}
 use Rattle.bng_pool.specs.Tables.{TableFrees, entry}
 use Rattle.bng_shard.specs.declared.rules.Rules.{Rules}
 use Rattle.bng_shard.specs.Lasting.{AreTenures}
-use Rattle.bng_shard.specs.Protocol.{ShardState, AreHeld, Handled, Leaves, SaysOf, pppoe, ended_terms, key_in, terms_of}
+use Rattle.bng_shard.specs.Protocol.{ShardState, AreHeld, Handled, Leaves, pppoe, ended_terms, key_in, terms_of}
 use Rattle.bng_shard.specs.State.{State, reaped as reaped_slots}
 use Rattle.bng_shard.specs.Sums.{AreLow, RowsAreLow}
 use Rattle.bng_shard.specs.Tenures.{LeavesTerms, Tenure}
@@ -35,7 +35,7 @@ use Rattle.bng_desk.specs.Accounting.{AreSettling, FormedRecord, Forms, IsStopOf
 use Rattle.bng_desk.specs.Model.{keys_in}
 use Rattle.bng_desk.specs.Round.{IsReturned, news_in, terms_in}
 use Rattle.bng_desk.specs.Taking.{IsEmpty, HasFewSessions, Accounts, AreInOrder, BooksStops, LinesWithin, TakesIn, ReapedTo, ReapsShard, ReapsAll, settled_as, states_of, kept_in, joined, far}
-use Rattle.bng_desk.proofs.Booking.{AreAmong, among_left, among_left_by, among_right, books_more, books_none, books_wider, leaver_says}
+use Rattle.bng_desk.proofs.Booking.{AreAmong, among_left, among_left_by, among_right, books_more, books_none, books_wider}
 use Rattle.bng_desk.proofs.Forming.{settling_stopped, stop_admitted, stop_once}
 use Rattle.bng_desk.proofs.Lines.{within_more}
 use Rattle.bng_desk.proofs.Parts.{stands_at}

@@ -38,8 +38,15 @@ module _ (was : Sight) (v v' v'' : Shown) (es : List Handled) (outs sends : List
       record {
         order = begun.order;
         each = λ f.
-            omega (arith, ap (sum_by f) grown, sum_by-append f (map key_in was.state.slots.terms) (map key_in all.began), ap (sum_by f) (keys_are was.state.slots.terms), begun.each f, ap (λ (ts : List Tenure). sum_by f (map key_in ts)) news,
-            sum_by-append f (keys (terms_of was.state)) starts);
+            omega (
+              arith,
+              ap (sum_by f) grown,
+              sum_by-append f (map key_in was.state.slots.terms) (map key_in all.began),
+              ap (sum_by f) (keys_are was.state.slots.terms),
+              begun.each f,
+              ap (λ (ts : List Tenure). sum_by f (map key_in ts)) news,
+              sum_by-append f (keys (terms_of was.state)) starts,
+            );
       }
 
   -- its terms that ended have left, and those that began have their Starts

@@ -1,5 +1,5 @@
 //! What a desk is opened with.
-ghost use Rattle.std.specs.Prelude.{◌≡◌, ◌≤◌, ◌<◌, ◌==◌, ◌/◌, [], ◌∷◌, ℕ, false, IfOk, length, map, filter, option_map};
+ghost use Rattle.std.specs.Prelude.{◌≡◌, ◌≤◌, ◌<◌, ◌==◌, ◌/◌, [], ℕ, false, IfOk, length, map, filter, option_map};
 ghost use Rattle.std.specs.List.{All, AllPairs, range_with_len};
 ghost use Rattle.bng_acct.specs.Roster.{same};
 ghost use Rattle.bng_base.specs.declared.settings.NamedRange.{NamedRange};

@@ -1,28 +1,25 @@
-use Rattle.std.proofs.Common.{◌≡◌, ◌≤◌, ◌+◌, ◌^◌, true, sum_by, List, Vec, Global, length, ap, sym, subst, ◌∙◌, arith}
+use Rattle.std.proofs.Common.{◌≡◌, inl, ℕ, ◌≤◌, ◌+◌, ◌^◌, List, map, refl, Vec, Global, length, ap, sym, subst, ◌∙◌, arith}
 use Rattle.std.proofs.lemmas.List.Sums.{count_by-le-length, length-filter}
 use Rattle.bng_base.specs.declared.item.Item.{Item}
 use Rattle.std.specs.List.{AllZip}
-use Rattle.bng_engine.specs.Calls.{IsReady, Kept}
+use Rattle.bng_engine.specs.Calls.{Kept}
 use Rattle.bng_engine.specs.Quantities.{Octets, in_book}
 use Rattle.bng_engine.specs.Terms.{Key}
 use Rattle.bng_shard.specs.Protocol.{ShardState}
 use Rattle.bng_desk.specs.Accounting.{AreBilled}
-use Rattle.bng_desk.specs.Allowing.{allowance_of}
+use Rattle.bng_desk.specs.Allowing.{allowance_of, free_in}
 use Rattle.bng_desk.specs.Counting.{Within}
 use Rattle.bng_desk.specs.Items.{is_from_outside}
 use Rattle.bng_desk.specs.Kept.{octets_most, drops_most}
 use Rattle.bng_desk.specs.Round.{refused_of}
-use Rattle.bng_desk.specs.Taking.{Shown}
 use Rattle.bng_desk.proofs.Joining.{sessions_kept, low_kept, low_wider, books_kept, books_wider}
 use Rattle.bng_desk.proofs.OneMore.{low_more}
 use Rattle.bng_desk.proofs.Readying.{WorksBy, all_onward, order_kept}
 use Rattle.bng_desk.proofs.Shares.{allowed_sum, shares_few}
 use Rattle.bng_desk.proofs.Returning.{held_kept}
-use Rattle.bng_desk.proofs.SameTerms.{allowed_as, kept_keys, knows_held, ready_each, terms_held}
+use Rattle.bng_desk.proofs.SameTerms.{MadeReady, allowed_as, kept_keys, knows_held, ready_each, terms_held}
 use Rattle.bng_desk.proofs.Tallied.{lines_kept}
-use Rattle.bng_desk.proofs.holding.hold.Given.{Over}
 use Rattle.bng_desk.proofs.holding.hold.Goals as goal
-use Rattle.bng_desk.proofs.holding.hold.Goals.{After-prepare_all}
 
 pub opened-requires-clause-numbers : goal.opened-requires-clause-numbers
 opened-requires-clause-numbers g c = order_kept Kept (λ x y k. k.number) c.args.shards.now c.prepare_all.new.shards c.prepare_all.ensures.kept c.requires.numbers
@@ -48,22 +45,23 @@ opened-requires-clause-terms g c = terms_held c.args.named.moment c.args.shards.
 pub opened-requires-clause-knows : goal.opened-requires-clause-knows
 opened-requires-clause-knows g c = knows_held c.args.shards.now c.prepare_all.new.shards c.args.accounts.now.billing c.prepare_all.ensures.kept c.requires.knows
 
--- the shards were made ready, each with its allowance
-module _ (g : Over) (c : After-prepare_all g) (ready : c.prepare_all.result ≡ true) where
-  each_ready : AllZip (λ v w. IsReady (length c.args.lists.items.items) (allowance_of c.free.result (length c.args.shards.now) v) w) c.args.shards.now c.prepare_all.new.shards
-  each_ready = c.prepare_all.ensures.ready ready
-
-  room : length c.args.accounts.now.billing.spool.held + sum_by (λ (v : Shown). v.allowance) c.prepare_all.new.shards ≤ c.args.accounts.now.billing.spool.rules.terms
-  room =
-      let n = length c.args.lists.items.items in
-      let shards = c.args.shards.now in
-      omega (arith, c.free.ensures.free, allowed_sum n c.free.result (length shards) shards c.prepare_all.new.shards each_ready, shares_few c.free.result shards (omega (arith, c.requires.count, c.requires.some)) c.requires.numbers)
-
 pub opened-requires-clause-ready : goal.opened-requires-clause-ready
-opened-requires-clause-ready g c = ?
+opened-requires-clause-ready g c =
+    let shards = c.args.shards.now in
+    let ready = c.prepare_all.new.shards in
+    let free = c.free-free.result in
+    ready_each (length c.args.lists.items.items) free (length shards) shards ready
+    (subst (λ (n : ℕ). AllZip (MadeReady n free (length shards)) shards ready) (c.len-count.ensures ∙ c.args.lists.items.ok.0) (c.prepare_all.ensures.ready c.if-prepare_all.true))
 
 pub opened-requires-clause-free : goal.opened-requires-clause-free
-opened-requires-clause-free g c = ?
+opened-requires-clause-free g c =
+    let shards = c.args.shards.now in
+    omega (
+      arith,
+      c.free-free.ensures.free,
+      allowed_sum _ c.free-free.result (length shards) shards c.prepare_all.new.shards (c.prepare_all.ensures.ready c.if-prepare_all.true),
+      shares_few c.free-free.result shards (omega (arith, c.requires.count, c.requires.some)) c.requires.numbers,
+    )
 
 pub opened-requires-clause-held : goal.opened-requires-clause-held
 opened-requires-clause-held g c = held_kept c.args.pool.now.table c.args.shards.now c.prepare_all.new.shards c.prepare_all.ensures.kept c.requires.held
@@ -81,7 +79,19 @@ pub returns-clause-knows : goal.returns-clause-knows
 returns-clause-knows g c = knows_held c.args.shards.now c.prepare_all.new.shards c.args.accounts.now.billing c.prepare_all.ensures.kept c.requires.knows
 
 pub returns-then-prepare_all-clause-round : goal.returns-then-prepare_all-clause-round
-returns-then-prepare_all-clause-round g c = ?
+returns-then-prepare_all-clause-round g c =
+    let b = c.args.accounts.now.billing in
+    let shards = c.args.shards.now in
+    let free : c.free-free.result ≡ free_in b = omega (arith, c.free-free.ensures.free) in
+    let held = c.opened.ensures.round in
+    inl
+    (refl, c.requires.none_kept,
+     record {
+       ready = c.prepare_all.new.shards;
+       kept = c.prepare_all.ensures.kept;
+       held = held;
+       allows = held.allowed ∙ allowed_as _ c.free-free.result (length shards) shards c.prepare_all.new.shards (c.prepare_all.ensures.ready c.if-prepare_all.true) ∙ ap (λ (n : ℕ). map (allowance_of n (length shards)) shards) free;
+     })
 
 pub returns-clause-lines : goal.returns-clause-lines
 returns-clause-lines g c = lines_kept (λ input. in_book Octets input c.args.tally.now) c.args.shards.now c.prepare_all.new.shards c.args.accounts.now.lines c.prepare_all.ensures.kept c.requires.lines

@@ -1,4 +1,4 @@
-use Rattle.std.proofs.Common.{◌≡◌, [], arith}
+use Rattle.std.proofs.Common.{[], arith}
 use Rattle.bng_desk.proofs.Begun.{all_owe_none, begins_all, billed_then, here_settling, here_tenures, them_more, them_none}
 use Rattle.bng_desk.proofs.starts.begin_all.Goals as goal
 

@@ -1,9 +1,7 @@
-use Rattle.std.proofs.Common.{◌≡◌, ℕ, List, [], sym, ap, subst, ◌∙◌, arith}
-use Rattle.bng_engine.specs.Terms.{Key}
+use Rattle.std.proofs.Common.{sym, subst, arith}
 use Rattle.bng_pool.specs.Plain.{PlainView}
-use Rattle.bng_shard.specs.Lasting.{AreTenures, IsTenureOf}
-use Rattle.bng_shard.specs.Protocol.{AreHeld, SaysOf, stop_of}
-use Rattle.bng_shard.specs.Tenures.{Tenure}
+use Rattle.bng_shard.specs.Lasting.{IsTenureOf}
+use Rattle.bng_shard.specs.Protocol.{AreHeld, stop_of}
 use Rattle.bng_desk.specs.Round.{IsReturned}
 use Rattle.bng_desk.specs.Taking.{far}
 use Rattle.bng_desk.proofs.Booking.{leaver_says}
