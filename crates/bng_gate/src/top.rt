@@ -334,8 +334,8 @@ where
         (record { files = F.told files.new; plant = P.told plant.new; clock = C.told clock.new; entropy = E.told entropy.new; trace = T.told trace.new; out = O.told out.new; err = X.told err.new })
         result }
 
-    // With status 0 or 6: no two live sessions ever held one address; the packets sent, their circuits and addresses; each circuit's
-    // term has its Stop, and the Stops say exactly what was sent; and the octets and drops printed. With status 0 each Stop was
+    // With status 0 or 6: no two live sessions ever held one address; the packets sent, their circuits and addresses; each term
+    // has its Stop, and the Stops say exactly what was sent; and the octets and drops printed. With status 0 each Stop was
     // acknowledged; with status 6 the lines of those that were not were written.
     ensures headline { (result ≡ 0) ⊎ (result ≡ 6) → (config : Settings) × Prepares (words_of words.now.items) (F.told files.old) (F.told files.new) config × Headline config result
         (record { files = F.told files.old; plant = P.told plant.old; clock = C.told clock.old; entropy = E.told entropy.old; trace = T.told trace.old; out = O.told out.old; err = X.told err.old })
