@@ -2,7 +2,6 @@
 use Rattle.std.proofs.Common.{◌≡◌, ℕ, List, [], ◌∷◌, ◌++◌, length, get_or, map, refl, sym, ap, subst, ◌∙◌, arith}
 use Rattle.std.specs.List.{All, AllZip}
 use Rattle.std.proofs.lemmas.List.Elements.{AllZip-get_or, length_all_zip}
-
 use Rattle.bng_billing.specs.State.{BillingState}
 use Rattle.bng_engine.specs.Calls.{IsReady, Kept}
 use Rattle.bng_engine.specs.Terms.{Key, keys}

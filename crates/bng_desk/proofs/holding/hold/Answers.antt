@@ -84,14 +84,16 @@ returns-then-prepare_all-clause-round g c =
     let shards = c.args.shards.now in
     let free : c.free-free.result ≡ free_in b = omega (arith, c.free-free.ensures.free) in
     let held = c.opened.ensures.round in
-    inl
-    (refl, c.requires.none_kept,
-     record {
-       ready = c.prepare_all.new.shards;
-       kept = c.prepare_all.ensures.kept;
-       held = held;
-       allows = held.allowed ∙ allowed_as _ c.free-free.result (length shards) shards c.prepare_all.new.shards (c.prepare_all.ensures.ready c.if-prepare_all.true) ∙ ap (λ (n : ℕ). map (allowance_of n (length shards)) shards) free;
-     })
+    inl (
+      refl,
+      c.requires.none_kept,
+      record {
+        ready = c.prepare_all.new.shards;
+        kept = c.prepare_all.ensures.kept;
+        held = held;
+        allows = held.allowed ∙ allowed_as _ c.free-free.result (length shards) shards c.prepare_all.new.shards (c.prepare_all.ensures.ready c.if-prepare_all.true) ∙ ap (λ (n : ℕ). map (allowance_of n (length shards)) shards) free;
+      },
+    )
 
 pub returns-clause-lines : goal.returns-clause-lines
 returns-clause-lines g c = lines_kept (λ input. in_book Octets input c.args.tally.now) c.args.shards.now c.prepare_all.new.shards c.args.accounts.now.lines c.prepare_all.ensures.kept c.requires.lines
