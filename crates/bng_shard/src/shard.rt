@@ -1,5 +1,5 @@
 //! One shard.
-ghost use Rattle.std.specs.Prelude.{ℕ, Some, None as Nothing, drop, slice_get, IfSome, IfNone, ◌≡◌, ◌≢◌, ◌≤◌, ◌<◌, ◌+◌, ◌*◌, ◌^◌, [], true, IfOk, OnOk, length, option_map, vec_capacity};
+ghost use Rattle.std.specs.Prelude.{ℕ, Some, drop, slice_get, IfSome, IfNone, ◌≡◌, ◌≢◌, ◌≤◌, ◌<◌, ◌+◌, ◌*◌, ◌^◌, [], true, IfOk, OnOk, length, option_map, vec_capacity};
 ghost use Rattle.bng_engine.specs.Books.{book_at};
 ghost use Rattle.bng_engine.specs.Calls.{Kept, IsReady};
 ghost use Rattle.bng_engine.specs.Protocol.{IsOwned};
@@ -13,7 +13,6 @@ ghost use Rattle.bng_slots.specs.Sessions.{IsNumberOf};
 ghost use Rattle.std.specs.List.{All, AllPairs};
 ghost use Rattle.bng_engine.specs.Lists.{AnyOf};
 ghost use Rattle.bng_pool.specs.Tables.{TableFrees};
-ghost use Rattle.bng_shard.specs.Running.{key_from};
 ghost use Rattle.bng_shard.specs.State.{reaped};
 ghost use Rattle.bng_shard.specs.Tenures.{LeavesTerms, Tenure};
 ghost use Rattle.bng_shard.specs.Sums.{charged_as, traffic_in, AreCovered, AreLow, IsLow, RowsAreLow};
