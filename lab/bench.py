@@ -115,7 +115,7 @@ def compare(tool, shards, rounds, seconds):
 
 def pace(tool, shards, sessions, rounds, seconds):
     """Processor microseconds a packet at an even pace, to the core: the median."""
-    with Lab(f"shards = {shards}\necho = 0\n", session=1) as lab:
+    with Lab(f"shards = {shards}\necho = 0\nterms = 32768\n", session=1, last="10.0.255.254") as lab:
         serve(lab)
         if sessions:
             open_sessions(lab, sessions)

@@ -1,10 +1,11 @@
-"""Many PPPoE subscribers at once, each of which logs in by CHAP at a RADIUS server that accepts them all, for measuring."""
+"""Many PPPoE subscribers at once, each of which logs in by CHAP at a RADIUS server that accepts them all and takes the address that
+it is told, for measuring."""
 
 import select
 
 import radius
 from gateway import LOOPBACK
-from pppoe import AC_COOKIE, BROADCAST, CHALLENGE, CHAP, CONFIGURE_ACK, CONFIGURE_REQUEST, DATA, DISCOVERY, LCP, MAGIC
+from pppoe import AC_COOKIE, BROADCAST, CHALLENGE, CHAP, CONFIGURE_ACK, CONFIGURE_NAK, CONFIGURE_REQUEST, DATA, DISCOVERY, IPCP, LCP, MAGIC
 from pppoe import PADI, PADO, PADR, PADS, RESPONSE, SERVICE_NAME, SESSION, SUCCESS
 from pppoe import Frame, Packet, frame_octets, options_octets, packet_octets, read_frame, read_packet, read_tags, tags_octets
 from subscriber import PORT
@@ -17,6 +18,10 @@ PASSWORD = b"arctangent"
 
 def mac_of(number):
     return bytes.fromhex("020000") + (0x10000 + number).to_bytes(3, "big")
+
+
+# A Configure-Request of IPCP that asks for any address (RFC 1332 section 3.3).
+ANY_ADDRESS = Packet(IPCP, CONFIGURE_REQUEST, 1, options_octets([(3, bytes(4))]))
 
 
 def request(mac):
@@ -63,6 +68,11 @@ class Crowd:
             self.say(mac, session, Packet(CHAP, RESPONSE, packet.identifier, b"\x10" + value + mac.hex().encode()))
         elif (packet.protocol, packet.code) == (CHAP, SUCCESS):
             self.accepted.add(mac)
+        elif (packet.protocol, packet.code) == (IPCP, CONFIGURE_REQUEST):
+            self.say(mac, session, packet._replace(code=CONFIGURE_ACK))
+            self.say(mac, session, ANY_ADDRESS)
+        elif (packet.protocol, packet.code) == (IPCP, CONFIGURE_NAK):
+            self.say(mac, session, packet._replace(code=CONFIGURE_REQUEST, identifier=packet.identifier + 1))
 
     def accept(self, octets):
         """Accepts the user of an Access-Request."""

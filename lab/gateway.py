@@ -136,10 +136,11 @@ class Lab:
     ours; `ports` has the gateway's ends. Leaving it ends what it started. `keys` are lines more of the configuration's
     table `gateway`, `radius_keys` of its table `radius`, and `session` is the SESSION_ID of the circuit. Where `server`
     is a port of the loopback, it is that of another RADIUS server than ours, for authentication. Each record of
-    accounting is acknowledged at once, unless `acknowledges` says that nobody reads `accounting`."""
+    accounting is acknowledged at once, unless `acknowledges` says that nobody reads `accounting`. `last` is the last address
+    of the pool."""
 
-    def __init__(self, keys="", session=1025, radius_keys="", server=None, acknowledges=True):
-        self.keys, self.session, self.acknowledges = keys, session, acknowledges
+    def __init__(self, keys="", session=1025, radius_keys="", server=None, acknowledges=True, last="10.0.0.101"):
+        self.keys, self.session, self.acknowledges, self.last = keys, session, acknowledges, last
         self.radius_keys, self.server = radius_keys, server
 
     def __enter__(self):
@@ -166,7 +167,8 @@ class Lab:
             )
             .replace("[core]", self.keys + "[core]")
             .replace("[[access]]", self.radius_keys + "[[access]]")
-            .replace("session = 1025", f"session = {self.session}"),
+            .replace("session = 1025", f"session = {self.session}")
+            .replace("10.0.0.101", self.last),
         )
         return self
 

@@ -96,7 +96,7 @@ def bare():
 
 def ours(before):
     """The seconds of a thousand logins, and the gateway's processor microseconds a login, with so many sessions there."""
-    with Lab("shards = 16\necho = 0\n", session=1) as lab:
+    with Lab("shards = 16\necho = 0\nterms = 32768\n", session=1, last="10.0.255.254") as lab:
         lab.start([os.path.join(HOME, "bng"), "serve", lab.configuration], patience=BUILDING, stderr=None)
         open_sessions(lab, before)
         used = Spent(lab.program.pid).seconds
