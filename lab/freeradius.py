@@ -40,6 +40,11 @@ modules {{
 	files {{
 		filename = {folder}/users
 	}}
+	detail {{
+		filename = {folder}/detail
+		header = "%t"
+		permissions = 0600
+	}}
 }}
 client gateway {{
 	ipaddr = 127.0.0.1
@@ -51,6 +56,11 @@ server default {{
 		type = auth
 		ipaddr = 127.0.0.1
 		port = {port}
+	}}
+	listen {{
+		type = acct
+		ipaddr = 127.0.0.1
+		port = {keeper}
 	}}
 	authorize {{
 		chap
@@ -75,6 +85,9 @@ server default {{
 			}}
 		}}
 	}}
+	accounting {{
+		detail
+	}}
 }}
 """
 
@@ -90,7 +103,8 @@ bunny Cleartext-Password := "arctangent"
 
 subscriber Cleartext-Password := "secret"
 	Service-Type = Framed-User,
-	Framed-Protocol = PPP
+	Framed-Protocol = PPP,
+	Class = 0x676f6c64
 """
 
 
@@ -125,15 +139,17 @@ def server_program():
 
 
 class Server:
-    """FreeRADIUS on a port of the loopback, with a few users. Leaving it ends it, and `said` has its log."""
+    """FreeRADIUS on two ports of the loopback, `port` and for accounting `keeper`, with a few users. Leaving it ends it, and
+    `said` has its log."""
 
     def __init__(self, folder):
         self.folder, self.said = folder, []
 
     def __enter__(self):
-        with udp() as end:
-            self.port = end.getsockname()[1]
-        for name, text in (("radiusd.conf", SERVER.format(folder=self.folder, port=self.port)), ("users", USERS)):
+        with udp() as end, udp() as other:
+            self.port, self.keeper = end.getsockname()[1], other.getsockname()[1]
+        configuration = SERVER.format(folder=self.folder, port=self.port, keeper=self.keeper)
+        for name, text in (("radiusd.conf", configuration), ("users", USERS)):
             with open(os.path.join(self.folder, name), "w", encoding="utf-8") as file:
                 file.write(text)
         self.log = os.path.join(self.folder, "log")
@@ -145,7 +161,7 @@ class Server:
 
     def wait_until_it_listens(self):
         end = time.monotonic() + 60
-        while self.port not in bound_ports():
+        while not bound_ports().issuperset({self.port, self.keeper}):
             if self.program.poll() is not None or time.monotonic() > end:
                 self.program.kill()
                 raise RuntimeError("FreeRADIUS did not start:\n" + "\n".join(self.lines()))
@@ -163,6 +179,11 @@ class Server:
     def lines(self):
         with open(self.log, encoding="utf-8", errors="replace") as log:
             return log.read().splitlines()
+
+    def records(self):
+        """The text of its file of records of accounting, one after the other with an empty line after each."""
+        with open(os.path.join(self.folder, "detail"), encoding="utf-8", errors="replace") as detail:
+            return detail.read()
 
     def __exit__(self, *_):
         self.program.terminate()

@@ -135,13 +135,14 @@ class Lab:
     """A folder and the sockets of all parties. `access`, `core`, `control`, `radius`, `accounting` and `stranger` are
     ours; `ports` has the gateway's ends. Leaving it ends what it started. `keys` are lines more of the configuration's
     table `gateway`, `radius_keys` of its table `radius`, and `session` is the SESSION_ID of the circuit. Where `server`
-    is a port of the loopback, it is that of another RADIUS server than ours, for authentication. Each record of
-    accounting is acknowledged at once, unless `acknowledges` says that nobody reads `accounting`. `last` is the last address
-    of the pool."""
+    is a port of the loopback, it is that of another RADIUS server than ours, for authentication, and `keeper` is that of
+    another one for accounting. Each record of accounting that comes to ours is acknowledged at once and kept in `records`,
+    unless `acknowledges` says that nobody reads `accounting`. `last` is the last address of the pool."""
 
-    def __init__(self, keys="", session=1025, radius_keys="", server=None, acknowledges=True, last="10.0.0.101"):
+    def __init__(self, keys="", session=1025, radius_keys="", server=None, acknowledges=True, last="10.0.0.101", keeper=None):
         self.keys, self.session, self.acknowledges, self.last = keys, session, acknowledges, last
-        self.radius_keys, self.server = radius_keys, server
+        self.radius_keys, self.server, self.keeper = radius_keys, server, keeper
+        self.records = []
 
     def __enter__(self):
         self.folder = tempfile.mkdtemp(prefix="bng-lab-")
@@ -163,7 +164,7 @@ class Lab:
                 core_peer=self.core.getsockname()[1],
                 access_peer=self.access.getsockname()[1],
                 auth_server=self.server or self.radius.getsockname()[1],
-                acct_server=self.accounting.getsockname()[1],
+                acct_server=self.keeper or self.accounting.getsockname()[1],
             )
             .replace("[core]", self.keys + "[core]")
             .replace("[[access]]", self.radius_keys + "[[access]]")
@@ -186,7 +187,8 @@ class Lab:
         while not self.is_over.is_set():
             octets, sender = self.receive(self.accounting)
             if octets is not None:
-                self.accounting.sendto(radius.acknowledgement(radius.read(octets)), (LOOPBACK, sender))
+                self.records.append(radius.read(octets))
+                self.accounting.sendto(radius.acknowledgement(self.records[-1]), (LOOPBACK, sender))
 
     def end_early(self):
         """Ends a program that runs still: by the word, by an interrupt, at which `rt try` ends what it runs, or by a kill."""

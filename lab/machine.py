@@ -9,7 +9,15 @@ import subprocess
 QEMU, BUSYBOX, PPPD = shutil.which("qemu-system-x86_64"), shutil.which("busybox"), "/usr/sbin/pppd"
 MODULES = ["e1000", "pppoe"]
 
-# After pppd's end the machine stays for the PADT, which the gateway sends 3 s after its Terminate-Ack.
+# The host behind the core that is pinged and that has a file.
+HOST = "192.0.2.1"
+
+# What is asked of it, with the packets that each ping sends.
+PINGS = 3, 300
+BLOCK = 1400
+
+# With its default route the machine has its address. It hangs up once the lab says so, and after pppd's end it stays for the
+# PADT, which the gateway sends 3 s after its Terminate-Ack.
 INIT = """\
 #!/bin/busybox sh
 /bin/busybox --install -s /bin
@@ -20,9 +28,23 @@ for module in {modules}; do insmod /modules/$module; done
 ip link set eth0 up
 until grep -q 1 /sys/class/net/eth0/carrier; do sleep 1; done
 pppd plugin {plugin} eth0 user subscriber password secret \\
-    debug nodetach noipdefault lcp-echo-interval 2 lcp-echo-failure 5 &
+    debug nodetach noipdefault usepeerdns defaultroute lcp-echo-interval 2 lcp-echo-failure 5 &
 pppd=$!
-(read line </dev/console && kill -TERM $pppd) &
+use() {{
+    until ip route | grep -q default; do sleep 1; done
+    server=$(sed -n 's/^nameserver //p' /etc/ppp/resolv.conf)
+    echo "resolv.conf has the server of names $server"
+    ping -c {few} $server
+    ping -q -A -s {block} -c {many} {host}
+    tftp -g -b {block} -l /goods -r goods {host}
+    echo "the file has the MD5 sum $(md5sum </goods)"
+    read line </dev/console
+    cd /sys/class/net/ppp0/statistics
+    echo "ppp0 sent $(cat tx_bytes) octets in $(cat tx_packets) packets," \\
+        "and took $(cat rx_bytes) octets in $(cat rx_packets) packets"
+    kill -TERM $pppd
+}}
+use &
 wait $pppd
 echo "pppd ended with status $?"
 sleep 4
@@ -86,7 +108,8 @@ def file_system(modules):
     files |= {"/modules/" + os.path.basename(path): contents(path) for path in modules}
     files["/bin/busybox"] = contents(BUSYBOX)
     names = " ".join(os.path.basename(path) for path in modules)
-    files["/init"] = INIT.format(modules=names, plugin=plugin()).encode()
+    few, many = PINGS
+    files["/init"] = INIT.format(modules=names, plugin=plugin(), host=HOST, block=BLOCK, few=few, many=many).encode()
     folders = {"/dev", "/proc", "/sys", "/run", "/var/run", "/etc/ppp"}
     for path in [*files, *folders]:
         while (path := os.path.dirname(path)) != "/":

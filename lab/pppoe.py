@@ -24,7 +24,7 @@ TAGS = {
 TEXTS = {SERVICE_NAME, AC_NAME}
 
 IPV4, LCP, IPV6CP, PAP, CHAP, IPCP = 0x0021, 0xC021, 0x8057, 0xC023, 0xC223, 0x8021
-PROTOCOLS = {LCP: "LCP", PAP: "PAP", CHAP: "CHAP", IPCP: "IPCP", IPV6CP: "IPV6CP", 0x80FD: "CCP"}
+PROTOCOLS = {IPV4: "IPv4", LCP: "LCP", PAP: "PAP", CHAP: "CHAP", IPCP: "IPCP", IPV6CP: "IPV6CP", 0x80FD: "CCP"}
 
 CONFIGURE_REQUEST, CONFIGURE_ACK, CONFIGURE_NAK, CONFIGURE_REJECT = 1, 2, 3, 4
 TERMINATE_REQUEST, TERMINATE_ACK, CODE_REJECT, PROTOCOL_REJECT, ECHO_REQUEST, ECHO_REPLY = 5, 6, 7, 8, 9, 10
@@ -45,6 +45,7 @@ CODES = {
 # PAP (RFC 1334 section 2.2) and CHAP (RFC 1994 section 4).
 AUTHENTICATE_REQUEST, AUTHENTICATE_ACK, AUTHENTICATE_NAK = 1, 2, 3
 CHALLENGE, RESPONSE, SUCCESS, FAILURE = 1, 2, 3, 4
+CHAP_CODES = {CHALLENGE: "Challenge", RESPONSE: "Response", SUCCESS: "Success", FAILURE: "Failure"}
 
 MRU, AUTHENTICATION, MAGIC, PROTOCOL_COMPRESSION, ADDRESS_COMPRESSION = 1, 3, 5, 7, 8
 OPTIONS = {
@@ -55,6 +56,9 @@ OPTIONS = {
     PROTOCOL_COMPRESSION: "Protocol-Field-Compression",
     ADDRESS_COMPRESSION: "Address-and-Control-Field-Compression",
 }
+
+# Of IPCP (RFC 1332 section 3, RFC 1877 section 1).
+IPCP_OPTIONS = {2: "IP-Compression-Protocol", 3: "IP-Address", 129: "Primary-DNS", 131: "Secondary-DNS"}
 
 
 class Frame(NamedTuple):
@@ -143,9 +147,11 @@ def tag_words(kind, value):
     return f"{TAGS.get(kind, f'tag {kind:04x}')} {shown}".rstrip()
 
 
-def option_words(kind, value):
-    name = OPTIONS.get(kind, f"option {kind}")
-    shown = str(number_at(value, 0)) if kind == MRU else value.hex()
+def option_words(protocol, kind, value):
+    name = (IPCP_OPTIONS if protocol == IPCP else OPTIONS).get(kind, f"option {kind}")
+    if protocol == IPCP and len(value) == 4:
+        return f"{name} {'.'.join(map(str, value))}"
+    shown = str(number_at(value, 0)) if (protocol, kind) == (LCP, MRU) else value.hex()
     return f"{name} {shown}".rstrip()
 
 
@@ -153,11 +159,14 @@ def packet_words(payload):
     """A session's payload: the protocol, and of a control packet what it says."""
     name = PROTOCOLS.get(number_at(payload, 0), f"PPP protocol {payload[:2].hex()}")
     packet = read_packet(payload)
-    if packet is None or packet.protocol != LCP:
+    if packet is None or packet.protocol not in (LCP, CHAP, IPCP):
         return f"{name}, {len(payload) - 2} octets"
-    front = f"{name} {CODES.get(packet.code, f'code {packet.code}')} {packet.identifier}"
+    codes = CHAP_CODES if packet.protocol == CHAP else CODES
+    front = f"{name} {codes.get(packet.code, f'code {packet.code}')} {packet.identifier}"
+    if packet.protocol == CHAP:
+        return front
     if CONFIGURE_REQUEST <= packet.code <= CONFIGURE_REJECT:
-        said = [option_words(*option) for option in read_options(packet.data)]
+        said = [option_words(packet.protocol, *option) for option in read_options(packet.data)]
     else:
         said = [packet.data.hex()] if packet.data else []
     return front + (": " + ", ".join(said) if said else "")

@@ -1,48 +1,63 @@
-"""Lets a real pppd, in an emulated machine on the access port, ask the real program for a PPPoE session."""
+"""Lets a real pppd, in an emulated machine on the access port, use the real program as a subscriber does, and compares what
+the machine counted with what the provider's server of accounting was told."""
 
 import contextlib
+import hashlib
 import os
+import random
 import select
 import shutil
 import signal
 import sys
 import time
 
+import core
+import evidence
 import freeradius
 import machine
 import pppoe
+import provider
 import radius
 from gateway import CRATE, LOOPBACK, PROGRAM, Lab, is_built, tried, udp
 
 MAC = "02:00:00:00:00:02"
-PATIENCE = 120
-STARTING = 300
+NAMES = "192.0.2.53"
+PATIENCE = 240
+STARTING = 900
 
-# What the machine's pppd is told to log in with.
-USER, PASSWORD = b"subscriber", b"secret"
+# What the machine's pppd is told to log in with, and what the RADIUS server gives the session.
+USER, PASSWORD, GROUP = b"subscriber", b"secret", b"gold"
 
-# What the gateway has to say to come so far.
+# The file that the host behind the core gives out.
+GOODS = random.Random(1).randbytes(1_000_000)
+
+# What the gateway has to say.
 STEPS = {
     "PADO": (pppoe.DISCOVERY, pppoe.PADO),
     "PADS": (pppoe.DISCOVERY, pppoe.PADS),
-    "Configure-Ack": (pppoe.SESSION, pppoe.CONFIGURE_ACK),
+    "Configure-Ack of LCP": (pppoe.LCP, pppoe.CONFIGURE_ACK),
     "Challenge": (pppoe.CHAP, pppoe.CHALLENGE),
     "Success": (pppoe.CHAP, pppoe.SUCCESS),
-    "Echo-Reply": (pppoe.SESSION, pppoe.ECHO_REPLY),
-    "Terminate-Ack": (pppoe.SESSION, pppoe.TERMINATE_ACK),
+    "Configure-Ack of IPCP": (pppoe.IPCP, pppoe.CONFIGURE_ACK),
+    "Echo-Reply": (pppoe.LCP, pppoe.ECHO_REPLY),
+    "Terminate-Ack": (pppoe.LCP, pppoe.TERMINATE_ACK),
     "PADT": (pppoe.DISCOVERY, pppoe.PADT),
 }
 
 
 class Cable:
-    """Carries frames between the machine and the gateway, as an access multiplexer does, and prints them."""
+    """Carries frames between the machine and the gateway, as an access multiplexer does, prints them, and plays the hosts
+    behind the core and, where `lab` asks us, the RADIUS server. Of the IPv4 packets the first of each direction is printed."""
 
     def __init__(self, lab, far):
         self.lab, self.far = lab, far
         with udp() as near:
             self.near = near.getsockname()[1]
         self.began = time.monotonic()
-        self.seen = set()
+        self.moments = {}
+        self.sums = {True: evidence.Sums(), False: evidence.Sums()}
+        self.hosts = core.Hosts(GOODS)
+        self.console = []
 
     def show(self, who, text):
         print(f"{time.monotonic() - self.began:6.1f} s  {who:10}  {text}", flush=True)
@@ -52,79 +67,108 @@ class Cable:
         frame = pppoe.read_frame(octets)
         if frame is None:
             return
-        self.show("subscriber" if is_up else "gateway", pppoe.frame_words(frame))
-        self.keep(frame, is_up)
+        if self.keep(frame, is_up):
+            self.show("subscriber" if is_up else "gateway", pppoe.frame_words(frame))
         if is_up:
             self.lab.send(octets)
         else:
             self.far.sendto(octets, (LOOPBACK, self.near))
 
     def keep(self, frame, is_up):
-        """Keeps which discovery frames and which packets of LCP and CHAP were seen."""
-        packet = pppoe.read_packet(frame.payload)
+        """Keeps when discovery frames and control packets were first seen, and counts what goes through a PPP interface. Whether
+        the frame is to be printed."""
         if frame.ethertype == pppoe.DISCOVERY:
-            self.seen.add((is_up, pppoe.DISCOVERY, frame.code))
-        elif packet is not None and packet.protocol == pppoe.LCP:
-            self.seen.add((is_up, pppoe.SESSION, packet.code))
-        elif packet is not None and packet.protocol == pppoe.CHAP:
-            self.seen.add((is_up, pppoe.CHAP, packet.code))
+            self.moments.setdefault((is_up, pppoe.DISCOVERY, frame.code), time.monotonic())
+            return True
+        is_first = self.sums[is_up].add(frame.payload)
+        packet = pppoe.read_packet(frame.payload)
+        if packet is not None and packet.protocol != pppoe.IPV4:
+            self.moments.setdefault((is_up, packet.protocol, packet.code), time.monotonic())
+        return is_first
 
-    def answer(self):
+    def let_in(self):
         """Answers an Access-Request as a RADIUS server with this one user."""
         request = radius.read(self.lab.radius.recv(65535))
         is_right = dict(request.attributes)[radius.USER_NAME] == USER and radius.proves(request, PASSWORD)
         code = radius.ACCESS_ACCEPT if is_right else radius.ACCESS_REJECT
+        given = [radius.FRAMED, (radius.CLASS, GROUP)] if is_right else []
         self.show("server", "lets the subscriber in" if is_right else "refuses the subscriber")
-        self.lab.radius.sendto(radius.answer(request, code, (radius.REPLY_MESSAGE, b"welcome")), (LOOPBACK, self.lab.ports["auth"]))
+        octets = radius.answer(request, code, *given, (radius.REPLY_MESSAGE, b"welcome"))
+        self.lab.radius.sendto(octets, (LOOPBACK, self.lab.ports["auth"]))
+
+    def reply(self):
+        """Answers a packet that came out at the core."""
+        octets = self.hosts.answer(self.lab.core.recv(65535))
+        if octets is not None:
+            self.lab.send(octets, self.lab.core, "core")
+
+    def print_console(self, lines):
+        for line in filter(bytes.strip, lines):
+            self.console.append(line.decode(errors="replace").strip())
+            self.show("console", self.console[-1])
 
     def came(self, is_up, kind, code):
         """Whether the subscriber (`is_up`) or the gateway sent this."""
-        return (is_up, kind, code) in self.seen
+        return (is_up, kind, code) in self.moments
 
-    def is_opened(self):
+    def is_opened(self, protocol):
         """Whether each side took the other's Configure-Request (RFC 1661 section 4.1)."""
-        return all(self.came(is_up, pppoe.SESSION, pppoe.CONFIGURE_ACK) for is_up in (True, False))
+        return all(self.came(is_up, protocol, pppoe.CONFIGURE_ACK) for is_up in (True, False))
 
-    def has_all(self):
-        """Whether the subscriber was let in and an echo was answered."""
-        return self.is_opened() and all(self.came(False, *STEPS[name]) for name in ("Success", "Echo-Reply"))
+    def is_through(self):
+        """Whether an echo was answered and the machine has all that it wanted."""
+        return self.came(False, *STEPS["Echo-Reply"]) and evidence.found(self.console, evidence.FILE) is not None
 
 
 def converse(cable, computer):
-    """Carries frames until the machine ends. Once the subscriber was let in and an echo was answered, pppd is told to end."""
+    """Carries frames until the machine ends. Once it has had all that it wanted, it is told to hang up."""
     end = cable.began + PATIENCE
     console, told = b"", False
+    ends = {
+        cable.far: lambda: cable.carry(cable.far.recv(65535), True),
+        cable.lab.access: lambda: cable.carry(cable.lab.access.recv(65535), False),
+        cable.lab.radius: cable.let_in,
+        cable.lab.core: cable.reply,
+    }
     while (left := end - time.monotonic()) > 0:
-        ready, _, _ = select.select([cable.lab.access, cable.lab.radius, cable.far, computer.stdout], [], [], left)
-        if cable.far in ready:
-            cable.carry(cable.far.recv(65535), True)
-        if cable.lab.access in ready:
-            cable.carry(cable.lab.access.recv(65535), False)
-        if cable.lab.radius in ready:
-            cable.answer()
+        ready, _, _ = select.select([*ends, computer.stdout], [], [], left)
+        for socket in filter(ends.get, ready):
+            ends[socket]()
         if computer.stdout in ready:
             octets = os.read(computer.stdout.fileno(), 65536)
             if not octets:
                 return
-            *lines, console = (console + octets).split(b"\n")
-            for line in filter(bytes.strip, lines):
-                cable.show("console", line.decode(errors="replace").strip())
-        if not told and cable.has_all():
-            cable.show("lab", "the subscriber was let in and an echo was answered: pppd is told to end")
+            *lines, console = (console + octets).replace(b"\r", b"\n").split(b"\n")
+            cable.print_console(lines)
+        if not told and cable.is_through():
+            cable.show("lab", "the machine has its file and an echo was answered: it is told to hang up")
             computer.stdin.write(b"\n")
             computer.stdin.flush()
             told = True
     cable.show("lab", f"{PATIENCE} seconds are over")
 
 
-def conclude(cable):
-    """Says how far it came, and whether that is as far as the gateway goes."""
+def conclude(cable, records, report):
+    """Says how far it came, and compares what is known of the session. Whether all of it is right."""
     for name, step in STEPS.items():
-        print(f"{name + ' of the gateway:':30}{'came' if cable.came(False, *step) else 'did not come'}")
-    print(f"{'LCP:':30}{'Opened on both sides' if cable.is_opened() else 'not Opened'}")
-    if cable.is_opened():
-        print("That is as far as the gateway goes: it lets the subscriber in, and gives no address yet.")
-    return cable.is_opened() and all(cable.came(False, *step) for step in STEPS.values())
+        print(f"{name + ' of the gateway:':38}{'came' if cable.came(False, *step) else 'did not come'}")
+    for name, protocol in (("LCP", pppoe.LCP), ("IPCP", pppoe.IPCP)):
+        print(f"{name + ':':38}{'Opened on both sides' if cable.is_opened(protocol) else 'not Opened'}")
+    came = all(cable.came(False, *step) for step in STEPS.values()) and cable.is_opened(pppoe.LCP) and cable.is_opened(pppoe.IPCP)
+    print("\nThe session, as the provider's server of accounting has it:")
+    starts, stops = (provider.records_of(records, MAC, status) for status in ("Start", "Stop"))
+    for record in starts + stops:
+        provider.show(record)
+    print("\nWhat was compared:")
+    checks = evidence.Checks()
+    checks.same("Starts and Stops of the machine's MAC", (len(starts), len(stops)), (1, 1))
+    if not checks.all_right():
+        return False
+    evidence.compare_session(checks, cable, starts[0], stops[0], USER.decode(), GROUP)
+    evidence.compare_traffic(checks, cable, stops[0], report)
+    evidence.compare_uses(checks, cable, machine.PINGS, hashlib.md5(GOODS).hexdigest(), NAMES)
+    print(f"\n{checks.results.count(True)} right, {checks.results.count(False)} wrong")
+    return came and checks.all_right()
 
 
 def serve_radius(parties):
@@ -135,12 +179,13 @@ def serve_radius(parties):
 
 
 def attempt(command):
-    """Whether a subscriber at the gateway that this starts comes as far as the gateway goes."""
+    """Whether a subscriber at the gateway that this starts has all that it is to have, and all is counted right."""
     with contextlib.ExitStack() as parties:
         server = serve_radius(parties)
-        lab = parties.enter_context(Lab(server=server and server.port))
+        ours = Lab(keys=f'dns = ["{NAMES}"]\n', server=server and server.port, keeper=server and server.keeper)
+        lab = parties.enter_context(ours)
         far = parties.enter_context(udp())
-        print(f"The RADIUS server is {'a FreeRADIUS' if server else 'this script'}")
+        print(f"The RADIUS server is {'a FreeRADIUS' if server else 'this script'}, for accounting too")
         print("Starts the gateway:", *command(lab.configuration), flush=True)
         lab.start(command(lab.configuration), STARTING)
         cable = Cable(lab, far)
@@ -152,11 +197,12 @@ def attempt(command):
             computer.kill()
             computer.wait()
         lab.stop()
-        status, out, _ = lab.end()
-        print(f"\nThe gateway's report, and then status {status}:\n{out}")
+        status, out, err = lab.end(patience=40)
+        print(f"\nThe gateway's report, and then status {status}:\n{out}{err if status else ''}")
+        records = provider.read_file(server.records()) if server else [provider.write_record(one) for one in lab.records]
     if server:
         server.show()
-    return conclude(cable) and status == 0
+    return conclude(cable, records, out) and status == 0
 
 
 def main():

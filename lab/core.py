@@ -1,0 +1,121 @@
+"""The hosts behind the core, as a script plays them over the core's socket, of which each datagram is one IPv4 packet.
+
+They answer Echo Requests (RFC 792) and give out one file by TFTP (RFC 1350), in blocks of the size that the subscriber asks
+for (RFC 2347, RFC 2348)."""
+
+import socket
+from typing import NamedTuple
+
+from gateway import header_sum
+
+ICMP, UDP = 1, 17
+ECHO_REPLY, ECHO_REQUEST = 0, 8
+READ, DATA, ACKNOWLEDGED, OPTIONS = 1, 3, 4, 6
+TFTP, TRANSFER = 69, 6969
+
+
+class Ipv4(NamedTuple):
+    """A packet by RFC 791, without its options."""
+
+    source: bytes
+    destination: bytes
+    protocol: int
+    payload: bytes
+
+
+def checksum(octets):
+    """The sum of ICMP and UDP, over octets whose own field is 0, and 0 over octets whose field is right (RFC 1071)."""
+    return header_sum(octets + bytes(len(octets) % 2))
+
+
+def read(octets):
+    """The packet that fills these octets and whose header is right, or None."""
+    if len(octets) < 20 or octets[0] >> 4 != 4 or int.from_bytes(octets[2:4], "big") != len(octets):
+        return None
+    front = (octets[0] & 15) * 4
+    if front < 20 or checksum(octets[:front]):
+        return None
+    return Ipv4(octets[12:16], octets[16:20], octets[9], octets[front:])
+
+
+def spell(packet, number):
+    """The octets of a packet with this identification, which is not to be cut."""
+    front = bytearray.fromhex("45000000 00004000 40000000") + packet.source + packet.destination
+    front[2:4] = (len(packet.payload) + 20).to_bytes(2, "big")
+    front[4:6] = number.to_bytes(2, "big")
+    front[9] = packet.protocol
+    front[10:12] = checksum(front).to_bytes(2, "big")
+    return bytes(front) + packet.payload
+
+
+def with_sum(octets, at, before=b""):
+    """The octets with their sum, which stands there and is taken with those before them."""
+    return octets[:at] + checksum(before + octets).to_bytes(2, "big") + octets[at + 2:]
+
+
+def pseudo_header(source, destination, length):
+    """What the sum of UDP is taken over beside the datagram (RFC 768)."""
+    return source + destination + bytes([0, UDP]) + length.to_bytes(2, "big")
+
+
+class Hosts:
+    """All hosts behind the core. `goods` is the file that they give out, `sources` has the addresses that asked something, and
+    `faults` counts what came and was no right packet."""
+
+    def __init__(self, goods):
+        self.goods = goods
+        self.block = 512
+        self.sources = set()
+        self.faults = self.echoes = self.said = 0
+
+    def answer(self, octets):
+        """The octets of the packet that answers this one, or None."""
+        packet = read(octets)
+        answers = {ICMP: self.echo, UDP: self.hand_out}
+        if packet is None or packet.protocol not in answers:
+            self.faults += 1
+            return None
+        self.sources.add(socket.inet_ntoa(packet.source))
+        payload = answers[packet.protocol](packet)
+        if payload is None:
+            return None
+        self.said += 1
+        return spell(Ipv4(packet.destination, packet.source, packet.protocol, payload), self.said % 65536)
+
+    def echo(self, packet):
+        """The Echo Reply to an Echo Request."""
+        if checksum(packet.payload) or packet.payload[:2] != bytes([ECHO_REQUEST, 0]):
+            self.faults += 1
+            return None
+        self.echoes += 1
+        return with_sum(bytes([ECHO_REPLY, 0, 0, 0]) + packet.payload[4:], 2)
+
+    def hand_out(self, packet):
+        """The datagram of TFTP that answers one, from the port TRANSFER."""
+        ports, length = packet.payload[:4], len(packet.payload)
+        if checksum(pseudo_header(packet.source, packet.destination, length) + packet.payload):
+            self.faults += 1
+            return None
+        said = self.next_block(int.from_bytes(ports[2:], "big"), packet.payload[8:])
+        if said is None:
+            return None
+        front = TRANSFER.to_bytes(2, "big") + ports[:2] + (len(said) + 8).to_bytes(2, "big") + bytes(2)
+        return with_sum(front + said, 6, pseudo_header(packet.destination, packet.source, len(said) + 8))
+
+    def next_block(self, port, asked):
+        """What follows on a request to read, or on the acknowledgement of a block, if something does."""
+        code, number = int.from_bytes(asked[:2], "big"), int.from_bytes(asked[2:4], "big")
+        if (port, code) == (TFTP, READ):
+            words = asked[2:].split(b"\0")
+            options = dict(zip(words[2::2], words[3::2]))
+            self.block = int(options.get(b"blksize", 512))
+            if b"blksize" in options:
+                return OPTIONS.to_bytes(2, "big") + b"blksize\0%d\0" % self.block
+            number = 0
+        elif (port, code) != (TRANSFER, ACKNOWLEDGED):
+            self.faults += 1
+            return None
+        at = number * self.block
+        if at > len(self.goods):
+            return None
+        return DATA.to_bytes(2, "big") + (number + 1).to_bytes(2, "big") + self.goods[at:at + self.block]

@@ -1,0 +1,100 @@
+"""What is known of a session by several parties (the emulated machine's console, the frames on the cable, the provider's
+records, the gateway's report and the hosts behind the core), and whether they say the same."""
+
+import re
+
+import pppoe
+
+FILE = r"the file has the MD5 sum ([0-9a-f]{32})"
+PINGED = r"(\d+) packets transmitted, (\d+) packets received"
+COUNTED = r"ppp0 sent (\d+) octets in (\d+) packets, and took (\d+) octets in (\d+) packets"
+PPPD = r"Sent (\d+) bytes, received (\d+) bytes"
+TOTAL = r"total in=(\d+) out=(\d+)"
+
+
+def found(lines, pattern):
+    """What stands in the first line that has the pattern, or None."""
+    return next((match.groups() for match in map(re.compile(pattern).search, lines) if match), None)
+
+
+class Checks:
+    """Results, each of them printed."""
+
+    def __init__(self):
+        self.results = []
+
+    def same(self, what, said, wanted):
+        is_right = said == wanted
+        self.results.append(is_right)
+        print(f"{'right' if is_right else 'WRONG'}: {what}: {said}" + ("" if is_right else f", and not {wanted}"), flush=True)
+
+    def all_right(self):
+        return all(self.results)
+
+
+class Sums:
+    """What goes one way through Linux's PPP interface, in packets and in octets after the PPP protocol: `octets` are those of
+    IPv4 packets, and `others` those of the protocols 8000 to bfff, as IPCP, which the interface counts too. LCP and CHAP go
+    past the interface."""
+
+    def __init__(self):
+        self.packets = self.octets = self.other_packets = self.others = 0
+
+    def add(self, payload):
+        """Counts the payload of a frame. Whether it is the first IPv4 packet, or none."""
+        protocol, length = pppoe.number_at(payload, 0), len(payload) - 2
+        if protocol == pppoe.IPV4:
+            self.packets, self.octets = self.packets + 1, self.octets + length
+            return self.packets == 1
+        if 0x8000 <= protocol < 0xC000:
+            self.other_packets, self.others = self.other_packets + 1, self.others + length
+        return True
+
+
+def compare_session(checks, cable, start, stop, user, group):
+    """Whose session it was, which address it had, and how long it went on."""
+    address, = found(cable.console, r"local +IP address (\S+)") or ("none",)
+    wanted = {"User-Name": user, "Framed-IP-Address": address, "Class": "0x" + group.hex()}
+    for name, value in wanted.items():
+        checks.same(f"{name} of the Start and of the Stop", (start.says(name), stop.says(name)), (value, value))
+    checks.same("Acct-Session-Id of the Stop is that of the Start", stop.says("Acct-Session-Id"), start.says("Acct-Session-Id"))
+    checks.same("Acct-Terminate-Cause of the Stop (1 is User-Request)", stop.says("Acct-Terminate-Cause"), "User-Request")
+    ends = [(False, pppoe.CHAP, pppoe.SUCCESS), (True, pppoe.LCP, pppoe.TERMINATE_REQUEST)]
+    if all(end in cable.moments for end in ends):
+        since, until = (cable.moments[end] for end in ends)
+        said = stop.number("Acct-Session-Time")
+        what = f"Acct-Session-Time {said} is within 1 s of the {until - since:.1f} s from the Success to the Terminate-Request"
+        checks.same(what, said is not None and abs(said - (until - since)) <= 1, True)
+
+
+def compare_traffic(checks, cable, stop, report):
+    """What the machine's interface counted without IPCP and its like, what the Stop says, and what the gateway's report says."""
+    counted = found(cable.console, COUNTED)
+    if counted is None:
+        checks.same("ppp0's counters are on the console", False, True)
+        return
+    counters = list(map(int, counted))
+    for name, verb, is_up, (octets, packets) in (("Input", "sent", True, counters[:2]), ("Output", "took", False, counters[2:])):
+        sums = cable.sums[is_up]
+        other = f"less {sums.others} octets in {sums.other_packets} packets of IPCP and its like"
+        print(f"       ppp0 {verb} {octets} octets in {packets} packets, {other}")
+        checks.same(f"Acct-{name}-Octets, and ppp0", stop.number(f"Acct-{name}-Octets"), octets - sums.others)
+        checks.same(f"Acct-{name}-Packets, and ppp0", stop.number(f"Acct-{name}-Packets"), packets - sums.other_packets)
+        checks.same(f"Acct-{name}-Gigawords", stop.number(f"Acct-{name}-Gigawords"), 0)
+        checks.same(f"octets of IPv4 that the machine {verb}, on the cable", sums.octets, octets - sums.others)
+    said = (stop.number("Acct-Input-Octets"), stop.number("Acct-Output-Octets"))
+    others = [("what pppd says that it sent and received", cable.console, PPPD), ("the total of the gateway's report", report.splitlines(), TOTAL)]
+    for what, lines, pattern in others:
+        told = found(lines, pattern)
+        checks.same(what, told and tuple(map(int, told)), said)
+
+
+def compare_uses(checks, cable, pings, md5, server):
+    """What the machine had of its session."""
+    checks.same("the server of names that pppd was told", found(cable.console, r"primary +DNS address (\S+)"), (server,))
+    pinged = [found([line], PINGED) for line in cable.console]
+    checks.same("pings that were sent and answered", [p for p in pinged if p], [(str(count), str(count)) for count in pings])
+    checks.same("MD5 sum of the file that the machine got", found(cable.console, FILE), (md5,))
+    checks.same("Echo Requests that came to the hosts behind the core", cable.hosts.echoes, sum(pings))
+    checks.same("packets at the core that were none, or had a wrong sum", cable.hosts.faults, 0)
+    checks.same("sources of the packets at the core", sorted(cable.hosts.sources), list(found(cable.console, r"local +IP address (\S+)") or ()))

@@ -1,0 +1,109 @@
+"""The records of accounting as a provider reads them: from the file of a FreeRADIUS, or from what the script took, written in
+the same way."""
+
+import socket
+import time
+from typing import NamedTuple
+
+import radius
+
+TEXTS = {
+    radius.USER_NAME: "User-Name",
+    radius.CALLING_STATION_ID: "Calling-Station-Id",
+    radius.NAS_IDENTIFIER: "NAS-Identifier",
+    radius.ACCT_SESSION_ID: "Acct-Session-Id",
+    radius.NAS_PORT_ID: "NAS-Port-Id",
+}
+ADDRESSES = {radius.NAS_IP_ADDRESS: "NAS-IP-Address", radius.FRAMED_IP_ADDRESS: "Framed-IP-Address"}
+NUMBERS = {
+    radius.NAS_PORT: "NAS-Port",
+    radius.SERVICE_TYPE: "Service-Type",
+    radius.FRAMED_PROTOCOL: "Framed-Protocol",
+    radius.ACCT_STATUS_TYPE: "Acct-Status-Type",
+    radius.ACCT_INPUT_OCTETS: "Acct-Input-Octets",
+    radius.ACCT_OUTPUT_OCTETS: "Acct-Output-Octets",
+    radius.ACCT_SESSION_TIME: "Acct-Session-Time",
+    radius.ACCT_INPUT_PACKETS: "Acct-Input-Packets",
+    radius.ACCT_OUTPUT_PACKETS: "Acct-Output-Packets",
+    radius.ACCT_TERMINATE_CAUSE: "Acct-Terminate-Cause",
+    radius.ACCT_INPUT_GIGAWORDS: "Acct-Input-Gigawords",
+    radius.ACCT_OUTPUT_GIGAWORDS: "Acct-Output-Gigawords",
+    radius.EVENT_TIMESTAMP: "Event-Timestamp",
+    radius.NAS_PORT_TYPE: "NAS-Port-Type",
+}
+
+# The numbers that FreeRADIUS's dictionary has names for, of those that the gateway sends.
+NAMED = {
+    (radius.SERVICE_TYPE, 2): "Framed-User",
+    (radius.FRAMED_PROTOCOL, 1): "PPP",
+    (radius.ACCT_STATUS_TYPE, 1): "Start",
+    (radius.ACCT_STATUS_TYPE, 2): "Stop",
+    (radius.ACCT_TERMINATE_CAUSE, 1): "User-Request",
+    (radius.ACCT_TERMINATE_CAUSE, 2): "Lost-Carrier",
+    (radius.ACCT_TERMINATE_CAUSE, 10): "NAS-Request",
+    (radius.NAS_PORT_TYPE, 5): "Virtual",
+}
+
+
+class Record(NamedTuple):
+    """A record as it is written, and its attributes by their names."""
+
+    lines: list
+    values: dict
+
+    def says(self, name):
+        """The value of an attribute as it is written, without its quotes, or None."""
+        return self.values.get(name)
+
+    def number(self, name):
+        """The number that an attribute says, or None."""
+        written = self.values.get(name, "")
+        return int(written) if written.isdecimal() else None
+
+
+def read_record(text):
+    """The record in a piece of the file: a line with the second, and one for each attribute."""
+    lines = [line for line in text.splitlines() if line.strip()]
+    pairs = (line.strip().partition(" = ") for line in lines[1:])
+    return Record(lines, {name: value.strip('"') for name, _, value in pairs})
+
+
+def read_file(text):
+    """The records in a file of FreeRADIUS's module `detail`."""
+    return [read_record(part) for part in text.split("\n\n") if part.strip()]
+
+
+def attribute_line(kind, value):
+    """An attribute in the words of that file."""
+    if kind in TEXTS:
+        return f'{TEXTS[kind]} = "{value.decode(errors="replace")}"'
+    if kind in ADDRESSES:
+        return f"{ADDRESSES[kind]} = {socket.inet_ntoa(value)}"
+    if kind in NUMBERS:
+        number = int.from_bytes(value, "big")
+        if kind == radius.EVENT_TIMESTAMP:
+            return time.strftime('Event-Timestamp = "%b %e %Y %H:%M:%S UTC"', time.gmtime(number))
+        return f"{NUMBERS[kind]} = {NAMED.get((kind, number), number)}"
+    name = "Class" if kind == radius.CLASS else f"Attr-{kind}"
+    return f"{name} = 0x{value.hex()}"
+
+
+def write_record(request):
+    """An Accounting-Request as a record in the same form."""
+    return read_record("\n\t".join(["A record", *(attribute_line(*attribute) for attribute in request.attributes)]))
+
+
+def records_of(records, mac, status):
+    """Those of a MAC with this Acct-Status-Type; one that was sent again, and so was written twice, counts once."""
+    found = {
+        record.says("Acct-Session-Id"): record
+        for record in records
+        if (record.says("Calling-Station-Id"), record.says("Acct-Status-Type")) == (mac, status)
+    }
+    return list(found.values())
+
+
+def show(record):
+    """Prints a record as it is written."""
+    for line in record.lines:
+        print("   ", line.expandtabs(4))
