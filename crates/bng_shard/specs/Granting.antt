@@ -19,6 +19,8 @@ use Rattle.bng_shard.specs.declared.session.Session.{Session}
 use Rattle.bng_shard.specs.Questions.{Asking, last_asking_at, open_ask_at}
 use Rattle.bng_shard.specs.Serving.{AreOwn, AreOfShard}
 use Rattle.bng_shard.specs.State.{State}
+use Rattle.bng_shard.specs.Deed.{Deed}
+use Rattle.bng_shard.specs.Tenures.{Tenure}
 
 -- a datagram of the access port with this number is a frame of this session to this MAC that says yes to its peer: a Success of CHAP or
 -- an Authenticate-Ack of PAP
@@ -72,3 +74,13 @@ pub record IsSound (s : State) : Type 0 where
   pub own : AreOwn s.sessions
   pub of_shard : AreOfShard s.sessions
   pub questions : (n : ℕ) (x : Session) → value_at s.sessions n ≡ Some x → HasQuestion x.service
+
+-- By this step the term begins, and the entry is the yes to the question of its session that was open: the question that the session's link
+-- asked last, about the circuit of the term, by the name that is the term's User-Name.
+pub record BeginsByYes (s : State) (d : Deed) (t : Tenure) : Type 0 where
+  pub asking : Asking
+  pub last : last_asking_at s t.term.session.0 ≡ Some asking
+  pub open : open_ask_at s t.term.session.0 ≡ Some asking.number.ask
+  pub yes : GivesYes d.entry t.term.session.0 asking.number.ask
+  pub circuit : t.circuit ≡ asking.circuit
+  pub user : t.user ≡ asking.claim.name

@@ -1,5 +1,5 @@
 //! The laws that the steps of a shard meet.
-ghost use Rattle.std.specs.Prelude.{◌≡◌, ◌≢◌, ◌⊎◌, ◌+◌, ◌-◌, ◌^◌, ◌/◌, ◌<◌, ◌≤◌, ℕ, Bool, List, [], Some, count_by, is_some, length, if◌then◌else◌};
+ghost use Rattle.std.specs.Prelude.{◌≡◌, ◌≢◌, ◌⊎◌, ◌+◌, ◌-◌, ◌^◌, ◌/◌, ◌<◌, ◌≤◌, ◌++◌, ℕ, Bool, List, [], Some, count_by, is_some, length, if◌then◌else◌};
 ghost use Rattle.bng_base.specs.declared.item.Claim.TheVariants.{NoClaim};
 ghost use Rattle.bng_base.specs.declared.item.ItemKind.TheVariants.{End};
 ghost use Rattle.bng_engine.specs.Protocol.{Alike, StepLaws};
@@ -14,12 +14,13 @@ ghost use Rattle.bng_shard.specs.Deed.{Deed, is_forwarded};
 ghost use Rattle.bng_shard.specs.Protocol.{ShardState, Handled, HasNoLogins, StaysOrEnds, opened, pppoe, packet_octets, sessions_of, terms_of};
 ghost use Rattle.bng_shard.specs.Claiming.{IsAskedBy};
 ghost use Rattle.bng_shard.specs.Lasting.{AreHoused, AreTenures, BeginsByClaims, CircuitsLast};
-ghost use Rattle.bng_shard.specs.Granting.{IsGranted, IsGrantedOn, IsSound, IsYesOn, accepted_ask_at};
+ghost use Rattle.bng_shard.specs.Granting.{BeginsByYes, IsGranted, IsGrantedOn, IsSound, IsYesOn, accepted_ask_at};
 ghost use Rattle.bng_shard.specs.Opening.{opened_slots};
 ghost use Rattle.bng_shard.specs.Questions.{Asking, AsksOn, last_asking_at};
 ghost use Rattle.bng_shard.specs.Reader.{IsWhole};
 ghost use Rattle.bng_shard.specs.State.{State, count_in, settled};
 ghost use Rattle.bng_shard.specs.Step.{Step};
+ghost use Rattle.bng_shard.specs.Tenures.{Tenure};
 
 /// The steps of a shard meet the laws on which the accounts of a run rest: each packet that is charged is of a live term, on its
 /// circuit and with its address, and the octets of each datagram are read as its charge says. Each datagram is a whole IPv4 packet as its
@@ -55,6 +56,12 @@ pub fn gateways_without_pools_have_no_logins()
 /// A term begins with each address that a step claims, and no other begins.
 pub fn terms_begin_by_claims()
     ensures { (r : Rules) (s : State) (limited : Bool) (d : Deed) → Step r s limited d → BeginsByClaims s d }
+{}
+
+/// A term begins only by the yes to the open question of its session, on the circuit about which it was asked, and with the name that
+/// was asked about as its User-Name.
+pub fn terms_begin_by_yeses()
+    ensures { (r : Rules) (s : State) (limited : Bool) (d : Deed) (began : List Tenure) → Step r s limited d → IsSound s → d.next.news ≡ s.news ++ began → All (BeginsByYes s d) began }
 {}
 
 /// The terms of a shard are numbered in the order in which they began, each is of one of the shard's session numbers and has begun, and
