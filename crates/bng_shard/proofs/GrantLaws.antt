@@ -154,7 +154,7 @@ by_test true h = refl
 by_test false h = absurd (h refl)
 
 -- a peer is told that it is accepted only where the octets say so
-decided_yes : (pools : List NamedRange) (limited : Bool) (octets : List ℕ) (claim : AddressClaim) (t : Told) → Decides pools limited octets claim (Some t) → t.yes ≡ true
+pub decided_yes : (pools : List NamedRange) (limited : Bool) (octets : List ℕ) (claim : AddressClaim) (t : Told) → Decides pools limited octets claim (Some t) → t.yes ≡ true
     → (v : Saying) × IsVerdict octets (Some v) × (v.yes ≡ true)
 decided_yes pools limited octets claim t (inl (silent, none, is)) accepts = absurd (none_some t (sym is))
 decided_yes pools limited octets claim t (inr (inl (v, says, denies, none, is))) accepts = absurd (false≢true (sym (ap (λ (u : Told). u.yes) (same_some t (refused_with v.text) is)) ∙ accepts))

@@ -288,7 +288,7 @@ of_yes : (pools : List NamedRange) (limited : Bool) (claim : Claim) (text : List
 of_yes [] limited claim text g a e = refl
 of_yes (p ∷ ps) limited claim text g a e = at_yes limited (pool_for (p ∷ ps) g.pool) claim text g a e
 
-decides_yes : (pools : List NamedRange) (limited : Bool) (octets : List ℕ) (claim : Claim) (t : Told) (a : Ip4) → Decides pools limited octets claim (Some t) → t.lease ≡ Some a → t.yes ≡ true
+pub decides_yes : (pools : List NamedRange) (limited : Bool) (octets : List ℕ) (claim : Claim) (t : Told) (a : Ip4) → Decides pools limited octets claim (Some t) → t.lease ≡ Some a → t.yes ≡ true
 decides_yes pools limited octets claim t a (inl (silent, none, e)) leased = absurd (none_some t (sym e))
 decides_yes pools limited octets claim t a (inr (inl (v, says, refused, none, e))) leased =
     absurd (none_some a (sym (ap (λ (u : Told). u.lease) (same_some t (refused_with v.text) e)) ∙ leased))

@@ -70,3 +70,4 @@ pub mod OpenedKeys
 pub mod Benches
 pub mod ClaimedTerms
 pub mod Numbered
+pub mod TermYeses

@@ -80,7 +80,7 @@ pub record IsSound (s : State) : Type 0 where
 pub record BeginsByYes (s : State) (d : Deed) (t : Tenure) : Type 0 where
   pub asking : Asking
   pub last : last_asking_at s t.term.session.0 ≡ Some asking
-  pub open : open_ask_at s t.term.session.0 ≡ Some asking.number.ask
+  pub asks : open_ask_at s t.term.session.0 ≡ Some asking.number.ask
   pub yes : GivesYes d.entry t.term.session.0 asking.number.ask
   pub circuit : t.circuit ≡ asking.circuit
   pub user : t.user ≡ asking.claim.name
