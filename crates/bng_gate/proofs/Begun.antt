@@ -1,5 +1,5 @@
 -- Each term of which a Start was formed began in that turn by the reply of a login.
-use Rattle.std.proofs.Common.{◌≡◌, inl, inr, ℕ, zero, suc, ◌+◌, ◌≤◌, List, [], ◌∷◌, ◌++◌, map, Option, Some, refl, sym, ap, subst, ◌∙◌, append-nil, arith}
+use Rattle.std.proofs.Common.{◌≡◌, inl, inr, ℕ, zero, suc, ◌+◌, ◌≤◌, List, [], ◌∷◌, ◌++◌, map, Some, refl, sym, ap, subst, ◌∙◌, append-nil, arith}
 use Rattle.std.specs.Prelude.{slice_get}
 use Rattle.std.specs.List.{All, AllByRecursion, flat_map, sum_by}
 use Rattle.std.specs.Option.{option_map}
@@ -21,6 +21,7 @@ use Rattle.bng_shard.specs.Granting.{BeginsByYes, GivesYes}
 use Rattle.bng_shard.specs.Lasting.{BeginsByClaims}
 use Rattle.bng_shard.specs.Protocol.{ShardState, Handled, claimed_by, key_in, pppoe, term_in, terms_of}
 use Rattle.bng_shard.specs.Questions.{Asking, asking_from}
+use Rattle.bng_shard.specs.Step.{Step}
 use Rattle.bng_shard.specs.Tenures.{Tenure}
 use Rattle.bng_shard.proofs.ClaimedTerms.{step_by_claims}
 use Rattle.bng_shard.proofs.TermYeses.{step_by_yeses}
@@ -92,10 +93,10 @@ module _ (config : Config) (seed : List ℕ) (opening over last : Desk) (turns :
   holds = held_run opening over last turns endings run ending
 
   module _ (k : ℕ) (s : ShardState) (h : Handled) (at : HandledIn held k s h) where
-    sure : IsSure held k at.place s
-    sure =
+    its_step : IsSure held k at.place s × Step s.rules s.slots h.limited h.deed
+    its_step =
         let le : 0 ≤ k = omega arith in
-        (reached held (IsSure held) (sure_kept held count) opening last holds 0 k le (sure_opening held opening last holds fresh count) s h at).0
+        reached held (IsSure held) (sure_kept held count) opening last holds 0 k le (sure_opening held opening last holds fresh count) s h at
 
     module _ (t : Tenure) (by : BeginsByYes s.slots h.deed t) where
       abbrev session : ℕ
@@ -108,7 +109,7 @@ module _ (config : Config) (seed : List ℕ) (opening over last : Desk) (turns :
           let earlier : was.turn ≤ k = omega (arith, was.before) in
           let opened : is.turn ≤ k = omega (arith, earlier, is.before) in
           let answered : g.answered ≤ k = omega (arith, is.answered, earlier) in
-          let own : by.asking.number.session.0 ≡ session = own_number s.slots session by.asking sure.sound.own by.last in
+          let own : by.asking.number.session.0 ≡ session = own_number s.slots session by.asking its_step.0.sound.own by.last in
           let number : by.asking.number ≡ g.ask.number = same_number by.asking.number session by.asking.number.ask own refl ∙ sym is.number in
           let same : by.asking ≡ asking_from g.ask = known opening last held holds fresh count is.turn k (asking_from g.ask) by.asking s h session is.was_open opened at by.last number in
           record {
@@ -140,15 +141,11 @@ module _ (config : Config) (seed : List ℕ) (opening over last : Desk) (turns :
         )
 
     claims : BeginsByClaims s.slots h.deed
-    claims =
-        let le : 0 ≤ k = omega arith in
-        step_by_claims s.rules s.slots h.limited h.deed (reached held (IsSure held) (sure_kept held count) opening last holds 0 k le (sure_opening held opening last holds fresh count) s h at).1
+    claims = step_by_claims s.rules s.slots h.limited h.deed its_step.1
 
     all_began : AllByRecursion (BeganIn held gs k) (map key_in claims.began)
     all_began =
-        let le : 0 ≤ k = omega arith in
-        let step = (reached held (IsSure held) (sure_kept held count) opening last holds 0 k le (sure_opening held opening last holds fresh count) s h at).1 in
-        each_began claims.began claims.one_each claims.news (step_by_yeses s.rules s.slots h.limited h.deed sure.sound claims.began claims.news step)
+        each_began claims.began claims.one_each claims.news (step_by_yeses s.rules s.slots h.limited h.deed its_step.0.sound claims.began claims.news its_step.1)
 
     keys_after : keys (terms_of ((pppoe).next s h)) ≡ keys (terms_of s) ++ map key_in claims.began
     keys_after = keys_of h.deed.next.terms ∙ claims.keys ∙ ap (λ (ks : List Key). ks ++ map key_in claims.began) (sym (keys_of s.slots.terms))
