@@ -7,6 +7,7 @@ pub mod LoginsAt
 pub mod Logins
 pub mod Holding
 pub mod Sending
+pub mod Begun
 pub mod Granting
 pub mod LoginsGranted
 pub mod Draws
