@@ -28,14 +28,13 @@ use Rattle.bng_shard.specs.declared.rules.Rules.{Rules}
 use Rattle.bng_shard.specs.declared.whose.Whose.{Whose}
 use Rattle.bng_shard.specs.Protocol.{ShardState, Handled, pppoe, entry_of}
 use Rattle.bng_shard.specs.Room.{is_end}
-use Rattle.bng_shard.specs.Whose.{IsWhose}
 use Rattle.bng_shard.proofs.GrantLaws.{step_few}
-use Rattle.bng_desk.specs.Items.{DataReading, arrived, drawn_from, ends_of, entries_in, kept_of, stands_in, stays, taken_items, ticks_of}
+use Rattle.bng_desk.specs.Items.{DataReading, arrived, drawn_from, ends_of, entries_in, kept_of, stands_in, stays, taken_items, ticks_of, without_claim}
 use Rattle.bng_desk.specs.Kept.{is_verdict}
 use Rattle.bng_desk.specs.Logins.{reply_items, timeout_items}
 use Rattle.bng_desk.specs.Model.{Desk}
 use Rattle.bng_desk.specs.Reading.{EndsRight}
-use Rattle.bng_desk.specs.Round.{Round, AreParts, entries_of, left_by, of_seat, views_of}
+use Rattle.bng_desk.specs.Round.{Round, IsWhoseIn, AreParts, entries_of, left_by, of_seat, views_of}
 use Rattle.bng_desk.specs.Turn.{Turn, Step, RoundOf, after_round, data_roles, ending_items, has_end, items_of, most_of, new_items, ports_up_to}
 use Rattle.bng_desk.proofs.Drawing.{drawn_length, ends_length, ticks_length}
 use Rattle.bng_desk.proofs.GatherLaws.{auth_few}
@@ -97,10 +96,11 @@ one_seat (e ∷ es) all =
 parts_few : (items : List Item) (whose : List Whose) (k moment : ℕ) (ws : List (ShardView ShardState Handled)) → length items ≤ entries_most → AreParts (items ∷ []) (whose ∷ []) k moment ws → AllByRecursion IsShort ws
 parts_few items whose k moment [] few parts = tt
 parts_few items whose k moment (w ∷ ws) few parts =
-    let seat = one_seat (entries_of w) (recursion_from_All (λ (e : Entry). e.seat < 1) (entries_of w) parts.0.seats) in
+    let entries = map without_claim (entries_of w) in
+    let seat = one_seat entries (recursion_from_All (λ (e : Entry). e.seat < 1) entries parts.0.seats) in
     let those = ap (λ (es : List Entry). length es) (parts.0.each 0 (omega arith)) in
     let entry = λ (h : Handled). h.deed.entry in (
-      omega (arith, few, seat, those, entries_few k 0 moment items whose, length-map w.journal entry),
+      omega (arith, few, seat, those, entries_few k 0 moment items whose, length-map (entries_of w) without_claim, length-map w.journal entry),
       parts_few items whose (k + 1) moment ws few parts.1,
     )
 
@@ -112,7 +112,7 @@ whose_parts items (w ∷ v ∷ whose) R moment ws few zip parts = absurd zip.1
 
 round_few : (d : Desk) (moment : ℕ) (items : List Item) (round : Option Round) → RoundOf d moment items round → length items ≤ entries_most → AreFew d.shards round
 round_few d moment items None is few = tt
-round_few d moment items (Some round) is few = (is.turn.shards, whose_parts items round.whose (AllZip (IsWhose d.rules d.pool.table)) moment round.shards few is.dealt.whose is.dealt.parts)
+round_few d moment items (Some round) is few = (is.turn.shards, whose_parts items round.whose (AllZip (IsWhoseIn d.rules d.pool.table round.claimed.table)) moment round.shards few is.dealt.whose is.dealt.parts)
 
 -- The count over turns -----------------------------------------------------------------------------------------------------
 

@@ -9,12 +9,12 @@ use Rattle.bng_base.specs.declared.book.Book.{Book}
 use Rattle.bng_base.specs.declared.item.Entry.{Entry}
 use Rattle.bng_base.specs.declared.item.Item.{Item}
 use Rattle.bng_engine.specs.Views.{ShardView}
-use Rattle.bng_engine.proofs.Everywhere.{all_append}
+use Rattle.bng_engine.proofs.Everywhere.{all_append, all_mapped}
 use Rattle.bng_pool.specs.Plain.{PlainView}
 use Rattle.bng_shard.specs.declared.rules.Rules.{Rules}
 use Rattle.bng_shard.specs.declared.whose.Whose.{Whose}
 use Rattle.bng_shard.specs.Protocol.{ShardState, Handled, entry_of}
-use Rattle.bng_desk.specs.Items.{entries_in, stands_in}
+use Rattle.bng_desk.specs.Items.{entries_in, stands_in, without_claim}
 use Rattle.bng_desk.specs.Round.{Round, IsRound, IsPart, AreParts, entries_of, of_seat}
 
 module _ (P : Item → Type 0) where
@@ -57,7 +57,8 @@ module _ (P : Item → Type 0) where
       → (place : ℕ) (v : ShardView ShardState Handled) → slice_get vs place ≡ Some v → AllByRecursion Of (entries_of v)
   parts_hold items whose shard moment [] parts all place v at = absurd (none-some v at)
   parts_hold items whose shard moment (w ∷ vs) parts all zero v at =
-      subst (λ (x : ShardView ShardState Handled). AllByRecursion Of (entries_of x)) (same_Some w v at) (part_holds items whose shard moment (entries_of w) parts.0 all)
+      subst (λ (x : ShardView ShardState Handled). AllByRecursion Of (entries_of x)) (same_Some w v at)
+      (all_mapped Of without_claim (entries_of w) (part_holds items whose shard moment (map without_claim (entries_of w)) parts.0 all))
   parts_hold items whose shard moment (w ∷ vs) parts all (suc place) v at = parts_hold items whose (shard + 1) moment vs parts.1 all place v at
 
   in_journal : (earlier later : List Handled) (h : Handled) → AllByRecursion Of (map (λ (x : Handled). x.deed.entry) (earlier ++ h ∷ later)) → P h.deed.entry.item

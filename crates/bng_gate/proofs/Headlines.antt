@@ -1,8 +1,7 @@
 -- The headline of a run, from its turns.
-use Rattle.std.proofs.Common.{◌≡◌, ◌⊎◌, inl, inr, ℕ, List, [], ◌∷◌, map, Option, refl, sym, ap, subst, ◌∙◌, arith}
+use Rattle.std.proofs.Common.{◌≡◌, ◌⊎◌, inl, inr, ℕ, Bool, List, [], ◌∷◌, map, Option, refl, sym, ap, subst, ◌∙◌, arith}
 use Rattle.std.specs.Prelude.{◌↔◌}
-use Rattle.std.specs.List.{All, AllByRecursion, AllZip, range_with_len}
-use Rattle.std.proofs.lemmas.List.Elements.{All-from_recursion}
+use Rattle.std.specs.List.{All, AllByRecursion, AllZip, Contains, sum_by}
 use Rattle.bng_base.specs.declared.outside.Datagram.{Datagram}
 use Rattle.bng_base.specs.declared.outside.Heard.{Heard}
 use Rattle.bng_base.specs.Chain.{Chain}
@@ -16,52 +15,51 @@ use Rattle.bng_config.proofs.Kept.{read_keeps}
 use Rattle.bng_engine.specs.Accounted.{Accounted, opening as nothing_yet}
 use Rattle.bng_engine.specs.Histories.{History, ShardTurn, Run as Rounds}
 use Rattle.bng_engine.specs.Laws.{Opens, RunFrom, RowsAccountOnWire, sends_of, stops_of}
-use Rattle.bng_engine.specs.Quantities.{empty_book, Octets}
-use Rattle.bng_engine.specs.Views.{DeskView}
-use Rattle.bng_engine.specs.Wire.{went, is_input, is_output, told_of}
-use Rattle.bng_engine.proofs.Everywhere.{all_weaker}
+use Rattle.bng_engine.specs.Quantities.{Quantity, empty_book}
+use Rattle.bng_engine.specs.Terms.{Key}
+use Rattle.bng_engine.specs.Views.{DeskView, rows_where}
+use Rattle.bng_engine.specs.Wire.{went}
 use Rattle.bng_engine.proofs.Openings.{refused_keeps, opening_accounted}
 use Rattle.bng_engine.proofs.Runs.{rounds_are_right, run_conserves_at, turns_go_on, rows_account_on_wire}
 use Rattle.bng_engine.proofs.Turns.{balanced}
 use Rattle.bng_shard.specs.declared.rules.Rules.{Rules}
 use Rattle.bng_shard.specs.declared.sums.Traffic.{Traffic}
-use Rattle.bng_shard.specs.Link.{nas_request}
 use Rattle.bng_shard.specs.Protocol.{ShardState, Handled, pppoe}
-use Rattle.bng_shard.specs.Reader.{pppoe_reader}
 use Rattle.bng_shard.proofs.StepLaws.{pppoe_laws}
 use Rattle.bng_desk.specs.declared.desk.DeskState.TheVariants.{Ended}
 use Rattle.bng_desk.specs.declared.drops.Drops.{Drops}
 use Rattle.bng_desk.specs.declared.line.Line.{Line}
-use Rattle.bng_desk.specs.Model.{Desk, carried_on, all_carried, input_of, line_after, output_of, state_of}
+use Rattle.bng_desk.specs.Model.{Desk, carried_on, all_carried, line_after, state_of, total_of}
 use Rattle.bng_desk.specs.Opening.{billing_rules, line_of, opened_shards}
 use Rattle.bng_desk.specs.Report.{report_text, by_number}
-use Rattle.bng_desk.specs.Round.{view_of}
+use Rattle.bng_desk.specs.Round.{view_of, views_of}
 use Rattle.bng_gate.specs.declared.texts.Refusal.{Refusal}
 use Rattle.bng_gate.specs.declared.texts.Refusal.TheVariants.{Usage, Refused, CannotOpen, OutOfMemory, TraceFailed, OutputFailed}
 use Rattle.bng_gate.specs.Granted.{Granted}
 use Rattle.bng_gate.specs.Recorded.{Recorded}
 use Rattle.bng_gate.specs.Replied.{AreReplied}
 use Rattle.bng_gate.specs.Unanswered.{unanswered_of, NamesStops}
-use Rattle.bng_gate.specs.Headline.{AreStopped, calls_in_run, Headline, IsSafe, IsQuiet, StopsAccount, WasSafe, all_traffic}
+use Rattle.bng_gate.specs.Headline.{AreStopped, HaveTerms, calls_in_run, Headline, IsSafe, IsQuiet, StopsAccount, WasSafe, all_terms_of, all_traffic, terms_of_run, total_in}
 use Rattle.bng_gate.specs.Rounds.{rounds_in, rounds_of, plant_of, on_data, drops_of_run}
-use Rattle.bng_gate.specs.Run.{World, turns_most, outside, Prepares, Course, Runs, IsReady, IsUntouched, WantsToServe, Why, IsUnwritten, RunEnds}
+use Rattle.bng_gate.specs.Run.{World, turns_most, outside, Prepares, Course, Runs, report_of, IsReady, IsUntouched, WantsToServe, Why, IsUnwritten, RunEnds}
 use Rattle.bng_gate.proofs.Addressing.{all_addressed}
 use Rattle.bng_gate.proofs.Agreed.{agreed}
 use Rattle.bng_gate.proofs.Drops.{all_dropped}
 use Rattle.bng_gate.proofs.Follows.{Follows, run_follows}
 use Rattle.bng_gate.proofs.Going.{Leads, stands_itself, rounds_lead}
-use Rattle.bng_gate.proofs.Keys.{IsKeyOf, all_keys, all_keys_known}
-use Rattle.bng_gate.proofs.Leaving.{HasNoRows, IsEmpty, all_stopped, ended_empty, rows_gone, rows_say_none}
+use Rattle.bng_gate.proofs.Keys.{IsOurs}
+use Rattle.bng_gate.proofs.Leaving.{HasNoRows, HasNoTerms, IsEmpty, all_stopped, ended_empty, rows_gone, rows_say_none, terms_gone}
 use Rattle.bng_gate.proofs.Lines.{lines_gone, report_told}
 use Rattle.bng_gate.proofs.LoginsGranted.{logins_granted}
 use Rattle.bng_gate.proofs.Openings.{opens}
+use Rattle.bng_gate.proofs.Owning.{sends_ours}
 use Rattle.bng_gate.proofs.Recording.{recorded_of}
 use Rattle.bng_gate.proofs.Replying.{replies_of}
 use Rattle.bng_gate.proofs.OnAcct.{all_else}
 use Rattle.bng_gate.proofs.Staging.{stages_acknowledged, stages_heard, stages_taken, stages_sent}
-use Rattle.bng_gate.proofs.Stopping.{AreRight, IsOurStop, IsRight, all_terms, opened_right, run_right}
+use Rattle.bng_gate.proofs.Stopping.{run_causes, run_stays, run_terms}
 use Rattle.bng_gate.proofs.Telling.{sent_are, taken_are, unsent_failed}
-use Rattle.bng_gate.proofs.Traffic.{stops_account, traffic_same, input_all, output_all}
+use Rattle.bng_gate.proofs.Traffic.{stops_account, total_same, traffic_same}
 
 -- each circuit of a configuration that is read has the first profile
 first_profiles : (text : List ℕ) (config : Config) → IsRead text config → All (λ c. c.profile ≡ 0) config.statics
@@ -93,8 +91,8 @@ module _ (text : List ℕ) (config : Config) (read : IsRead text config) (seed :
   start_opens : Opens pppoe start
   start_opens = subst (Opens pppoe) (sym start_is) (opens r config now course.begins.is_opened.pool rules course.begins.is_opened.is_pool (first_profiles text config read))
 
-  start_right : AllZip IsRight (nothing_yet start).shards (all_keys config)
-  start_right = subst (λ (v : DeskView ShardState Handled). AllZip IsRight (nothing_yet v).shards (all_keys config)) (sym start_is) (opened_right r course.begins.is_opened.are_rules.pools now config rules (range_with_len 0 config.shards))
+  shards_are : start.shards ≡ views_of (opened_shards config r now)
+  shards_are = ap (λ (d : Desk). views_of d.shards) course.begins.is_opened.desk
 
   follows : Chain Follows course.opening (rounds_in course.turns course.endings) course.last
   follows = run_follows course.opening course.over course.last course.turns course.endings course.run course.ending
@@ -115,8 +113,11 @@ module _ (text : List ℕ) (config : Config) (read : IsRead text config) (seed :
   on_wire = rows_account_on_wire pppoe pppoe_laws start end goes.0 rounds goes.1 accounted
 
   -- each term is live or has its Stop, and what was sent is theirs
-  rights : AreRight (IsKeyOf config) (sends_of rounds) (stops_of rounds) goes.0.shards (all_keys config)
-  rights = run_right (IsKeyOf config) (nothing_yet start) goes.0 rounds (all_keys config) goes.1 start_right (all_keys_known config)
+  terms : AllZip HaveTerms goes.0.shards (terms_of_run config rounds)
+  terms = run_terms config rules r now start shards_are goes.0 rounds goes.1
+
+  ours : AllByRecursion (IsOurs (Contains (all_terms_of config rounds))) (sends_of rounds)
+  ours = sends_ours (nothing_yet start) goes.0 rounds (terms_of_run config rounds) goes.1 terms accounted.fine.sound
 
   lines : course.last.lines ≡ map (line_after (stops_of rounds)) (map line_of config.statics)
   lines = lines_gone course.opening course.last (rounds_in course.turns course.endings) follows ∙ ap (λ (d : Desk). map (line_after (stops_of rounds)) d.lines) course.begins.is_opened.desk
@@ -142,7 +143,7 @@ module _ (text : List ℕ) (config : Config) (read : IsRead text config) (seed :
   recorded : Recorded config course.begins.bound.wall course.begins.is_opened.starts course.turns course.endings course.last (plant_of course.turns course.endings).taken sent
   recorded =
       recorded_of config turns_most seed course.begins.bound.now course.begins.bound.wall course.opening course.over course.last course.turns course.endings course.begins.is_opened course.run course.ending
-      (all_else (IsKeyOf config) (sends_of rounds) rights.sends_are)
+      (all_else (Contains (all_terms_of config rounds)) (sends_of rounds) ours)
 
   pub safe_of : IsSafe config seed old new course
   safe_of = record {
@@ -159,11 +160,11 @@ module _ (text : List ℕ) (config : Config) (read : IsRead text config) (seed :
     sends = sends;
     history = goes.0;
     rounds = rounds_are_right pppoe pppoe_laws start rounds goes.0 run_from;
-    terms = all_terms goes.0.shards (all_keys config) rights.right;
-    causes = All-from_recursion (λ s. s.cause ≡ nas_request) (stops_of rounds) (all_weaker (IsOurStop (IsKeyOf config)) (λ s. s.cause ≡ nas_request) (λ s is. is.cause) (stops_of rounds) rights.stops_are);
+    terms = terms;
+    causes = run_causes config rules r now start shards_are goes.0 rounds goes.1;
     conserved = run_conserves_at pppoe pppoe_laws start rounds goes.0 run_from;
     balanced = balanced pppoe end goes.0 accounted;
-    addressed = all_addressed config sent (sends_of rounds) sends rights.sends_are;
+    addressed = all_addressed (all_terms_of config rounds) sent (sends_of rounds) sends ours;
     stages_heard = stages_heard course.opening course.over course.turns course.endings course.run;
     stages_acknowledged = stages_acknowledged course.opening course.over course.turns course.endings course.run;
     stages_taken = stages_taken course.opening course.over course.turns course.endings course.run;
@@ -182,30 +183,31 @@ module _ (text : List ℕ) (config : Config) (read : IsRead text config) (seed :
     empty : AllByRecursion IsEmpty course.last.shards
     empty = ended_empty course.last ended
 
-    no_rows : AllByRecursion HasNoRows course.last.shards
-    no_rows = rows_gone course.last.shards goes.0.shards (all_keys config) empty accounted.tells.shards rights.right
+    none_left : AllByRecursion HasNoTerms goes.0.shards
+    none_left = terms_gone course.last.shards goes.0.shards empty accounted.tells.shards (run_stays config rules r now start shards_are goes.0 rounds goes.1)
 
-    stopped_all : AllZip AreStopped goes.0.shards (all_keys config)
-    stopped_all = all_stopped course.last.shards goes.0.shards (all_keys config) empty accounted.tells.shards rights.right
+    no_rows : AllByRecursion HasNoRows course.last.shards
+    no_rows = rows_gone course.last.shards goes.0.shards accounted.tells.shards none_left
+
+    rows_none : (q : Quantity) (pick : Key → Bool) (input : Bool) → sum_by (λ x. rows_where q pick input x.rows) end.shards ≡ 0
+    rows_none q pick input = rows_say_none q pick input course.last.shards no_rows
+
+    stopped_all : AllZip AreStopped goes.0.shards (terms_of_run config rounds)
+    stopped_all = all_stopped goes.0.shards (terms_of_run config rounds) none_left terms
 
     exact : StopsAccount (stops_of rounds) sent
-    exact = stops_account sent rounds sends end (λ q pick input. rows_say_none q pick input course.last.shards no_rows) on_wire
+    exact = stops_account sent rounds sends end rows_none on_wire
 
-    known : AllByRecursion (λ s. IsKeyOf config s.key) (stops_of rounds)
-    known = all_weaker (IsOurStop (IsKeyOf config)) (λ s. IsKeyOf config s.key) (λ s is. is.known) (stops_of rounds) rights.stops_are
+    total : total_of course.last.tallies ≡ total_in sent
+    total = total_same sent rounds exact start end goes.0 goes.1 (balanced pppoe end goes.0 accounted) rows_none
 
-    report : report_text course.last.lines (all_carried course.last) (by_number course.last.drops) ≡ report_text (map line_of config.statics) (all_traffic config sent) (by_number (drops_of_run course.turns course.endings))
+    report : report_of course.last ≡ report_text (total_in sent) (map line_of config.statics) (all_traffic config sent) (by_number (drops_of_run course.turns course.endings))
     report =
-        ap (λ (ls : List Line). report_text ls (map (carried_on course.last.shards) ls) (by_number course.last.drops)) lines
-        ∙ ap (λ (ts : List Traffic). report_text (map (line_after (stops_of rounds)) (map line_of config.statics)) ts (by_number course.last.drops)) (traffic_same config rules sent (stops_of rounds) known exact course.last.shards no_rows)
-        ∙ report_told (stops_of rounds) (map line_of config.statics) (all_traffic config sent) (by_number course.last.drops)
-        ∙ ap (λ (d : Drops). report_text (map line_of config.statics) (all_traffic config sent) (by_number d)) drops
-
-    all_in : input_of (all_traffic config sent) ≡ told_of pppoe_reader Octets is_input sent
-    all_in = input_all config rules sent (stops_of rounds) known exact
-
-    all_out : output_of (all_traffic config sent) ≡ told_of pppoe_reader Octets is_output sent
-    all_out = output_all config rules sent (stops_of rounds) known exact
+        ap (λ (t : Traffic). report_text t course.last.lines (all_carried course.last) (by_number course.last.drops)) total
+        ∙ ap (λ (ls : List Line). report_text (total_in sent) ls (map (carried_on course.last.shards) ls) (by_number course.last.drops)) lines
+        ∙ ap (λ (ts : List Traffic). report_text (total_in sent) (map (line_after (stops_of rounds)) (map line_of config.statics)) ts (by_number course.last.drops)) (traffic_same sent (stops_of rounds) exact course.last.shards no_rows config.statics)
+        ∙ report_told (total_in sent) (stops_of rounds) (map line_of config.statics) (all_traffic config sent) (by_number course.last.drops)
+        ∙ ap (λ (d : Drops). report_text (total_in sent) (map line_of config.statics) (all_traffic config sent) (by_number d)) drops
 
     -- no Stop is open exactly where each was acknowledged
     answered : (unanswered_of course.last ≡ []) ↔ StopsAreAcknowledged (calls_in_run config seed old new course)
@@ -227,8 +229,6 @@ module _ (text : List ℕ) (config : Config) (read : IsRead text config) (status
     stopped = stopped_all text config read seed old new turned run.ended;
     exact = exact text config read seed old new turned run.ended;
     printed = subst (λ (text : List ℕ). Grows old.out.bytes new.out.bytes text) (report text config read seed old new turned run.ended) run.reports.printed;
-    all_input = all_in text config read seed old new turned run.ended;
-    all_output = all_out text config read seed old new turned run.ended;
     acknowledged = λ s. (answered text config read seed old new turned run.ended).0 (none s);
     unacknowledged = λ s. let names = some s in (λ all. names.some ((answered text config read seed old new turned run.ended).1 all), names);
   }

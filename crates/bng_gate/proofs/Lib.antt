@@ -36,6 +36,7 @@ pub mod Living
 pub mod Pooling
 pub mod Openings
 pub mod Keys
+pub mod Owning
 pub mod Stopping
 pub mod Leaving
 pub mod Lines

@@ -1,18 +1,19 @@
--- What the desk says of a circuit's Stops is what the Stops of all rounds say.
+-- What the desk says of the Stops with an address is what the Stops of all rounds say.
 use Rattle.std.proofs.Common.{◌≡◌, ℕ, ◌+◌, Bool, true, false, cond, List, [], ◌∷◌, ◌++◌, codes, map, Option, Some, None, refl, sym, ap, ◌∙◌, add-zero, arith}
 use Rattle.std.specs.List.{flat_map}
 use Rattle.std.proofs.lemmas.List.Sums.{sum_by-append}
+use Rattle.bng_base.specs.declared.address.Ip4.{Ip4}
 use Rattle.bng_base.specs.Chain.{Chain}
 use Rattle.bng_engine.specs.Histories.{stops_in}
 use Rattle.bng_engine.specs.Laws.{stops_of}
 use Rattle.bng_engine.specs.Quantities.{Octets, in_book}
-use Rattle.bng_engine.specs.Sums.{stopped_where}
+use Rattle.bng_engine.specs.Sums.{has_lease, stopped_where}
 use Rattle.bng_engine.specs.Terms.{Key, Stop}
 use Rattle.bng_engine.specs.Views.{ShardView, turn_in}
 use Rattle.bng_shard.specs.declared.sums.Traffic.{Traffic}
 use Rattle.bng_shard.specs.Protocol.{ShardState, Handled}
 use Rattle.bng_desk.specs.declared.line.Line.{Line}
-use Rattle.bng_desk.specs.Model.{Desk, input_of, output_of, is_of, line_after, plus_traffic, stopped_of}
+use Rattle.bng_desk.specs.Model.{Desk, line_after, plus_traffic, stopped_of}
 use Rattle.bng_desk.specs.Report.{causes, drop_lines, quantities, report_text, static_line, static_lines}
 use Rattle.bng_desk.specs.Round.{Round}
 use Rattle.bng_gate.specs.Rounds.{turns_of}
@@ -31,19 +32,19 @@ traffic_is t input output i o = ap (λ (x : ℕ). make x t.output) i ∙ ap (λ 
 stopped_more : (pick : Key → Bool) (input : Bool) (a b : List Stop) → stopped_where Octets pick input (a ++ b) ≡ stopped_where Octets pick input a + stopped_where Octets pick input b
 stopped_more pick input a b = sum_by-append (λ (s : Stop). cond (pick s.key) (in_book Octets input s.carried) 0) a b
 
-traffic_more : (t : Traffic) (session : ℕ) (a b : List Stop) → plus_traffic (plus_traffic t (stopped_of session a)) (stopped_of session b) ≡ plus_traffic t (stopped_of session (a ++ b))
-traffic_more t session a b =
-    traffic_is (plus_traffic (plus_traffic t (stopped_of session a)) (stopped_of session b)) (t.input + (stopped_of session (a ++ b)).input) (t.output + (stopped_of session (a ++ b)).output)
-    (omega (arith, stopped_more (is_of session) true a b)) (omega (arith, stopped_more (is_of session) false a b))
+traffic_more : (t : Traffic) (address : Ip4) (a b : List Stop) → plus_traffic (plus_traffic t (stopped_of address a)) (stopped_of address b) ≡ plus_traffic t (stopped_of address (a ++ b))
+traffic_more t address a b =
+    traffic_is (plus_traffic (plus_traffic t (stopped_of address a)) (stopped_of address b)) (t.input + (stopped_of address (a ++ b)).input) (t.output + (stopped_of address (a ++ b)).output)
+    (omega (arith, stopped_more (has_lease address) true a b)) (omega (arith, stopped_more (has_lease address) false a b))
 
 abbrev with_stopped : Line → Traffic → Line
 with_stopped l t = record l { stopped = t }
 
 line_none : (l : Line) → line_after [] l ≡ l
-line_none l = ap (with_stopped l) (traffic_is (plus_traffic l.stopped (stopped_of l.session.0 [])) l.stopped.input l.stopped.output (add-zero l.stopped.input) (add-zero l.stopped.output))
+line_none l = ap (with_stopped l) (traffic_is (plus_traffic l.stopped (stopped_of l.address [])) l.stopped.input l.stopped.output (add-zero l.stopped.input) (add-zero l.stopped.output))
 
 line_more : (a b : List Stop) (l : Line) → line_after b (line_after a l) ≡ line_after (a ++ b) l
-line_more a b l = ap (with_stopped l) (traffic_more l.stopped l.session.0 a b)
+line_more a b l = ap (with_stopped l) (traffic_more l.stopped l.address a b)
 
 lines_none : (ls : List Line) → map (line_after []) ls ≡ ls
 lines_none [] = refl
@@ -77,6 +78,6 @@ lines_told stops [] ts = refl
 lines_told stops (l ∷ ls) [] = refl
 lines_told stops (l ∷ ls) (t ∷ ts) = ap (λ (x : List ℕ). static_line l.address t ++ x) (lines_told stops ls ts)
 
-pub report_told : (stops : List Stop) (ls : List Line) (ts : List Traffic) (drops : List ℕ) → report_text (map (line_after stops) ls) ts drops ≡ report_text ls ts drops
-report_told stops ls ts drops =
-    ap (λ (x : List ℕ). codes "total" ++ quantities (input_of ts) (output_of ts) ++ x ++ drop_lines causes drops) (lines_told stops ls ts)
+pub report_told : (total : Traffic) (stops : List Stop) (ls : List Line) (ts : List Traffic) (drops : List ℕ) → report_text total (map (line_after stops) ls) ts drops ≡ report_text total ls ts drops
+report_told total stops ls ts drops =
+    ap (λ (x : List ℕ). codes "total" ++ quantities total.input total.output ++ x ++ drop_lines causes drops) (lines_told stops ls ts)

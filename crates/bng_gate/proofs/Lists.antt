@@ -1,16 +1,16 @@
 -- Sums over lists and over their parts, and elements that differ in a number.
-use Rattle.std.proofs.Common.{◌≡◌, ⊎_elim, inl, inr, ℕ, zero, suc, ◌+◌, ◌<◌, ◌≤◌, Bool, true, false, cond, List, [], ◌∷◌, ◌++◌, map, Some, refl, sym, ap, subst, ◌∙◌, arith, eqb}
+use Rattle.std.proofs.Common.{◌≡◌, ⊎_elim, ℕ, zero, suc, ◌+◌, ◌<◌, ◌≤◌, Bool, true, false, cond, List, [], ◌∷◌, ◌++◌, map, Some, refl, sym, ap, subst, ◌∙◌, arith, eqb}
 use Rattle.std.specs.Prelude.{slice_get, filter}
-use Rattle.std.specs.List.{AllPairs, AllByRecursion, Contains, sum_by, count_by, range_with_len}
+use Rattle.std.specs.List.{AllPairs, AllByRecursion, sum_by, count_by, range_with_len}
 use Rattle.std.proofs.lemmas.Bool.{ne_eqb, eq-eqb, eqb-true, cases_eq}
 use Rattle.std.proofs.lemmas.List.Elements.{recursion_from_All}
 use Rattle.std.proofs.lemmas.List.Sums.{sum_by-cons}
 use Rattle.std.proofs.lemmas.Option.{same_Some, none-some}
-use Rattle.bng_engine.specs.Lists.{AnyOf, one_if}
+use Rattle.bng_engine.specs.Lists.{one_if}
 use Rattle.bng_engine.proofs.Adding.{sum_plus, sum_none}
 use Rattle.bng_engine.proofs.Everywhere.{all_filter}
 
--- parts of lists
+-- what holds of all holds of those in front, and of those behind
 pub all_left : {X : Type 0} (P : X → Type 0) (xs ys : List X) → AllByRecursion P (xs ++ ys) → AllByRecursion P xs
 all_left P [] ys h = tt
 all_left P (x ∷ xs) ys h = (h.0, all_left P xs ys h.1)
@@ -18,12 +18,6 @@ all_left P (x ∷ xs) ys h = (h.0, all_left P xs ys h.1)
 pub all_right : {X : Type 0} (P : X → Type 0) (xs ys : List X) → AllByRecursion P (xs ++ ys) → AllByRecursion P ys
 all_right P [] ys h = h
 all_right P (x ∷ xs) ys h = all_right P xs ys h.1
-
--- one of them is among them
-pub contained : {X : Type 0} (xs : List X) (x : X) → AnyOf (λ y. y ≡ x) xs → Contains xs x
-contained [] x h = absurd h
-contained (y ∷ xs) x (inl e) = (0, omega arith, e)
-contained (y ∷ xs) x (inr h) = let rest = contained xs x h in (suc rest.0, omega (arith, rest.1), rest.2)
 
 -- no two elements have the same number
 abbrev pub Apart : {X : Type 0} → (X → ℕ) → List X → Type 0

@@ -2,7 +2,9 @@
 use Rattle.std.proofs.Common.{◌≡◌, ℕ, Bool, true, false, List, [], ◌∷◌, ◌++◌, map, Option, Some, None, refl, sym, ap, subst, ◌∙◌, append-nil, append_assoc}
 use Rattle.std.specs.List.{AllByRecursion, AllZip, flat_map}
 use Rattle.std.proofs.lemmas.List.Concat.{flat_map-append}
+use Rattle.std.proofs.lemmas.List.Folds.{flat_map-map}
 use Rattle.bng_base.specs.declared.address.Peer.{Peer}
+use Rattle.bng_base.specs.declared.item.Entry.{Entry}
 use Rattle.bng_base.specs.declared.outside.Datagram.{Datagram}
 use Rattle.bng_base.specs.declared.outside.Role.TheVariants.{Acct}
 use Rattle.bng_base.specs.Chain.{Chain}
@@ -11,34 +13,37 @@ use Rattle.bng_billing.specs.Calls.{BillingCall, Formed, Given, Again, Told, Hea
 use Rattle.bng_billing.specs.State.{BillingState}
 use Rattle.bng_billing.proofs.Following.{answers_of}
 use Rattle.bng_config.specs.declared.config.Config.{Config}
-use Rattle.bng_engine.specs.Laws.{sends_of, stops_of}
-use Rattle.bng_engine.specs.Terms.{Stop}
+use Rattle.bng_engine.specs.Histories.{ShardTurn}
+use Rattle.bng_engine.specs.Laws.{sends_of}
+use Rattle.bng_engine.specs.Terms.{Key, Stop}
+use Rattle.bng_engine.specs.Views.{ShardView, turn_in}
 use Rattle.bng_lane.specs.Sends.{LaneSend}
-use Rattle.bng_desk.specs.Accounting.{Acknowledged, FormedRecord, IsStopOf, RecordRequests, RecordSend, record_datagram, record_sends}
+use Rattle.bng_shard.specs.Protocol.{ShardState, Handled}
+use Rattle.bng_shard.specs.Tenures.{Tenure}
+use Rattle.bng_desk.specs.Accounting.{Acknowledged, FormedRecord, IsStartOf, IsStopOf, RecordRequests, RecordSend, record_datagram, record_sends}
 use Rattle.bng_desk.specs.Model.{Desk, has_ended}
 use Rattle.bng_desk.specs.Opening.{IsOpened, billing_rules}
 use Rattle.bng_desk.specs.Reading.{taken_in}
-use Rattle.bng_desk.specs.Round.{Round, stops_of as stops_of_round}
-use Rattle.bng_desk.specs.Turn.{Turn, Step, after_end, stops_in}
+use Rattle.bng_desk.specs.Round.{Round, handled_states, news_in, starts_of, stops_of, terms_in}
+use Rattle.bng_desk.specs.Turn.{Turn, Step, AreOfRound, FormsRecords, after_end}
 use Rattle.bng_gate.specs.Granted.{Stage, stage_in, end_stage_in, stages_of}
-use Rattle.bng_gate.specs.Recorded.{Recorded, SaysStop, formed_in, end_formed_in, formed_of, formed_call, heard_call, again_calls, given_calls, request_calls, calls_in, stopped_if, end_calls_in, calls_of, sent_by_calls, taken_for}
-use Rattle.bng_gate.specs.Rounds.{plant_of, round_in, end_round_in, rounds_in, rounds_of, turns_of}
+use Rattle.bng_gate.specs.Recorded.{Recorded, SaysRound, SaysStart, SaysStop, SayRounds, formed_in, end_formed_in, formed_of, formed_call, heard_call, again_calls, given_calls, request_calls, calls_in, stopped_if, end_calls_in, calls_of, sent_by_calls, taken_for}
+use Rattle.bng_gate.specs.Rounds.{plant_of, round_in, end_round_in, rounds_of, turns_of}
 use Rattle.bng_gate.specs.Serving.{Made, MadeEnd, Late, Ends, Waits, LateStep, Run, EndRun}
 use Rattle.bng_gate.proofs.Calling.{ending_calls, forms_calls, made_calls, run_calls, step_calls}
-use Rattle.bng_gate.proofs.Lines.{round_stops}
 use Rattle.bng_gate.proofs.OnAcct.{IsElse, stages_recorded}
 use Rattle.bng_gate.proofs.Staging.{stages_acknowledged}
 
--- The Stops ------------------------------------------------------------------------------------------------------------------------
+-- The records of the rounds ---------------------------------------------------------------------------------------------------------
 
-zip_append : {X Y : Type 0} (P : X → Y → Type 0) (as' bs : List X) (cs ds : List Y) → AllZip P as' cs → AllZip P bs ds → AllZip P (as' ++ bs) (cs ++ ds)
-zip_append P [] bs [] ds h k = k
-zip_append P [] bs (c ∷ cs) ds h k = absurd h
-zip_append P (a ∷ as') bs [] ds h k = absurd h
-zip_append P (a ∷ as') bs (c ∷ cs) ds h k = (h.0, zip_append P as' bs cs ds h.1 k)
+each_said : {X : Type 0} (P Q : X → FormedRecord → Type 0) → ((x : X) (f : FormedRecord) → P x f → Q x f) → (xs : List X) (fs : List FormedRecord) → AllZip P xs fs → AllZip Q xs fs
+each_said P Q say [] [] h = tt
+each_said P Q say [] (f ∷ fs) h = absurd h
+each_said P Q say (x ∷ xs) [] h = absurd h
+each_said P Q say (x ∷ xs) (f ∷ fs) h = (say x f h.0, each_said P Q say xs fs h.1)
 
-stop_said : (d : Desk) (moment wall : ℕ) (s : Stop) (f : FormedRecord) → IsStopOf d.lines d.began moment wall s f → SaysStop s f
-stop_said d moment wall s f is = record {
+stop_said : (terms : List Tenure) (moment wall : ℕ) (s : Stop) (f : FormedRecord) → IsStopOf terms moment wall s f → SaysStop s f
+stop_said terms moment wall s f is = record {
   status = is.status;
   term = is.facts.term;
   circuit = is.facts.circuit;
@@ -47,48 +52,62 @@ stop_said d moment wall s f is = record {
   cause = ap (λ m. m.cause) is.at;
 }
 
-all_said : (d : Desk) (moment wall : ℕ) (ss : List Stop) (fs : List FormedRecord) → AllZip (IsStopOf d.lines d.began moment wall) ss fs → AllZip SaysStop ss fs
-all_said d moment wall [] [] h = tt
-all_said d moment wall [] (f ∷ fs) h = absurd h
-all_said d moment wall (s ∷ ss) [] h = absurd h
-all_said d moment wall (s ∷ ss) (f ∷ fs) h = (stop_said d moment wall s f h.0, all_said d moment wall ss fs h.1)
+start_said : (terms : List Tenure) (moment wall : ℕ) (k : Key) (f : FormedRecord) → IsStartOf terms moment wall k f → SaysStart k f
+start_said terms moment wall k f is = record {
+  status = is.status;
+  term = is.facts.term;
+  circuit = is.facts.circuit;
+  address = is.facts.address;
+  carried = is.facts.carried;
+}
 
-step_stops : (d d' : Desk) (t : Option Turn) → Step d t d' → AllZip SaysStop (stops_in (round_in t)) (formed_in t)
-step_stops d d' None step = tt
-step_stops d d' (Some t) step = all_said d t.moment t.wall (stops_in t.round) t.formed step.3.stops
+-- the records of a round are of its Stops and Starts as the engine lists them
+round_said : (shards : List (ShardView ShardState Entry)) (moment wall : ℕ) (round : Round) (formed : List FormedRecord) → AreOfRound shards moment wall round formed → SaysRound (map turn_in round.shards) formed
+round_said shards moment wall round formed is =
+    let states = handled_states shards round.shards in
+    record {
+      stops = is.stops;
+      starts = is.starts;
+      are = is.are;
+      are_stops = subst (λ (ss : List Stop). AllZip SaysStop ss is.stops) (sym (flat_map-map (λ (t : ShardTurn Handled). t.settlement.stops) turn_in round.shards))
+          (each_said (IsStopOf (terms_in states) moment wall) SaysStop (stop_said (terms_in states) moment wall) (stops_of round) is.stops is.are_stops);
+      are_starts = subst (λ (ks : List Key). AllZip SaysStart ks is.starts) (sym (flat_map-map (λ (t : ShardTurn Handled). t.settlement.starts) turn_in round.shards))
+          (each_said (IsStartOf (news_in states) moment wall) SaysStart (start_said (news_in states) moment wall) (starts_of round) is.starts is.are_starts);
+    }
 
-end_step_stops : (d d' : Desk) (t : Late) → LateStep d t d' → AllZip SaysStop (stops_in (end_round_in t)) (end_formed_in t)
-end_step_stops d d' (Ends None) step = tt
-end_step_stops d d' (Waits t) step = tt
-end_step_stops d d' (Ends (Some t)) step = all_said d t.moment t.wall (stops_in t.round) t.formed step.3.stops
+-- before the records of these rounds, those of one more
+round_first : (shards : List (ShardView ShardState Entry)) (moment wall : ℕ) (round : Option Round) (formed : List FormedRecord) → FormsRecords shards moment wall round formed
+    → (rounds : List (List (ShardTurn Handled))) (rest : List FormedRecord) → SayRounds rounds rest → SayRounds (turns_of round ++ rounds) (formed ++ rest)
+round_first shards moment wall None formed none rounds rest say = subst (λ (fs : List FormedRecord). SayRounds rounds (fs ++ rest)) (sym none) say
+round_first shards moment wall (Some round) formed of_round rounds rest say = (formed, rest, refl, round_said shards moment wall round formed of_round, say)
 
-run_stops : (d d' : Desk) (turns : List Made) → Run d turns d' → AllZip SaysStop (flat_map stops_in (map (λ m. round_in m.turn) turns)) (flat_map (λ m. formed_in m.turn) turns)
-run_stops d d' [] run = tt
-run_stops d d' (m ∷ turns) run =
-    zip_append SaysStop (stops_in (round_in m.turn)) (flat_map stops_in (map (λ (x : Made). round_in x.turn) turns)) (formed_in m.turn) (flat_map (λ (x : Made). formed_in x.turn) turns)
-    (step_stops d run.0 m.turn run.1.1) (run_stops run.0 d' turns run.2)
+step_says : (d d' : Desk) (t : Option Turn) → Step d t d' → (rounds : List (List (ShardTurn Handled))) (rest : List FormedRecord) → SayRounds rounds rest → SayRounds (turns_of (round_in t) ++ rounds) (formed_in t ++ rest)
+step_says d d' None step rounds rest say = say
+step_says d d' (Some t) step rounds rest say = round_first d.shards t.moment t.wall t.round t.formed step.3.of_round rounds rest say
 
-ending_stops : (d d' : Desk) (endings : List MadeEnd) → EndRun d endings d' → AllZip SaysStop (flat_map stops_in (map (λ m. end_round_in m.turn) endings)) (flat_map (λ m. end_formed_in m.turn) endings)
-ending_stops d d' [] run = tt
-ending_stops d d' (m ∷ endings) run =
-    zip_append SaysStop (stops_in (end_round_in m.turn)) (flat_map stops_in (map (λ (x : MadeEnd). end_round_in x.turn) endings)) (end_formed_in m.turn) (flat_map (λ (x : MadeEnd). end_formed_in x.turn) endings)
-    (end_step_stops d run.0 m.turn run.1.1) (ending_stops run.0 d' endings run.2)
+end_says : (d d' : Desk) (t : Late) → LateStep d t d' → (rounds : List (List (ShardTurn Handled))) (rest : List FormedRecord) → SayRounds rounds rest → SayRounds (turns_of (end_round_in t) ++ rounds) (end_formed_in t ++ rest)
+end_says d d' (Ends None) step rounds rest say = say
+end_says d d' (Waits t) step rounds rest say = say
+end_says d d' (Ends (Some t)) step rounds rest say = round_first d.shards t.moment t.wall t.round t.formed step.3.of_round rounds rest say
 
--- the Stops of the rounds, as the engine lists them
-stops_are : (rounds : List (Option Round)) → stops_of (flat_map turns_of rounds) ≡ flat_map stops_in rounds
-stops_are [] = refl
-stops_are (None ∷ rounds) = stops_are rounds
-stops_are (Some round ∷ rounds) =
-    ap (λ (ss : List Stop). ss ++ stops_of (flat_map turns_of rounds)) (sym (round_stops round.shards))
-    ∙ ap (λ (ss : List Stop). stops_of_round round ++ ss) (stops_are rounds)
+run_says : (d d' : Desk) (turns : List Made) → Run d turns d' → (rounds : List (Option Round)) (rest : List FormedRecord) → SayRounds (flat_map turns_of rounds) rest
+    → SayRounds (flat_map turns_of (map (λ m. round_in m.turn) turns ++ rounds)) (flat_map (λ m. formed_in m.turn) turns ++ rest)
+run_says d d' [] run rounds rest say = say
+run_says d d' (m ∷ turns) run rounds rest say =
+    let later = map (λ (x : Made). round_in x.turn) turns ++ rounds in
+    let formed = flat_map (λ (x : Made). formed_in x.turn) turns in
+    subst (SayRounds (turns_of (round_in m.turn) ++ flat_map turns_of later)) (sym (append_assoc (formed_in m.turn) formed rest))
+    (step_says d run.0 m.turn run.1.1 (flat_map turns_of later) (formed ++ rest) (run_says run.0 d' turns run.2 rounds rest say))
 
-all_stops : (d over last : Desk) (turns : List Made) (endings : List MadeEnd) → Run d turns over → EndRun over endings last → AllZip SaysStop (stops_of (rounds_of turns endings)) (formed_of turns endings)
-all_stops d over last turns endings run ending =
-    let serving = map (λ (m : Made). round_in m.turn) turns in
-    let closing = map (λ (m : MadeEnd). end_round_in m.turn) endings in
-    subst (λ (ss : List Stop). AllZip SaysStop ss (formed_of turns endings)) (sym (stops_are (rounds_in turns endings) ∙ flat_map-append stops_in serving closing))
-    (zip_append SaysStop (flat_map stops_in serving) (flat_map stops_in closing) (flat_map (λ (m : Made). formed_in m.turn) turns) (flat_map (λ (m : MadeEnd). end_formed_in m.turn) endings)
-    (run_stops d over turns run) (ending_stops over last endings ending))
+ending_says : (d d' : Desk) (endings : List MadeEnd) → EndRun d endings d' → SayRounds (flat_map turns_of (map (λ m. end_round_in m.turn) endings)) (flat_map (λ m. end_formed_in m.turn) endings)
+ending_says d d' [] run = refl
+ending_says d d' (m ∷ endings) run =
+    end_says d run.0 m.turn run.1.1 (flat_map turns_of (map (λ (x : MadeEnd). end_round_in x.turn) endings)) (flat_map (λ (x : MadeEnd). end_formed_in x.turn) endings)
+    (ending_says run.0 d' endings run.2)
+
+all_said : (d over last : Desk) (turns : List Made) (endings : List MadeEnd) → Run d turns over → EndRun over endings last → SayRounds (rounds_of turns endings) (formed_of turns endings)
+all_said d over last turns endings run ending =
+    run_says d over turns run (map (λ (m : MadeEnd). end_round_in m.turn) endings) (flat_map (λ (m : MadeEnd). end_formed_in m.turn) endings) (ending_says over last endings ending)
 
 -- What was sent --------------------------------------------------------------------------------------------------------------------
 
@@ -325,7 +344,7 @@ recorded_of config rounds seed now wall opening over last turns endings is run e
       opened = is.new_billing;
       is_new = is.is_new;
       calls = chain;
-      stops = all_stops opening over last turns endings run ending;
+      formed = all_said opening over last turns endings run ending;
       requests = stages_recorded turns endings elsewhere ∙ all_sends config.acct_server is.starts opening over last turns endings run ending (stays_at config.acct_server is.new_billing opening.billing first starts is.is_new.client.acct_server);
       heard = stages_acknowledged opening over turns endings run ∙ all_takes is.starts turns endings;
       answered = answers_of (billing_rules config wall) is.new_billing last.billing (calls_of is.starts turns endings) is.is_new chain;

@@ -52,7 +52,7 @@ module _ {X : Type 0} where
   one_of (y ∷ xs) x zero l e = inl e
   one_of (y ∷ xs) x (suc k) l e = inr (one_of xs x k (omega (arith, l)) e)
 
-  contained : (xs : List X) (x : X) → AnyOf (λ y. y ≡ x) xs → Contains xs x
+  pub contained : (xs : List X) (x : X) → AnyOf (λ y. y ≡ x) xs → Contains xs x
   contained [] x h = absurd h
   contained (y ∷ xs) x (inl e) = (0, omega arith, e)
   contained (y ∷ xs) x (inr h) = let rest = contained xs x h in (suc rest.0, omega (arith, rest.1), rest.2)

@@ -16,6 +16,7 @@ mod discovery;
 mod forwarding;
 mod host;
 mod link;
+mod logins;
 mod statuses;
 
 const CONFIGURATION: &str = r#"[gateway]

@@ -14,7 +14,7 @@ use std::test::Fail;
 use std::thread::Threads;
 
 /// Hosts authenticate themselves by PAP, and a request is sent twice.
-const PAP: &str = r#"[gateway]
+pub(super) const PAP: &str = r#"[gateway]
 name = "bng1"
 address = "10.0.0.1"
 nas_ip = "192.168.1.16"
@@ -42,18 +42,18 @@ last = "10.0.0.101"
 "#;
 
 /// The gateway's Configure-Request for PAP, and the host's Configure-Ack.
-const PAP_ASKED: &[u8] =
+pub(super) const PAP_ASKED: &[u8] =
     b"\xc0\x21\x01\x01\x00\x12\x01\x04\x05\xd4\x03\x04\xc0\x23\x05\x06\xa1\xb2\xc3\xd4";
 
-const PAP_ACK: &[u8] =
+pub(super) const PAP_ACK: &[u8] =
     b"\xc0\x21\x02\x01\x00\x12\x01\x04\x05\xd4\x03\x04\xc0\x23\x05\x06\xa1\xb2\xc3\xd4";
 
 /// Authenticate-Requests 7 and 8 of nemo with arctangent, as in RFC 2865 section 7.1, and their Authenticate-Acks.
-const PASSWORD: &[u8] = b"\xc0\x23\x01\x07\x00\x14\x04nemo\x0aarctangent";
+pub(super) const PASSWORD: &[u8] = b"\xc0\x23\x01\x07\x00\x14\x04nemo\x0aarctangent";
 
 const PASSWORD_8: &[u8] = b"\xc0\x23\x01\x08\x00\x14\x04nemo\x0aarctangent";
 
-const PASSED: &[u8] = b"\xc0\x23\x02\x07\x00\x05\x00";
+pub(super) const PASSED: &[u8] = b"\xc0\x23\x02\x07\x00\x05\x00";
 
 const PASSED_8: &[u8] = b"\xc0\x23\x02\x08\x00\x05\x00";
 
@@ -61,21 +61,24 @@ const PASSED_8: &[u8] = b"\xc0\x23\x02\x08\x00\x05\x00";
 const TIMED_OUT: &[u8] = b"\xc0\x23\x03\x07\x00\x0c\x07timeout";
 
 /// The gateway's Terminate-Request, and the host's Terminate-Ack.
-const TERMINATE: &[u8] = b"\xc0\x21\x05\x02\x00\x04";
+pub(super) const TERMINATE: &[u8] = b"\xc0\x21\x05\x02\x00\x04";
 
 const TERMINATED: &[u8] = b"\xc0\x21\x06\x02\x00\x04";
 
 /// The host's Terminate-Request, and the gateway's Terminate-Ack.
-const LEAVES: &[u8] = b"\xc0\x21\x05\x09\x00\x04";
+pub(super) const LEAVES: &[u8] = b"\xc0\x21\x05\x09\x00\x04";
 
-const LEFT: &[u8] = b"\xc0\x21\x06\x09\x00\x04";
+pub(super) const LEFT: &[u8] = b"\xc0\x21\x06\x09\x00\x04";
+
+/// The gateway's Configure-Request of IPCP, with its own address (RFC 1332 section 3.3).
+pub(super) const OWN_ADDRESS: &[u8] = b"\x80\x21\x01\x01\x00\x0a\x03\x06\x0a\x00\x00\x01";
 
 /// The Access-Request for the password.
-const PAP_REQUEST: &str =
+pub(super) const PAP_REQUEST: &str =
     "0100008b0c1093ed415b8f3a8ae844ff5e9aad7f01066e656d6f0212053df1e34af862be8097acd947e051350406c0a80110050600000c010606000000020706000000011f1330323a30303a30303a30303a30303a30312006626e67313d06000000055012db1fac27eca6df1d7314cb78cfac81db571670312f3032303030303030303030312f33303733";
 
 /// Replies to it: an Access-Accept, and an Access-Reject.
-const ACCEPT: &str = "02000014d1d08e7dcc0dcd18335311dc3b5a22c8";
+pub(super) const ACCEPT: &str = "02000014d1d08e7dcc0dcd18335311dc3b5a22c8";
 
 const REJECT: &str = "030000149310a318559c60d3dcd77ef016d42946";
 
@@ -134,19 +137,19 @@ const CHAP_REJECT: &str =
 const FAILURE: &[u8] = b"\xc2\x23\x04\x01\x00\x06no";
 
 /// A host asks for a session, brings LCP to Opened with PAP and sends its password, all in one turn.
-fn begun(alloc: Global) -> Result<Vec<Arrival>, AllocError> {
+pub(super) fn begun(alloc: Global) -> Result<Vec<Arrival>, AllocError> {
     let heard: [&[u8]; 3] = [&REQUEST, PAP_ACK, PASSWORD];
     session(alloc, &heard)
 }
 
 /// A datagram to Auth from this port of 127.0.0.1.
-fn reply(alloc: Global, port: u16, octets: &str) -> Result<Arrival, Fail> {
+pub(super) fn reply(alloc: Global, port: u16, octets: &str) -> Result<Arrival, Fail> {
     let octets = hex::decode(alloc, octets)?;
     Ok(Arrival::new(Role::Auth, loopback(port), octets.as_slice()))
 }
 
 /// `stop`, so many waits later.
-fn stop(waits: u32) -> Arrival {
+pub(super) fn stop(waits: u32) -> Arrival {
     Arrival::new(Role::Control, loopback(5), b"stop").after(waits)
 }
 
@@ -174,14 +177,16 @@ fn run_pap<R: Threads + Wait + Sync>(
     )
 }
 
-/// A run over PAP came to its report. It sent what a password brings about until its Access-Request went out, and then these.
-fn sends_after(
+/// A run over PAP ended with this status. It sent what a password brings about until its Access-Request went out, and then these, not
+/// counting the records of accounting.
+pub(super) fn sends_after(
     rt: &impl Abort,
     alloc: Global,
     ended: &Ended,
+    status: u8,
     rest: &[(Role, u16, &[u8])],
 ) -> Result<(), Fail> {
-    assert_eq!(rt; ended.status, 0);
+    assert_eq!(rt; ended.status, status);
     let port = Role::Access(1);
     let asked = framed(alloc, &TO_HOST, PAP_ASKED)?;
     let acked = framed(alloc, &TO_HOST, &ACKED)?;
@@ -192,8 +197,9 @@ fn sends_after(
         (port, 9011, acked.as_slice()),
         (Role::Auth, 1812, request.as_slice()),
     ];
-    let behind = ended.plant.sent().len().saturating_sub(front.len());
-    assert_eq!(rt; behind, rest.len());
+    let sent = ended.plant.sent().iter();
+    let others = sent.filter(|datagram| datagram.role != Role::Acct).count();
+    assert_eq!(rt; others.saturating_sub(front.len()), rest.len());
     sends_from(rt, ended, 0, &front);
     sends_from(rt, ended, front.len(), rest);
     Ok(())
@@ -217,13 +223,16 @@ fn a_password_is_asked_about_and_accepted(rt: HostRuntime) -> Result<(), Fail> {
     let passed = framed(alloc, &TO_HOST, PASSED)?;
     let passed_8 = framed(alloc, &TO_HOST, PASSED_8)?;
     let port = Role::Access(1);
-    let rest: [(Role, u16, &[u8]); 4] = [
+    let own = framed(alloc, &TO_HOST, OWN_ADDRESS)?;
+    // The server says nothing to the Start and the Stop of the term that began.
+    let rest: [(Role, u16, &[u8]); 5] = [
         (port, 9011, passed.as_slice()),
+        (port, 9011, own.as_slice()),
         (port, 9011, passed_8.as_slice()),
         (Role::Control, 5, b"stopping\n"),
         (port, 9011, &PADT),
     ];
-    sends_after(&rt, alloc, &ended, &rest)
+    sends_after(&rt, alloc, &ended, 6, &rest)
 }
 
 #[test]
@@ -243,7 +252,7 @@ fn a_refused_password_ends_the_link(rt: HostRuntime) -> Result<(), Fail> {
             (Role::Control, 5, b"stopping\n"),
             (port, 9011, &PADT),
         ];
-        sends_after(&rt, alloc, &ended, &rest)?;
+        sends_after(&rt, alloc, &ended, 0, &rest)?;
     }
     Ok(())
 }
@@ -259,7 +268,7 @@ fn silent<R: Threads + Wait + Sync + Abort>(
     let mut script = begun(alloc)?;
     script.push(stop(waits))?;
     let ended = run_pap(rt, alloc, script, 1000, &[])?;
-    sends_after(rt, alloc, &ended, rest)
+    sends_after(rt, alloc, &ended, 0, rest)
 }
 
 #[test]
@@ -298,12 +307,14 @@ fn a_request_that_did_not_go_has_no_reply(rt: HostRuntime) -> Result<(), Fail> {
     assert_eq!(rt; ended.plant.faults(), 1);
     let passed = framed(alloc, &TO_HOST, PASSED)?;
     let port = Role::Access(1);
-    let rest: [(Role, u16, &[u8]); 3] = [
+    let own = framed(alloc, &TO_HOST, OWN_ADDRESS)?;
+    let rest: [(Role, u16, &[u8]); 4] = [
         (port, 9011, passed.as_slice()),
+        (port, 9011, own.as_slice()),
         (Role::Control, 5, b"stopping\n"),
         (port, 9011, &PADT),
     ];
-    sends_after(&rt, alloc, &ended, &rest)
+    sends_after(&rt, alloc, &ended, 6, &rest)
 }
 
 #[test]
@@ -312,6 +323,7 @@ fn a_host_leaves_in_the_round_of_its_verdict(rt: HostRuntime) -> Result<(), Fail
     let port = Role::Access(1);
     let request = hex::decode(alloc, PAP_REQUEST)?;
     let passed = framed(alloc, &TO_HOST, PASSED)?;
+    let own = framed(alloc, &TO_HOST, OWN_ADDRESS)?;
     let left = framed(alloc, &TO_HOST, LEFT)?;
     // The reply of the server stands before the host's frame.
     let mut script = begun(alloc)?;
@@ -319,13 +331,14 @@ fn a_host_leaves_in_the_round_of_its_verdict(rt: HostRuntime) -> Result<(), Fail
     script.push(from_host(alloc, LEAVES)?)?;
     script.push(stop(0))?;
     let ended = run_pap(&rt, alloc, script, 10, &[])?;
-    let rest: [(Role, u16, &[u8]); 4] = [
+    let rest: [(Role, u16, &[u8]); 5] = [
         (port, 9011, passed.as_slice()),
+        (port, 9011, own.as_slice()),
         (port, 9011, left.as_slice()),
         (Role::Control, 5, b"stopping\n"),
         (port, 9011, &PADT),
     ];
-    sends_after(&rt, alloc, &ended, &rest)?;
+    sends_after(&rt, alloc, &ended, 6, &rest)?;
     // That of no reply, 6,000 ms after the request, stands behind it.
     let mut script = begun(alloc)?;
     script.push(from_host(alloc, LEAVES)?.after(5))?;
@@ -337,7 +350,7 @@ fn a_host_leaves_in_the_round_of_its_verdict(rt: HostRuntime) -> Result<(), Fail
         (Role::Control, 5, b"stopping\n"),
         (port, 9011, &PADT),
     ];
-    sends_after(&rt, alloc, &ended, &rest)
+    sends_after(&rt, alloc, &ended, 0, &rest)
 }
 
 #[test]

@@ -1,0 +1,269 @@
+//! Subscribers that log in. The replies of the server, the records of accounting and the packets were made from the tables of RFC 2865,
+//! RFC 2866 and RFC 791 by a script over Python's hashlib and hmac, and what is random in them by an independent ChaCha20.
+use super::authentication::{
+    ACCEPT, LEAVES, LEFT, OWN_ADDRESS, PAP, PASSED, PASSWORD, TERMINATE, begun, reply, sends_after,
+    stop,
+};
+use super::host::{ACKED, PADT, REQUEST, TO_HOST, framed, from_host, request};
+use super::{Ended, SERVE, has, loopback, run_at, seed};
+use bng_base::Role;
+use bng_plant::{Arrival, MemoryClock, MemoryPlant, NoTrace};
+use std::alloc::{AllocError, Global};
+use std::process::Abort;
+use std::sync::Wait;
+use std::test::Fail;
+use std::thread::Threads;
+
+/// As `PAP`, with a pool of one address.
+const ONE_ADDRESS: &str = r#"[gateway]
+name = "bng1"
+address = "10.0.0.1"
+nas_ip = "192.168.1.16"
+auth = ["pap"]
+[core]
+local = "127.0.0.1:9000"
+peer = "127.0.0.1:9001"
+[control]
+local = "127.0.0.1:9002"
+[radius]
+auth_local = "127.0.0.1:9003"
+auth_server = "127.0.0.1:1812"
+acct_local = "127.0.0.1:9004"
+acct_server = "127.0.0.1:1813"
+secret = "xyzzy5461"
+tries = 2
+[[access]]
+local = "127.0.0.1:9010"
+peer = "127.0.0.1:9011"
+mac = "02:00:00:00:00:fe"
+[[pool]]
+name = "main"
+first = "10.0.0.2"
+last = "10.0.0.2"
+"#;
+
+/// The Access-Accept to the first request, with the Service-Type Framed, the Framed-IP-Address 10.0.0.50 and the Class gold.
+const ACCEPT_50: &str =
+    "0200002664e9e839d2f2f37dc86e2b4aff99928e06060000000208060a0000321906676f6c64";
+
+/// The Start of the term, formed at the second 1,700,000,003, and the Accounting-Response to it.
+const START: &str =
+    "0400009987320b466e247d5c67e8f4f894b7ef7d01066e656d6f0406c0a80110050600000c0106060000000207060000000108060a0000321906676f6c641f1330323a30303a30303a30303a30303a30312006626e67312806000000012c1a36353533663130313063303130303030303030303030303137066553f1033d0600000005571670312f3032303030303030303030312f33303733";
+
+const STARTED: &str = "05000014f611ac0e069e7b6d3b3ef7b1620dc966";
+
+/// Its Stop, formed 2 s later, with a packet of 40 octets in and one of 28 out and the Acct-Terminate-Cause 1, User Request (RFC 2866
+/// section 5.10), and the Accounting-Response to it.
+const STOP: &str =
+    "040100c99c4fdc3e719e26f0eb7435d039677f3201066e656d6f0406c0a80110050600000c0106060000000207060000000108060a0000321906676f6c641f1330323a30303a30303a30303a30303a30312006626e67312806000000022a06000000282b060000001c2c1a3635353366313031306330313030303030303030303030312e06000000022f060000000130060000000131060000000134060000000035060000000037066553f1053d0600000005571670312f3032303030303030303030312f33303733";
+
+const STOPPED: &str = "0501001479555a32cd1a181d7537ce19cd9af25a";
+
+/// The host asks by IPCP for any address, and hears which it is to be; asks for that, and hears that it has it; and takes the gateway's
+/// (RFC 1332 section 3.3).
+const ANY: &[u8] = b"\x80\x21\x01\x01\x00\x0a\x03\x06\x00\x00\x00\x00";
+
+const TO_BE: &[u8] = b"\x80\x21\x03\x01\x00\x0a\x03\x06\x0a\x00\x00\x32";
+
+const ASKS: &[u8] = b"\x80\x21\x01\x02\x00\x0a\x03\x06\x0a\x00\x00\x32";
+
+const GETS: &[u8] = b"\x80\x21\x02\x02\x00\x0a\x03\x06\x0a\x00\x00\x32";
+
+const TAKES: &[u8] = b"\x80\x21\x02\x01\x00\x0a\x03\x06\x0a\x00\x00\x01";
+
+/// A packet of 40 octets from 10.0.0.50 with TTL 64 in a PPP frame, and the packet that goes to the core for it.
+const FROM_HOST: &[u8] =
+    b"\x00\x21\x45\x00\x00\x28\x00\x01\x00\x00\x40\x11\xae\x91\x0a\x00\x00\x32\xc0\x00\x02\x01\x00\x01\x02\x03\x04\x05\x06\x07\x08\x09\x0a\x0b\x0c\x0d\x0e\x0f\x10\x11\x12\x13";
+
+const UP: &[u8] =
+    b"\x45\x00\x00\x28\x00\x01\x00\x00\x3f\x11\xaf\x91\x0a\x00\x00\x32\xc0\x00\x02\x01\x00\x01\x02\x03\x04\x05\x06\x07\x08\x09\x0a\x0b\x0c\x0d\x0e\x0f\x10\x11\x12\x13";
+
+/// A packet of the core of 28 octets to 10.0.0.50 with TTL 64, and the PPP frame that goes to the host for it.
+const FROM_CORE: &[u8] =
+    b"\x45\x00\x00\x1c\x00\x02\x00\x00\x40\x11\xae\x9c\xc0\x00\x02\x01\x0a\x00\x00\x32\x00\x01\x02\x03\x04\x05\x06\x07";
+
+const DOWN: &[u8] =
+    b"\x00\x21\x45\x00\x00\x1c\x00\x02\x00\x00\x3f\x11\xaf\x9c\xc0\x00\x02\x01\x0a\x00\x00\x32\x00\x01\x02\x03\x04\x05\x06\x07";
+
+/// The MAC of another host of the same shard; what stands before the low octet of LENGTH in a frame of its session to the gateway, and in
+/// one to it; its PADS, and its PADT.
+const OTHER: [u8; 6] = [0x02, 0x00, 0x00, 0x00, 0x00, 0x05];
+
+const FROM_OTHER: [u8; 19] = [
+    0x02, 0x00, 0x00, 0x00, 0x00, 0xfe, 0x02, 0x00, 0x00, 0x00, 0x00, 0x05, 0x88, 0x64, 0x11, 0x00,
+    0x0c, 0x02, 0x00,
+];
+
+const TO_OTHER: [u8; 19] = [
+    0x02, 0x00, 0x00, 0x00, 0x00, 0x05, 0x02, 0x00, 0x00, 0x00, 0x00, 0xfe, 0x88, 0x64, 0x11, 0x00,
+    0x0c, 0x02, 0x00,
+];
+
+const OTHER_PADS: [u8; 32] = [
+    0x02, 0x00, 0x00, 0x00, 0x00, 0x05, 0x02, 0x00, 0x00, 0x00, 0x00, 0xfe, 0x88, 0x63, 0x11, 0x65,
+    0x0c, 0x02, 0x00, 0x0c, 0x01, 0x01, 0x00, 0x00, 0x01, 0x03, 0x00, 0x04, 0xa1, 0xb2, 0xc3, 0xd4,
+];
+
+const OTHER_PADT: [u8; 20] = [
+    0x02, 0x00, 0x00, 0x00, 0x00, 0x05, 0x02, 0x00, 0x00, 0x00, 0x00, 0xfe, 0x88, 0x63, 0x11, 0xa7,
+    0x0c, 0x02, 0x00, 0x00,
+];
+
+/// What it is asked for by LCP, with the magic number that is drawn for the seventh item, and its Configure-Ack.
+const OTHER_ASKED: &[u8] =
+    b"\xc0\x21\x01\x01\x00\x12\x01\x04\x05\xd4\x03\x04\xc0\x23\x05\x06\xa4\xc5\xc7\xc1";
+
+const OTHER_ACK: &[u8] =
+    b"\xc0\x21\x02\x01\x00\x12\x01\x04\x05\xd4\x03\x04\xc0\x23\x05\x06\xa4\xc5\xc7\xc1";
+
+/// The Access-Request for its password, an Access-Accept to it, and the Authenticate-Nak.
+const OTHER_REQUEST: &str =
+    "0101008b9eceb1312d0a8ab8941dbcd42271411f01066e656d6f02128f0d8c2ee346d01059aab0cb0683a5d60406c0a80110050600000c020606000000020706000000011f1330323a30303a30303a30303a30303a30352006626e67313d060000000550124ad88a170c8a132f5c242a96e1027c64571670312f3032303030303030303030352f33303734";
+
+const OTHER_ACCEPT: &str = "0201001481aa3cdac8efeaf82f7ab62e2fa328f8";
+
+const NO_ADDRESS: &[u8] = b"\xc0\x23\x03\x07\x00\x0f\x0ano address";
+
+/// A run over this configuration, at moments that are so many milliseconds apart.
+fn run_in<R: Threads + Wait + Sync>(
+    rt: &R,
+    alloc: Global,
+    configuration: &str,
+    script: Vec<Arrival>,
+    step: u64,
+) -> Result<Ended, AllocError> {
+    let plant = MemoryPlant::new(alloc, script, Vec::new(alloc), 128)?;
+    let clock = MemoryClock::new(alloc, step, 1_700_000_000, 64)?;
+    let entropy = seed(alloc, &[])?;
+    run_at(
+        rt,
+        alloc,
+        &SERVE,
+        configuration,
+        plant,
+        clock,
+        entropy,
+        &mut NoTrace,
+        &[],
+    )
+}
+
+/// A datagram to Acct from the server.
+fn response(alloc: Global, octets: &str) -> Result<Arrival, Fail> {
+    let octets = hex::decode(alloc, octets)?;
+    Ok(Arrival::new(Role::Acct, loopback(1813), octets.as_slice()))
+}
+
+/// A host logs in and leaves, at moments that are 1,000 ms apart: the Access-Accept comes in the second turn; in the third the server has
+/// the Start, the host comes to its address, and a packet goes each way; the host leaves in the fourth, and the server has the Stop in the
+/// fifth.
+fn visit(alloc: Global) -> Result<Vec<Arrival>, Fail> {
+    let mut script = begun(alloc)?;
+    script.push(reply(alloc, 1812, ACCEPT_50)?)?;
+    script.push(response(alloc, STARTED)?)?;
+    for heard in [ANY, ASKS, TAKES, FROM_HOST] {
+        script.push(from_host(alloc, heard)?)?;
+    }
+    script.push(Arrival::new(Role::Core, loopback(9001), FROM_CORE))?;
+    script.push(from_host(alloc, LEAVES)?)?;
+    script.push(response(alloc, STOPPED)?)?;
+    script.push(stop(0))?;
+    Ok(script)
+}
+
+/// The records that a run sent to the server are these.
+fn records(rt: &impl Abort, alloc: Global, ended: &Ended, wanted: &[&str]) -> Result<(), Fail> {
+    let sent = ended.plant.sent().iter();
+    let mut records = sent.filter(|datagram| datagram.role == Role::Acct);
+    for octets in wanted {
+        let octets = hex::decode(alloc, *octets)?;
+        let record = records.next().expect(rt, "a record");
+        assert_eq!(rt; record.peer, loopback(1813));
+        assert_eq!(rt; record.octets.as_slice(), octets.as_slice());
+    }
+    assert!(rt; records.next().is_none());
+    Ok(())
+}
+
+#[test]
+fn a_subscriber_logs_in_and_is_accounted_for(rt: HostRuntime) -> Result<(), Fail> {
+    let alloc = rt.alloc();
+    let ended = run_in(&rt, alloc, PAP, visit(alloc)?, 1000)?;
+    assert!(rt; ended.err.text().is_empty());
+    assert_eq!(rt;
+        ended.out.text(),
+        b"total in=40 out=28\ndrop Malformed 0\ndrop NoSession 0\ndrop NotOpen 0\ndrop Expired 0\ndrop Spoofed 0\ndrop TooBig 0\ndrop Exceeded 0\ndrop LinkFailed 0\ndrop WantOfMemory 0\n".as_slice()
+    );
+    let passed = framed(alloc, &TO_HOST, PASSED)?;
+    let own = framed(alloc, &TO_HOST, OWN_ADDRESS)?;
+    let to_be = framed(alloc, &TO_HOST, TO_BE)?;
+    let gets = framed(alloc, &TO_HOST, GETS)?;
+    let down = framed(alloc, &TO_HOST, DOWN)?;
+    let left = framed(alloc, &TO_HOST, LEFT)?;
+    let port = Role::Access(1);
+    let rest: [(Role, u16, &[u8]); 9] = [
+        (port, 9011, passed.as_slice()),
+        (port, 9011, own.as_slice()),
+        (port, 9011, to_be.as_slice()),
+        (port, 9011, gets.as_slice()),
+        (Role::Core, 9001, UP),
+        (port, 9011, down.as_slice()),
+        (port, 9011, left.as_slice()),
+        (Role::Control, 5, b"stopping\n"),
+        (port, 9011, &PADT),
+    ];
+    sends_after(&rt, alloc, &ended, 0, &rest)?;
+    records(&rt, alloc, &ended, &[START, STOP])
+}
+
+/// The first host gets its Access-Accept in the second turn, in which the other one asks for a session and sends the same password. That
+/// one's comes in the third.
+fn two_hosts(alloc: Global) -> Result<Vec<Arrival>, Fail> {
+    let port = Role::Access(1);
+    let mut script = begun(alloc)?;
+    script.push(reply(alloc, 1812, ACCEPT)?)?;
+    script.push(Arrival::new(port, loopback(9011), &request(&OTHER)))?;
+    for heard in [REQUEST.as_slice(), OTHER_ACK, PASSWORD] {
+        let frame = framed(alloc, &FROM_OTHER, heard)?;
+        script.push(Arrival::new(port, loopback(9011), frame.as_slice()))?;
+    }
+    script.push(reply(alloc, 1812, OTHER_ACCEPT)?)?;
+    script.push(stop(0))?;
+    Ok(script)
+}
+
+#[test]
+fn where_the_pool_is_used_up_an_accept_is_no_login(rt: HostRuntime) -> Result<(), Fail> {
+    let alloc = rt.alloc();
+    let ended = run_in(&rt, alloc, ONE_ADDRESS, two_hosts(alloc)?, 10)?;
+    let passed = framed(alloc, &TO_HOST, PASSED)?;
+    let own = framed(alloc, &TO_HOST, OWN_ADDRESS)?;
+    let asked = framed(alloc, &TO_OTHER, OTHER_ASKED)?;
+    let acked = framed(alloc, &TO_OTHER, &ACKED)?;
+    let question = hex::decode(alloc, OTHER_REQUEST)?;
+    let refused = framed(alloc, &TO_OTHER, NO_ADDRESS)?;
+    let closed = framed(alloc, &TO_OTHER, TERMINATE)?;
+    let port = Role::Access(1);
+    let rest: [(Role, u16, &[u8]); 11] = [
+        (port, 9011, passed.as_slice()),
+        (port, 9011, own.as_slice()),
+        (port, 9011, &OTHER_PADS),
+        (port, 9011, asked.as_slice()),
+        (port, 9011, acked.as_slice()),
+        (Role::Auth, 1812, question.as_slice()),
+        (port, 9011, refused.as_slice()),
+        (port, 9011, closed.as_slice()),
+        (Role::Control, 5, b"stopping\n"),
+        (port, 9011, &PADT),
+        (port, 9011, &OTHER_PADT),
+    ];
+    // The server says nothing to the records of the first host. Each record is of that one: its NAS-Port is the session 3073, and its
+    // Framed-IP-Address 10.0.0.2.
+    sends_after(&rt, alloc, &ended, 6, &rest)?;
+    let sent = ended.plant.sent().iter();
+    for record in sent.filter(|datagram| datagram.role == Role::Acct) {
+        assert!(rt; has(record.octets.as_slice(), b"\x05\x06\x00\x00\x0c\x01"));
+        assert!(rt; has(record.octets.as_slice(), b"\x08\x06\x0a\x00\x00\x02"));
+    }
+    Ok(())
+}
