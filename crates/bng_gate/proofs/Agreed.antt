@@ -8,9 +8,7 @@ use Rattle.bng_acct.proofs.Agreeing.{agree_same}
 use Rattle.bng_base.specs.declared.address.Peer.{Peer}
 use Rattle.bng_base.specs.declared.item.Item.{Item}
 use Rattle.bng_base.proofs.ChainLaws.{chain_keeps}
-use Rattle.bng_billing.specs.Due.{IsResentBy}
 use Rattle.bng_billing.specs.Replies.{Takes}
-use Rattle.bng_billing.specs.Sending.{IsSentBy}
 use Rattle.bng_billing.specs.State.{BillingState}
 use Rattle.bng_config.specs.declared.config.Config.{Config}
 use Rattle.bng_lane.specs.Sends.{LaneSend}

@@ -1,5 +1,5 @@
 -- Of a run from its opening on, all logins are granted.
-use Rattle.std.proofs.Common.{◌≡◌, ℕ, ◌^◌, ◌≤◌, List, length, ap, ◌∙◌, arith}
+use Rattle.std.proofs.Common.{◌≡◌, ℕ, ◌≤◌, List, length, ap, ◌∙◌}
 use Rattle.bng_config.specs.declared.config.Config.{Config}
 use Rattle.bng_config.specs.Rules.{KeepsRules}
 use Rattle.bng_desk.specs.Model.{Desk}

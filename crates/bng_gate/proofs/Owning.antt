@@ -17,8 +17,7 @@ use Rattle.bng_shard.specs.Reader.{IsWhole}
 use Rattle.bng_shard.proofs.StepLaws.{step_whole}
 use Rattle.bng_gate.specs.Headline.{HaveTerms}
 use Rattle.bng_gate.proofs.Keys.{IsOurs, all_ours}
-use Rattle.bng_gate.proofs.Lists.{all_left, all_right}
-use Rattle.bng_gate.proofs.Replying.{contained}
+use Rattle.bng_gate.proofs.Lists.{all_left, all_right, contained}
 
 -- What is whole --------------------------------------------------------------------------------------------------------
 

@@ -42,6 +42,7 @@ use Rattle.bng_gate.specs.Granted.{stage_in}
 use Rattle.bng_gate.specs.Replied.{SentIn, OpenIn, AskedIn, IsReplied, AreReplied, answers_in, drawn_before, shards_left}
 use Rattle.bng_gate.specs.Serving.{Made, Run}
 use Rattle.bng_gate.proofs.Draws.{draw_at, seed_stays}
+use Rattle.bng_gate.proofs.Lists.{contained}
 use Rattle.bng_gate.proofs.Outstanding.{AllOut, Goes, out_less, takes_out, gives_up_out, resends_out, asks_out}
 
 -- Lists ---------------------------------------------------------------------------------------------------------------------
@@ -51,11 +52,6 @@ module _ {X : Type 0} where
   one_of [] x k l e = absurd (omega (arith, l))
   one_of (y ∷ xs) x zero l e = inl e
   one_of (y ∷ xs) x (suc k) l e = inr (one_of xs x k (omega (arith, l)) e)
-
-  pub contained : (xs : List X) (x : X) → AnyOf (λ y. y ≡ x) xs → Contains xs x
-  contained [] x h = absurd h
-  contained (y ∷ xs) x (inl e) = (0, omega arith, e)
-  contained (y ∷ xs) x (inr h) = let rest = contained xs x h in (suc rest.0, omega (arith, rest.1), rest.2)
 
   any_weaker : (P Q : X → Type 0) → ((x : X) → P x → Q x) → (xs : List X) → AnyOf P xs → AnyOf Q xs
   any_weaker P Q f [] h = absurd h
