@@ -48,6 +48,7 @@ pub mod Calling
 pub mod Agreed
 pub mod Recording
 pub mod Addressing
+pub mod AddressedLive
 pub mod Traffic
 pub mod Drops
 pub mod Headlines
