@@ -170,8 +170,8 @@ pub record IsSafe (config : Config) (seed : List ℕ) (old new : World) (course 
   -- a live term, on its circuit and with its address.
   pub history : History ShardState
   pub rounds : Chain (RightRound pppoe) (history_of course.opening) (rounds_of course.turns course.endings) history
-  -- Each circuit has one term, and each term of a subscriber that logged in has one Start: each term has one Stop, or is live in the end,
-  -- and there is no other. The Stop of a circuit's term says that the gateway stopped. For each circuit, address and direction what was
+  -- The terms are those that the circuits have from the opening on, and those of which a Start was formed: each has one Stop, or is live in
+  -- the end, and there is no other. The Stop of a circuit's term says that the gateway stopped. For each circuit, address and direction what was
   -- sent is what the Stops and the live terms say, in octets and in packets; and the books of the profiles, the tallies of the seats and
   -- what the terms carried have one total, all that was sent.
   pub terms : AllZip HaveTerms history.shards (terms_of_run config (rounds_of course.turns course.endings))
