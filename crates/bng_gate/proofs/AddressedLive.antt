@@ -1,26 +1,29 @@
 -- What is sent in a round is addressed by a term that was there before it, or began in it.
-use Rattle.std.proofs.Common.{◌≡◌, ⊎_elim, List, [], ◌∷◌, ◌++◌, map, IfSome, refl, sym, ap, subst, ◌∙◌}
+use Rattle.std.proofs.Common.{◌≡◌, ⊎_elim, Bool, not, cond, List, [], ◌∷◌, ◌++◌, map, filter, IfSome, refl, sym, ap, subst, ◌∙◌}
 use Rattle.std.specs.List.{AllByRecursion, Contains, flat_map}
 use Rattle.std.proofs.lemmas.List.Elements.{All-from_recursion}
 use Rattle.bng_base.specs.declared.item.OutRecord.{OutRecord}
 use Rattle.bng_base.specs.Chain.{Chain}
+use Rattle.bng_engine.specs.Accounted.{IsNew, nothing_yet, opening}
 use Rattle.bng_engine.specs.Histories.{History, ShardHistory, ShardTurn, NextInShard, NextRound, Run, sends_in}
 use Rattle.bng_engine.specs.Journals.{after, outs_of, unsent}
 use Rattle.bng_engine.specs.Lists.{AnyOf, Zip3}
 use Rattle.bng_engine.specs.Protocol.{HasKey, IsOwned}
-use Rattle.bng_engine.specs.Terms.{Key, key_in, keys}
+use Rattle.bng_engine.specs.Terms.{Key, Term, is_live, key_in, keys}
+use Rattle.bng_engine.specs.Views.{DeskView, ShardView}
 use Rattle.bng_engine.specs.Wire.{went}
 use Rattle.bng_engine.proofs.Everywhere.{all_append, all_mapped, all_weaker, any_either, any_left, any_right, if_some_weaker}
 use Rattle.bng_engine.proofs.Journals.{owned_same, run_owned}
 use Rattle.bng_engine.proofs.Rounds.{in_shards}
 use Rattle.bng_shard.specs.Protocol.{ShardState, Handled, pppoe, terms_of}
-use Rattle.bng_shard.specs.Reader.{IsWhole}
 use Rattle.bng_shard.proofs.StepLaws.{pppoe_laws}
 use Rattle.bng_gate.specs.Headline.{AddressesLive, IsAddressed, live_in}
 use Rattle.bng_gate.proofs.Addressing.{went_addressed}
 use Rattle.bng_gate.proofs.Keys.{IsOurs, all_ours}
 use Rattle.bng_gate.proofs.Lists.{contained}
+use Rattle.bng_gate.proofs.Openings.{IsLive}
 use Rattle.bng_gate.proofs.Owning.{round_whole}
+use Rattle.bng_gate.proofs.Stopping.{settled_live}
 
 -- the terms that were there, and those that began
 abbrev there : List (ShardHistory ShardState) → List Key
@@ -73,19 +76,60 @@ round_owned (h ∷ hs) (t ∷ ts) (h' ∷ hs') next =
     (sends_in ts) (round_owned hs ts hs' next.1))
 round_owned hs ts hs' next = absurd next
 
-round_addresses : (h h' : History ShardState) (ts : List (ShardTurn Handled)) → NextRound pppoe h ts h' → AddressesLive h ts h'
-round_addresses h h' ts next =
+-- Live terms ------------------------------------------------------------------------------------------------------------------
+
+-- all terms of a shard are live
+abbrev IsAllLive : ShardHistory ShardState → Type 0
+IsAllLive h = AllByRecursion IsLive (terms_of h.state)
+
+abbrev AreLive : List (ShardHistory ShardState) → Type 0
+AreLive hs = AllByRecursion IsAllLive hs
+
+-- so it is at the opening, and after each round
+new_live : (vs : List (ShardView ShardState Handled)) → AllByRecursion (IsNew pppoe) vs → AreLive (map nothing_yet vs)
+new_live [] new = tt
+new_live (v ∷ vs) new = (new.0.live, new_live vs new.1)
+
+next_live : (hs : List (ShardHistory ShardState)) (ts : List (ShardTurn Handled)) (hs' : List (ShardHistory ShardState)) → Zip3 (NextInShard pppoe) hs ts hs' → AreLive hs'
+next_live [] [] [] next = tt
+next_live (h ∷ hs) (t ∷ ts) (h' ∷ hs') next =
+    let n = next.0 in
+    (subst (λ (s : ShardState). AllByRecursion IsLive (terms_of s)) (sym n.settlement.state) (settled_live n.mid), next_live hs ts hs' next.1)
+next_live hs ts hs' next = absurd next
+
+-- then those that are live are all that are there
+all_kept : (ts : List Term) → AllByRecursion IsLive ts → filter is_live ts ≡ ts
+all_kept [] live = refl
+all_kept (t ∷ ts) live =
+    let rest = filter is_live ts in
+    ap (λ (b : Bool). cond (not b) (t ∷ rest) rest) live.0 ∙ ap (λ (us : List Term). t ∷ us) (all_kept ts live.1)
+
+all_there : (hs : List (ShardHistory ShardState)) → AreLive hs → flat_map (λ (x : ShardHistory ShardState). keys (filter is_live (terms_of x.state))) hs ≡ there hs
+all_there [] live = refl
+all_there (h ∷ hs) live =
+    ap (λ (ts : List Term). keys ts ++ flat_map (λ (x : ShardHistory ShardState). keys (filter is_live (terms_of x.state))) hs) (all_kept (terms_of h.state) live.0)
+    ∙ ap (λ (ks : List Key). keys (terms_of h.state) ++ ks) (all_there hs live.1)
+
+-- Rounds ---------------------------------------------------------------------------------------------------------------------
+
+round_addresses : (h h' : History ShardState) (ts : List (ShardTurn Handled)) → AreLive h.shards → NextRound pppoe h ts h' → AddressesLive h ts h'
+round_addresses h h' ts live next =
     let all = live_in h ts in
     let sends = sends_in ts in
     let shards = in_shards pppoe h h' ts next in
-    let owned : AllByRecursion (IsOwned all) sends = round_owned h.shards ts h'.shards shards in
+    let owned : AllByRecursion (IsOwned all) sends =
+        subst (λ (ks : List Key). AllByRecursion (IsOwned (ks ++ begun ts)) sends) (sym (all_there h.shards live)) (round_owned h.shards ts h'.shards shards) in
     let known : AllByRecursion (λ (o : OutRecord). IfSome o.charge (λ c. Contains all (key_in c))) sends =
         all_weaker (IsOwned all) (λ (o : OutRecord). IfSome o.charge (λ c. Contains all (key_in c)))
         (λ o is. if_some_weaker (λ c. AnyOf (HasKey c) all) (λ c. Contains all (key_in c)) (λ c i. contained all (key_in c) i) o.charge is) sends owned in
     let ours : AllByRecursion (IsOurs (Contains all)) sends = all_ours (Contains all) sends (round_whole h.shards ts h'.shards shards) known in
     record { next = next; octets = All-from_recursion (IsAddressed all) (went sends) (went_addressed all sends ours) }
 
+rounds_address : (h h' : History ShardState) (rounds : List (List (ShardTurn Handled))) → AreLive h.shards → Run pppoe h rounds h' → Chain AddressesLive h rounds h'
+rounds_address h h' [] live run = run
+rounds_address h h' (ts ∷ rounds) live run =
+    (run.0, round_addresses h run.0 ts live run.1, rounds_address run.0 h' rounds (next_live h.shards ts run.0.shards (in_shards pppoe h run.0 ts run.1)) run.2)
+
 -- each round of a run is such
-pub live_addressed : (h h' : History ShardState) (rounds : List (List (ShardTurn Handled))) → Run pppoe h rounds h' → Chain AddressesLive h rounds h'
-live_addressed h h' [] run = run
-live_addressed h h' (ts ∷ rounds) run = (run.0, round_addresses h run.0 ts run.1, live_addressed run.0 h' rounds run.2)
+pub live_addressed : (v : DeskView ShardState Handled) (h : History ShardState) (rounds : List (List (ShardTurn Handled))) → AllByRecursion (IsNew pppoe) v.shards → Run pppoe (opening v) rounds h → Chain AddressesLive (opening v) rounds h
+live_addressed v h rounds new run = rounds_address (opening v) h rounds (new_live v.shards new) run

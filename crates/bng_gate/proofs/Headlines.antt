@@ -166,7 +166,7 @@ module _ (text : List ℕ) (config : Config) (read : IsRead text config) (seed :
     conserved = run_conserves_at pppoe pppoe_laws start rounds goes.0 run_from;
     balanced = balanced pppoe end goes.0 accounted;
     addressed = all_addressed (all_terms_of config rounds) sent (sends_of rounds) sends ours;
-    addressed_live = live_addressed (nothing_yet start) goes.0 rounds goes.1;
+    addressed_live = live_addressed start goes.0 rounds start_opens.new goes.1;
     stages_heard = stages_heard course.opening course.over course.turns course.endings course.run;
     stages_acknowledged = stages_acknowledged course.opening course.over course.turns course.endings course.run;
     stages_taken = stages_taken course.opening course.over course.turns course.endings course.run;

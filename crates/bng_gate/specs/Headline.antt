@@ -1,5 +1,5 @@
 -- What a run says in the subject's own words.
-use Rattle.std.specs.Prelude.{◌≡◌, ℕ, ◌+◌, ◌++◌, true, false, List, [], Option, None, Some, length, map, take, drop, slice_get, count_by}
+use Rattle.std.specs.Prelude.{◌≡◌, ℕ, ◌+◌, ◌++◌, true, false, List, [], Option, None, Some, filter, length, map, take, drop, slice_get, count_by}
 use Rattle.std.specs.List.{All, AllZip, Contains, flat_map, range_with_len}
 use Rattle.byteorder.specs.Endian.{big_from}
 use Rattle.bng_base.specs.declared.address.Ip4.{Ip4}
@@ -28,7 +28,7 @@ use Rattle.bng_engine.specs.Lists.{AnyOf}
 use Rattle.bng_engine.specs.Laws.{RightRound, sends_of, stops_of}
 use Rattle.bng_engine.specs.Quantities.{Quantity, Octets}
 use Rattle.bng_engine.specs.Sums.{stopped_where, has_lease, has_circuit, is_at, is_any}
-use Rattle.bng_engine.specs.Terms.{Key, Stop, keys, stopped_keys}
+use Rattle.bng_engine.specs.Terms.{Key, Stop, is_live, keys, stopped_keys}
 use Rattle.bng_engine.specs.Wire.{is_input, is_from, is_output, is_to, is_on, is_on_to, told_of, went}
 use Rattle.bng_shard.specs.declared.sums.Traffic.{Traffic}
 use Rattle.bng_shard.specs.Protocol.{Handled, ShardState, terms_of, terms_of_circuits, pppoe}
@@ -119,9 +119,9 @@ terms_of_run config rounds = map (λ n. keys (terms_of_circuits n (statics_of co
 abbrev pub all_terms_of : Config → List (List (ShardTurn Handled)) → List Key
 all_terms_of config rounds = flat_map (λ ks. ks) (terms_of_run config rounds)
 
--- the terms that lived in a round, or began in it: of all shards those that were there before it, and those of its Starts
+-- the terms that lived in a round, or began in it: of all shards those that were live before it, and those of its Starts
 abbrev pub live_in : History ShardState → List (ShardTurn Handled) → List Key
-live_in h ts = flat_map (λ (x : ShardHistory ShardState). keys (terms_of x.state)) h.shards ++ flat_map (λ (t : ShardTurn Handled). t.settlement.starts) ts
+live_in h ts = flat_map (λ (x : ShardHistory ShardState). keys (filter is_live (terms_of x.state))) h.shards ++ flat_map (λ (t : ShardTurn Handled). t.settlement.starts) ts
 
 -- A round of which each datagram that was sent is addressed by one of them: what went to the core is a packet from the address of such a
 -- term, and each packet that went out on an access port is on the circuit of such a term, to its address.
