@@ -71,7 +71,7 @@ module _ (terms : List Key) where
       let is = charged o.role o.frame o.charge h.whole h.known in
       record { to_core = is.to_core; to_circuit = is.to_circuit }
 
-  went_addressed : (os : List OutRecord) → AllByRecursion (IsOurs (Contains terms)) os → AllByRecursion (IsAddressed terms) (went os)
+  pub went_addressed : (os : List OutRecord) → AllByRecursion (IsOurs (Contains terms)) os → AllByRecursion (IsAddressed terms) (went os)
   went_addressed os h =
       let sent = filter (λ (o : OutRecord). o.sent) os in
       all_map (IsAddressed terms) datagram_of sent

@@ -1,5 +1,5 @@
 -- Who was let in: what the subscribers, the shards and the lane say, put together.
-use Rattle.std.proofs.Common.{◌≡◌, inl, inr, ℕ, ◌+◌, ◌≤◌, List, [], ◌∷◌, Some, refl, sym, ap, subst, ◌∙◌, arith}
+use Rattle.std.proofs.Common.{◌≡◌, inl, inr, ℕ, ◌+◌, ◌≤◌, List, [], Some, refl, sym, ap, subst, ◌∙◌, arith}
 use Rattle.std.specs.List.{Contains}
 use Rattle.bng_base.specs.declared.address.Mac.{Mac}
 use Rattle.bng_base.specs.declared.item.OutRecord.{OutRecord}
@@ -16,6 +16,7 @@ use Rattle.bng_gate.specs.Granted.{Granted, Held, HandledIn, IsLetIn, Login, Let
 use Rattle.bng_gate.specs.Replied.{AreReplied}
 use Rattle.bng_gate.specs.Serving.{Made, MadeEnd, Run, EndRun}
 use Rattle.bng_gate.proofs.Accepting.{YesCause, yes_has_cause}
+use Rattle.bng_gate.proofs.Begun.{any_of_weaker, same_number, terms_began}
 use Rattle.bng_gate.proofs.HeardLogins.{all_heard}
 use Rattle.bng_gate.proofs.Hearing.{WorkBy}
 use Rattle.bng_gate.proofs.HeldRuns.{HasCount, HeldRun}
@@ -27,14 +28,6 @@ use Rattle.bng_gate.proofs.Reaching.{AreFresh}
 use Rattle.bng_gate.proofs.Sending.{sent_by_handled}
 use Rattle.bng_gate.proofs.Verdicts.{verdicts_are_replies}
 use Rattle.bng_gate.proofs.YesItems.{WasTaken, question_no}
-
-any_of_weaker : {X : Type 0} (P Q : X → Type 0) → ((x : X) → P x → Q x) → (xs : List X) → AnyOf P xs → AnyOf Q xs
-any_of_weaker P Q f [] h = h
-any_of_weaker P Q f (x ∷ xs) (inl h) = inl (f x h)
-any_of_weaker P Q f (x ∷ xs) (inr h) = inr (any_of_weaker P Q f xs h)
-
-same_number : (a : QuestionNo) (session ask : ℕ) → a.session.0 ≡ session → a.ask ≡ ask → a ≡ question_no session ask
-same_number a session ask s e = ap (λ n. question_no n a.ask) s ∙ ap (question_no session) e
 
 module _ (config : Config) (seed : List ℕ) (opening over last : Desk) (turns : List Made) (endings : List MadeEnd) (run : Run opening turns over) (ending : EndRun over endings last) (none_kept : opening.kept ≡ []) (fresh : AreFresh opening.shards)
     (r : Rules) (rules : WorkBy r opening.shards) (access : r.access ≡ config.access) (count : HasCount (held_of turns endings)) (replied : AreReplied config seed turns) where
@@ -101,4 +94,5 @@ module _ (config : Config) (seed : List ℕ) (opening over last : Desk) (turns :
             any_of_weaker (LetsInOwn is.by.state is.by.handled port mac session k) (LetsIn port mac session k) (λ g x. x.lets_in) all.0 is.login;
         sent_by = sent_in all.0 all.1;
         own = own all.0 all.1;
+        terms = terms_began config seed opening over last turns endings run ending none_kept fresh count replied all.0 all.1;
       }

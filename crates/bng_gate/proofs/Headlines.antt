@@ -42,6 +42,7 @@ use Rattle.bng_gate.specs.Unanswered.{unanswered_of, NamesStops}
 use Rattle.bng_gate.specs.Headline.{AreStopped, HaveTerms, calls_in_run, Headline, IsSafe, IsQuiet, StopsAccount, WasSafe, all_terms_of, all_traffic, terms_of_run, total_in}
 use Rattle.bng_gate.specs.Rounds.{rounds_in, rounds_of, plant_of, on_data, drops_of_run}
 use Rattle.bng_gate.specs.Run.{World, turns_most, outside, Prepares, Course, Runs, report_of, IsReady, IsUntouched, WantsToServe, Why, IsUnwritten, RunEnds}
+use Rattle.bng_gate.proofs.AddressedLive.{live_addressed}
 use Rattle.bng_gate.proofs.Addressing.{all_addressed}
 use Rattle.bng_gate.proofs.Agreed.{agreed}
 use Rattle.bng_gate.proofs.Drops.{all_dropped}
@@ -165,6 +166,7 @@ module _ (text : List ℕ) (config : Config) (read : IsRead text config) (seed :
     conserved = run_conserves_at pppoe pppoe_laws start rounds goes.0 run_from;
     balanced = balanced pppoe end goes.0 accounted;
     addressed = all_addressed (all_terms_of config rounds) sent (sends_of rounds) sends ours;
+    addressed_live = live_addressed start goes.0 rounds start_opens.new goes.1;
     stages_heard = stages_heard course.opening course.over course.turns course.endings course.run;
     stages_acknowledged = stages_acknowledged course.opening course.over course.turns course.endings course.run;
     stages_taken = stages_taken course.opening course.over course.turns course.endings course.run;

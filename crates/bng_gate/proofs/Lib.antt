@@ -7,6 +7,7 @@ pub mod LoginsAt
 pub mod Logins
 pub mod Holding
 pub mod Sending
+pub mod Begun
 pub mod Granting
 pub mod LoginsGranted
 pub mod Draws
@@ -47,6 +48,7 @@ pub mod Calling
 pub mod Agreed
 pub mod Recording
 pub mod Addressing
+pub mod AddressedLive
 pub mod Traffic
 pub mod Drops
 pub mod Headlines

@@ -21,7 +21,7 @@ use Rattle.bng_gate.proofs.Lists.{all_left, all_right, contained}
 
 -- What is whole --------------------------------------------------------------------------------------------------------
 
-round_whole : (hs : List (ShardHistory ShardState)) (ts : List (ShardTurn Handled)) (hs' : List (ShardHistory ShardState)) → Zip3 (NextInShard pppoe) hs ts hs' → AllByRecursion IsWhole (sends_in ts)
+pub round_whole : (hs : List (ShardHistory ShardState)) (ts : List (ShardTurn Handled)) (hs' : List (ShardHistory ShardState)) → Zip3 (NextInShard pppoe) hs ts hs' → AllByRecursion IsWhole (sends_in ts)
 round_whole [] [] [] next = tt
 round_whole (h ∷ hs) (t ∷ ts) (h' ∷ hs') next =
     let n = next.0 in

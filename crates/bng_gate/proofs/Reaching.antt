@@ -8,10 +8,11 @@ use Rattle.bng_base.specs.declared.item.Entry.{Entry}
 use Rattle.bng_base.specs.declared.item.Item.{Item}
 use Rattle.bng_engine.specs.Calls.{Moves}
 use Rattle.bng_engine.specs.Journals.{after, AreSteps}
+use Rattle.bng_engine.specs.Settlements.{AreStarts}
 use Rattle.bng_engine.specs.Showing.{with_journal}
 use Rattle.bng_engine.specs.Views.{ShardView}
 use Rattle.bng_shard.specs.Granting.{IsSound}
-use Rattle.bng_shard.specs.Protocol.{ShardState, Handled, pppoe}
+use Rattle.bng_shard.specs.Protocol.{ShardState, Handled, pppoe, terms_of}
 use Rattle.bng_shard.specs.Questions.{last_asking_at}
 use Rattle.bng_shard.specs.Step.{Step}
 use Rattle.bng_desk.specs.Model.{Desk}
@@ -97,17 +98,18 @@ turn_next d last (h ∷ held) zero t u run e f =
     ap (λ (x : Desk). x.shards) (first_turn run.0 last held u run.2 f) ∙ holds.shards ∙ here ∙ ap (λ (x : Held). left_after x.desk.shards x.round) (same_Some h t e)
 turn_next d last (h ∷ held) (suc k) t u run e f = turn_next run.0 last held k t u run.2 e f
 
--- where a shard's round began
-record IsBegun (t : Held) (p : ℕ) (w : ShardView ShardState Handled) : Type 0 where
-  view : ShardView ShardState Entry
-  at : slice_get t.desk.shards p ≡ Some view
+-- where a shard's round began, and of which terms it formed Starts
+pub record IsBegun (t : Held) (p : ℕ) (w : ShardView ShardState Handled) : Type 0 where
+  pub view : ShardView ShardState Entry
+  pub at : slice_get t.desk.shards p ≡ Some view
   steps : AreSteps pppoe view.state w.journal
   state : w.state ≡ (pppoe).settled (after pppoe view.state w.journal)
+  pub starts : AreStarts (terms_of view.state) (terms_of (after pppoe view.state w.journal)) w.starts
 
 abbrev shown : ShardView ShardState Entry → ShardView ShardState Handled
 shown v = with_journal v []
 
-begun : (t : Held) (round : Round) (p : ℕ) (w : ShardView ShardState Handled) → IsMade t → t.round ≡ Some round → slice_get round.shards p ≡ Some w → IsBegun t p w
+pub begun : (t : Held) (round : Round) (p : ℕ) (w : ShardView ShardState Handled) → IsMade t → t.round ≡ Some round → slice_get round.shards p ≡ Some w → IsBegun t p w
 begun t round p w made opened there =
     let moves = (subst (λ (o : Option Round). RoundOf t.desk made.moment made.items o) opened made.round).turn.shards in
     let m = zip_at (Moves pppoe) (views_of t.desk.shards) round.shards p w moves there in
@@ -118,6 +120,7 @@ begun t round p w made opened there =
       at = o.1;
       steps = subst (λ (s : ShardState). AreSteps pppoe s w.journal) start m.2.steps;
       state = m.2.state ∙ ap (λ (s : ShardState). (pppoe).settled (after pppoe s w.journal)) start;
+      starts = subst (λ (s : ShardState). AreStarts (terms_of s) (terms_of (after pppoe s w.journal)) w.starts) start m.2.begun;
     }
 
 -- Properties that stay ----------------------------------------------------------------------------------------------------

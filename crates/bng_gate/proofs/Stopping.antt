@@ -116,7 +116,7 @@ none_ended (t ∷ ts) e =
     (parts.0, none_ended ts parts.1)
 
 -- once a round is settled, all terms that are there are live
-settled_live : (s : ShardState) → AllByRecursion IsLive (terms_of (pppoe.settled s))
+pub settled_live : (s : ShardState) → AllByRecursion IsLive (terms_of (pppoe.settled s))
 settled_live s = none_ended (terms_of (pppoe.settled s)) (pppoe_laws.settles s (λ (t : Term). one_if t.ended) ∙ live_count (terms_of s))
 
 -- The Stops of a round -------------------------------------------------------------------------------------------------------

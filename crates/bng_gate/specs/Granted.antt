@@ -11,6 +11,7 @@ use Rattle.bng_base.specs.declared.outside.Role.TheVariants.{Access, Auth, Acct}
 use Rattle.bng_base.specs.FateOf.{Arrival}
 use Rattle.bng_base.specs.PppoeGrammar.{PppoeFrame}
 use Rattle.bng_config.specs.declared.config.Config.{Config}
+use Rattle.bng_engine.specs.Terms.{Key}
 use Rattle.bng_engine.specs.Calls.{all_sends}
 use Rattle.bng_engine.specs.Journals.{after}
 use Rattle.bng_engine.specs.Lists.{AnyOf}
@@ -28,8 +29,9 @@ use Rattle.bng_radius_wire.specs.Grammar.{Packet, IsRadius}
 use Rattle.bng_shard.specs.Claiming.{IsAskedBy}
 use Rattle.bng_shard.specs.Deed.{arrival_in}
 use Rattle.bng_shard.specs.Granting.{GivesYes, IsYesOn, accepted_ask_at}
-use Rattle.bng_shard.specs.Protocol.{ShardState, Handled, pppoe}
+use Rattle.bng_shard.specs.Protocol.{ShardState, Handled, key_in, pppoe}
 use Rattle.bng_shard.specs.Questions.{Asking, asking_from, last_asking_at}
+use Rattle.bng_shard.specs.Tenures.{Tenure}
 use Rattle.bng_verdict.specs.declared.question.AuthAsk.{AuthAsk}
 use Rattle.bng_verdict.specs.Verdicts.{Saying, IsVerdict}
 use Rattle.bng_desk.specs.Accounting.{record_datagram, record_sends}
@@ -38,7 +40,7 @@ use Rattle.bng_desk.specs.Model.{Desk}
 use Rattle.bng_desk.specs.Opening.{lane_rules}
 use Rattle.bng_desk.specs.Random.{draw}
 use Rattle.bng_desk.specs.Reading.{taken_in}
-use Rattle.bng_desk.specs.Round.{Round}
+use Rattle.bng_desk.specs.Round.{Round, starts_of}
 use Rattle.bng_desk.specs.Turn.{Turn}
 use Rattle.bng_gate.specs.Serving.{Made, MadeEnd, Late, Ends, Waits}
 
@@ -259,11 +261,31 @@ pub record IsLetIn (held : List Held) (logins : List Login) (k : ℕ) (d : Datag
   pub by : SentBy held k d
   pub login : AnyOf (LetsInOwn by.state by.handled port mac session k) logins
 
+-- The term that began by an entry, handled from this state, is that of the login: the login's question is the one that the link of the
+-- session had asked last, about the circuit of the term and by its User-Name, and the entry is the login's reply.
+pub record BeganBy (s : ShardState) (h : Handled) (t : Tenure) (k : ℕ) (g : Login) : Type 0 where
+  pub own : last_asking_at s.slots t.term.session.0 ≡ Some (asking_from g.ask)
+  pub reply : IsItsReply h t.term.session.0 g
+  pub circuit : t.circuit ≡ g.ask.circuit
+  pub user : t.user ≡ (claim_of g.ask.credentials).name
+  pub answered : g.answered ≤ k
+
+-- The term with this key began in the turn with this number, by an entry that a shard handled then, and it is that of one of the logins.
+pub record BeganIn (held : List Held) (logins : List Login) (k : ℕ) (key : Key) : Type 0 where
+  pub state : ShardState
+  pub handled : Handled
+  pub at : HandledIn held k state handled
+  pub term : Tenure
+  pub began : handled.deed.next.news ≡ state.slots.news ++ term ∷ []
+  pub key_is : key_in term ≡ key
+  pub login : AnyOf (BeganBy state handled term k) logins
+
 -- There are logins, each of them right, the question of each heard from the subscriber, no two with the same datagram of the server, and
 -- no two of different questions with the same draw as the authenticator of their requests, such that each yes that was sent to a peer is
 -- that of a login: whoever reads what was sent finds one of the same circuit (`granted`); each such datagram comes from an entry of a
 -- shard, and a login of that entry is the one of the question that the link asked last (`sent_by`); and so it is of each yes that a
--- shard had to send, sent or not (`own`).
+-- shard had to send, sent or not (`own`). Each term of which a Start was formed in a turn began in it by the reply of a login (`terms`): no
+-- subscriber gets an address without the server.
 pub record Granted (config : Config) (seed : List ℕ) (turns : List Made) (endings : List MadeEnd) : Type 0 where
   pub logins : List Login
   pub right : All (IsLogin config seed (stages_of turns endings)) logins
@@ -276,3 +298,5 @@ pub record Granted (config : Config) (seed : List ℕ) (turns : List Made) (endi
       → IsYesOn port mac session d.role d.octets → IsLetIn (held_of turns endings) logins k d port mac session
   pub own : (k : ℕ) (s : ShardState) (h : Handled) (o : OutRecord) (port : ℕ) (mac : Mac) (session : ℕ) → HandledIn (held_of turns endings) k s h
       → Contains h.deed.outs o → IsYesOn port mac session o.role o.frame → AnyOf (LetsInOwn s h port mac session k) logins
+  pub terms : (k : ℕ) (turn : Held) (round : Round) → slice_get (held_of turns endings) k ≡ Some turn → turn.round ≡ Some round
+      → All (BeganIn (held_of turns endings) logins k) (starts_of round)

@@ -1,5 +1,5 @@
 -- What a run says in the subject's own words.
-use Rattle.std.specs.Prelude.{◌≡◌, ℕ, ◌+◌, ◌++◌, true, false, List, [], Option, None, Some, length, map, take, drop, slice_get, count_by}
+use Rattle.std.specs.Prelude.{◌≡◌, ℕ, ◌+◌, ◌++◌, true, false, List, [], Option, None, Some, filter, length, map, take, drop, slice_get, count_by}
 use Rattle.std.specs.List.{All, AllZip, Contains, flat_map, range_with_len}
 use Rattle.byteorder.specs.Endian.{big_from}
 use Rattle.bng_base.specs.declared.address.Ip4.{Ip4}
@@ -23,12 +23,12 @@ use Rattle.bng_billing.specs.Calls.{BillingCall, StopsAreAcknowledged}
 use Rattle.bng_config.specs.declared.config.Config.{Config}
 use Rattle.bng_engine.specs.Accounted.{Balanced}
 use Rattle.bng_engine.specs.Exact.{ConservedAt}
-use Rattle.bng_engine.specs.Histories.{History, ShardHistory, ShardTurn}
+use Rattle.bng_engine.specs.Histories.{History, NextRound, ShardHistory, ShardTurn, sends_in}
 use Rattle.bng_engine.specs.Lists.{AnyOf}
 use Rattle.bng_engine.specs.Laws.{RightRound, sends_of, stops_of}
 use Rattle.bng_engine.specs.Quantities.{Quantity, Octets}
 use Rattle.bng_engine.specs.Sums.{stopped_where, has_lease, has_circuit, is_at, is_any}
-use Rattle.bng_engine.specs.Terms.{Key, Stop, keys, stopped_keys}
+use Rattle.bng_engine.specs.Terms.{Key, Stop, is_live, keys, stopped_keys}
 use Rattle.bng_engine.specs.Wire.{is_input, is_from, is_output, is_to, is_on, is_on_to, told_of, went}
 use Rattle.bng_shard.specs.declared.sums.Traffic.{Traffic}
 use Rattle.bng_shard.specs.Protocol.{Handled, ShardState, terms_of, terms_of_circuits, pppoe}
@@ -119,6 +119,16 @@ terms_of_run config rounds = map (λ n. keys (terms_of_circuits n (statics_of co
 abbrev pub all_terms_of : Config → List (List (ShardTurn Handled)) → List Key
 all_terms_of config rounds = flat_map (λ ks. ks) (terms_of_run config rounds)
 
+-- the terms that lived in a round, or began in it: of all shards those that were live before it, and those of its Starts
+abbrev pub live_in : History ShardState → List (ShardTurn Handled) → List Key
+live_in h ts = flat_map (λ (x : ShardHistory ShardState). keys (filter is_live (terms_of x.state))) h.shards ++ flat_map (λ (t : ShardTurn Handled). t.settlement.starts) ts
+
+-- A round of which each datagram that was sent is addressed by one of them: what went to the core is a packet from the address of such a
+-- term, and each packet that went out on an access port is on the circuit of such a term, to its address.
+pub record AddressesLive (h : History ShardState) (ts : List (ShardTurn Handled)) (h' : History ShardState) : Type 0 where
+  pub next : NextRound pppoe h ts h'
+  pub octets : All (IsAddressed (live_in h ts)) (went (sends_in ts))
+
 -- of each of these terms there is a Stop, or it is live, and there is no other
 abbrev pub HaveTerms : ShardHistory ShardState → List Key → Type 0
 HaveTerms h ks = Same (stopped_keys h.stops ++ keys (terms_of h.state)) ks
@@ -160,8 +170,8 @@ pub record IsSafe (config : Config) (seed : List ℕ) (old new : World) (course 
   -- a live term, on its circuit and with its address.
   pub history : History ShardState
   pub rounds : Chain (RightRound pppoe) (history_of course.opening) (rounds_of course.turns course.endings) history
-  -- Each circuit has one term, and each term of a subscriber that logged in has one Start: each term has one Stop, or is live in the end,
-  -- and there is no other. The Stop of a circuit's term says that the gateway stopped. For each circuit, address and direction what was
+  -- The terms are those that the circuits have from the opening on, and those of which a Start was formed: each has one Stop, or is live in
+  -- the end, and there is no other. The Stop of a circuit's term says that the gateway stopped. For each circuit, address and direction what was
   -- sent is what the Stops and the live terms say, in octets and in packets; and the books of the profiles, the tallies of the seats and
   -- what the terms carried have one total, all that was sent.
   pub terms : AllZip HaveTerms history.shards (terms_of_run config (rounds_of course.turns course.endings))
@@ -171,6 +181,8 @@ pub record IsSafe (config : Config) (seed : List ℕ) (old new : World) (course 
   -- Each datagram to the core was a packet from the address of a term, and each packet on an access port was on the circuit of a term, to
   -- its address.
   pub addressed : All (IsAddressed (all_terms_of config (rounds_of course.turns course.endings))) sent
+  -- And that term was live when its round was opened, or began in that round: so it is of each round's sends that were sent.
+  pub addressed_live : Chain AddressesLive (history_of course.opening) (rounds_of course.turns course.endings) history
   -- What was taken from Auth, each datagram once and in order, are the datagrams that the stages of the turns heard, and so what was taken
   -- from Acct, and what was taken from the access ports and the core, those that they took there. What was sent on all roles but
   -- Control, each datagram once and in order, is what each stage sent there for its round, then its requests, and then its

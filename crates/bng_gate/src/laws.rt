@@ -25,7 +25,8 @@ pub fn replies_are_of_questions()
 /// later one; and in a still later one its Access-Accept was taken, signed for this very request. No datagram of the server is that of
 /// two logins, and no two logins of different questions have one draw as the authenticators of their requests. Each such yes was to be
 /// sent for an entry of a shard: by the state in which that was handled, the login is the one of the question that the peer's link asked
-/// last, and the link was accepted on it before, or the entry is this very Access-Accept.
+/// last, and the link was accepted on it before, or the entry is this very Access-Accept. Each term of which a Start was formed in a turn
+/// began in it, by an entry that is the Access-Accept of a login, on the circuit of its question and with the name in it as its User-Name.
 pub fn logins_are_granted()
     ensures { (config : Config) (rounds : ℕ) (seed : List ℕ) (now wall : ℕ) (opening over last : Desk) (turns : List Made) (endings : List MadeEnd) → KeepsRules config → IsOpened config rounds seed now wall opening
         → Run opening turns over → EndRun over endings last → length turns ≤ turns_most → length endings ≤ endings_most → Granted config seed turns endings }
