@@ -64,7 +64,7 @@ class Hosts:
 
     def __init__(self, goods):
         self.goods = goods
-        self.block = 512
+        self.reader, self.block, self.sent = None, 512, 0
         self.sources = set()
         self.faults = self.echoes = self.said = 0
 
@@ -96,19 +96,22 @@ class Hosts:
         if checksum(pseudo_header(packet.source, packet.destination, length) + packet.payload):
             self.faults += 1
             return None
-        said = self.next_block(int.from_bytes(ports[2:], "big"), packet.payload[8:])
+        said = self.next_block((packet.source, ports[:2]), int.from_bytes(ports[2:], "big"), packet.payload[8:])
         if said is None:
             return None
         front = TRANSFER.to_bytes(2, "big") + ports[:2] + (len(said) + 8).to_bytes(2, "big") + bytes(2)
         return with_sum(front + said, 6, pseudo_header(packet.destination, packet.source, len(said) + 8))
 
-    def next_block(self, port, asked):
-        """What follows on a request to read, or on the acknowledgement of a block, if something does."""
+    def next_block(self, reader, port, asked):
+        """What follows on a request to read, or on the acknowledgement of the block that was sent last, if something does. What
+        the reader says again, since it had to wait, gets nothing (RFC 1123 section 4.2.3.1): nothing is lost here."""
         code, number = int.from_bytes(asked[:2], "big"), int.from_bytes(asked[2:4], "big")
         if (port, code) == (TFTP, READ):
+            if reader == self.reader:
+                return None
             words = asked[2:].split(b"\0")
             options = dict(zip(words[2::2], words[3::2]))
-            self.block = int(options.get(b"blksize", 512))
+            self.reader, self.block, self.sent = reader, int(options.get(b"blksize", 512)), 0
             if b"blksize" in options:
                 return OPTIONS.to_bytes(2, "big") + b"blksize\0%d\0" % self.block
             number = 0
@@ -116,6 +119,7 @@ class Hosts:
             self.faults += 1
             return None
         at = number * self.block
-        if at > len(self.goods):
+        if number != self.sent or at > len(self.goods):
             return None
-        return DATA.to_bytes(2, "big") + (number + 1).to_bytes(2, "big") + self.goods[at:at + self.block]
+        self.sent += 1
+        return DATA.to_bytes(2, "big") + self.sent.to_bytes(2, "big") + self.goods[at:at + self.block]
