@@ -55,7 +55,7 @@ shard_owned h t h' n =
     let all = keys (terms_of h.state) ++ t.settlement.starts in
     let owned : AllByRecursion (IsOwned (keys (terms_of end))) (outs_of pppoe h.state t.round.journal) = run_owned pppoe pppoe_laws h.state t.round.journal n.round.steps in
     let before : AllByRecursion (IsOwned (keys (terms_of n.mid))) (map unsent t.settlement.sends) =
-        subst (λ (s : ShardState). AllByRecursion (IsOwned (keys (terms_of s))) (map unsent t.settlement.sends)) (sym n.round.state) (subst (AllByRecursion (IsOwned (keys (terms_of end)))) (sym n.settlement.outs) owned) in
+    subst (λ (s : ShardState). AllByRecursion (IsOwned (keys (terms_of s))) (map unsent t.settlement.sends)) (sym n.round.state) (subst (AllByRecursion (IsOwned (keys (terms_of end)))) (sym n.settlement.outs) owned) in
     all_weaker (λ (o : OutRecord). IsOwned (keys (terms_of n.mid)) (unsent o)) (IsOwned all)
     (λ o is. owned_same (keys (terms_of n.mid)) all o n.settlement.starts.each is) t.settlement.sends
     (all_mapped (IsOwned (keys (terms_of n.mid))) unsent t.settlement.sends before)
@@ -118,10 +118,10 @@ round_addresses h h' ts live next =
     let sends = sends_in ts in
     let shards = in_shards pppoe h h' ts next in
     let owned : AllByRecursion (IsOwned all) sends =
-        subst (λ (ks : List Key). AllByRecursion (IsOwned (ks ++ begun ts)) sends) (sym (all_there h.shards live)) (round_owned h.shards ts h'.shards shards) in
+    subst (λ (ks : List Key). AllByRecursion (IsOwned (ks ++ begun ts)) sends) (sym (all_there h.shards live)) (round_owned h.shards ts h'.shards shards) in
     let known : AllByRecursion (λ (o : OutRecord). IfSome o.charge (λ c. Contains all (key_in c))) sends =
-        all_weaker (IsOwned all) (λ (o : OutRecord). IfSome o.charge (λ c. Contains all (key_in c)))
-        (λ o is. if_some_weaker (λ c. AnyOf (HasKey c) all) (λ c. Contains all (key_in c)) (λ c i. contained all (key_in c) i) o.charge is) sends owned in
+    all_weaker (IsOwned all) (λ (o : OutRecord). IfSome o.charge (λ c. Contains all (key_in c)))
+    (λ o is. if_some_weaker (λ c. AnyOf (HasKey c) all) (λ c. Contains all (key_in c)) (λ c i. contained all (key_in c) i) o.charge is) sends owned in
     let ours : AllByRecursion (IsOurs (Contains all)) sends = all_ours (Contains all) sends (round_whole h.shards ts h'.shards shards) known in
     record { next = next; octets = All-from_recursion (IsAddressed all) (went sends) (went_addressed all sends ours) }
 

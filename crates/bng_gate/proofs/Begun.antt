@@ -150,7 +150,7 @@ module _ (config : Config) (seed : List ℕ) (opening over last : Desk) (turns :
     keys_after : keys (terms_of ((pppoe).next s h)) ≡ keys (terms_of s) ++ map key_in claims.began
     keys_after = keys_of h.deed.next.terms ∙ claims.keys ∙ ap (λ (ks : List Key). ks ++ map key_in claims.began) (sym (keys_of s.slots.terms))
 
--- The terms that begin along a journal ------------------------------------------------------------------------------------
+  -- The terms that begin along a journal ------------------------------------------------------------------------------------
 
   module _ (k : ℕ) (turn : Held) (at : slice_get held k ≡ Some turn) (round : Round) (opened : turn.round ≡ Some round)
       (p : ℕ) (w : ShardView ShardState Handled) (there : slice_get round.shards p ≡ Some w) where
@@ -182,8 +182,8 @@ module _ (config : Config) (seed : List ℕ) (opening over last : Desk) (turns :
           let i = here s done h es is journal in
           let now : List Key = map key_in (claims k s h i).began in
           let rest = along ((pppoe).next s h) (done ++ h ∷ []) es
-              (ap (λ (x : ShardState). (pppoe).next x h) is ∙ sym (after_more pppoe before done h))
-              (journal ∙ sym (append_assoc done (h ∷ []) es)) in
+          (ap (λ (x : ShardState). (pppoe).next x h) is ∙ sym (after_more pppoe before done h))
+          (journal ∙ sym (append_assoc done (h ∷ []) es)) in
           record {
             began = now ++ rest.began;
             each = all_append (BeganIn held gs k) now rest.began (all_began k s h i) rest.each;
