@@ -15,6 +15,7 @@ mod hear;
 mod host_uniq;
 mod laws;
 mod leaving;
+mod limited;
 mod questions;
 mod replies;
 mod rules;

@@ -80,8 +80,8 @@ impl Model for Shard {
 
 /// How many outs an item has at most, a Tick and an End aside.
 const OUTS: usize = 10;
-/// How many a Tick and an End have in all.
-const TIMED_OUTS: usize = 640;
+/// How many a Tick and an End have in all, and the last session of a Tick might have beside them.
+const TIMED_OUTS: usize = 643;
 
 /// For how many items a round makes room at first: as many as a turn of the desk has at most, so that no later round makes the lists
 /// anew. Of the room only what is used is touched.
@@ -93,7 +93,7 @@ fn reserve(journal: &mut Vec<Entry>, outs: &mut Vec<OutRecord>, items: usize) ->
     requires none { (journal.old.items ≡ []) × (outs.old.items ≡ []) }
     ensures none_still { (journal.new.items ≡ []) × (outs.new.items ≡ []) }
     ensures journal { result ≡ true → items ≤ vec_capacity journal.new }
-    ensures outs { result ≡ true → 10 * items + 640 ≤ vec_capacity outs.new }
+    ensures outs { result ≡ true → 10 * items + 643 ≤ vec_capacity outs.new }
 {
     if journal.reserve(items).is_err() {
         return false;
@@ -107,7 +107,7 @@ fn reserve_amply(journal: &mut Vec<Entry>, outs: &mut Vec<OutRecord>, items: usi
     requires none { (journal.old.items ≡ []) × (outs.old.items ≡ []) }
     ensures none_still { (journal.new.items ≡ []) × (outs.new.items ≡ []) }
     ensures journal { result ≡ true → items ≤ vec_capacity journal.new }
-    ensures outs { result ≡ true → 10 * items + 640 ≤ vec_capacity outs.new }
+    ensures outs { result ≡ true → 10 * items + 643 ≤ vec_capacity outs.new }
 {
     if items < ITEMS_AT_FIRST && reserve(journal, outs, ITEMS_AT_FIRST) {
         return true;
