@@ -278,7 +278,7 @@ impl Session {
             Service::Provisioned { ended } => *ended = true,
             Service::Discovered(made) => made.ended = true,
         }
-        self.lease = None;
+        self.lapse();
     }
 
     /// Its question whose verdict is not there yet. One that has ended has none.
@@ -339,11 +339,13 @@ impl Session {
         ensures goes_on { IfNone result (self.new ≡ looked passed self.old) }
         ensures over { OnSome result (self.new ≡ self.old) }
     {
-        let Some(lease) = &mut self.lease else {
+        let Some(mut lease) = self.lease else {
             return None;
         };
         let last = lease.life.began().max(passed);
-        lease.life.look(now, last)
+        let cause = lease.life.look(now, last);
+        self.lease = Some(lease);
+        cause
     }
 
     /// It has no term any longer.

@@ -79,7 +79,7 @@ fn refused(text: &[u8]) -> Told
 
 // What comes of the answer to what an Accept asked of the pools.
 fn told_by(claim: Claim, text: ArrayVec<u8, 253>, grant: Grant<'_>) -> Told
-    requires interval { HasAllowedInterval (limits_of (gift grant.entry)) }
+    requires interval { HasAllowedInterval (limits_of (gift grant)) }
     ensures { result ≡ told_by claim text.items (gift grant.entry) }
 {
     match claim {
@@ -103,7 +103,7 @@ fn told_of(
     grant: Grant<'_>,
 ) -> Told
     requires few { length pools.now ≤ 16 }
-    requires interval { HasAllowedInterval (limits_of (gift grant.entry)) }
+    requires interval { HasAllowedInterval (limits_of (gift grant)) }
     ensures { result ≡ told_of pools.now limited claim text.items (gift grant.entry) }
 {
     if pools.is_empty() {
