@@ -8,7 +8,7 @@ use Rattle.bng_shard.specs.declared.session.Session.{Session}
 use Rattle.bng_shard.specs.Indexed.{address_of, term_of}
 use Rattle.bng_shard.specs.Opening.{none_passed}
 use Rattle.bng_shard.specs.Serving.{AreAsking, AreLeaving, AreYoung, asks, is_young}
-use Rattle.bng_shard.specs.State.{State, circuit_of, leaves}
+use Rattle.bng_shard.specs.State.{circuit_of, leaves}
 use Rattle.bng_shard.proofs.Circuits.{Opens, at, few_begun, opened_apart, opened_is, opened_leased, opened_listed, opened_none, opened_of_shard, opened_own, opens_none, opens_pass, opens_put, shares_address, shares_circuit, shares_term, vacant_there}
 use Rattle.bng_shard.proofs.served.Served.open.Goals as goal
 use Rattle.bng_shard.proofs.served.Served.open.Goals.{in-Some, in_default-circuit_with}
