@@ -2,3 +2,4 @@ pub mod Counts
 pub mod Ages
 pub mod Numbers
 pub mod Lanes
+pub mod Places

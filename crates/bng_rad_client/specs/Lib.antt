@@ -1,5 +1,6 @@
 pub mod Table
 pub mod Due
+pub mod Requests
 pub mod Replies
 pub mod Asking
 pub mod Sends

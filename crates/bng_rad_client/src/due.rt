@@ -1,4 +1,4 @@
-ghost use Rattle.std.specs.Prelude.{◌≡◌, ◌+◌, ◌≤◌};
+ghost use Rattle.std.specs.Prelude.{◌≡◌, ◌+◌, ◌≤◌, nat_le};
 ghost use Rattle.std.specs.Option.{option_copied};
 ghost use Rattle.bng_rad_client.specs.Due.{is_sought, older};
 ghost use Rattle.bng_rad_client.specs.DueRequests.{longest_of};
@@ -26,11 +26,18 @@ pub struct Due {
     pub sent_at: u64,
 }
 
+/// Whether the interval of a request has passed that was last sent at this moment.
+pub(crate) fn is_due(sent_at: u64, now: u64) -> bool
+    ensures { result ≡ nat_le (sent_at + 3000) now }
+{
+    sent_at <= now && INTERVAL <= now - sent_at
+}
+
 // Whether a request is one of those and its interval has passed.
 fn is_sought(request: &Pending, now: u64, sought: Sought) -> bool
     ensures { result ≡ is_sought sought now request.now }
 {
-    let due = request.sent_at <= now && INTERVAL <= now - request.sent_at;
+    let due = is_due(request.sent_at, now);
     match sought {
         Sought::Timeout(tries) => due && tries <= request.sends,
         Sought::Resend(tries) => due && request.sends < tries,

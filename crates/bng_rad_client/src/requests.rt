@@ -1,9 +1,11 @@
-ghost use Rattle.std.specs.Prelude.{◌≡◌, ◌<◌, ◌+◌, ◌%◌, ◌↔◌, IsTrue, IsSome, IfSome, IfNone, OnSome, IfOk, None, slice_set, replicate};
+ghost use Rattle.std.specs.Prelude.{◌≡◌, ◌<◌, ◌+◌, ◌%◌, ◌↔◌, IsTrue, IfSome, IfNone, OnSome, IfOk, Some, None, false, length, slice_set, replicate};
 ghost use Rattle.std.specs.Option.{option_copied};
+ghost use Rattle.bng_rad_client.specs.declared.due.Sought.TheVariants.{Any};
 ghost use Rattle.bng_rad_client.specs.Table.{request_of, taken, IsNextFree};
 ghost use Rattle.bng_rad_client.specs.Due.{is_sought, IsOldestOrNone};
+ghost use Rattle.bng_rad_client.specs.Requests.{ComesFirst, HasLeft, HasCome};
 
-use crate::due::{Due, Sought, older};
+use crate::due::{Due, Sought, is_due, older};
 use crate::pending::Pending;
 use std::alloc::{AllocError, Global};
 use std::marker::Model;
@@ -11,22 +13,78 @@ use std::marker::Model;
 // The identifiers of a lane.
 const IDENTIFIERS: usize = 256;
 
-/// The requests of a lane that are out, by their identifiers.
+/// The requests of a lane that are out, by their identifiers, with the one of them that was sent first and their number.
 #[derive(Drop)]
 pub struct Requests {
     places: Vec<Option<Pending>>,
     last: u8,
+    first: Option<Due>,
+    out: usize,
 }
 
 impl Model for Requests {
-    ghost use Rattle.std.specs.Prelude.{◌≡◌, length};
     ghost use Rattle.bng_rad_client.specs.Table.{Table};
+    ghost use Rattle.bng_rad_client.specs.Requests.{IsKept};
 
     ghost Value = { Table };
 
     ghost view = { λ r. record { places = r.places.items; last = r.last } };
 
-    ghost invariant = { λ r. length r.places.items ≡ 256 };
+    ghost invariant = { λ r. IsKept r.places.items r.first r.out };
+}
+
+// The request at this place, if there is one.
+fn request_at(places: &[Option<Pending>], id: u8) -> Option<&Pending>
+    requires size { length places.now ≡ 256 }
+    ensures { option_copied result ≡ request_of places.now id }
+{
+    places[usize::from(id)].as_ref()
+}
+
+// Of the requests that are sought and due, the one that was sent first: it looks at each place.
+fn oldest_of(places: &[Option<Pending>], now: u64, sought: Sought) -> Option<Due>
+    requires size { length places.now ≡ 256 }
+    ensures { IsOldestOrNone (is_sought sought now) places.now 256 result }
+{
+    let mut best = None;
+    for i in 0..IDENTIFIERS {
+        let id = i as u8;
+        best = older(best, id, request_at(places, id), now, sought);
+    }
+    best
+}
+
+// Whether a request was sent before another one, or at the same moment under a lower identifier.
+fn comes_first(first: Due, second: Due) -> bool
+    ensures yes { IsTrue result → ComesFirst first second }
+    ensures no { result ≡ false → ComesFirst second first }
+{
+    first.sent_at < second.sent_at || first.sent_at == second.sent_at && first.id < second.id
+}
+
+// The request that was sent first, once the one with an identifier left.
+fn first_without(first: Option<Due>, id: u8, places: &[Option<Pending>]) -> Option<Due>
+    requires size { length places.now ≡ 256 }
+    requires left { HasLeft first id places.now }
+    ensures { IsOldestOrNone (is_sought Any 0) places.now 256 result }
+{
+    match first {
+        Some(due) if due.id == id => oldest_of(places, 0, Sought::Any),
+        _ => first,
+    }
+}
+
+// The request that was sent first, once this one came.
+fn first_with(first: Option<Due>, came: Due, places: &[Option<Pending>]) -> Option<Due>
+    requires size { length places.now ≡ 256 }
+    requires come { HasCome first came places.now }
+    ensures { IsOldestOrNone (is_sought Any 0) places.now 256 result }
+{
+    match first {
+        Some(due) if due.id == came.id => oldest_of(places, 0, Sought::Any),
+        Some(due) if comes_first(due, came) => first,
+        _ => Some(came),
+    }
 }
 
 impl Requests {
@@ -38,21 +96,26 @@ impl Requests {
         for _ in 0..IDENTIFIERS {
             places.push(None)?;
         }
-        Ok(Requests { places, last: 255 })
+        Ok(Requests {
+            places,
+            last: 255,
+            first: None,
+            out: 0,
+        })
     }
 
     /// Whether an identifier is free.
     pub fn room(&self) -> bool
         ensures { IsTrue result ↔ (taken self.now.places < 256) }
     {
-        self.places.iter().filter(|place| place.is_some()).count() < IDENTIFIERS
+        self.out < IDENTIFIERS
     }
 
     /// The request that has this identifier, if there is one.
     pub fn get(&self, id: u8) -> Option<&Pending>
         ensures { option_copied result ≡ request_of self.now.places id }
     {
-        self.places[usize::from(id)].as_ref()
+        request_at(self.places.as_slice(), id)
     }
 
     /// Takes the request out that has this identifier, which is free from then on.
@@ -61,7 +124,10 @@ impl Requests {
         ensures places { self.new.places ≡ slice_set self.old.places id None }
         ensures last { self.new.last ≡ self.old.last }
     {
-        self.places[usize::from(id)].take()
+        let request = self.places[usize::from(id)].take()?;
+        self.out -= 1;
+        self.first = first_without(self.first, id, self.places.as_slice());
+        Some(request)
     }
 
     /// Puts a request at its identifier.
@@ -69,7 +135,15 @@ impl Requests {
         ensures places { self.new.places ≡ slice_set self.old.places id (Some request) }
         ensures last { self.new.last ≡ self.old.last }
     {
-        self.places[usize::from(id)] = Some(request);
+        let came = Due {
+            id,
+            sent_at: request.sent_at,
+        };
+        let place = &mut self.places[usize::from(id)];
+        let more = if place.is_none() { 1 } else { 0 };
+        *place = Some(request);
+        self.out += more;
+        self.first = first_with(self.first, came, self.places.as_slice());
     }
 
     /// Gives an identifier to a request.
@@ -77,20 +151,22 @@ impl Requests {
         ensures places { self.new.places ≡ slice_set self.old.places id (Some request) }
         ensures last { self.new.last ≡ id }
     {
-        self.places[usize::from(id)] = Some(request);
+        self.put(id, request);
         self.last = id;
     }
 
-    /// Of the requests that are sought and due, the one that was sent first, and of several the lowest identifier.
+    /// Of the requests that are sought and due, the one that was sent first, and of several the lowest identifier. It looks
+    /// at each request only where one is due.
     pub fn oldest(&self, now: u64, sought: Sought) -> Option<Due>
         ensures { IsOldestOrNone (is_sought sought now) self.now.places 256 result }
     {
-        let mut best = None;
-        for i in 0..IDENTIFIERS {
-            let id = i as u8;
-            best = older(best, id, self.get(id), now, sought);
+        match (sought, self.first) {
+            (Sought::Any, first) => first,
+            (_, Some(first)) if is_due(first.sent_at, now) => {
+                oldest_of(self.places.as_slice(), now, sought)
+            }
+            _ => None,
         }
-        best
     }
 
     /// The first free identifier after the one that was given last, modulo 256.

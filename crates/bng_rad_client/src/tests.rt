@@ -195,3 +195,29 @@ fn identifiers_go_round_and_the_257th_request_waits(rt: HostRuntime) -> Result<(
     assert!(rt; client.withdraw(Lane::Auth, 3) == None);
     Ok(())
 }
+
+#[test]
+fn the_deadline_is_that_of_the_oldest_request(rt: HostRuntime) -> Result<(), Fail> {
+    let mut client = Client::open(rt.alloc(), &rules(3))?;
+    let owner = Owner::Record(RecordNo(1));
+    let code = codes::ACCOUNTING_REQUEST;
+    assert!(rt; client.deadline(Lane::Acct) == None);
+    for (now, first) in [(50, 3050), (20, 3020), (20, 3020), (90, 3020)] {
+        ask_bare(&mut client, Lane::Acct, owner, code, now).ok_or("not sent")?;
+        assert!(rt; client.deadline(Lane::Acct) == Some(first));
+    }
+    assert!(rt; client.due(3019, false).is_none());
+    for id in [1, 2] {
+        match client.due(3020, false) {
+            Some(DueRequest::Resend { id: sent, .. }) => assert!(rt; sent == id),
+            _ => return Err(Fail::from("not sent again")),
+        }
+    }
+    assert!(rt; client.due(3020, false).is_none());
+    for (id, first) in [(0, Some(3090)), (3, Some(6020)), (1, Some(6020)), (2, None)] {
+        assert!(rt; client.withdraw(Lane::Acct, id) == Some(owner));
+        assert!(rt; client.deadline(Lane::Acct) == first);
+    }
+    assert!(rt; client.withdraw(Lane::Acct, 2) == None);
+    Ok(())
+}

@@ -10,10 +10,10 @@ pub mod ListParts
 pub mod LeavingFirst
 pub mod Beginning
 pub mod Walking
+pub mod SeenLeases
 pub mod Wishing
 pub mod TermBegins
 pub mod TermLaws
-pub mod Poolless
 pub mod CircuitsKept
 pub mod Housing
 pub mod HousedSettled

@@ -1,16 +1,11 @@
-use Rattle.std.proofs.Common.{ℕ, ◌≡◌, ◌+◌, subst, sym, ap, ◌∙◌, arith}
-use Rattle.bng_rad_client.specs.Due.{is_sought, older, IsOldestOrNone}
-use Rattle.bng_rad_client.proofs.Ages.{older_more}
+use Rattle.std.proofs.Common.{subst, sym}
+use Rattle.bng_rad_client.specs.declared.due.Sought.{Sought}
+use Rattle.bng_rad_client.specs.declared.due.Sought.TheVariants.{Any}
+use Rattle.bng_rad_client.specs.Table.{Table}
+use Rattle.bng_rad_client.specs.Due.{is_sought, IsOldestOrNone}
 use Rattle.bng_rad_client.proofs.requests.Requests.oldest.Goals as goal
 
-pub loop-i-preserved : goal.loop-i-preserved
-loop-i-preserved c =
-    let wanted = is_sought c.args.sought c.args.now in
-    subst (IsOldestOrNone wanted c.args.self.now.places (c.loop-i.i + 1))
-    (sym (c.older-best.ensures ∙ ap (older wanted c.loop-i.best c.loop-i.i) c.get.ensures))
-    (older_more wanted c.args.self.now.places c.loop-i.i c.loop-i.best c.loop-i.invariant)
-
-pub returns : goal.returns
-returns c =
-    let e : c.loop-i.i ≡ 256 = omega arith in
-    subst (λ (n : ℕ). IsOldestOrNone (is_sought c.args.sought c.args.now) c.args.self.now.places n c.loop-i.best) e c.loop-i.invariant
+pub returns-in-Any-default : goal.returns-in-Any-default
+returns-in-Any-default c =
+    subst (λ (s : Sought). IsOldestOrNone (is_sought s c.args.now) c.args.self.now.places 256 c.self.inside.first) (sym c.in-Any-default.is-0)
+    (subst (λ (t : Table). IsOldestOrNone (is_sought Any 0) t.places 256 c.self.inside.first) c.self.view_is c.self.invariant.oldest)
