@@ -1,7 +1,7 @@
 -- By its timers a link sends two frames at most, and by Close one.
-use Rattle.std.proofs.Common.{◌≡◌, ◌≤◌, ◌+◌, ℕ, Bool, true, false, nat_le, List, [], ◌∷◌, ◌++◌, length, length-append, Option, Some, None, inl, inr, refl, sym, ap, subst, ◌∙◌, arith}
+use Rattle.std.proofs.Common.{◌≡◌, ◌≤◌, ◌+◌, ℕ, Bool, true, false, nat_le, List, [], ◌∷◌, ◌++◌, length, length-append, Option, Some, None, inl, inr, refl, ap, arith}
 use Rattle.std.specs.Prelude.{◌&&◌, if◌then◌else◌}
-use Rattle.std.specs.List.{flat_map, list_all, sum_by}
+use Rattle.std.specs.List.{list_all, sum_by}
 use Rattle.std.proofs.lemmas.Bool.Decides.{nat_tests}
 use Rattle.std.proofs.lemmas.List.Sums.{sum_by-cons}
 use Rattle.bng_automaton.specs.declared.action.Action.{Action}
@@ -28,9 +28,9 @@ use Rattle.bng_ppp.specs.declared.authentication.Authentication.TheVariants as a
 use Rattle.bng_ppp.specs.declared.rules.LinkRules.{LinkRules}
 use Rattle.bng_ppp_wire.specs.declared.protocol.TheConstants as protocol
 use Rattle.bng_ppp.specs.declared.whole_input.WholeInput.TheVariants as told
-use Rattle.bng_ppp.specs.Automaton.{Doing, Follows, Moves, Rests, Why, acted, all_acted}
+use Rattle.bng_ppp.specs.Automaton.{Doing, Follows, Moves, Why, acted, all_acted}
 use Rattle.bng_ppp.specs.Encapsulation.{sent_some}
-use Rattle.bng_ppp.specs.IpcpAutomaton.{IpcpDoing, IpcpFollows, IpcpWhy, all_ipcp_acted, ipcp_acted}
+use Rattle.bng_ppp.specs.IpcpAutomaton.{IpcpDoing, IpcpWhy, all_ipcp_acted, ipcp_acted}
 use Rattle.bng_ppp.specs.Layers.{Above, IpcpMoves, LcpCloses, Turn, authenticates, begun, ipcp_of, leaves, silenced, with_auth_until, with_lcp}
 use Rattle.bng_ppp.specs.LinkState.{LinkState}
 use Rattle.bng_ppp.specs.LowerLayer.{Loses}

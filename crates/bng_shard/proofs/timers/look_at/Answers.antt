@@ -1,4 +1,4 @@
-use Rattle.std.proofs.Common.{◌≡◌, ◌+◌, ◌≤◌, ap, arith, length, length-append}
+use Rattle.std.proofs.Common.{ap, arith, length, length-append}
 use Rattle.bng_shard.proofs.FewOuts.{drives_by_close}
 use Rattle.bng_shard.proofs.timers.look_at.Goals as goal
 

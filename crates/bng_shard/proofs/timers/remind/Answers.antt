@@ -1,4 +1,4 @@
-use Rattle.std.proofs.Common.{◌≡◌, ◌∙◌, ap, arith, length, length-append, Option}
+use Rattle.std.proofs.Common.{◌∙◌, ap, arith, length, length-append, Option}
 use Rattle.bng_shard.specs.declared.session.Lease.{Lease}
 use Rattle.bng_shard.specs.Running.{TermsView, closed_rows}
 use Rattle.bng_shard.proofs.FewOuts.{drives_by_timer}
