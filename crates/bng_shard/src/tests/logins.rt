@@ -82,12 +82,7 @@ fn limited(rt: &impl Abort, alloc: Global) -> Result<Bench, Fail> {
 }
 
 // How many outs a Tick at this moment has; and the next deadline then.
-fn ticked(
-    rt: &impl Abort,
-    alloc: Global,
-    bench: &mut Bench,
-    now: u32,
-) -> (usize, Option<u64>) {
+fn ticked(rt: &impl Abort, alloc: Global, bench: &mut Bench, now: u32) -> (usize, Option<u64>) {
     let mut tally = NOTHING;
     let tick = item(ItemKind::Tick, &[]);
     let (_fate, outs) = bench.handled(rt, alloc, &mut tally, u64::from(now), tick);
