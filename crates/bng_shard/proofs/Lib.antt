@@ -33,6 +33,7 @@ pub mod KeyLaws
 pub mod Stepping
 pub mod Carrying
 pub mod Driving
+pub mod FewOuts
 pub mod Lasting
 pub mod Speaking
 pub mod Finding
@@ -41,6 +42,7 @@ pub mod Judging
 pub mod Discovering
 pub mod Arriving
 pub mod Timing
+pub mod Looking
 pub mod Framing
 pub mod ByKind
 pub mod Values

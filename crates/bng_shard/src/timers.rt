@@ -140,16 +140,7 @@ fn tick_once(
     let passed = served.passed_at(number);
     let mut session = served.take(number);
     let asked = served.asked();
-    let asked = remind(
-        &mut session,
-        terms,
-        asked,
-        rules,
-        at,
-        now,
-        random,
-        outs,
-    );
+    let asked = remind(&mut session, terms, asked, rules, at, now, random, outs);
     let asked = look_at(
         &mut session,
         terms,
