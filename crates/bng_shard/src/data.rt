@@ -173,14 +173,7 @@ fn hear_packet(
     let charge = charge_of(session, lease, false, header.total);
     let role = Role::Access(session.port);
     served.note_passed(charge.term.session, now);
-    push_out(
-        outs,
-        at,
-        role,
-        port.peer,
-        packet,
-        Some(charge),
-    );
+    push_out(outs, at, role, port.peer, packet, Some(charge));
     Fate::Forwarded
 }
 

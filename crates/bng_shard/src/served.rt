@@ -27,10 +27,9 @@ use bng_verdict::{AuthAsk, QuestionNo};
 use std::alloc::{AllocError, Global};
 use std::marker::Model;
 
-/// The sessions of a shard by number, provisioned circuits among them; how many terms began, how many questions were asked, the moment at
-/// which the last packet of each session passed, the
-/// numbers of the sessions that have ended and leave at the settlement, of those whose question has no verdict yet, and of those for
-/// which a request may come again.
+/// The sessions of a shard by number, provisioned circuits among them; how many terms began, how many questions were asked, by session
+/// number the moment in milliseconds at which its last packet passed, the numbers of the sessions that have ended and leave at the
+/// settlement, of those whose question has no verdict yet, and of those for which a request may come again.
 #[derive(Drop)]
 pub struct Served {
     pub(crate) sessions: Slots<Session>,
@@ -62,7 +61,6 @@ const NUMBERS: u16 = 1022;
 
 /// By this a session number is told from those of other shards.
 const SPAN: u16 = 1024;
-
 
 /// The circuit with this session number.
 pub(crate) fn circuit_with(circuits: &[Static], session: SessionNo) -> Option<&Static>

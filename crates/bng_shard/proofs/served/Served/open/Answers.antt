@@ -8,7 +8,7 @@ use Rattle.bng_shard.specs.declared.session.Session.{Session}
 use Rattle.bng_shard.specs.Indexed.{address_of, term_of}
 use Rattle.bng_shard.specs.Opening.{none_passed}
 use Rattle.bng_shard.specs.Serving.{AreAsking, AreLeaving, AreYoung, asks, is_young}
-use Rattle.bng_shard.specs.State.{State, circuit_of, leaves}
+use Rattle.bng_shard.specs.State.{circuit_of, leaves}
 use Rattle.bng_shard.proofs.Circuits.{Opens, at, few_begun, opened_apart, opened_is, opened_leased, opened_listed, opened_none, opened_of_shard, opened_own, opens_none, opens_pass, opens_put, shares_address, shares_circuit, shares_term, vacant_there}
 use Rattle.bng_shard.proofs.served.Served.open.Goals as goal
 use Rattle.bng_shard.proofs.served.Served.open.Goals.{in-Some, in_default-circuit_with}
@@ -76,7 +76,7 @@ invariant_of-result c =
     let asking_room = c.in_ok-asking.ensures.capacity in
     let none_young = c.in_ok-young.ensures.items in
     let young_room = c.in_ok-young.ensures.capacity in
-    let zeros : c.in_ok-passed.passed.items ≡ none_passed = c.in_ok-passed.ensures.items_if_clones_equal (λ y same. sym same) in
+    let zeros : c.in_ok-passed.passed.items ≡ none_passed = c.in_ok-passed.ensures.items_if_clones_equal (λ y same. same) in
     record {
       own = opened_own c.args.number c.args.circuits.now c.loop-n.sessions c.loop-n.begun opens;
       of_shard = opened_of_shard c.args.number c.args.circuits.now c.loop-n.sessions c.loop-n.begun opens;
@@ -99,6 +99,6 @@ pub returns : goal.returns
 returns c =
     let all : c.loop-n.n - (c.args.number * 1024 + 1) ≡ 1022 = search rules in
     let opens = subst (λ (k : ℕ). Opens c.args.number c.args.circuits.now k c.loop-n.sessions c.loop-n.begun) all c.loop-n.invariant in
-    let zeros : c.in_ok-passed.passed.items ≡ none_passed = c.in_ok-passed.ensures.items_if_clones_equal (λ y same. sym same) in
+    let zeros : c.in_ok-passed.passed.items ≡ none_passed = c.in_ok-passed.ensures.items_if_clones_equal (λ y same. same) in
     let opened = opened_is c.args.number c.args.circuits.now c.loop-n.sessions c.loop-n.begun opens 0 c.requires.own in
     record { opened = λ i. record { sessions = (opened i).sessions; begun = (opened i).begun; asked = (opened i).asked; terms = []; news = (opened i).news; passed = zeros i } }
