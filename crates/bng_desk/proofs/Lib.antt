@@ -7,7 +7,7 @@ pub mod ItemLaws
 pub mod Zips
 pub mod Readying
 pub mod Shares
-pub mod Unclaiming
+pub mod RulesStay
 pub mod Returning
 pub mod Sending
 pub mod Settling

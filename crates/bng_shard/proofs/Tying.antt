@@ -1,6 +1,6 @@
 -- Each session's lease stays that of a live term over a step, as no two terms have one number.
-use Rattle.std.proofs.Common.{◌≡◌, ◌≢◌, ◌⊎◌, ⊎_elim, inl, inr, ℕ, zero, suc, ◌+◌, ◌<◌, ◌≤◌, Bool, true, false, cond, not, ◌&&◌, ◌==◌, List, [], ◌∷◌, ◌++◌, length, Option, Some, None, map, refl, sym, ap, subst, ◌∙◌, arith}
-use Rattle.std.specs.List.{All, AllByRecursion, AllPairs, AllZip}
+use Rattle.std.proofs.Common.{◌≡◌, ◌≢◌, ◌⊎◌, ⊎_elim, inl, inr, ℕ, ◌+◌, ◌<◌, ◌≤◌, Bool, true, false, cond, not, ◌&&◌, ◌==◌, List, [], ◌∷◌, ◌++◌, Option, Some, None, map, refl, sym, ap, subst, ◌∙◌, arith}
+use Rattle.std.specs.List.{AllByRecursion}
 use Rattle.std.proofs.lemmas.Bool.{cases_eq}
 use Rattle.bng_base.specs.declared.address.Ip4.{Ip4}
 use Rattle.bng_base.specs.declared.address.SessionNo.{SessionNo}
@@ -10,20 +10,19 @@ use Rattle.bng_base.specs.declared.item.ItemKind.{ItemKind}
 use Rattle.bng_base.specs.declared.item.ItemKind.TheVariants.{Verdict, End}
 use Rattle.bng_base.specs.declared.item.OutRecord.{OutRecord}
 use Rattle.bng_engine.specs.Lists.{AnyOf}
-use Rattle.bng_ppp.specs.declared.whole_input.WholeInput.TheVariants.{Close}
-use Rattle.bng_slots.specs.Sessions.{Sessions, value_at, with_value}
+use Rattle.bng_slots.specs.Sessions.{value_at, with_value}
 use Rattle.bng_slots.proofs.SessionLaws.{value_at-with_value, value_at-with_other}
 use Rattle.bng_term.specs.declared.limits.Limits.{Limits}
 use Rattle.bng_shard.specs.Made.{Question}
-use Rattle.bng_shard.specs.Passing.{lapsed, looked}
+use Rattle.bng_shard.specs.Passing.{looked}
 use Rattle.bng_shard.specs.Serving.{AreOwn}
 use Rattle.bng_shard.specs.declared.sending.At.{At}
 use Rattle.bng_shard.specs.declared.rules.Rules.{Rules}
 use Rattle.bng_shard.specs.declared.session.Lease.{Lease}
 use Rattle.bng_shard.specs.declared.session.Session.{Session}
 use Rattle.bng_shard.specs.State.{State, IsTermOf, with_session, with_driven, with_ended}
-use Rattle.bng_shard.specs.Deed.{Deed, at_of, handled, ignored}
-use Rattle.bng_shard.specs.Link.{Drives, LinkStep, Told, ended, nas_request, told, user_request}
+use Rattle.bng_shard.specs.Deed.{Deed, at_of, ignored}
+use Rattle.bng_shard.specs.Link.{Drives, LinkStep, Told, ended, nas_request, user_request}
 use Rattle.bng_shard.specs.Running.{AreTied}
 use Rattle.bng_shard.specs.Step.{Hears, Step}
 use Rattle.bng_shard.specs.Tenures.{Tenure, closed, is_over, kept_lease, over_by}
