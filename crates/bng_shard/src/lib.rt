@@ -15,6 +15,7 @@ mod hear;
 mod host_uniq;
 mod laws;
 mod leaving;
+mod live;
 mod questions;
 mod replies;
 mod rules;
