@@ -2,6 +2,7 @@
 use Rattle.std.proofs.Common.{◌≡◌, ℕ, ◌+◌, ◌<◌, ◌≤◌, Bool, true, false, cond, List, [], ◌∷◌, ◌++◌, length, get_or, set, refl, ap, ◌∙◌, arith}
 use Rattle.std.specs.List.{sum_by}
 use Rattle.std.proofs.lemmas.List.Sums.{sum_by-append, sum_by-cons, sum_by-set, sum_by_more_le}
+use Rattle.bng_base.specs.declared.book.Book.{Book}
 use Rattle.bng_base.specs.declared.item.Entry.{Entry}
 use Rattle.bng_engine.specs.Quantities.{Quantity, Octets, in_book}
 use Rattle.bng_engine.specs.Sums.{is_any, stopped_where}
@@ -9,8 +10,9 @@ use Rattle.bng_engine.specs.Terms.{Key, Stop}
 use Rattle.bng_engine.specs.Views.{ShardView, rows_where}
 use Rattle.bng_shard.specs.declared.sums.Traffic.{Traffic}
 use Rattle.bng_shard.specs.Protocol.{ShardState}
-use Rattle.bng_desk.specs.Model.{all_stopped, plus_traffic}
-use Rattle.bng_desk.specs.Taking.{AllWithin, HasRoomFor, carried_in_all, far, live_by, octets_of}
+use Rattle.bng_shard.specs.Sums.{IsLow}
+use Rattle.bng_desk.specs.Model.{all_stopped, live_of, plus_traffic, total_of}
+use Rattle.bng_desk.specs.Taking.{AddsUp, AllWithin, HasRoomFor, carried_in_all, far, live_by, octets_of}
 use Rattle.bng_desk.proofs.Readying.{Shards}
 
 abbrev pub make : ℕ → ℕ → Traffic
@@ -59,3 +61,19 @@ pub room_for : (v w : ShardView ShardState Entry) (stops : List Stop) (t : Traff
     → ((q : Quantity) (pick : Key → Bool) (input : Bool) → stopped_where q pick input stops + rows_where q pick input w.rows ≡ rows_where q pick input v.rows)
     → AllWithin far (v ∷ []) t → HasRoomFor stops t
 room_for v w stops t rows within input = omega (arith, within input, rows Octets is_any input, sum_by-cons (live_by input) v [])
+
+-- what was carried in all, as the report tells it
+pub told_in_all : (input : Bool) (vs : Shards) (t : Traffic) → octets_of input t + octets_of input (live_of vs) ≡ carried_in_all input vs t
+told_in_all true vs t = refl
+told_in_all false vs t = refl
+
+-- it is what the seat's tally tells
+pub told_sum : (tally : Book) (vs : Shards) (t : Traffic) → AddsUp tally vs t → plus_traffic t (live_of vs) ≡ total_of (tally ∷ [])
+told_sum tally vs t all =
+    let total = total_of (tally ∷ []) in
+    traffic_is (plus_traffic t (live_of vs)) total.input total.output (omega (arith, told_in_all true vs t, all true, sum_by-cons (λ (b : Book). b.input) tally []))
+    (omega (arith, told_in_all false vs t, all false, sum_by-cons (λ (b : Book). b.output) tally []))
+
+-- and no more than that
+pub told_low : (most : ℕ) (tally : Book) (vs : Shards) (t : Traffic) → IsLow most tally → AddsUp tally vs t → (input : Bool) → octets_of input t + octets_of input (live_of vs) ≤ most
+told_low most tally vs t low all input = omega (arith, told_in_all input vs t, all input, low Octets input)
