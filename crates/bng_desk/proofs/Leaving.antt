@@ -47,6 +47,7 @@ module _ (d : Desk) (w : Works) (heard : BillingState) (lane : LaneState) (draws
         books = books_wider (octets_most * turns) (2 ^ 62 + 2 ^ 61) w.shards.items most k.books;
         tally = low_more (octets_most * turns) (2 ^ 62 + 2 ^ 61) w.tally most (k.tallies 0 (omega arith));
         tallied = k.tallied;
+        adds_up = k.adds_up;
         billed = billed;
         knows = knows;
         moment = early;
@@ -98,6 +99,7 @@ module _ (d : Desk) (w w' : Works) (heard : BillingState) (lane : LaneState) (dr
     terms = keeps.terms;
     tally_low = keeps.tally (octets_most * all_turns d) (k.tallies 0 (omega arith));
     tallied = keeps.tallied;
+    adds_up = keeps.adds_up;
     counts = keeps.counts (drops_most * all_turns d) k.counts;
     drawn_is = omega (arith, few, keeps.drawn);
     handed_is = keeps.handed;

@@ -13,6 +13,7 @@ pub mod Sending
 pub mod Settling
 pub mod Parts
 pub mod Lines
+pub mod InAll
 pub mod Billed
 pub mod Booking
 pub mod Begun

@@ -36,3 +36,4 @@ pub mod Replying
 pub mod Making
 pub mod Granting
 pub mod Claiming
+pub mod Live

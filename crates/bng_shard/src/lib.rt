@@ -16,6 +16,7 @@ mod host_uniq;
 mod laws;
 mod leaving;
 mod limited;
+mod live;
 mod questions;
 mod replies;
 mod rules;

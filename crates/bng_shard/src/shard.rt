@@ -13,6 +13,7 @@ ghost use Rattle.bng_slots.specs.Sessions.{IsNumberOf};
 ghost use Rattle.std.specs.List.{All, AllPairs};
 ghost use Rattle.bng_engine.specs.Lists.{AnyOf};
 ghost use Rattle.bng_pool.specs.Tables.{TableFrees};
+ghost use Rattle.bng_shard.specs.Live.{live_in};
 ghost use Rattle.bng_shard.specs.State.{reaped};
 ghost use Rattle.bng_shard.specs.Tenures.{LeavesTerms, Tenure};
 ghost use Rattle.bng_shard.specs.Sums.{charged_as, traffic_in, AreCovered, AreLow, IsLow, RowsAreLow};
@@ -387,6 +388,16 @@ impl Shard {
         ensures { result ≡ option_map traffic_in (row_at self.now.rows address) }
     {
         self.terms.carried_by(address)
+    }
+
+    /// The octets that the terms that are there, those of which no Stop was handed out yet, carried together: from their subscribers
+    /// (input) and towards them (output). Each sum is below 2^64.
+    pub fn live(&self) -> Traffic
+        requires input { (live_in self.now.rows).input < 2 ^ 64 }
+        requires output { (live_in self.now.rows).output < 2 ^ 64 }
+        ensures { result ≡ live_in self.now.rows }
+    {
+        self.terms.live()
     }
 
     /// The term at this place, from 0, of those that are there, by their numbers: which it is, its circuit and its address. One that
