@@ -1,9 +1,7 @@
 -- What the octets of a reply ask of the pools of addresses, and what they come to.
 use Rattle.std.proofs.Common.{◌≡◌, ◌≤◌, ℕ, max, Bool, true, false, not, List, Option, Some, None, option_map, inl, inr, refl, sym, ap, subst, ◌∙◌, arith}
-use Rattle.std.specs.Prelude.{if◌then◌else◌}
-use Rattle.bng_base.specs.declared.address.Ip4.{Ip4}
 use Rattle.bng_base.specs.declared.item.Claim.{Claim}
-use Rattle.bng_base.specs.declared.item.Claim.TheVariants.{NoClaim, Claimed, Held, Exhausted}
+use Rattle.bng_base.specs.declared.item.Claim.TheVariants.{NoClaim}
 use Rattle.bng_base.specs.declared.settings.NamedRange.{NamedRange}
 use Rattle.bng_grant.specs.Grants.{Gift, IsGrant}
 use Rattle.bng_grant.specs.Grants.IsGrant.{Replied as Given, NoReply as NotGiven}
@@ -15,8 +13,7 @@ use Rattle.bng_verdict.proofs.One.{one_verdict}
 use Rattle.bng_shard.specs.declared.wish.Wish.{Wish}
 use Rattle.bng_shard.specs.declared.wish.Wish.TheVariants.{Nothing}
 use Rattle.bng_shard.specs.Limited.{limits_of}
-use Rattle.bng_shard.specs.Link.{Told}
-use Rattle.bng_shard.specs.Wishes.{Decides, IsAnswerTo, Wishes, accepted_with, has_none, pool_for, refused_with, told_at, told_by, told_of, wish_of}
+use Rattle.bng_shard.specs.Wishes.{Decides, IsAnswerTo, Wishes, refused_with, told_of, wish_of}
 
 same : {A : Type 0} (a b : A) → Some a ≡ Some b → a ≡ b
 same a b e = cc

@@ -1,5 +1,5 @@
 -- How long a term may last.
-use Rattle.std.specs.Prelude.{ℕ, None}
+use Rattle.std.specs.Prelude.{None}
 use Rattle.bng_grant.specs.Grants.{Gift}
 use Rattle.bng_term.specs.declared.limits.Limits.{Limits}
 
