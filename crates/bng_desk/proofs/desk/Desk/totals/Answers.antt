@@ -1,11 +1,10 @@
-use Rattle.std.proofs.Common.{◌≡◌, ◌+◌, ◌*◌, ◌≤◌, ◌^◌, Bool, true, false, map, sym, ap, subst, ◌∙◌, arith}
+use Rattle.std.proofs.Common.{◌≡◌, ◌+◌, ◌*◌, ◌≤◌, ◌^◌, Bool, true, false, sym, ap, subst, ◌∙◌, arith}
 use Rattle.bng_shard.specs.declared.sums.Traffic.{Traffic}
 use Rattle.bng_desk.specs.declared.sums.Totals.{Totals}
-use Rattle.bng_desk.specs.Kept.{octets_most, rested}
+use Rattle.bng_desk.specs.Kept.{octets_most}
 use Rattle.bng_desk.specs.Model.{Desk, live_of, totals_of}
 use Rattle.bng_desk.specs.Taking.{octets_of}
 use Rattle.bng_desk.proofs.InAll.{told_low}
-use Rattle.bng_desk.proofs.Readying.{Shards}
 use Rattle.bng_desk.proofs.Resting.{live_rested}
 use Rattle.bng_desk.proofs.desk.Desk.totals.Goals as goal
 use Rattle.bng_desk.proofs.desk.Desk.totals.Goals.{After-as_slice}
