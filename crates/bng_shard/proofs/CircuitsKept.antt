@@ -1,5 +1,6 @@
--- The terms of provisioned circuits end by the gateway's own stop alone: what each entry keeps of it.
-use Rattle.std.proofs.Common.{◌≡◌, ◌≢◌, ◌⊎◌, ⊎_elim, inl, inr, ℕ, zero, suc, ◌+◌, ◌<◌, ◌≤◌, Bool, true, false, not, ◌&&◌, List, [], ◌∷◌, length, cond, map, Option, Some, None, refl, sym, ap, subst, ◌∙◌, arith}
+-- The terms of provisioned circuits end by the gateway's own stop alone, and each term by one of the causes that there are: what each entry
+-- keeps of it.
+use Rattle.std.proofs.Common.{◌≡◌, ◌≢◌, ◌⊎◌, ⊎_elim, inl, inr, ℕ, zero, suc, ◌+◌, ◌<◌, ◌≤◌, Bool, true, false, not, ◌&&◌, List, [], ◌∷◌, length, cond, map, Option, Some, None, IfSome, refl, sym, ap, subst, ◌∙◌, arith}
 use Rattle.std.specs.List.{All, AllByRecursion, AllPairs, Contains}
 use Rattle.std.proofs.lemmas.Bool.{cases_eq, ne_eqb}
 use Rattle.std.proofs.lemmas.List.Elements.{All-filter, All-from_recursion, recursion_from_All, All-push}
@@ -8,7 +9,7 @@ use Rattle.bng_base.specs.declared.item.ItemKind.{ItemKind}
 use Rattle.bng_base.specs.declared.item.ItemKind.TheVariants.{End, Verdict}
 use Rattle.bng_base.specs.declared.item.OutRecord.{OutRecord}
 use Rattle.bng_base.specs.declared.settings.Static.{Static}
-use Rattle.bng_ppp.specs.declared.whole_input.WholeInput.TheVariants.{Close}
+use Rattle.bng_ppp.specs.declared.whole_input.WholeInput.TheVariants.{Close, Start, Timer}
 use Rattle.bng_slots.specs.Listed.{values}
 use Rattle.bng_slots.specs.Sessions.{value_at, with_value}
 use Rattle.bng_slots.proofs.SessionLaws.{value_at-with_value, value_at-with_other}
@@ -18,57 +19,75 @@ use Rattle.bng_shard.specs.declared.session.Lease.{Lease}
 use Rattle.bng_shard.specs.declared.session.Service.TheVariants.{Provisioned}
 use Rattle.bng_shard.specs.declared.session.Session.{Session}
 use Rattle.bng_shard.specs.Deed.{Deed, at_of, handled, ignored}
-use Rattle.bng_shard.specs.Lasting.{CircuitsLast}
-use Rattle.bng_shard.specs.Link.{Drives, LinkStep, Told, ended, nas_request, settles, told, user_request}
+use Rattle.bng_shard.specs.Discovery.{new_session}
+use Rattle.bng_shard.specs.Lasting.{CircuitsLast, IsCause}
+use Rattle.bng_shard.specs.Link.{Drives, LinkStep, Told, ended, hears, nas_request, settles, told, user_request}
 use Rattle.bng_shard.specs.Opening.{in_order, numbered_after, opened_slots, tenures_after}
-use Rattle.bng_shard.specs.Passing.{lapsed, looked}
+use Rattle.bng_shard.specs.Passing.{lapsed, looked, passed_at}
 use Rattle.bng_shard.specs.State.{State, leaves, made_one, settled, with_driven, with_ended, with_session}
 use Rattle.bng_shard.specs.Step.{Hears, Step}
 use Rattle.bng_shard.specs.Tenures.{Tenure, closed, is_over, kept_lease, over_by}
 use Rattle.bng_shard.specs.Verdicts.{HearsVerdict, Judges, next_lease, next_term, settled_by, with_term}
 use Rattle.bng_shard.proofs.InOrder.{apart_of, opened_entries}
+use Rattle.bng_shard.proofs.KnownCauses.{heard_known, lapsed_known, told_known}
 use Rattle.bng_shard.proofs.SeenLeases.{looked_was}
 use Rattle.bng_shard.proofs.Naming.{next_of}
 use Rattle.bng_shard.proofs.Values.{kept_from, none_some, same_some, stands}
-use Rattle.bng_shard.proofs.Walking.{Stops, Walks, end_walks, hears_walks}
+use Rattle.bng_shard.proofs.Walking.{Stops, WalksBy, end_walks_by, hears_walks_by}
 
 pub lease_was : (cause : Option ℕ) (lease : Option Lease) (l : Lease) → kept_lease cause lease ≡ Some l → lease ≡ Some l
 lease_was None lease l e = e
 lease_was (Some cause) lease l e = absurd (none_some l e)
 
-module _ (circuits : ℕ) where
-  -- Terms ------------------------------------------------------------------------------------------------------------------
+-- Terms --------------------------------------------------------------------------------------------------------------------
 
+-- What holds of each term, and of that of a lease once it has ended, holds of each once that one has ended.
+module _ (P : Tenure → Type 0) where
+  one_over : (b : Bool) (cause : ℕ) (t : Tenure) → P (record t { cause = Some cause }) → P t → P (cond b (record t { cause = Some cause }) t)
+  one_over true cause t is h = is
+  one_over false cause t is h = h
+
+  over_holds : (serial cause : ℕ) (t : Tenure) → (t.term.serial ≡ serial → P (record t { cause = Some cause })) → P t → P (over_by serial cause t)
+  over_holds serial cause t is h =
+      elim (cases_eq t.term.serial serial) [
+        | inl e ↦ one_over _ cause t (is e) h
+        | inr ne ↦ subst P (sym (ap (λ (b : Bool). cond (b && not (is_over t)) (record t { cause = Some cause }) t) (ne_eqb t.term.serial serial ne))) h
+      ]
+
+  each_over : (serial cause : ℕ) (ts : List Tenure) → ((t : Tenure) → t.term.serial ≡ serial → P (record t { cause = Some cause })) → AllByRecursion P ts → AllByRecursion P (map (over_by serial cause) ts)
+  each_over serial cause [] is h = tt
+  each_over serial cause (t ∷ ts) is h = (over_holds serial cause t (is t) h.0, each_over serial cause ts is h.1)
+
+  -- it holds of the term of this lease, once it has ended by this cause
+  abbrev Ending : Option Lease → Option ℕ → Type 0
+  Ending lease cause = (l : Lease) (c : ℕ) → lease ≡ Some l → cause ≡ Some c → (t : Tenure) → t.term.serial ≡ l.serial → P (record t { cause = Some c })
+
+  each_closed : (lease : Option Lease) (cause : Option ℕ) (ts : List Tenure) → Ending lease cause → AllByRecursion P ts → AllByRecursion P (closed lease cause ts)
+  each_closed None cause ts ends h = h
+  each_closed (Some l) None ts ends h = h
+  each_closed (Some l) (Some c) ts ends h = each_over l.serial c ts (ends l c refl refl) h
+
+  closed_holds : (lease : Option Lease) (cause : Option ℕ) (ts : List Tenure) → Ending lease cause → All P ts → All P (closed lease cause ts)
+  closed_holds lease cause ts ends h = All-from_recursion P (closed lease cause ts) (each_closed lease cause ts ends (recursion_from_All P ts h))
+
+-- a term that has ended has one of the causes that there are
+abbrev HasKnownCause : Tenure → Type 0
+HasKnownCause t = IfSome t.cause IsCause
+
+closed_known : (lease : Option Lease) (cause : Option ℕ) (ts : List Tenure) → IfSome cause IsCause → All HasKnownCause ts → All HasKnownCause (closed lease cause ts)
+closed_known lease cause ts known = closed_holds HasKnownCause lease cause ts (λ l c leased is t same. subst (λ (o : Option ℕ). IfSome o IsCause) is known)
+
+module _ (circuits : ℕ) where
   -- a term of a circuit is live, or ended by the gateway's own stop
   abbrev Lasting : Tenure → Type 0
   Lasting t = t.term.serial ≤ circuits → (t.cause ≡ None) ⊎ (t.cause ≡ Some nas_request)
-
-  one_lasts : (b : Bool) (cause : ℕ) (t : Tenure) → (t.term.serial ≤ circuits → cause ≡ nas_request) → Lasting t → Lasting (cond b (record t { cause = Some cause }) t)
-  one_lasts true cause t is h = λ low. inr (ap Some (is low))
-  one_lasts false cause t is h = h
-
-  over_lasts : (serial cause : ℕ) (t : Tenure) → (serial ≤ circuits → cause ≡ nas_request) → Lasting t → Lasting (over_by serial cause t)
-  over_lasts serial cause t is h =
-      elim (cases_eq t.term.serial serial) [
-        | inl e ↦ one_lasts _ cause t (λ low. is (omega (arith, e, low))) h
-        | inr ne ↦ subst Lasting (sym (ap (λ (b : Bool). cond (b && not (is_over t)) (record t { cause = Some cause }) t) (ne_eqb t.term.serial serial ne))) h
-      ]
-
-  each_over : (serial cause : ℕ) (ts : List Tenure) → (serial ≤ circuits → cause ≡ nas_request) → AllByRecursion Lasting ts → AllByRecursion Lasting (map (over_by serial cause) ts)
-  each_over serial cause [] is h = tt
-  each_over serial cause (t ∷ ts) is h = (over_lasts serial cause t is h.0, each_over serial cause ts is h.1)
 
   -- only the gateway's own stop ends a term with the number of a circuit's
   abbrev Spares : Option Lease → Option ℕ → Type 0
   Spares lease cause = (l : Lease) (c : ℕ) → lease ≡ Some l → cause ≡ Some c → l.serial ≤ circuits → c ≡ nas_request
 
-  each_closed : (lease : Option Lease) (cause : Option ℕ) (ts : List Tenure) → Spares lease cause → AllByRecursion Lasting ts → AllByRecursion Lasting (closed lease cause ts)
-  each_closed None cause ts spares h = h
-  each_closed (Some l) None ts spares h = h
-  each_closed (Some l) (Some c) ts spares h = each_over l.serial c ts (spares l c refl refl) h
-
   closed_lasts : (lease : Option Lease) (cause : Option ℕ) (ts : List Tenure) → Spares lease cause → All Lasting ts → All Lasting (closed lease cause ts)
-  closed_lasts lease cause ts spares h = All-from_recursion Lasting (closed lease cause ts) (each_closed lease cause ts spares (recursion_from_All Lasting ts h))
+  closed_lasts lease cause ts spares = closed_holds Lasting lease cause ts (λ l c leased is t same low. inr (ap Some (spares l c leased is (omega (arith, same, low)))))
 
   -- Sessions ---------------------------------------------------------------------------------------------------------------
 
@@ -102,11 +121,17 @@ module _ (circuits : ℕ) where
   Keeps s s' = CircuitsLast circuits s → CircuitsLast circuits s'
 
   -- a session is another one, and a term may have ended
-  keeps_with : (s : State) (n : ℕ) (lease : Option Lease) (cause : Option ℕ) (y : Session) (asked : ℕ) → (CircuitsLast circuits s → IsLater y) → (CircuitsLast circuits s → Spares lease cause) → Keeps s (with_driven s n lease cause y asked)
-  keeps_with s n lease cause y asked later spares h = record { few = h.few; later = later_with s n y (later h) h.later; causes = closed_lasts lease cause s.terms (spares h) h.causes }
+  keeps_with : (s : State) (n : ℕ) (lease : Option Lease) (cause : Option ℕ) (y : Session) (asked : ℕ) → IfSome cause IsCause → (CircuitsLast circuits s → IsLater y) → (CircuitsLast circuits s → Spares lease cause)
+      → Keeps s (with_driven s n lease cause y asked)
+  keeps_with s n lease cause y asked known later spares h = record {
+    few = h.few;
+    later = later_with s n y (later h) h.later;
+    causes = closed_lasts lease cause s.terms (spares h) h.causes;
+    known = closed_known lease cause s.terms known h.known;
+  }
 
-  keeps_ended : (s : State) (n : ℕ) (x : Session) (cause : ℕ) → (CircuitsLast circuits s → Spares x.lease (Some cause)) → Keeps s (with_ended s n x.lease cause (ended x))
-  keeps_ended s n x cause spares = keeps_with s n x.lease (Some cause) (ended x) s.asked (λ h. none_later (ended x) refl) spares
+  keeps_ended : (s : State) (n : ℕ) (x : Session) (cause : ℕ) → IsCause cause → (CircuitsLast circuits s → Spares x.lease (Some cause)) → Keeps s (with_ended s n x.lease cause (ended x))
+  keeps_ended s n x cause known spares = keeps_with s n x.lease (Some cause) (ended x) s.asked known (λ h. none_later (ended x) refl) spares
 
   -- what a session that discovery made ends is no circuit's
   made_spares : (s : State) (n : ℕ) (x : Session) (cause : Option ℕ) → value_at s.sessions n ≡ Some x → made_one x.service ≡ 1 → CircuitsLast circuits s → Spares x.lease cause
@@ -118,25 +143,36 @@ module _ (circuits : ℕ) where
       let was = looked_was at x.lease l leased in
       omega (arith, h.later n x was.0 found made was.1, ap (λ (k : Lease). k.serial) was.2)
 
-  keeps_walk : (r : Rules) → Walks r Keeps
+  -- a step of a link that ends its term by one of the causes that there are
+  keeps_driven : (r : Rules) (a : At) (s : State) (n : ℕ) (x x' : Session) (outs : List OutRecord) (cause : Option ℕ) (asked' : ℕ) (Steps : LinkStep) → IfSome cause IsCause → value_at s.sessions n ≡ Some x
+      → Drives r a s.asked x Steps outs cause x' asked' → Keeps s (with_driven s n x.lease cause x' asked')
+  keeps_driven r a s n x x' outs cause asked' Steps known at drives =
+      let made : made_one x.service ≡ 1 = ap made_one drives.is_made in
+      keeps_with s n x.lease cause x' asked' known (λ h l is leased. h.later n x l at made (drives_was r a s.asked x x' outs cause asked' Steps drives l leased)) (made_spares s n x cause at made)
+
+  keeps_walk : (r : Rules) → WalksBy r Keeps
   keeps_walk r = record {
     same = λ s s' e h. subst (CircuitsLast circuits) (sym e) h;
     then = λ s s' s'' f g h. g (f h);
-    driven = λ Steps e s n x x' outs cause asked' at drives.
-        let made : made_one x.service ≡ 1 = ap made_one drives.is_made in
-        keeps_with s n x.lease cause x' asked' (λ h l is leased. h.later n x l at made (drives_was r (at_of s e) s.asked x x' outs cause asked' Steps drives l leased)) (made_spares s n x cause at made);
-    made = λ Steps e s n x x' outs cause asked' none drives.
-        keeps_with s n None cause x' asked' (λ h l is leased. absurd (none_some l (sym none ∙ drives_was r (at_of s e) s.asked x x' outs cause asked' Steps drives l leased))) (λ h l c leased. absurd (none_some l leased));
-    padt = λ s n x m at is. keeps_ended s n x user_request (made_spares s n x (Some user_request) at (ap made_one is));
-    passes = λ s n moment h. record { few = h.few; later = h.later; causes = h.causes };
-    looks = λ s n at x found h. record { few = h.few; later = later_with s n (looked at x) (looked_later s n at x found h) h.later; causes = h.causes };
+    timed = λ e s n x x' outs cause asked' at drives.
+        keeps_driven r (at_of s e) s n x x' outs cause asked' (told r e Timer) (told_known r e (at_of s e) s.asked x x' outs cause asked' Timer drives) at drives;
+    heard = λ octets e s n x x' outs cause asked' at drives.
+        keeps_driven r (at_of s e) s n x x' outs cause asked' (hears r e octets) (heard_known r e (at_of s e) s.asked x x' outs cause asked' octets drives) at drives;
+    made = λ e s n port mac host_uniq link x' outs cause asked' vacant new drives.
+        let x = new_session n port mac host_uniq link in
+        keeps_with s n None cause x' asked' (told_known r e (at_of s e) s.asked x x' outs cause asked' Start drives)
+        (λ h l is leased. absurd (none_some l (drives_was r (at_of s e) s.asked x x' outs cause asked' (told r e Start) drives l leased))) (λ h l c leased. absurd (none_some l leased));
+    padt = λ s n x m at is. keeps_ended s n x user_request (inl refl) (made_spares s n x (Some user_request) at (ap made_one is));
+    passes = λ s n moment h. record { few = h.few; later = h.later; causes = h.causes; known = h.known };
+    looks = λ s n at x found h. record { few = h.few; later = later_with s n (looked at x) (looked_later s n at x found h) h.later; causes = h.causes; known = h.known };
     lapses = λ e s n x x' outs cause none asked' at over drives.
-        keeps_with s n x.lease (Some cause) x' asked' (λ h l is leased. absurd (none_some l (drives_was r (at_of s e) s.asked (lapsed x) x' outs none asked' (told r e Close) drives l leased)))
+        keeps_with s n x.lease (Some cause) x' asked' (lapsed_known (passed_at s.passed x.number) x.lease e.moment cause over)
+        (λ h l is leased. absurd (none_some l (drives_was r (at_of s e) s.asked (lapsed x) x' outs none asked' (told r e Close) drives l leased)))
         (made_spares s n x (Some cause) at (ap made_one drives.is_made));
   }
 
   keeps_stops : Stops Keeps
-  keeps_stops s n x at = keeps_ended s n x nas_request (λ h l c leased is low. sym (same_some nas_request c is))
+  keeps_stops s n x at = keeps_ended s n x nas_request (inr (inr (inr (inr refl)))) (λ h l c leased is low. sym (same_some nas_request c is))
 
   -- a term begins, numbered on
   begun_keeps : (s : State) (n : ℕ) (y : Session) (asked : ℕ) (k : Lease) (t : Tenure) → k.serial ≡ s.begun + 1 → t.cause ≡ None → Keeps s (with_term s n y asked k t)
@@ -144,13 +180,14 @@ module _ (circuits : ℕ) where
     few = omega (arith, h.few);
     later = later_with s n (record y { lease = Some k }) (λ l made is. omega (arith, h.few, serial, ap (λ (j : Lease). j.serial) (same_some k l is))) h.later;
     causes = All-push Lasting s.terms t h.causes (λ low. inl live);
+    known = All-push HasKnownCause s.terms t h.known (subst (λ (o : Option ℕ). IfSome o IsCause) (sym live) tt);
   }
 
   module _ (r : Rules) (s : State) (limited : Bool) (d : Deed) where
     judged_keeps : (t : Told) (h : Judges r s d.entry t d) → (lease : Option Ip4) → Keeps s (settled_by s d.entry.item.target h.x h.question t d.entry.moment h.after h.asked lease)
     judged_keeps t h None =
         let after : (l : Lease) → h.after.lease ≡ Some l → h.x.lease ≡ Some l = drives_was r (at_of s d.entry) s.asked h.x h.after h.outs h.cause h.asked (settles r d.entry t) h.drives in
-        keeps_with s d.entry.item.target None None h.after h.asked (λ k l made leased. absurd (none_some l (sym h.no_term ∙ after l leased))) (λ k l c leased. absurd (none_some l leased))
+        keeps_with s d.entry.item.target None None h.after h.asked tt (λ k l made leased. absurd (none_some l (sym h.no_term ∙ after l leased))) (λ k l c leased. absurd (none_some l leased))
     judged_keeps t h (Some a) = begun_keeps s d.entry.item.target h.after h.asked (next_lease s t.limits d.entry.moment a) (next_term s h.x h.question t.class d.entry.moment a) refl refl
 
     verdict_keeps : HearsVerdict r s d.entry limited d → Keeps s d.next
@@ -165,16 +202,17 @@ module _ (circuits : ℕ) where
         ⊎_elim
         (λ (is : d.entry.item.kind ≡ Verdict). verdict_keeps (heard_as Verdict is))
         (λ (rest : (d.entry.item.kind ≡ End) ⊎ Keeps s d.next). ⊎_elim
-        (λ (is : d.entry.item.kind ≡ End). end_walks r Keeps (keeps_walk r) s limited d.entry d keeps_stops (heard_as End is))
+        (λ (is : d.entry.item.kind ≡ End). end_walks_by r Keeps (keeps_walk r) s limited d.entry d keeps_stops (heard_as End is))
         (λ (keeps : Keeps s d.next). keeps)
         rest)
-        (hears_walks r Keeps (keeps_walk r) s limited d.entry d d.entry.item.kind h.hears)
+        (hears_walks_by r Keeps (keeps_walk r) s limited d.entry d d.entry.item.kind h.hears)
 
   pub circuits_settled : (s : State) → CircuitsLast circuits s → CircuitsLast circuits (settled s)
   circuits_settled s h = record {
     few = h.few;
     later = λ n x l at. h.later n x l (kept_from (λ (y : Session). not (leaves y)) s.sessions n x at).0;
     causes = All-filter (λ t. not (is_over t)) Lasting s.terms h.causes;
+    known = All-filter (λ t. not (is_over t)) HasKnownCause s.terms h.known;
   }
 
 -- Openings -----------------------------------------------------------------------------------------------------------------
@@ -182,6 +220,10 @@ module _ (circuits : ℕ) where
 each_live : (circuits now k : ℕ) (cs : List Static) → AllByRecursion (Lasting circuits) (tenures_after now k cs)
 each_live circuits now k [] = tt
 each_live circuits now k (c ∷ cs) = (λ low. inl refl, each_live circuits now (k + 1) cs)
+
+none_over : (now k : ℕ) (cs : List Static) → AllByRecursion HasKnownCause (tenures_after now k cs)
+none_over now k [] = tt
+none_over now k (c ∷ cs) = (tt, none_over now (k + 1) cs)
 
 -- each session is of a circuit
 of_circuit : (k : ℕ) (cs : List Static) (x : Session) → Contains (map (λ e. e.1) (numbered_after k cs)) x → x.service ≡ Provisioned false
@@ -201,4 +243,5 @@ circuits_opened number circuits now apart = record {
   few = omega arith;
   later = λ n x l at made leased. absurd (omega (arith, ap made_one (are_circuits number circuits now apart n x at), made));
   causes = All-from_recursion (Lasting (length circuits)) (tenures_after now 0 (in_order number circuits)) (each_live (length circuits) now 0 (in_order number circuits));
+  known = All-from_recursion HasKnownCause (tenures_after now 0 (in_order number circuits)) (none_over now 0 (in_order number circuits));
 }

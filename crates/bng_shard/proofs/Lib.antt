@@ -14,6 +14,7 @@ pub mod SeenLeases
 pub mod Wishing
 pub mod TermBegins
 pub mod TermLaws
+pub mod KnownCauses
 pub mod CircuitsKept
 pub mod Housing
 pub mod HousedSettled

@@ -59,7 +59,8 @@ pub fn terms_are_numbered()
     ensures later { (m n : ℕ) (s : State) → m ≤ n → AreTenures m s → AreTenures n s }
 {}
 
-/// The term of a provisioned circuit ends by the gateway's own stop alone. It is so at the opening, and from then on.
+/// The term of a provisioned circuit ends by the gateway's own stop alone. Each term ends by one of the causes that there are: User
+/// Request, Lost Carrier, Idle Timeout, Session Timeout, NAS Request (RFC 2866 section 5.10). It is so at the opening, and from then on.
 pub fn circuits_last()
     ensures opened { (number : ℕ) (circuits : List Static) (now : ℕ) → number < 64 → All (λ c. IsNumberOf number c.session.0) circuits → AllPairs (λ a b. a.session ≢ b.session) circuits
         → CircuitsLast (length circuits) (opened_slots number circuits now) }

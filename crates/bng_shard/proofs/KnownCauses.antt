@@ -1,0 +1,79 @@
+-- What ends a term ends it by one of the causes that there are: a step of its link, or a timeout.
+use Rattle.std.proofs.Common.{◌≡◌, inl, inr, ℕ, Bool, true, false, List, Option, Some, None, IfSome, if◌then◌else◌, refl, sym, ap, subst}
+use Rattle.bng_base.specs.declared.item.Entry.{Entry}
+use Rattle.bng_base.specs.declared.item.OutRecord.{OutRecord}
+use Rattle.bng_ppp.specs.declared.rules.LinkRules.{LinkRules}
+use Rattle.bng_ppp.specs.declared.whole_input.WholeInput.{WholeInput}
+use Rattle.bng_ppp.specs.declared.whole_input.WholeInput.TheVariants.{Start, Frame, Timer, Verdict, Close, Lost}
+use Rattle.bng_ppp.specs.Layers.{Turn}
+use Rattle.bng_ppp.specs.PppRelation.{PppGoes, PppSaid, PppSteps, ended_by}
+use Rattle.bng_ppp.specs.PppState.{PppState}
+use Rattle.bng_ppp.specs.WholeTimers.{IsLossCause}
+use Rattle.bng_term.specs.Lifetimes.{is_over}
+use Rattle.bng_shard.specs.declared.rules.Rules.{Rules}
+use Rattle.bng_shard.specs.declared.sending.At.{At}
+use Rattle.bng_shard.specs.declared.session.Lease.{Lease}
+use Rattle.bng_shard.specs.declared.session.Session.{Session}
+use Rattle.bng_shard.specs.Lasting.{IsCause}
+use Rattle.bng_shard.specs.Link.{Drives, hears, told}
+use Rattle.bng_shard.specs.Passing.{cause_at, last_passed}
+use Rattle.bng_shard.proofs.LinkSteps.{frame_of, frame_steps}
+use Rattle.bng_shard.proofs.Values.{none_some}
+
+abbrev IsKnown : Option ℕ → Type 0
+IsKnown cause = IfSome cause IsCause
+
+-- Links ------------------------------------------------------------------------------------------------------------------
+
+ended_known : (live left ended : Bool) (cause : ℕ) → IsCause cause → IsKnown (ended_by live left ended cause)
+ended_known false left ended cause is = tt
+ended_known true true ended cause is = is
+ended_known true false true cause is = inl refl
+ended_known true false false cause is = tt
+
+loss_known : (old : PppState) (now cause : ℕ) → IsLossCause old now cause → IsCause cause
+loss_known old now cause (inl (finishes, is)) = inl is
+loss_known old now cause (inr (goes_on, is)) = inr (inl is)
+
+module _ (r : LinkRules) (now : ℕ) (random : List ℕ) (old : PppState) (t : Turn) (cause : Option ℕ) where
+  none_known : cause ≡ None → IsKnown cause
+  none_known is = subst IsKnown (sym is) tt
+
+  by_known : (n : ℕ) → IsCause n → cause ≡ ended_by t.link.live t.left t.ended n → IsKnown cause
+  by_known n known is = subst IsKnown (sym is) (ended_known t.link.live t.left t.ended n known)
+
+  goes_known : (what : WholeInput) → PppGoes r what now random old t cause → IsKnown cause
+  goes_known Start (steps, is) = none_known is
+  goes_known (Frame octets) (frame, is) = by_known 1 (inl refl) is
+  goes_known Timer (reminds, (n, loss, is)) = by_known n (loss_known old now n loss) is
+  goes_known (Verdict accepted lease text) (settles, is) = none_known is
+  goes_known Close (steps, is) = none_known is
+  goes_known Lost (steps, is) = none_known is
+
+steps_known : (r : LinkRules) (what : WholeInput) (now : ℕ) (random : List ℕ) (old : PppState) (says : PppSaid) (new : PppState) → PppSteps r what now random old says new → IsKnown says.term_ended
+steps_known r what now random old says new h = subst IsKnown (sym (ap (λ (x : PppSaid). x.term_ended) h.said)) (goes_known r now random old h.turn h.cause what h.goes)
+
+module _ (r : Rules) (e : Entry) where
+  module _ (a : At) (asked : ℕ) (x x' : Session) (outs : List OutRecord) (cause : Option ℕ) (asked' : ℕ) where
+    -- a step of a link that was told this, and of one that hears these octets
+    pub told_known : (what : WholeInput) → Drives r a asked x (told r e what) outs cause x' asked' → IfSome cause IsCause
+    told_known what h = subst IsKnown (sym h.closes) (steps_known r.link what e.moment e.item.random h.made.link h.says h.link h.steps)
+
+    pub heard_known : (octets : List ℕ) → Drives r a asked x (hears r e octets) outs cause x' asked' → IfSome cause IsCause
+    heard_known octets h =
+        subst IsKnown (sym h.closes)
+        (steps_known r.link (frame_of octets) e.moment e.item.random h.made.link h.says h.link (frame_steps r.link e.moment e.item.random h.made.link h.says h.link octets h.steps))
+
+-- Timeouts ---------------------------------------------------------------------------------------------------------------
+
+timeout_known : (idle session : Bool) → IsKnown (if idle then Some 4 else (if session then Some 5 else None))
+timeout_known true session = inr (inr (inl refl))
+timeout_known false true = inr (inr (inr (inl refl)))
+timeout_known false false = tt
+
+-- a term that is over
+pub lapsed_known : (at : ℕ) (lease : Option Lease) (now cause : ℕ) → cause_at at lease now ≡ Some cause → IsCause cause
+lapsed_known at None now cause is = absurd (none_some cause is)
+lapsed_known at (Some l) now cause is =
+    let limits = l.life.limits in
+    subst IsKnown is (timeout_known (is_over limits.idle_timeout (last_passed at l) now) (is_over limits.session_timeout l.life.began now))
