@@ -108,7 +108,7 @@ def compare(tool, shards, rounds, seconds):
         plain.end()
         status, out, _ = ours.end()
         table(results)
-        said = out.splitlines()[0]
+        said = next(line for line in out.splitlines() if line.startswith("total "))
         print(f"The report says {said}, and in={octets['up']} out={octets['down']} came, {lost} packets lost on the way.")
         return status
 

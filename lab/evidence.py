@@ -9,7 +9,7 @@ FILE = r"the file has the MD5 sum ([0-9a-f]{32})"
 PINGED = r"(\d+) packets transmitted, (\d+) packets received"
 COUNTED = r"ppp0 sent (\d+) octets in (\d+) packets, and took (\d+) octets in (\d+) packets"
 PPPD = r"Sent (\d+) bytes, received (\d+) bytes"
-TOTAL = r"total in=(\d+) out=(\d+)"
+TOTAL = r"^total in=(\d+) out=(\d+)"
 
 
 def found(lines, pattern):

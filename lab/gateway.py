@@ -86,9 +86,14 @@ def delivery(payload):
     return frame(payload, port="020000000001", subscriber="0200000000fe")
 
 
+def totals(total=0, out=0):
+    """The first lines of the report after serving: by then each term has its Stop, and there is one worker."""
+    return [f"stopped in={total} out={out}", "live in=0 out=0", f"total in={total} out={out}", f"worker 0 in={total} out={out}"]
+
+
 def report(total=0, out=0, **drops):
     """The report after serving: octets from the one subscriber and to it, and the packets dropped by cause."""
-    lines = [f"total in={total} out={out}", f"static 10.0.0.2 in={total} out={out}"]
+    lines = [*totals(total, out), f"static 10.0.0.2 in={total} out={out}"]
     lines += [f"drop {cause} {drops.get(cause, 0)}" for cause in CAUSES]
     return "".join(line + "\n" for line in lines)
 

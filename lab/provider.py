@@ -40,6 +40,8 @@ NAMED = {
     (radius.ACCT_STATUS_TYPE, 2): "Stop",
     (radius.ACCT_TERMINATE_CAUSE, 1): "User-Request",
     (radius.ACCT_TERMINATE_CAUSE, 2): "Lost-Carrier",
+    (radius.ACCT_TERMINATE_CAUSE, 4): "Idle-Timeout",
+    (radius.ACCT_TERMINATE_CAUSE, 5): "Session-Timeout",
     (radius.ACCT_TERMINATE_CAUSE, 10): "NAS-Request",
     (radius.NAS_PORT_TYPE, 5): "Virtual",
 }
@@ -101,6 +103,25 @@ def records_of(records, mac, status):
         if (record.says("Calling-Station-Id"), record.says("Acct-Status-Type")) == (mac, status)
     }
     return list(found.values())
+
+
+def sessions(records):
+    """A line for each session that the records tell of, the first in front: who it is, its address and port, and whether it goes on, or
+    how long it went on, what it carried and why it ended."""
+    known = {}
+    for record in records:
+        known.setdefault(record.says("Acct-Session-Id"), {})[record.says("Acct-Status-Type")] = record
+    return [session(*(told.get(status) for status in ("Start", "Stop"))) for told in known.values()]
+
+
+def session(start, stop):
+    record = stop or start
+    names = ("User-Name", "Framed-IP-Address", "NAS-Port-Id", "Acct-Session-Id")
+    front = "  ".join(str(record.says(name)) for name in names)
+    if stop is None:
+        return f"{front}  online"
+    octets = " ".join(f"{way}={stop.number(f'Acct-{name}-Octets')}" for way, name in (("in", "Input"), ("out", "Output")))
+    return f"{front}  ended after {stop.number('Acct-Session-Time')} s, {octets}, {stop.says('Acct-Terminate-Cause')}"
 
 
 def show(record):

@@ -178,8 +178,9 @@ def serve_radius(parties):
     return parties.enter_context(freeradius.Server(parties.enter_context(Lab()).folder))
 
 
-def attempt(command):
-    """Whether a subscriber at the gateway that this starts has all that it is to have, and all is counted right."""
+def attempt(command, watch=lambda lab, far, read: Cable(lab, far)):
+    """Whether a subscriber at the gateway that this starts has all that it is to have, and all is counted right. `watch` makes the
+    cable, of a function that reads the records of accounting that there are."""
     with contextlib.ExitStack() as parties:
         server = serve_radius(parties)
         ours = Lab(keys=f'dns = ["{NAMES}"]\n', server=server and server.port, keeper=server and server.keeper)
@@ -188,7 +189,8 @@ def attempt(command):
         print(f"The RADIUS server is {'a FreeRADIUS' if server else 'this script'}, for accounting too")
         print("Starts the gateway:", *command(lab.configuration), flush=True)
         lab.start(command(lab.configuration), STARTING)
-        cable = Cable(lab, far)
+        read = lambda: provider.read_file(server.records()) if server else [provider.write_record(one) for one in lab.records]
+        cable = watch(lab, far, read)
         print(f"Boots a Linux with pppd on the access port, for {PATIENCE} seconds at most", flush=True)
         computer = machine.boot(lab.folder, MAC, cable.near, far.getsockname()[1])
         try:
@@ -199,32 +201,38 @@ def attempt(command):
         lab.stop()
         status, out, err = lab.end(patience=40)
         print(f"\nThe gateway's report, and then status {status}:\n{out}{err if status else ''}")
-        records = provider.read_file(server.records()) if server else [provider.write_record(one) for one in lab.records]
+        records = read()
     if server:
         server.show()
     return conclude(cable, records, out) and status == 0
 
 
-def main():
+def run(name, *watch):
+    """Tries it under this name, where there is all that it needs. The status."""
     lacking = machine.lacking()
     if lacking:
-        print(f"qemu-subscriber: skipped, since there is no {', no '.join(lacking)}")
+        print(f"{name}: skipped, since there is no {', no '.join(lacking)}")
         print(f"To install: apt-get install --no-install-recommends {' '.join(lacking)}")
         return 0
     if is_built():
-        return 0 if attempt(lambda configuration: [PROGRAM, "serve", configuration]) else 1
+        return 0 if attempt(lambda configuration: [PROGRAM, "serve", configuration], *watch) else 1
     if shutil.which("rt") is None:
-        print("qemu-subscriber: skipped, since the program is not built and there is no rt")
+        print(f"{name}: skipped, since the program is not built and there is no rt")
         return 0
-    print("qemu-subscriber: the built program is missing or older than its sources: runs under rt try")
+    print(f"{name}: the built program is missing or older than its sources: runs under rt try")
     os.chdir(CRATE)
-    return 0 if attempt(lambda configuration: tried(configuration, STARTING)) else 1
+    return 0 if attempt(lambda configuration: tried(configuration, STARTING), *watch) else 1
+
+
+def main(name, *watch):
+    """Runs it, and ends with its status."""
+    signal.signal(signal.SIGTERM, lambda *_: sys.exit(143))
+    try:
+        sys.exit(run(name, *watch))
+    except (RuntimeError, OSError) as error:
+        print(f"{name}: {error}", file=sys.stderr)
+        sys.exit(1)
 
 
 if __name__ == "__main__":
-    signal.signal(signal.SIGTERM, lambda *_: sys.exit(143))
-    try:
-        sys.exit(main())
-    except (RuntimeError, OSError) as error:
-        print(f"qemu-subscriber: {error}", file=sys.stderr)
-        sys.exit(1)
+    main("qemu-subscriber")

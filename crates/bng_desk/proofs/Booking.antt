@@ -11,11 +11,13 @@ use Rattle.bng_billing.specs.State.{BillingState}
 use Rattle.bng_engine.specs.Lists.{AnyOf}
 use Rattle.bng_engine.specs.Terms.{Key, Stop}
 use Rattle.bng_engine.proofs.Everywhere.{any_either, any_left, any_right}
+use Rattle.bng_shard.specs.declared.sums.Traffic.{Traffic}
 use Rattle.bng_shard.specs.Protocol.{SaysOf}
 use Rattle.bng_shard.specs.Tenures.{LeavesTerms, Tenure}
 use Rattle.bng_desk.specs.Accounting.{AreFactsOf, FormedRecord, Forms, IsStartOf, IsStopOf}
-use Rattle.bng_desk.specs.Model.{line_after}
+use Rattle.bng_desk.specs.Model.{all_stopped, line_after, plus_traffic}
 use Rattle.bng_desk.specs.Taking.{Accounts, BooksStarts, BooksStops}
+use Rattle.bng_desk.proofs.InAll.{stopped_none, stopped_more}
 use Rattle.bng_desk.proofs.Lines.{lines_none, lines_more}
 use Rattle.bng_desk.proofs.Parts.{zip_append, zip_weaker}
 
@@ -70,15 +72,16 @@ start_wider ts us moment wall among k f is = record { status = is.status; facts 
 -- Stops -------------------------------------------------------------------------------------------------------------------
 
 pub books_none : (terms : List Tenure) (moment wall : ℕ) (a : Accounts) → BooksStops terms moment wall [] a a
-books_none terms moment wall a = record { formed = []; forms = refl; are_stops = tt; lines_are = lines_none a.lines }
+books_none terms moment wall a = record { formed = []; forms = refl; are_stops = tt; lines_are = lines_none a.lines; stopped_is = stopped_none a.stopped }
 
 pub books_one : (terms : List Tenure) (moment wall n : ℕ) (s : Stop) (facts : TermFacts) (at : Moment) (a a' : Accounts) → AreFactsOf terms s.key s.carried facts → at ≡ record { now = moment; wall = wall; cause = s.cause }
-    → IsFormedBy a.billing OfStop facts at n a'.billing → a'.lines ≡ map (line_after (s ∷ [])) a.lines → BooksStops terms moment wall (s ∷ []) a a'
-books_one terms moment wall n s facts at a a' are when formed lines = record {
+    → IsFormedBy a.billing OfStop facts at n a'.billing → a'.lines ≡ map (line_after (s ∷ [])) a.lines → a'.stopped ≡ plus_traffic a.stopped (all_stopped (s ∷ [])) → BooksStops terms moment wall (s ∷ []) a a'
+books_one terms moment wall n s facts at a a' are when formed lines stopped = record {
   formed = record { status = OfStop; facts = facts; moment = at; number = n } ∷ [];
   forms = (a'.billing, formed, refl);
   are_stops = (record { status = refl; facts = are; at = when }, tt);
   lines_are = lines;
+  stopped_is = stopped;
 }
 
 -- of more terms
@@ -88,6 +91,7 @@ books_wider ts us moment wall ss a a' among b = record {
   forms = b.forms;
   are_stops = zip_weaker (IsStopOf ts moment wall) (IsStopOf us moment wall) (stop_wider ts us moment wall among) ss b.formed b.are_stops;
   lines_are = b.lines_are;
+  stopped_is = b.stopped_is;
 }
 
 -- some, and then more
@@ -97,20 +101,22 @@ books_more terms moment wall ss ts a b c x y = record {
   forms = forms_append a.billing b.billing c.billing x.formed y.formed x.forms y.forms;
   are_stops = zip_append (IsStopOf terms moment wall) ss ts x.formed y.formed x.are_stops y.are_stops;
   lines_are = y.lines_are ∙ ap (map (line_after ts)) x.lines_are ∙ sym (lines_more ss ts a.lines);
+  stopped_is = y.stopped_is ∙ ap (λ (t : Traffic). plus_traffic t (all_stopped ts)) x.stopped_is ∙ sym (stopped_more ss ts a.stopped);
 }
 
 -- Starts ------------------------------------------------------------------------------------------------------------------
 
 pub starts_none : (terms : List Tenure) (moment wall : ℕ) (a : Accounts) → BooksStarts terms moment wall [] a a
-starts_none terms moment wall a = record { formed = []; forms = refl; are_starts = tt; lines_are = refl }
+starts_none terms moment wall a = record { formed = []; forms = refl; are_starts = tt; lines_are = refl; stopped_is = refl }
 
 pub starts_one : (terms : List Tenure) (moment wall n : ℕ) (k : Key) (facts : TermFacts) (at : Moment) (a a' : Accounts) → AreFactsOf terms k empty_book facts → at ≡ record { now = moment; wall = wall; cause = 0 }
-    → IsFormedBy a.billing Start facts at n a'.billing → a'.lines ≡ a.lines → BooksStarts terms moment wall (k ∷ []) a a'
-starts_one terms moment wall n k facts at a a' are when formed lines = record {
+    → IsFormedBy a.billing Start facts at n a'.billing → a'.lines ≡ a.lines → a'.stopped ≡ a.stopped → BooksStarts terms moment wall (k ∷ []) a a'
+starts_one terms moment wall n k facts at a a' are when formed lines stopped = record {
   formed = record { status = Start; facts = facts; moment = at; number = n } ∷ [];
   forms = (a'.billing, formed, refl);
   are_starts = (record { status = refl; facts = are; at = when }, tt);
   lines_are = lines;
+  stopped_is = stopped;
 }
 
 pub starts_wider : (ts us : List Tenure) (moment wall : ℕ) (ks : List Key) (a a' : Accounts) → AreAmong ts us → BooksStarts ts moment wall ks a a' → BooksStarts us moment wall ks a a'
@@ -119,6 +125,7 @@ starts_wider ts us moment wall ks a a' among b = record {
   forms = b.forms;
   are_starts = zip_weaker (IsStartOf ts moment wall) (IsStartOf us moment wall) (start_wider ts us moment wall among) ks b.formed b.are_starts;
   lines_are = b.lines_are;
+  stopped_is = b.stopped_is;
 }
 
 pub starts_more : (terms : List Tenure) (moment wall : ℕ) (js ks : List Key) (a b c : Accounts) → BooksStarts terms moment wall js a b → BooksStarts terms moment wall ks b c → BooksStarts terms moment wall (js ++ ks) a c
@@ -127,4 +134,5 @@ starts_more terms moment wall js ks a b c x y = record {
   forms = forms_append a.billing b.billing c.billing x.formed y.formed x.forms y.forms;
   are_starts = zip_append (IsStartOf terms moment wall) js ks x.formed y.formed x.are_starts y.are_starts;
   lines_are = y.lines_are ∙ x.lines_are;
+  stopped_is = y.stopped_is ∙ x.stopped_is;
 }

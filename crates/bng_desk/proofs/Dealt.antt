@@ -28,7 +28,7 @@ use Rattle.bng_desk.proofs.Admitting.{StandsOnce, stands_once}
 use Rattle.bng_desk.proofs.Dealing.{handed_to, dealt_in}
 use Rattle.bng_desk.proofs.OneMore.{step_light}
 use Rattle.bng_desk.proofs.Readying.{Shards, WorksBy}
-use Rattle.bng_desk.proofs.Unclaiming.{after_rules}
+use Rattle.bng_desk.proofs.RulesStay.{after_rules}
 use Rattle.bng_desk.proofs.Zips.{zip_at, zip_length, zip_onward}
 
 module _ (r : Rules) (pool mid : PlainView) (moment : ℕ) (items : List Item) (olds shards : Shards) (loose : List Loose) (first drops : Drops) (start tally : Book) (s : Deals r pool mid moment items olds shards loose first drops start tally) where

@@ -16,6 +16,7 @@ use Rattle.bng_engine.specs.Journals.{after as after_journal}
 use Rattle.bng_engine.specs.Views.{ShardView}
 use Rattle.bng_ppp.specs.LinkRelation.{earliest}
 use Rattle.bng_pool.specs.Plain.{PlainView}
+use Rattle.bng_shard.specs.declared.sums.Traffic.{Traffic}
 use Rattle.bng_shard.specs.Protocol.{Handled, ShardState, pppoe}
 use Rattle.bng_desk.specs.declared.drops.Drops.{Drops}
 use Rattle.bng_desk.specs.declared.holding.Named.{Named}
@@ -41,6 +42,7 @@ pub record RoundDone (d : Desk) (heard : BillingState) (moment wall : ℕ) (item
   pub shards_are : shards ≡ (after_round d items round).shards
   pub pool_is : pool ≡ (after_round d items round).pool
   pub lines_are : accounts.lines ≡ (after_round d items round).lines
+  pub stopped_is : accounts.stopped ≡ (after_round d items round).stopped_traffic
   pub allows : Allows heard d.shards round
   pub formed : List FormedRecord
   pub forms : Forms heard formed accounts.billing
@@ -53,7 +55,7 @@ pub record RoundDone (d : Desk) (heard : BillingState) (moment wall : ℕ) (item
   pub kept_is : kept ≡ (after_round d items round).kept
 
 abbrev accounts_of : Desk → BillingState → Accounts
-accounts_of d heard = record { lines = d.lines; billing = heard }
+accounts_of d heard = record { lines = d.lines; stopped = d.stopped_traffic; billing = heard }
 
 -- a round over shards is one over these shards at rest
 states_rested : (vs : Shards) (xs : List (ShardView ShardState Handled)) → handled_states (map rested vs) xs ≡ handled_states vs xs
@@ -84,6 +86,7 @@ round_done d heard named items p p' vs ws pool' accounts' drops' tally tally' to
       shards_are = left_rested ws h.held.round.shards h.held.shards_are;
       pool_is = sym h.held.pool_is;
       lines_are = h.held.begins.lines_are ∙ h.held.ends.lines_are;
+      stopped_is = h.held.begins.stopped_is ∙ h.held.ends.stopped_is;
       allows = allows_rested heard vs h.held.round d.shards shards h.allows;
       formed = h.held.ends.formed ++ h.held.begins.formed;
       forms = chain_append (λ b (f : FormedRecord) b'. IsFormedBy b f.status f.facts f.moment f.number b') heard h.held.mid.billing accounts'.billing h.held.ends.formed h.held.begins.formed h.held.ends.forms h.held.begins.forms;
@@ -109,6 +112,7 @@ round_done d heard named items p p' vs ws pool' accounts' drops' tally tally' to
       shards_are = kept_rested vs ws h.kept ∙ sym shards;
       pool_is = h.pool_is;
       lines_are = ap (λ (a : Accounts). a.lines) h.accounts_are;
+      stopped_is = ap (λ (a : Accounts). a.stopped) h.accounts_are;
       allows = tt;
       formed = [];
       forms = ap (λ (a : Accounts). a.billing) h.accounts_are;
@@ -121,12 +125,13 @@ round_done d heard named items p p' vs ws pool' accounts' drops' tally tally' to
       kept_is = kept_is;
     }
 
--- a round changes no more than the shards, who holds an address, the lines, the drops, the tallies and what stays
+-- a round changes no more than the shards, who holds an address, the lines, what all Stops say, the drops, the tallies and what stays
 pub after_parts : (d : Desk) (items : List Item) (round : Option Round)
     → record d {
       shards = (after_round d items round).shards;
       pool = (after_round d items round).pool;
       lines = (after_round d items round).lines;
+      stopped_traffic = (after_round d items round).stopped_traffic;
       drops = (after_round d items round).drops;
       tallies = (after_round d items round).tallies;
       kept = (after_round d items round).kept;
@@ -135,21 +140,22 @@ pub after_parts : (d : Desk) (items : List Item) (round : Option Round)
 after_parts d items None = refl
 after_parts d items (Some round) = refl
 
-abbrev with_round : Desk → Shards → PlainView → List Line → Drops → List Book → List Item → Desk
-with_round d shards pool lines drops tallies kept = record d { shards = shards; pool = pool; lines = lines; drops = drops; tallies = tallies; kept = kept }
+abbrev with_round : Desk → Shards → PlainView → List Line → Traffic → Drops → List Book → List Item → Desk
+with_round d shards pool lines stopped drops tallies kept = record d { shards = shards; pool = pool; lines = lines; stopped_traffic = stopped; drops = drops; tallies = tallies; kept = kept }
 
 -- the desk after its round, from its parts
-module _ (d : Desk) (items : List Item) (round : Option Round) (shards : Shards) (pool : PlainView) (lines : List Line) (drops : Drops) (tallies : List Book) (kept : List Item) where
-  pub is_after_round : shards ≡ (after_round d items round).shards → pool ≡ (after_round d items round).pool → lines ≡ (after_round d items round).lines → drops ≡ (after_round d items round).drops → tallies ≡ (after_round d items round).tallies → kept ≡ (after_round d items round).kept
-      → record d { shards = shards; pool = pool; lines = lines; drops = drops; tallies = tallies; kept = kept } ≡ after_round d items round
-  is_after_round shards_are pool_is lines_are drops_are tallies_are kept_is =
+module _ (d : Desk) (items : List Item) (round : Option Round) (shards : Shards) (pool : PlainView) (lines : List Line) (stopped : Traffic) (drops : Drops) (tallies : List Book) (kept : List Item) where
+  pub is_after_round : shards ≡ (after_round d items round).shards → pool ≡ (after_round d items round).pool → lines ≡ (after_round d items round).lines → stopped ≡ (after_round d items round).stopped_traffic → drops ≡ (after_round d items round).drops → tallies ≡ (after_round d items round).tallies → kept ≡ (after_round d items round).kept
+      → record d { shards = shards; pool = pool; lines = lines; stopped_traffic = stopped; drops = drops; tallies = tallies; kept = kept } ≡ after_round d items round
+  is_after_round shards_are pool_is lines_are stopped_is drops_are tallies_are kept_is =
       let r = after_round d items round in
-      ap (λ (xs : Shards). with_round d xs pool lines drops tallies kept) shards_are
-      ∙ ap (λ (hs : PlainView). with_round d r.shards hs lines drops tallies kept) pool_is
-      ∙ ap (λ (ls : List Line). with_round d r.shards r.pool ls drops tallies kept) lines_are
-      ∙ ap (λ (y : Drops). with_round d r.shards r.pool r.lines y tallies kept) drops_are
-      ∙ ap (λ (bs : List Book). with_round d r.shards r.pool r.lines r.drops bs kept) tallies_are
-      ∙ ap (λ (is : List Item). with_round d r.shards r.pool r.lines r.drops r.tallies is) kept_is
+      ap (λ (xs : Shards). with_round d xs pool lines stopped drops tallies kept) shards_are
+      ∙ ap (λ (hs : PlainView). with_round d r.shards hs lines stopped drops tallies kept) pool_is
+      ∙ ap (λ (ls : List Line). with_round d r.shards r.pool ls stopped drops tallies kept) lines_are
+      ∙ ap (λ (t : Traffic). with_round d r.shards r.pool r.lines t drops tallies kept) stopped_is
+      ∙ ap (λ (y : Drops). with_round d r.shards r.pool r.lines r.stopped_traffic y tallies kept) drops_are
+      ∙ ap (λ (bs : List Book). with_round d r.shards r.pool r.lines r.stopped_traffic r.drops bs kept) tallies_are
+      ∙ ap (λ (is : List Item). with_round d r.shards r.pool r.lines r.stopped_traffic r.drops r.tallies is) kept_is
       ∙ after_parts d items round
 
 -- the phases of a turn, one after the other

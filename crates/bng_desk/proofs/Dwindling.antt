@@ -45,8 +45,8 @@ use Rattle.bng_desk.proofs.Dealing.{Seens}
 use Rattle.bng_desk.proofs.Joining.{OfSeat, all_kept}
 use Rattle.bng_desk.proofs.Readying.{Shards, WorksBy, all_onward}
 use Rattle.bng_desk.proofs.Resting.{kept_rested, sessions_rested}
+use Rattle.bng_desk.proofs.RulesStay.{after_rules}
 use Rattle.bng_desk.proofs.Staying.{AreEnds}
-use Rattle.bng_desk.proofs.Unclaiming.{after_rules}
 use Rattle.bng_desk.proofs.Zips.{zip_length}
 
 -- Rules -----------------------------------------------------------------------------------------------------------------

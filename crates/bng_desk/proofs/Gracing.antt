@@ -40,6 +40,7 @@ left_closed d moment w ended billing agree closes l = record {
   terms = l.terms;
   tally_low = l.tally_low;
   tallied = l.tallied;
+  adds_up = l.adds_up;
   counts = l.counts;
   drawn_is = l.drawn_is;
   handed_is = l.handed_is;
@@ -85,6 +86,7 @@ module _ (d : Desk) (w : Works) (heard billing : BillingState) (moment : ℕ) (q
     books = k.books;
     tallies = k.tallies;
     tallied = k.tallied;
+    adds_up = k.adds_up;
     counts = k.counts;
     kept = k.kept;
     stays = k.stays;

@@ -29,7 +29,7 @@ use Rattle.bng_desk.specs.Model.{Desk, keys_in, is_over, grace_is_over, graces_m
 use Rattle.bng_desk.specs.Items.{kept_of, stays}
 use Rattle.bng_desk.specs.Random.{Drawn}
 use Rattle.bng_desk.specs.Reading.{EndsRight, is_empty}
-use Rattle.bng_desk.specs.Taking.{IsEmpty, KeepsTerms, HasFewSessions, AreInOrder, AreItems, AreTallied}
+use Rattle.bng_desk.specs.Taking.{IsEmpty, KeepsTerms, HasFewSessions, AddsUp, AreInOrder, AreItems, AreTallied}
 use Rattle.bng_desk.proofs.Readying.{Shards, WorksBy}
 use Rattle.bng_desk.proofs.Returning.{HoldsOwn}
 use Rattle.bng_desk.specs.Turn.{ending_items, ending_draws, has_end, told_after, ReadsWhere}
@@ -164,6 +164,7 @@ pub record IsLeft (d : Desk) (moment : ℕ) (w : Works) : Type 0 where
   pub terms : All (KeepsTerms moment) w.shards.items
   pub tally_low : IsLow (octets_most * all_turns d + octets_most) w.tally
   pub tallied : AreTallied w.tally w.shards.items w.accounts.lines
+  pub adds_up : AddsUp w.tally w.shards.items w.accounts.stopped
   pub counts : Within (drops_most * all_turns d + drops_most) w.drops
   pub drawn_is : w.draws.drawn ≤ d.drawn + 1024
   pub handed_is : length w.handed.items ≡ length d.handed
@@ -212,6 +213,7 @@ kept_served d w stopped moment told k serves turns later l up staying verdicts =
       books = books_wider (octets_most * all_turns d + octets_most) (octets_most * (d.turns + 1 + d.endings)) w.shards.items (omega arith) l.books;
       tallies = one_low (octets_most * (d.turns + 1 + d.endings)) w.tally (low_more (octets_most * all_turns d + octets_most) (octets_most * (d.turns + 1 + d.endings)) w.tally (omega arith) l.tally_low);
       tallied = l.tallied;
+      adds_up = l.adds_up;
       counts = within_wider (drops_most * all_turns d + drops_most) (drops_most * (d.turns + 1 + d.endings)) w.drops (omega arith) l.counts;
       kept = staying.items;
       stays = subst (λ (n : ℕ). Stays n w.kept.items) (sym l.shards) staying.stays;
@@ -273,6 +275,7 @@ kept_ended d w unopened closed closing moment told k over near later before l up
   books = books_wider (octets_most * all_turns d + octets_most) (octets_most * (d.turns + (d.endings + 1))) w.shards.items (omega arith) l.books;
   tallies = one_low (octets_most * (d.turns + (d.endings + 1))) w.tally (low_more (octets_most * all_turns d + octets_most) (octets_most * (d.turns + (d.endings + 1))) w.tally (omega arith) l.tally_low);
   tallied = l.tallied;
+  adds_up = l.adds_up;
   counts = within_wider (drops_most * all_turns d + drops_most) (drops_most * (d.turns + (d.endings + 1))) w.drops (omega arith) l.counts;
   kept = staying.items;
   stays = subst (λ (n : ℕ). Stays n w.kept.items) (sym l.shards) staying.stays;

@@ -1,5 +1,5 @@
 -- What a turn gives to its settlement, and what that leaves.
-use Rattle.std.proofs.Common.{◌≡◌, inl, inr, ◌+◌, ◌*◌, ◌^◌, ◌<◌, ◌≤◌, List, [], Vec, Global, length, vec_capacity, sym, ap, subst, arith}
+use Rattle.std.proofs.Common.{◌≡◌, inl, inr, ◌+◌, ◌*◌, ◌^◌, ◌<◌, ◌≤◌, List, [], Vec, Global, length, vec_capacity, sym, subst, arith}
 use Rattle.bng_base.specs.declared.item.Item.{Item}
 use Rattle.bng_base.specs.declared.round.RoundRecord.{RoundRecord}
 use Rattle.bng_base.specs.Told.{PlantTold, TraceTold}
@@ -47,6 +47,7 @@ module _ (d : Desk) (w : Works) (heard : BillingState) (lane : LaneState) (draws
         books = books_wider (octets_most * turns) (2 ^ 62 + 2 ^ 61) w.shards.items most k.books;
         tally = low_more (octets_most * turns) (2 ^ 62 + 2 ^ 61) w.tally most (k.tallies 0 (omega arith));
         tallied = k.tallied;
+        adds_up = k.adds_up;
         billed = billed;
         knows = knows;
         moment = early;
@@ -98,6 +99,7 @@ module _ (d : Desk) (w w' : Works) (heard : BillingState) (lane : LaneState) (dr
     terms = keeps.terms;
     tally_low = keeps.tally (octets_most * all_turns d) (k.tallies 0 (omega arith));
     tallied = keeps.tallied;
+    adds_up = keeps.adds_up;
     counts = keeps.counts (drops_most * all_turns d) k.counts;
     drawn_is = omega (arith, few, keeps.drawn);
     handed_is = keeps.handed;

@@ -7,12 +7,13 @@ pub mod ItemLaws
 pub mod Zips
 pub mod Readying
 pub mod Shares
-pub mod Unclaiming
+pub mod RulesStay
 pub mod Returning
 pub mod Sending
 pub mod Settling
 pub mod Parts
 pub mod Lines
+pub mod InAll
 pub mod Billed
 pub mod Booking
 pub mod Begun

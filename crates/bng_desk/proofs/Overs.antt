@@ -1,10 +1,11 @@
 -- What a settlement leaves of the shards: the terms that ended have left, and of those that began a Start was formed.
-use Rattle.std.proofs.Common.{◌≡◌, ℕ, ◌+◌, ◌<◌, ◌≤◌, Bool, List, [], ◌∷◌, length, get_or, sum_by, refl, sym, ap, subst, ◌∙◌, arith}
+use Rattle.std.proofs.Common.{◌≡◌, ℕ, ◌<◌, Bool, List, [], ◌∷◌, length, get_or, sum_by, refl, sym, ap, subst, ◌∙◌, arith}
 use Rattle.std.specs.List.{All, AllByRecursion, AllZip}
 use Rattle.std.proofs.lemmas.List.Elements.{All-from_recursion, AllZip-get_or, length_all_zip}
 use Rattle.std.proofs.lemmas.List.Sums.{sum_by-cons}
 use Rattle.bng_engine.specs.Lists.{Zip3}
 use Rattle.bng_engine.specs.Terms.{Key, Stop}
+use Rattle.bng_shard.specs.declared.sums.Traffic.{Traffic}
 use Rattle.bng_shard.specs.Granting.{IsSound}
 use Rattle.bng_shard.specs.Lasting.{AreTenures}
 use Rattle.bng_shard.specs.Protocol.{ShardState}
@@ -15,7 +16,7 @@ use Rattle.bng_shard.proofs.Numbered.{tenures_settled}
 use Rattle.bng_desk.specs.declared.line.Line.{Line}
 use Rattle.bng_desk.specs.Accounting.{KnowsBegun}
 use Rattle.bng_desk.specs.Round.{news_in, terms_in}
-use Rattle.bng_desk.specs.Taking.{Accounts, AreInOrder, BegunTo, BooksStarts, BooksStops, KeepsTerms, LinesWithin, ReapedTo, Shown, joined, kept_in, states_of}
+use Rattle.bng_desk.specs.Taking.{Accounts, AreInOrder, BegunTo, BooksStarts, BooksStops, KeepsTerms, LinesWithin, ReapedTo, Shown, carried_in_all, joined, kept_in, live_by, octets_of, states_of}
 use Rattle.bng_desk.proofs.Growing.{Grown}
 use Rattle.bng_desk.proofs.Knowing.{HasTenures, all_begun, knows_later, starts_known, stops_known}
 use Rattle.bng_desk.proofs.Joining.{reaped_news}
@@ -46,6 +47,16 @@ started_rows input l left zs kss begun = absurd begun
 pub started_within : (most : Bool → ℕ) (left zs : Shards) (kss : List (List Key)) (ls ls' : List Line) → Zip3 BegunTo left zs kss → ls' ≡ ls → LinesWithin most left ls → LinesWithin most zs ls'
 started_within most left zs kss ls ls' begun same within =
     subst (λ (xs : List Line). LinesWithin most zs xs) (sym same) (λ k e lt input. omega (arith, within k e lt input, started_rows input (get_or ls k e) left zs kss begun))
+
+started_live : (input : Bool) (left zs : Shards) (kss : List (List Key)) → Zip3 BegunTo left zs kss → sum_by (live_by input) zs ≡ sum_by (live_by input) left
+started_live input [] [] [] begun = refl
+started_live input (w ∷ left) (z ∷ zs) (ks ∷ kss) begun =
+    omega (arith, sum_by-cons (live_by input) z zs, sum_by-cons (live_by input) w left, ap (live_by input) begun.0.after, started_live input left zs kss begun.1)
+started_live input left zs kss begun = absurd begun
+
+-- what was carried in all is what it was
+pub started_same : (input : Bool) (left zs : Shards) (kss : List (List Key)) (t t' : Traffic) → Zip3 BegunTo left zs kss → t' ≡ t → carried_in_all input zs t' ≡ carried_in_all input left t
+started_same input left zs kss t t' begun same = omega (arith, started_live input left zs kss begun, ap (octets_of input) same)
 
 -- A shard once its round is over ------------------------------------------------------------------------------------------
 

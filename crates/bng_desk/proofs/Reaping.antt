@@ -34,9 +34,10 @@ use Rattle.bng_desk.specs.declared.line.Line.{Line}
 use Rattle.bng_desk.specs.Accounting.{AreSettling, FormedRecord, Forms, IsStopOf}
 use Rattle.bng_desk.specs.Model.{keys_in}
 use Rattle.bng_desk.specs.Round.{IsReturned, news_in, terms_in}
-use Rattle.bng_desk.specs.Taking.{IsEmpty, HasFewSessions, Accounts, AreInOrder, BooksStops, LinesWithin, TakesIn, ReapedTo, ReapsShard, ReapsAll, settled_as, states_of, kept_in, joined, far}
+use Rattle.bng_desk.specs.Taking.{IsEmpty, HasFewSessions, Accounts, AreInOrder, BooksStops, LinesWithin, TakesIn, ReapedTo, ReapsShard, ReapsAll, carried_in_all, settled_as, states_of, kept_in, joined, far}
 use Rattle.bng_desk.proofs.Booking.{AreAmong, among_left, among_left_by, among_right, books_more, books_none, books_wider}
 use Rattle.bng_desk.proofs.Forming.{settling_stopped, stop_admitted, stop_once}
+use Rattle.bng_desk.proofs.InAll.{same_more}
 use Rattle.bng_desk.proofs.Lines.{within_more}
 use Rattle.bng_desk.proofs.Parts.{stands_at}
 use Rattle.bng_desk.proofs.Readying.{Shards}
@@ -107,6 +108,7 @@ pub record ReapsFew (moment wall : ℕ) (v w : ShardView ShardState Entry) (pool
   pub returned : IsReturned stops pool pool'
   pub booked : BooksStops v.state.slots.terms moment wall stops a a'
   pub within : (most : Bool → ℕ) → LinesWithin most (v ∷ []) a.lines → LinesWithin most (w ∷ []) a'.lines
+  pub same : (input : Bool) → carried_in_all input (w ∷ []) a'.stopped ≡ carried_in_all input (v ∷ []) a.stopped
   pub tenures : AreTenures moment w.state.slots
   pub settling : KeepsSettling v.state w.state a.billing a'.billing
   pub held : HoldsOwn pool'.table w
@@ -119,6 +121,7 @@ reaps_begin moment wall v pool a tenures held = record {
   returned = returned_none pool;
   booked = books_none v.state.slots.terms moment wall a;
   within = λ most h. h;
+  same = λ input. refl;
   tenures = tenures;
   settling = λ front back began h. h;
   held = held;
@@ -181,6 +184,7 @@ reaps_on moment wall v w w' s t k pool pool' pool'' a a' a'' so_far one left is 
   returned = returned_more so_far.stops (s ∷ []) pool pool' pool'' so_far.returned (returned_one s k pool' pool'' frees rest);
   booked = books_more v.state.slots.terms moment wall so_far.stops (s ∷ []) a a' a'' so_far.booked booked;
   within = λ most h. subst (λ (ls : List Line). LinesWithin most (w' ∷ []) ls) (sym booked.lines_are) (within_more most (w ∷ []) 0 w w' (s ∷ []) a'.lines (omega arith) one.rows (so_far.within most h));
+  same = λ input. same_more input (w ∷ []) 0 w w' (s ∷ []) a'.stopped a''.stopped (omega arith) one.rows booked.stopped_is ∙ so_far.same input;
   tenures = tenures_left moment w.state.slots w'.state.slots t left one.slots so_far.tenures;
   settling = λ front back began h. left_settling front back began w w' t s.key left is v.state.slots.terms moment wall s a' a'' refl booked (so_far.settling front back began h);
   held = held;
@@ -244,6 +248,7 @@ pub record ReapsSome (moment wall : ℕ) (olds shards : Shards) (i : ℕ) (pool 
   pub order : AreInOrder shards
   pub held : All (HoldsOwn pool'.table) shards
   pub within : (most : Bool → ℕ) → LinesWithin most olds a.lines → LinesWithin most shards a'.lines
+  pub same : (input : Bool) → carried_in_all input shards a'.stopped ≡ carried_in_all input olds a.stopped
   pub tenures : All (λ (v : ShardView ShardState Entry). AreTenures moment v.state.slots) shards
   pub settling : AreSettling (keys_in shards) (map key_in (news_in (states_of olds))) a'.billing
 
@@ -264,6 +269,7 @@ reaps_none moment wall olds pool a order held tenures settling = record {
   order = order;
   held = held;
   within = λ most h. h;
+  same = λ input. refl;
   tenures = tenures;
   settling = settling;
 }
@@ -320,6 +326,7 @@ module _ (moment wall : ℕ) (olds shards : Shards) (i : ℕ) (d w : ShardView S
         booked = subst (λ (xs : List Stop). BooksStops (terms_in (states_of olds)) moment wall xs a a'') (sym all)
             (books_more (terms_in (states_of olds)) moment wall (joined sss) ss a a' a'' so_far.booked (books_wider was.state.slots.terms (terms_in (states_of olds)) moment wall ss a' a'' among one.booked));
         within = λ most h. subst (λ (ls : List Line). LinesWithin most (set shards i w) ls) (sym one.booked.lines_are) (within_more most shards i d w ss a'.lines within one.reaped.rows (so_far.within most h));
+        same = λ input. same_more input shards i d w ss a'.stopped a''.stopped within one.reaped.rows one.booked.stopped_is ∙ so_far.same input;
         tenures = all_set (λ (x : ShardView ShardState Entry). AreTenures moment x.state.slots) shards i w tenures so_far.tenures;
         settling = settling_set shards i w began a''.billing within (keeps (keys_in (take i shards)) (keys_in (drop (i + 1) shards)) began (settling_at shards i d began a'.billing within so_far.settling));
       }

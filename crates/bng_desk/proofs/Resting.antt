@@ -12,6 +12,7 @@ use Rattle.bng_engine.specs.Calls.{Moves}
 use Rattle.bng_engine.specs.Showing.{with_journal}
 use Rattle.bng_engine.specs.Turns.{TurnOf}
 use Rattle.bng_engine.specs.Views.{Row, ShardView}
+use Rattle.bng_engine.proofs.Adding.{sum_map}
 use Rattle.bng_ppp.specs.LinkRelation.{earliest}
 use Rattle.bng_pool.specs.Plain.{PlainView}
 use Rattle.bng_shard.specs.declared.rules.Rules.{Rules}
@@ -20,10 +21,11 @@ use Rattle.bng_shard.specs.Protocol.{ShardState, Handled, pppoe, deadline_of, se
 use Rattle.bng_desk.specs.declared.line.Line.{Line}
 use Rattle.bng_desk.specs.Items.{for_shard, is_due, ticks_of}
 use Rattle.bng_desk.specs.Kept.{rested}
-use Rattle.bng_desk.specs.Model.{sessions_in, carried_on, plus_traffic, traffic_at}
+use Rattle.bng_desk.specs.Model.{sessions_in, carried_on, live_of, plus_traffic, traffic_at}
 use Rattle.bng_desk.specs.Round.{Round, IsRound, left_by, views_of, view_of, view_after}
-use Rattle.bng_desk.specs.Taking.{IsLeftBy}
+use Rattle.bng_desk.specs.Taking.{IsLeftBy, live_by}
 use Rattle.bng_desk.specs.Turn.{deadline_in}
+use Rattle.bng_desk.proofs.InAll.{traffic_is}
 
 abbrev Shards : Type 0
 Shards = List (ShardView ShardState Entry)
@@ -47,6 +49,10 @@ carried_rested vs l = ap (plus_traffic l.stopped) (traffic_rested vs _ l.address
 pub all_carried_rested : (vs : Shards) (ls : List Line) → map (carried_on vs) ls ≡ map (carried_on (map rested vs)) ls
 all_carried_rested vs [] = refl
 all_carried_rested vs (l ∷ ls) = ap (λ (t : Traffic). t ∷ map (carried_on vs) ls) (sym (carried_rested vs l)) ∙ ap (λ (ts : List Traffic). carried_on (map rested vs) l ∷ ts) (all_carried_rested vs ls)
+
+-- what the terms carried that have no Stop yet
+pub live_rested : (vs : Shards) → live_of (map rested vs) ≡ live_of vs
+live_rested vs = traffic_is (live_of (map rested vs)) (live_of vs).input (live_of vs).output (sum_map rested (live_by true) vs) (sum_map rested (live_by false) vs)
 
 earliest_rested : (vs : Shards) (a : Option ℕ) → fold (λ b (v : ShardView ShardState Entry). earliest b (deadline_of v.state)) a (map rested vs) ≡ fold (λ b (v : ShardView ShardState Entry). earliest b (deadline_of v.state)) a vs
 earliest_rested [] a = refl

@@ -79,5 +79,5 @@ module _ (d : Desk) (w w' : Works) (heard : BillingState) (lane : LaneState) (dr
         opened_is = done.opened_is;
         rounds = subst (λ (r : RoundRecord). Grows t.rounds t'.rounds (told_if settled.noted r)) done.record_told s.rounds;
         after = ap with_draws drew_all
-            ∙ ap settled_as (is_after_round was all done.round (map rested w'.shards.items) w'.pool w'.accounts.lines w'.drops (w'.tally ∷ []) w'.kept.items done.shards_are done.pool_is done.lines_are done.drops_are done.tallies_are done.kept_is);
+            ∙ ap settled_as (is_after_round was all done.round (map rested w'.shards.items) w'.pool w'.accounts.lines w'.accounts.stopped w'.drops (w'.tally ∷ []) w'.kept.items done.shards_are done.pool_is done.lines_are done.stopped_is done.drops_are done.tallies_are done.kept_is);
       }

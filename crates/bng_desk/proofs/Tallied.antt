@@ -13,7 +13,7 @@ use Rattle.bng_base.specs.Told.{PlantTold}
 use Rattle.bng_engine.specs.Calls.{Kept, all_outs}
 use Rattle.bng_engine.specs.Lists.{Zip3}
 use Rattle.bng_engine.specs.Quantities.{Quantity, Octets, amount, in_book}
-use Rattle.bng_engine.specs.Sums.{has_lease, same, part_of_charge, charge_if, is_directed, is_picked, sent_sum, passed_sum, failed_sum, sent_where}
+use Rattle.bng_engine.specs.Sums.{has_lease, is_any, same, part_of_charge, charge_if, is_directed, is_picked, sent_sum, passed_sum, failed_sum, sent_where}
 use Rattle.bng_engine.specs.Terms.{Key, key_in}
 use Rattle.bng_engine.specs.Views.{Row, ShardView, rows_where}
 use Rattle.bng_engine.proofs.Adding.{sum_plus}
@@ -26,7 +26,7 @@ use Rattle.bng_desk.specs.declared.drops.Drops.{Drops}
 use Rattle.bng_desk.specs.declared.line.Line.{Line}
 use Rattle.bng_desk.specs.Model.{no_traffic, traffic_at, traffic_or}
 use Rattle.bng_desk.specs.Round.{views_of}
-use Rattle.bng_desk.specs.Taking.{AreTallied, CarriesWithin, Deals, IsTurning, LinesWithin, SendsAll, SentTo, far, joined, kept_in, stopped_in}
+use Rattle.bng_desk.specs.Taking.{AddsUp, AllWithin, AreTallied, CarriesWithin, Deals, IsTurning, LinesWithin, SendsAll, SentTo, far, joined, kept_in, octets_of, stopped_in}
 use Rattle.bng_desk.proofs.Dealing.{Seens}
 use Rattle.bng_desk.proofs.Joining.{all_turning, outs_seats, passed_first, shown_outs}
 use Rattle.bng_desk.proofs.Readying.{Shards}
@@ -123,11 +123,34 @@ sent_tallied r pool pool' moment items vs ws us loose d d' d'' t t' t'' p p' out
       s.falls Octets input,
     )
 
--- What is told of a circuit ---------------------------------------------------------------------------------------------
+-- In all ----------------------------------------------------------------------------------------------------------------
 
-abbrev pub octets_of : Bool → Traffic → ℕ
-octets_of true t = t.input
-octets_of false t = t.output
+pub sum_kept : (tally : Book) (vs ws : Shards) (t : Traffic) → AllZip Kept vs ws → AddsUp tally vs t → AddsUp tally ws t
+sum_kept tally vs ws t kept all input = omega (arith, all input, rows_kept Octets is_any input vs ws kept)
+
+pub sum_far : (most : ℕ) (tally : Book) (vs : Shards) (t : Traffic) → most ≤ 2 ^ 63 → IsLow most tally → AddsUp tally vs t → AllWithin far vs t
+sum_far most tally vs t le low all input = omega (arith, all input, low Octets input, le)
+
+-- the outs of the shards were sent: what was carried in all is exactly what stands in the tally still
+pub sent_sum_up : (r : Rules) (pool pool' : PlainView) (moment : ℕ) (items : List Item) (vs ws us : Shards) (loose : List Loose) (d d' d'' : Drops) (t t' t'' : Book) (p p' : PlantTold) (outs : List OutRecord) (journals : List (List Entry)) (stopped : Traffic)
+    → (deals : Deals r pool pool' moment items vs ws loose d d' t t') → SendsAll ws us p p' outs journals d' d'' t' t'' → AddsUp t vs stopped → AddsUp t'' us stopped
+sent_sum_up r pool pool' moment items vs ws us loose d d' d'' t t' t'' p p' outs journals stopped deals s all input =
+    let f = charge_if Octets (is_directed input) in
+    let any : sent_where Octets is_any input (joined s.sends) ≡ sent_sum f (joined s.sends) = refl in
+    omega (
+      arith,
+      all input,
+      rows_sent Octets is_any input vs ws deals.seen us s.sends (all_turning r pool pool' moment items vs ws loose d d' t t' deals) s.each,
+      any,
+      passed_is f (joined s.sends),
+      joined_passed f ws us s.sends s.each,
+      shown_outs f ws deals.seen deals.shown,
+      passed_first Octets input (all_outs deals.seen) (outs_seats (views_of vs) deals.seen deals.round.shards deals.round.seats),
+      deals.round.passed.each Octets 0 input (omega arith),
+      s.falls Octets input,
+    )
+
+-- What is told of a circuit ---------------------------------------------------------------------------------------------
 
 none_of : (input : Bool) → octets_of input no_traffic ≡ 0
 none_of true = refl

@@ -13,7 +13,7 @@ use Rattle.bng_desk.specs.Counting.{Within}
 use Rattle.bng_desk.specs.Items.{ends_of}
 use Rattle.bng_desk.specs.Logins.{verdicts_most}
 use Rattle.bng_desk.specs.Model.{Desk, HasOneRule, keys_in, is_over, graces_most, rounds_left, unopened_most}
-use Rattle.bng_desk.specs.Taking.{IsEmpty, KeepsTerms, HasFewSessions, AreInOrder, AreItems, AreTallied}
+use Rattle.bng_desk.specs.Taking.{IsEmpty, KeepsTerms, HasFewSessions, AddsUp, AreInOrder, AreItems, AreTallied}
 
 -- a shard between two rounds, as the desk's contracts see it: nothing of a round, and no room for one
 abbrev pub rested : ShardView ShardState Entry → ShardView ShardState Entry
@@ -61,7 +61,7 @@ pub record Stays (shards : ℕ) (items : List Item) : Type 0 where
 -- One port to sixteen, one shard to 64 in their order, all by the desk's rules, with nothing of a round in them and at most 1,022
 -- sessions in each, one seat. Its terms hold their addresses, have numbers that it gave, and have a Start each. No sum is above what the
 -- turns so far could add, and none wraps before the last; what was carried with a circuit's address, by Stops and by rows, stands in the
--- seat's tally. What stays of a round that was not opened are verdicts, and Ends in the ending alone. Of each shard there is a list of the
+-- seat's tally, and what all Stops and all rows say is exactly that tally. What stays of a round that was not opened are verdicts, and Ends in the ending alone. Of each shard there is a list of the
 -- questions that it handed out. Each term that is there is live in accounting, no two terms are one, and accounting knows of no term that
 -- did not begin.
 pub record IsKept (d : Desk) : Type 0 where
@@ -91,6 +91,7 @@ pub record IsKept (d : Desk) : Type 0 where
   pub books : All (λ v. AreLow (octets_most * all_turns d) v.books) d.shards
   pub tallies : AreLow (octets_most * all_turns d) d.tallies
   pub tallied : AreTallied (book_at 0 d.tallies) d.shards d.lines
+  pub adds_up : AddsUp (book_at 0 d.tallies) d.shards d.stopped_traffic
   pub counts : Within (drops_most * all_turns d) d.drops
   pub kept : AreItems d.kept
   pub stays : Stays (length d.shards) d.kept

@@ -8,23 +8,25 @@ use Rattle.bng_base.specs.declared.item.Entry.{Entry}
 use Rattle.bng_base.specs.declared.item.Item.{Item}
 use Rattle.bng_billing.specs.State.{BillingState}
 use Rattle.bng_engine.specs.Quantities.{Octets}
-use Rattle.bng_engine.specs.Sums.{has_lease, stopped_where}
+use Rattle.bng_engine.specs.Sums.{has_lease, is_any, stopped_where}
 use Rattle.bng_engine.specs.Terms.{Key, Stop, keys}
 use Rattle.bng_engine.specs.Views.{ShardView, Row}
 use Rattle.bng_lane.specs.State.{LaneState}
 use Rattle.bng_pool.specs.Plain.{PlainView}
 use Rattle.bng_shard.specs.declared.rules.Rules.{Rules}
 use Rattle.bng_shard.specs.declared.sums.Traffic.{Traffic}
+use Rattle.bng_shard.specs.Live.{octets_in_rows}
 use Rattle.bng_shard.specs.Protocol.{ShardState, row_at, sessions_of, terms_of}
 use Rattle.bng_shard.specs.Sums.{traffic_in}
 use Rattle.bng_desk.specs.declared.desk.DeskState.{DeskState}
 use Rattle.bng_desk.specs.declared.desk.DeskState.TheVariants.{Serving, Ending, Grace, Ended, Starved}
 use Rattle.bng_desk.specs.declared.drops.Drops.{Drops}
 use Rattle.bng_desk.specs.declared.line.Line.{Line}
+use Rattle.bng_desk.specs.declared.sums.Totals.{Totals}
 use Rattle.bng_desk.specs.Reading.{is_empty}
 
--- By what it serves, the provisioned circuits in the order of the configuration, after how many turns it ends serving by itself, how
--- many it made, whether it was told to stop, the shards in the order of their numbers, who holds an address, what each seat passed, the
+-- By what it serves, the provisioned circuits in the order of the configuration, what the Stops of all terms say that were formed so far,
+-- after how many turns it ends serving by itself, how many it made, whether it was told to stop, the shards in the order of their numbers, who holds an address, what each seat passed, the
 -- seed and how many times sixteen octets were drawn from it, the drops, the last moment that it was given, and the number of the last
 -- round that the trace took, 0 before the first. The lane of the questions that are out at the server, and of each shard which of its
 -- questions were handed out. The records that are open at the server of accounting. Of the ending: how
@@ -34,6 +36,7 @@ use Rattle.bng_desk.specs.Reading.{is_empty}
 pub record Desk : Type 0 where
   pub rules : Rules
   pub lines : List Line
+  pub stopped_traffic : Traffic
   pub rounds : ℕ
   pub turns : ℕ
   pub stopped : Bool
@@ -132,9 +135,25 @@ stopped_of address stops = record { input = stopped_where Octets (has_lease addr
 abbrev pub line_after : List Stop → Line → Line
 line_after stops l = record l { stopped = plus_traffic l.stopped (stopped_of l.address stops) }
 
+-- what these Stops say in all, in octets
+abbrev pub all_stopped : List Stop → Traffic
+all_stopped stops = record { input = stopped_where Octets is_any true stops; output = stopped_where Octets is_any false stops }
+
+-- what the terms of all shards carried that have no Stop yet
+abbrev pub live_of : List (ShardView ShardState Entry) → Traffic
+live_of shards = record { input = sum_by (λ v. octets_in_rows true v.rows) shards; output = sum_by (λ v. octets_in_rows false v.rows) shards }
+
+-- the terms that have a Stop, and those that have none yet
+abbrev pub totals_of : Desk → Totals
+totals_of d = record { stopped = d.stopped_traffic; live = live_of d.shards }
+
 abbrev pub all_carried : Desk → List Traffic
 all_carried d = map (carried_on d.shards) d.lines
 
--- what all seats passed, and did not take off again: the octets of all packets that were sent
+-- what a seat passed, and did not take off again: the octets of the packets that were sent of its items
+abbrev pub traffic_by : Book → Traffic
+traffic_by tally = record { input = tally.input; output = tally.output }
+
+-- and what all seats passed: the octets of all packets that were sent
 abbrev pub total_of : List Book → Traffic
 total_of tallies = record { input = sum_by (λ (b : Book). b.input) tallies; output = sum_by (λ (b : Book). b.output) tallies }

@@ -122,7 +122,7 @@ billing_rules config wall = record {
 pub record OpensAccounts (rules : BillingRules) (lines : List Line) (shards : List (ShardView ShardState Entry)) (now : ℕ) (a : Accounts) : Type 0 where
   pub new_billing : BillingState
   pub is_new : IsNewBilling rules new_billing
-  pub booked : BooksStarts (terms_in (states_of shards)) now rules.acct.wall (keys_in shards) (record { lines = lines; billing = new_billing }) a
+  pub booked : BooksStarts (terms_in (states_of shards)) now rules.acct.wall (keys_in shards) (record { lines = lines; stopped = no_traffic; billing = new_billing }) a
   pub billed : AreBilled (keys_in shards) a.billing
   pub known : (t : TermId) (h : Held) → of_term t a.billing.spool.held ≡ Some h → AnyOf (λ (k : Key). k.term ≡ t) (keys_in shards)
 
@@ -145,6 +145,7 @@ pub record IsOpened (config : Config) (rounds : ℕ) (seed : List ℕ) (now wall
   pub desk : d ≡ record {
     rules = rules;
     lines = map line_of config.statics;
+    stopped_traffic = no_traffic;
     rounds = rounds;
     turns = 0;
     stopped = false;

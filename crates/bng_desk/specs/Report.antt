@@ -1,5 +1,5 @@
 -- The report.
-use Rattle.std.specs.Prelude.{ℕ, List, [], ◌∷◌, ◌++◌, codes}
+use Rattle.std.specs.Prelude.{ℕ, ◌+◌, List, [], ◌∷◌, ◌++◌, codes}
 use Rattle.std.specs.Fmt.{decimal}
 use Rattle.bng_acct.specs.declared.facts.TermFacts.{TermFacts}
 use Rattle.bng_acct.specs.Texts.{session_id, port_id}
@@ -9,6 +9,8 @@ use Rattle.bng_base.specs.declared.fate.DropCause.{DropCause}
 use Rattle.bng_base.specs.declared.fate.DropCause.TheVariants.{Malformed, NoSession, NotOpen, Expired, Spoofed, TooBig, Exceeded, LinkFailed, WantOfMemory}
 use Rattle.bng_desk.specs.declared.drops.Drops.{Drops}
 use Rattle.bng_desk.specs.declared.line.Line.{Line}
+use Rattle.bng_desk.specs.declared.sums.Totals.{Totals}
+use Rattle.bng_desk.specs.Model.{plus_traffic}
 use Rattle.bng_shard.specs.declared.sums.Traffic.{Traffic}
 
 -- the drops, by the number of the cause
@@ -36,6 +38,19 @@ cause_name WantOfMemory = codes "WantOfMemory"
 abbrev pub quantities : ℕ → ℕ → List ℕ
 quantities input output = codes " in=" ++ decimal input ++ codes " out=" ++ decimal output ++ codes "\n"
 
+-- a line of this name
+abbrev pub traffic_line : List ℕ → Traffic → List ℕ
+traffic_line name t = name ++ quantities t.input t.output
+
+-- the octets of a worker
+abbrev pub worker_line : ℕ → Traffic → List ℕ
+worker_line number t = codes "worker " ++ decimal number ++ quantities t.input t.output
+
+-- a line for each worker, the first of which has this number
+abbrev pub worker_lines : ℕ → List Traffic → List ℕ
+worker_lines number [] = []
+worker_lines number (t ∷ ts) = worker_line number t ++ worker_lines (number + 1) ts
+
 -- the octets of a circuit
 abbrev pub static_line : Ip4 → Traffic → List ℕ
 static_line address t = codes "static " ++ address_text address ++ quantities t.input t.output
@@ -55,10 +70,14 @@ drop_lines _ [] = []
 drop_lines [] (items ∷ others) = []
 drop_lines (cause ∷ more) (items ∷ others) = drop_line cause items ++ drop_lines more others
 
--- the total of all that was sent, each circuit, and what was dropped by each cause
-abbrev pub report_text : Traffic → List Line → List Traffic → List ℕ → List ℕ
-report_text total circuits traffic drops =
-    codes "total" ++ quantities total.input total.output
+-- what the Stops say, what the terms carried that have no Stop yet, and both together; each worker, each circuit, and what was dropped by
+-- each cause
+abbrev pub report_text : Totals → List Traffic → List Line → List Traffic → List ℕ → List ℕ
+report_text totals workers circuits traffic drops =
+    traffic_line (codes "stopped") totals.stopped
+    ++ traffic_line (codes "live") totals.live
+    ++ traffic_line (codes "total") (plus_traffic totals.stopped totals.live)
+    ++ worker_lines 0 workers
     ++ static_lines circuits traffic
     ++ drop_lines causes drops
 

@@ -19,7 +19,7 @@ use Rattle.bng_desk.specs.Intake.{SendsRequests, SendsRecords}
 use Rattle.bng_desk.specs.Items.{kept_of}
 use Rattle.bng_desk.specs.Kept.{octets_most, drops_most}
 use Rattle.bng_desk.specs.Model.{keys_in}
-use Rattle.bng_desk.specs.Taking.{IsEmpty, KeepsTerms, HasFewSessions, AreInOrder, AreItems, AreTallied, Holds, outs_of_items}
+use Rattle.bng_desk.specs.Taking.{IsEmpty, KeepsTerms, HasFewSessions, AddsUp, AreInOrder, AreItems, AreTallied, Holds, outs_of_items}
 use Rattle.bng_desk.specs.Turn.{told_if}
 
 -- the lists of a turn over so many shards, with nothing on them but its items, and with room for all that it may put on them
@@ -34,7 +34,7 @@ pub record AreBlank (shards : ℕ) (lists : Lists) : Type 0 where
   pub refused : lists.refused.items ≡ []
 
 -- The shards are those of the rules, in their order, with nothing of a round in them, and no sum is near its end; what was carried with the
--- circuits' addresses stands in the tally, and the terms are billed. Nothing stays of the round before, and there is room for what may stay
+-- circuits' addresses stands in the tally, which is exactly what was carried in all, and the terms are billed. Nothing stays of the round before, and there is room for what may stay
 -- of this one.
 pub record IsReady (r : Rules) (named : Named) (lists : Lists) (w : Works) : Type 0 where
   pub count : length w.shards.items ≡ r.shards
@@ -52,6 +52,7 @@ pub record IsReady (r : Rules) (named : Named) (lists : Lists) (w : Works) : Typ
   pub books : All (λ v. AreLow (2 ^ 62 + 2 ^ 61) v.books) w.shards.items
   pub tally : IsLow (2 ^ 62 + 2 ^ 61) w.tally
   pub tallied : AreTallied w.tally w.shards.items w.accounts.lines
+  pub adds_up : AddsUp w.tally w.shards.items w.accounts.stopped
   pub billed : AreBilled (keys_in w.shards.items) w.accounts.billing
   pub knows : KnowsBegun w.shards.items w.accounts.billing
   pub moment : named.moment < 2 ^ 60
@@ -79,7 +80,7 @@ pub record Settles (r : Rules) (named : Named) (items : List Item) (w w' : Works
   pub uncounted : s.noted ≡ true → t'.faults ≡ t.faults
 
 -- The shards are as many as before, in their order, with nothing of a round in them. No sum is higher than a round can make it; what was
--- carried with the circuits' addresses stands in the tally still, and the terms are billed. The round was at this moment.
+-- carried with the circuits' addresses stands in the tally still, which is exactly what was carried in all, and the terms are billed. The round was at this moment.
 pub record KeepsWorks (moment : ℕ) (w w' : Works) : Type 0 where
   pub count : length w'.shards.items ≡ length w.shards.items
   pub order : AreInOrder w'.shards.items
@@ -89,6 +90,7 @@ pub record KeepsWorks (moment : ℕ) (w w' : Works) : Type 0 where
   pub books : (most : ℕ) → All (λ v. AreLow most v.books) w.shards.items → All (λ v. AreLow (most + octets_most) v.books) w'.shards.items
   pub tally : (most : ℕ) → IsLow most w.tally → IsLow (most + octets_most) w'.tally
   pub tallied : AreTallied w'.tally w'.shards.items w'.accounts.lines
+  pub adds_up : AddsUp w'.tally w'.shards.items w'.accounts.stopped
   pub billed : AreBilled (keys_in w'.shards.items) w'.accounts.billing
   pub counts : (most : ℕ) → Within most w.drops → Within (most + drops_most) w'.drops
   pub drawn : w'.draws.drawn ≤ w.draws.drawn + 256

@@ -18,19 +18,21 @@ use Rattle.bng_engine.specs.Journals.{unsent}
 use Rattle.bng_engine.specs.Lists.{Zip3}
 use Rattle.bng_engine.specs.Quantities.{Quantity, Octets, amount, in_book}
 use Rattle.bng_engine.specs.Showing.{Shows, with_lists}
-use Rattle.bng_engine.specs.Sums.{has_lease, same, charge_if, is_directed, passed_sum, failed_sum, stopped_where}
+use Rattle.bng_engine.specs.Sums.{has_lease, is_any, same, charge_if, is_directed, passed_sum, failed_sum, stopped_where}
 use Rattle.bng_engine.specs.Settlements.{OneEach}
 use Rattle.bng_engine.specs.Terms.{AreInOrder as AreOrdered, Key, Stop, keys, stopped_keys}
 use Rattle.bng_engine.specs.Turns.{InRound}
 use Rattle.bng_engine.specs.Views.{ShardView, row_keys, rows_where}
 use Rattle.bng_pool.specs.Plain.{PlainView}
 use Rattle.bng_shard.specs.declared.rules.Rules.{Rules}
+use Rattle.bng_shard.specs.declared.sums.Traffic.{Traffic}
 use Rattle.bng_shard.specs.declared.sums.Charged.{Charged}
 use Rattle.bng_shard.specs.declared.sums.Charged.TheVariants.{Packet, Control}
 use Rattle.bng_shard.specs.declared.whose.Whose.{Whose}
 use Rattle.bng_shard.specs.declared.whose.Whose.TheVariants.{Loose as IsLoose, Stands}
 use Rattle.bng_shard.specs.Hearing.{outs_most}
 use Rattle.bng_shard.specs.Granting.{IsSound}
+use Rattle.bng_shard.specs.Live.{octets_in_rows}
 use Rattle.bng_shard.specs.Lasting.{AreTenures}
 use Rattle.bng_shard.specs.Protocol.{ShardState, Handled, key_in, pppoe, sessions_of, terms_of, entry_of, Handles}
 use Rattle.bng_shard.specs.Room.{is_tick, is_end}
@@ -46,7 +48,7 @@ use Rattle.bng_desk.specs.Accounting.{FormedRecord, Forms, IsStartOf, IsStopOf}
 use Rattle.bng_desk.specs.Counting.{drops_of, plus}
 use Rattle.bng_desk.specs.Items.{entries_in, kept_of, loose_item, loose_in, without_claim}
 use Rattle.bng_desk.specs.Allowing.{Allows}
-use Rattle.bng_desk.specs.Model.{line_after}
+use Rattle.bng_desk.specs.Model.{all_stopped, line_after, plus_traffic}
 use Rattle.bng_desk.specs.Round.{Round, IsRound, StandsWithin, AreClaimed, IsWhoseIn, views_of, held_by, stops_of, starts_of, terms_in, news_in, handled_states, IsReturned, is_failed, with_failed, sends_stretch, drops_in, record_of, refused_of, refused_record, with_refused, entries_of}
 
 -- a shard as the desk has it, and as the engine sees it
@@ -264,15 +266,17 @@ pub record BegunTo (v v' : Shown) (starts : List Key) : Type 0 where
 -- what a settlement writes to beside the shards: the lines of the circuits, and the records of terms
 pub record Accounts : Type 0 where
   pub lines : List Line
+  pub stopped : Traffic
   pub billing : BillingState
 
 -- Of each of these Stops a record was formed, in their order, at this moment and this second on the wall, and what it says was added to
--- the line with its address. They are of these terms.
+-- the line with its address and to what all Stops say. They are of these terms.
 pub record BooksStops (terms : List Tenure) (moment wall : ℕ) (stops : List Stop) (a a' : Accounts) : Type 0 where
   pub formed : List FormedRecord
   pub forms : Forms a.billing formed a'.billing
   pub are_stops : AllZip (IsStopOf terms moment wall) stops formed
   pub lines_are : a'.lines ≡ map (line_after stops) a.lines
+  pub stopped_is : a'.stopped ≡ plus_traffic a.stopped (all_stopped stops)
 
 -- Of each of the terms with these keys a Start was formed, in their order, at this moment and this second on the wall. They are of these
 -- terms.
@@ -281,6 +285,7 @@ pub record BooksStarts (terms : List Tenure) (moment wall : ℕ) (keys : List Ke
   pub forms : Forms a.billing formed a'.billing
   pub are_starts : AllZip (IsStartOf terms moment wall) keys formed
   pub lines_are : a'.lines ≡ a.lines
+  pub stopped_is : a'.stopped ≡ a.stopped
 
 -- the states of some shards
 abbrev pub states_of : List Shown → List ShardState
@@ -338,6 +343,31 @@ TakesIn stops l = (input : Bool) → stopped_in input l + stopped_where Octets (
 -- what was carried with the circuits' addresses stands in the tally
 abbrev pub AreTallied : Book → List Shown → List Line → Type 0
 AreTallied tally vs lines = LinesWithin (λ input. in_book Octets input tally) vs lines
+
+-- octets of one direction
+abbrev pub octets_of : Bool → Traffic → ℕ
+octets_of true t = t.input
+octets_of false t = t.output
+
+-- what a shard says of all terms that are there
+abbrev pub live_by : Bool → Shown → ℕ
+live_by input v = octets_in_rows input v.rows
+
+-- what all Stops say so far, and what the shards say of the terms that have none yet
+abbrev pub carried_in_all : Bool → List Shown → Traffic → ℕ
+carried_in_all input vs stopped = octets_of input stopped + sum_by (live_by input) vs
+
+-- no more was carried, in octets of either direction
+abbrev pub AllWithin : (Bool → ℕ) → List Shown → Traffic → Type 0
+AllWithin most vs stopped = (input : Bool) → carried_in_all input vs stopped ≤ most input
+
+-- there is room for what these Stops say beside what all Stops say so far
+abbrev pub HasRoomFor : List Stop → Traffic → Type 0
+HasRoomFor stops stopped = (input : Bool) → octets_of input stopped + stopped_where Octets is_any input stops ≤ far input
+
+-- what was carried in all is exactly what stands in the tally
+abbrev pub AddsUp : Book → List Shown → Traffic → Type 0
+AddsUp tally vs stopped = (input : Bool) → carried_in_all input vs stopped ≡ in_book Octets input tally
 
 -- the desk has the shard as the engine left it
 pub record IsLeftBy (w : Shown) (v : Sight) : Type 0 where

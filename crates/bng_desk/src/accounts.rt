@@ -1,4 +1,4 @@
-//! What a settlement writes to beside the shards: the lines of the circuits, and the records of terms.
+//! What a settlement writes to beside the shards: the lines of the circuits, what all Stops say, and the records of terms.
 ghost use Rattle.std.specs.Prelude.{◌≡◌, ◌⊎◌, ◌+◌, ◌≤◌, ◌<◌, ◌^◌, List, true, false, None, [], ◌∷◌, IfOk, length, map};
 ghost use Rattle.std.specs.List.{All, AllPairs};
 ghost use Rattle.bng_acct.specs.Roster.{of_term, same};
@@ -14,10 +14,10 @@ ghost use Rattle.bng_shard.specs.Protocol.{key_of, stop_of, SaysOf};
 ghost use Rattle.bng_shard.specs.Tenures.{Tenure};
 ghost use Rattle.bng_desk.specs.Accounting.{IsStartOf, IsStopOf};
 ghost use Rattle.bng_desk.specs.Intake.{SendsRecords, TakesAcknowledgements};
-ghost use Rattle.bng_desk.specs.Model.{line_after};
+ghost use Rattle.bng_desk.specs.Model.{all_stopped, line_after, plus_traffic};
 ghost use Rattle.bng_desk.specs.Reading.{is_empty};
 ghost use Rattle.bng_desk.specs.Report.{stop_lines};
-ghost use Rattle.bng_desk.specs.Taking.{BooksStarts, BooksStops, TakesIn};
+ghost use Rattle.bng_desk.specs.Taking.{BooksStarts, BooksStops, HasRoomFor, TakesIn};
 ghost use Rattle.bng_desk.specs.Turn.{Closes};
 
 use crate::acknowledgements::take_acknowledgements;
@@ -28,14 +28,15 @@ use bng_acct::{Moment, TermFacts};
 use bng_base::{Book, Frame};
 use bng_billing::Billing;
 use bng_plant::Plant;
-use bng_shard::{EndedTerm, LiveTerm};
+use bng_shard::{EndedTerm, LiveTerm, Traffic};
 use std::alloc::{AllocError, Global};
 use std::marker::Model;
 
-/// The lines of the circuits, and the records of terms.
+/// The lines of the circuits, what the Stops of all terms say that were formed so far, and the records of terms.
 #[derive(Drop)]
 pub(crate) struct Accounts {
     pub(crate) lines: Vec<Line>,
+    pub(crate) stopped: Traffic,
     pub(crate) billing: Billing,
 }
 
@@ -44,7 +45,7 @@ impl Model for Accounts {
 
     ghost Value = { Seen };
 
-    ghost view = { λ a. record { lines = a.lines.items; billing = a.billing } };
+    ghost view = { λ a. record { lines = a.lines.items; stopped = a.stopped; billing = a.billing } };
 }
 
 // Adds what a term that ended carried to a line, if it had the line's address.
@@ -65,6 +66,17 @@ fn add_carried(lines: &mut Vec<Line>, ended: &EndedTerm)
 {
     for line in lines.iter_mut() {
         add_to(line, ended);
+    }
+}
+
+// What was carried so far, with what a term that ended carried.
+fn with_carried(stopped: Traffic, ended: &EndedTerm) -> Traffic
+    requires { HasRoomFor (stop_of ended.now ∷ []) stopped }
+    ensures { result ≡ plus_traffic stopped (all_stopped (stop_of ended.now ∷ [])) }
+{
+    Traffic {
+        input: stopped.input + ended.carried.input,
+        output: stopped.output + ended.carried.output,
     }
 }
 
@@ -96,7 +108,7 @@ impl Accounts {
     }
 
     /// Forms the Stop of a term that ended, at this moment and this second on the wall, and adds what it carried to the line with its
-    /// address. Its Classes are whole, it began no later than now, no Stop of it is open, and there is room for it. It is one of these
+    /// address and to what all Stops say. Its Classes are whole, it began no later than now, no Stop of it is open, and there is room for it. It is one of these
     /// terms.
     pub(crate) fn stop(&mut self, ended: EndedTerm, moment: u64, wall: u64)
         requires classes { (classes : List Field) × AreClasses classes ended.class.items }
@@ -104,9 +116,11 @@ impl Accounts {
         requires admitted { IsAdmitted self.old.billing.spool ended.term }
         requires once { open_of ended.term status.Stop self.old.billing.spool.held ≡ None }
         requires room { All (TakesIn (stop_of ended ∷ [])) self.old.lines }
+        requires room_in_all { HasRoomFor (stop_of ended ∷ []) self.old.stopped }
         ensures { (terms : List Tenure) → AnyOf (SaysOf ended.user.items ended.class.items ended.began (stop_of ended).key) terms → BooksStops terms moment wall (stop_of ended ∷ []) self.old self.new }
     {
         add_carried(&mut self.lines, &ended);
+        self.stopped = with_carried(self.stopped, &ended);
         let at = Moment {
             now: moment,
             wall,
@@ -185,6 +199,13 @@ impl Accounts {
         ensures { IfOk result (λ text. text.items ≡ stop_lines self.now.billing.spool.rules.wall (unacked_stops self.now.billing.spool)) }
     {
         unanswered(alloc, &self.billing)
+    }
+
+    /// What the Stops of all terms say that were formed so far.
+    pub(crate) fn stopped(&self) -> Traffic
+        ensures { result ≡ self.now.stopped }
+    {
+        self.stopped
     }
 
     /// The provisioned circuits.

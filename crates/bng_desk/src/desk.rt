@@ -5,7 +5,7 @@ ghost use Rattle.bng_base.specs.declared.settings.NamedRange.{NamedRange};
 ghost use Rattle.bng_config.specs.Rules.{KeepsRules};
 ghost use Rattle.bng_pool.specs.Ranges.{ArePoolRanges, HasAddress};
 ghost use Rattle.bng_shard.specs.Protocol.{profiles_there};
-ghost use Rattle.bng_desk.specs.Model.{state_of, all_carried, sessions_in, total_of, HasOneRule, grace_most, graces_most};
+ghost use Rattle.bng_desk.specs.Model.{state_of, all_carried, live_of, plus_traffic, sessions_in, total_of, totals_of, traffic_by, HasOneRule, grace_most, graces_most};
 ghost use Rattle.bng_desk.specs.Opening.{IsOpened};
 ghost use Rattle.bng_desk.specs.Report.{by_number, report_text, stop_lines};
 
@@ -16,7 +16,7 @@ use crate::opening;
 use crate::random::Draws;
 use crate::report::report;
 use crate::settlement::Works;
-use crate::sums::{all_carried, sessions_in};
+use crate::sums::{Totals, all_carried, live, sessions_in};
 use bng_base::{Book, Item};
 use bng_config::Config;
 use bng_shard::{Rules, Shard, Traffic};
@@ -90,9 +90,9 @@ impl Model for Desk {
 
     ghost coded = { Prim.hlevel (codes, state_code) };
 
-    ghost view = { λ d. record { rules = d.rules; lines = d.works.accounts.lines; rounds = d.rounds; turns = d.turns; stopped = d.stopped; shards = map rested d.works.shards.items; pool = d.works.pool; tallies = d.works.tally ∷ []; seed = d.works.draws.seed; drawn = d.works.draws.drawn; drops = d.works.drops; moment = d.moment; told = d.told; lane = d.works.lane; handed = d.works.handed.items; billing = d.works.accounts.billing; endings = d.endings; unopened = d.unopened; closed = d.closed; closing = d.closing; graces = d.graces; kept = d.works.kept.items } };
+    ghost view = { λ d. record { rules = d.rules; lines = d.works.accounts.lines; stopped_traffic = d.works.accounts.stopped; rounds = d.rounds; turns = d.turns; stopped = d.stopped; shards = map rested d.works.shards.items; pool = d.works.pool; tallies = d.works.tally ∷ []; seed = d.works.draws.seed; drawn = d.works.draws.drawn; drops = d.works.drops; moment = d.moment; told = d.told; lane = d.works.lane; handed = d.works.handed.items; billing = d.works.accounts.billing; endings = d.endings; unopened = d.unopened; closed = d.closed; closing = d.closing; graces = d.graces; kept = d.works.kept.items } };
 
-    ghost invariant = { λ d. IsKept (record { rules = d.rules; lines = d.works.accounts.lines; rounds = d.rounds; turns = d.turns; stopped = d.stopped; shards = d.works.shards.items; pool = d.works.pool; tallies = d.works.tally ∷ []; seed = d.works.draws.seed; drawn = d.works.draws.drawn; drops = d.works.drops; moment = d.moment; told = d.told; lane = d.works.lane; handed = d.works.handed.items; billing = d.works.accounts.billing; endings = d.endings; unopened = d.unopened; closed = d.closed; closing = d.closing; graces = d.graces; kept = d.works.kept.items }) × (192 ≤ vec_capacity d.works.kept) };
+    ghost invariant = { λ d. IsKept (record { rules = d.rules; lines = d.works.accounts.lines; stopped_traffic = d.works.accounts.stopped; rounds = d.rounds; turns = d.turns; stopped = d.stopped; shards = d.works.shards.items; pool = d.works.pool; tallies = d.works.tally ∷ []; seed = d.works.draws.seed; drawn = d.works.draws.drawn; drops = d.works.drops; moment = d.moment; told = d.told; lane = d.works.lane; handed = d.works.handed.items; billing = d.works.accounts.billing; endings = d.endings; unopened = d.unopened; closed = d.closed; closing = d.closing; graces = d.graces; kept = d.works.kept.items }) × (192 ≤ vec_capacity d.works.kept) };
 }
 
 // An empty list with room for all items that may stay of a round.
@@ -135,6 +135,16 @@ fn stands(over: bool, ended: bool, done: bool, starved: bool) -> DeskState
         DeskState::Starved
     } else {
         DeskState::Ending
+    }
+}
+
+// The octets of a worker's packets.
+fn passed_by(tally: Book) -> Traffic
+    ensures { result ≡ traffic_by tally }
+{
+    Traffic {
+        input: tally.input,
+        output: tally.output,
     }
 }
 
@@ -221,10 +231,12 @@ impl Desk {
         self.stopped = true;
     }
 
-    /// Appends the report: the octets in and out of all packets that were sent, those of each provisioned circuit, and the drops by
-    /// cause.
+    /// Appends the report: the octets in and out that the Stops say that were formed so far, those of the terms that have no Stop yet,
+    /// and both together, which are those of all packets that were sent; those of each worker and of each provisioned circuit; and the
+    /// drops by cause.
     pub fn report(&self, alloc: Global, out: &mut Vec<u8>) -> Result<(), DeskError>
-        ensures appended { OnOk result (out.new.items ≡ out.old.items ++ report_text (total_of self.now.tallies) self.now.lines (all_carried self.now) (by_number self.now.drops)) }
+        ensures appended { OnOk result (out.new.items ≡ out.old.items ++ report_text (totals_of self.now) (map traffic_by self.now.tallies) self.now.lines (all_carried self.now) (by_number self.now.drops)) }
+        ensures adds_up { plus_traffic self.now.stopped_traffic (live_of self.now.shards) ≡ total_of self.now.tallies }
         ensures kept { OnErr result (out.new.items ≡ out.old.items) }
     {
         let lines = self.works.accounts.lines();
@@ -232,16 +244,26 @@ impl Desk {
             return Err(DeskError::OutOfMemory);
         };
         let drops = self.works.drops.by_number();
-        let total = Traffic {
-            input: self.works.tally.input,
-            output: self.works.tally.output,
-        };
-        let Ok(text) = report(alloc, total, lines, traffic.as_slice(), &drops) else {
+        let totals = self.totals();
+        let workers = [passed_by(self.works.tally)];
+        let Ok(text) = report(alloc, totals, &workers, lines, traffic.as_slice(), &drops) else {
             return Err(DeskError::OutOfMemory);
         };
         match out.extend_from_slice(text.as_bytes()) {
             Ok(()) => Ok(()),
             Err(_) => Err(DeskError::OutOfMemory),
+        }
+    }
+
+    // What all terms carried.
+    fn totals(&self) -> Totals
+        ensures totals { result ≡ totals_of self.now }
+        ensures low_input { result.stopped.input + result.live.input < 2 ^ 64 }
+        ensures low_output { result.stopped.output + result.live.output < 2 ^ 64 }
+    {
+        Totals {
+            stopped: self.works.accounts.stopped(),
+            live: live(self.works.shards.as_slice()),
         }
     }
 

@@ -11,7 +11,7 @@ ghost use Rattle.bng_desk.specs.Counting.{Within};
 ghost use Rattle.bng_desk.specs.Items.{stays, kept_of, is_from_outside};
 ghost use Rattle.bng_desk.specs.Kept.{octets_most, drops_most};
 ghost use Rattle.bng_desk.specs.Model.{keys_in};
-ghost use Rattle.bng_desk.specs.Taking.{IsEmpty, HasFewSessions, HasRows, KeepsTerms, AreInOrder, AreItems, RoundHeld, Holds, AreTallied, outs_of_items};
+ghost use Rattle.bng_desk.specs.Taking.{IsEmpty, HasFewSessions, HasRows, KeepsTerms, AreInOrder, AreItems, RoundHeld, Holds, AddsUp, AreTallied, outs_of_items};
 ghost use Rattle.bng_desk.specs.Round.{refused_of};
 ghost use Rattle.bng_desk.specs.Turn.{told_if};
 
@@ -91,6 +91,7 @@ pub(crate) fn opened<P: Plant>(
     requires low_books { All (λ v. AreLow (2 ^ 62 + 2 ^ 61) v.books) shards.old }
     requires low_tally { IsLow (2 ^ 62 + 2 ^ 61) tally.old }
     requires lines { AreTallied tally.old shards.old accounts.old.lines }
+    requires adds_up { AddsUp tally.old shards.old accounts.old.stopped }
     requires billed { AreBilled (keys_in shards.old) accounts.old.billing }
     requires knows { KnowsBegun shards.old accounts.old.billing }
     requires free { length accounts.old.billing.spool.held + sum_by (λ v. v.allowance) shards.old ≤ accounts.old.billing.spool.rules.terms }
@@ -109,6 +110,7 @@ pub(crate) fn opened<P: Plant>(
     ensures books { (most : ℕ) → All (λ v. AreLow most v.books) shards.old → All (λ v. AreLow (most + octets_most) v.books) shards.new }
     ensures tally { (most : ℕ) → IsLow most tally.old → IsLow (most + octets_most) tally.new }
     ensures lines { AreTallied tally.new shards.new accounts.new.lines }
+    ensures adds_up { AddsUp tally.new shards.new accounts.new.stopped }
     ensures billed { AreBilled (keys_in shards.new) accounts.new.billing }
     ensures knows { KnowsBegun shards.new accounts.new.billing }
     ensures terms { All (KeepsTerms named.moment) shards.new }
@@ -272,6 +274,7 @@ pub(crate) fn hold<P: Plant>(
     requires low_books { All (λ v. AreLow (2 ^ 62 + 2 ^ 61) v.books) shards.old }
     requires low_tally { IsLow (2 ^ 62 + 2 ^ 61) tally.old }
     requires lines { AreTallied tally.old shards.old accounts.old.lines }
+    requires adds_up { AddsUp tally.old shards.old accounts.old.stopped }
     requires billed { AreBilled (keys_in shards.old) accounts.old.billing }
     requires knows { KnowsBegun shards.old accounts.old.billing }
     requires few_outs { outs_of_items lists.items.items ≤ 5760 + 320 * length shards.old }
@@ -292,6 +295,7 @@ pub(crate) fn hold<P: Plant>(
     ensures books { (most : ℕ) → All (λ v. AreLow most v.books) shards.old → All (λ v. AreLow (most + octets_most) v.books) shards.new }
     ensures tally { (most : ℕ) → IsLow most tally.old → IsLow (most + octets_most) tally.new }
     ensures lines { AreTallied tally.new shards.new accounts.new.lines }
+    ensures adds_up { AddsUp tally.new shards.new accounts.new.stopped }
     ensures billed { AreBilled (keys_in shards.new) accounts.new.billing }
     ensures knows { KnowsBegun shards.new accounts.new.billing }
     ensures terms { All (KeepsTerms named.moment) shards.new }

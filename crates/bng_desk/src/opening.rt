@@ -151,7 +151,11 @@ pub(crate) fn accounts(
     let Ok(billing) = Billing::open(alloc, rules) else {
         return Err(DeskError::OutOfMemory);
     };
-    let mut accounts = Accounts { lines, billing };
+    let mut accounts = Accounts {
+        lines,
+        stopped: NO_TRAFFIC,
+        billing,
+    };
     for shard in shards {
         start_all(shard, &mut accounts, now, wall);
     }

@@ -1,8 +1,9 @@
-ghost use Rattle.std.specs.Prelude.{◌≡◌, ◌++◌, ◌<◌, ◌^◌, IfOk, OnOk, length, string_bytes};
+ghost use Rattle.std.specs.Prelude.{◌≡◌, ◌+◌, ◌++◌, ◌<◌, ◌^◌, IfOk, OnOk, length, string_bytes};
 ghost use Rattle.bng_config.specs.Address.{address_text};
-ghost use Rattle.bng_desk.specs.Report.{report_text, static_line, static_lines, drop_line, drop_lines, causes, quantities, cause_name};
+ghost use Rattle.bng_desk.specs.Report.{report_text, traffic_line, worker_line, worker_lines, static_line, static_lines, drop_line, drop_lines, causes, quantities, cause_name};
 
 use crate::line::Line;
+use crate::sums::{Totals, plus};
 use bng_base::{DropCause, Ip4};
 use bng_shard::Traffic;
 use std::alloc::{AllocError, Global};
@@ -20,23 +21,52 @@ const CAUSES: [DropCause; 9] = [
     DropCause::WantOfMemory,
 ];
 
-/// The report: the total of all that was sent, a line for each circuit, and the items dropped by each cause. `drops` is by the
-/// number of the cause. There is one traffic for each circuit.
+/// The report: what the Stops say, what the terms carried that have no Stop yet, and both together; a line for each worker, from 0, and
+/// for each circuit; and the items dropped by each cause. `drops` is by the number of the cause. There is one traffic for each circuit.
 pub(crate) fn report(
     alloc: Global,
-    total: Traffic,
+    totals: Totals,
+    workers: &[Traffic],
     circuits: &[Line],
     traffic: &[Traffic],
     drops: &[u64; 9],
 ) -> Result<String, AllocError>
     requires circuits { length traffic.now ≡ length circuits.now }
-    ensures { IfOk result (λ text. string_bytes text ≡ report_text total circuits.now traffic.now drops.now) }
+    requires input { totals.stopped.input + totals.live.input < 2 ^ 64 }
+    requires output { totals.stopped.output + totals.live.output < 2 ^ 64 }
+    ensures { IfOk result (λ text. string_bytes text ≡ report_text totals workers.now circuits.now traffic.now drops.now) }
 {
-    let mut text = String::from_str(alloc, "total")?;
-    push_quantities(&mut text, u128::from(total.input), u128::from(total.output))?;
+    let mut text = String::new(alloc);
+    push_line(&mut text, "stopped", totals.stopped)?;
+    push_line(&mut text, "live", totals.live)?;
+    push_line(&mut text, "total", plus(totals.stopped, totals.live))?;
+    push_worker_lines(&mut text, workers)?;
     push_static_lines(&mut text, circuits, traffic)?;
     push_drop_lines(&mut text, drops)?;
     Ok(text)
+}
+
+fn push_line(text: &mut String, name: &str, carried: Traffic) -> Result<(), AllocError>
+    ensures { OnOk result (string_bytes text.new ≡ string_bytes text.old ++ traffic_line name.now carried) }
+{
+    text.push_str(name)?;
+    push_quantities(text, u128::from(carried.input), u128::from(carried.output))
+}
+
+fn push_worker_lines(text: &mut String, workers: &[Traffic]) -> Result<(), AllocError>
+    ensures { OnOk result (string_bytes text.new ≡ string_bytes text.old ++ worker_lines 0 workers.now) }
+{
+    for (number, carried) in workers.iter().enumerate() {
+        push_worker_line(text, number, *carried)?;
+    }
+    Ok(())
+}
+
+fn push_worker_line(text: &mut String, number: usize, carried: Traffic) -> Result<(), AllocError>
+    ensures { OnOk result (string_bytes text.new ≡ string_bytes text.old ++ worker_line number carried) }
+{
+    write!(text, "worker {number}")?;
+    push_quantities(text, u128::from(carried.input), u128::from(carried.output))
 }
 
 fn push_static_lines(

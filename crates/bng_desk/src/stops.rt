@@ -7,7 +7,7 @@ ghost use Rattle.bng_shard.specs.Protocol.{AreHeld, key_in, terms_of};
 ghost use Rattle.bng_desk.specs.Accounting.{AreSettling};
 ghost use Rattle.bng_desk.specs.Model.{keys_in};
 ghost use Rattle.bng_desk.specs.Round.{news_in};
-ghost use Rattle.bng_desk.specs.Taking.{states_of, AreInOrder, LinesWithin, ReapsShard, ReapsAll, far};
+ghost use Rattle.bng_desk.specs.Taking.{carried_in_all, states_of, AllWithin, AreInOrder, LinesWithin, ReapsShard, ReapsAll, far};
 
 use crate::accounts::Accounts;
 use bng_pool::PlainPool;
@@ -16,6 +16,7 @@ use bng_shard::Shard;
 // Lets the terms of a shard leave that ended, the first in order first. `began` are the terms that began in the round, of all shards.
 fn reap(shard: &mut Shard, pool: &mut PlainPool, accounts: &mut Accounts, moment: u64, wall: u64)
     requires low { LinesWithin far (shard.old ∷ []) accounts.old.lines }
+    requires low_in_all { AllWithin far (shard.old ∷ []) accounts.old.stopped }
     requires terms { AreTenures moment shard.old.state.slots }
     requires settling { (front back began : List Key) × AreSettling (front ++ (keys (terms_of shard.old.state) ++ back)) began accounts.old.billing }
     requires held { AreHeld shard.old.number (terms_of shard.old.state) pool.old.table }
@@ -33,7 +34,8 @@ fn reap(shard: &mut Shard, pool: &mut PlainPool, accounts: &mut Accounts, moment
 }
 
 /// Lets the terms leave that ended, of the shards in their order: each by one Stop, with which its address is given back, of which a
-/// record is formed at this moment and this second on the wall, and what it carried is added to the line with its address. It is called
+/// record is formed at this moment and this second on the wall, and what it carried is added to the line with its address and to what all Stops
+/// say. It is called
 /// once all outs of a round were sent and charged.
 pub(crate) fn reap_all(
     shards: &mut [Shard],
@@ -43,12 +45,14 @@ pub(crate) fn reap_all(
     wall: u64,
 )
     requires low { LinesWithin far shards.old accounts.old.lines }
+    requires low_in_all { AllWithin far shards.old accounts.old.stopped }
     requires terms { All (λ v. AreTenures moment v.state.slots) shards.old }
     requires settling { AreSettling (keys_in shards.old) (map key_in (news_in (states_of shards.old))) accounts.old.billing }
     requires numbers { AreInOrder shards.old }
     requires held { All (λ v. AreHeld v.number (terms_of v.state) pool.old.table) shards.old }
     ensures reaps { ReapsAll moment wall shards.old shards.new pool.old pool.new accounts.old accounts.new }
     ensures within { (most : Bool → ℕ) → LinesWithin most shards.old accounts.old.lines → LinesWithin most shards.new accounts.new.lines }
+    ensures same { (input : Bool) → carried_in_all input shards.new accounts.new.stopped ≡ carried_in_all input shards.old accounts.old.stopped }
     ensures settling { AreSettling (keys_in shards.new) (map key_in (news_in (states_of shards.new))) accounts.new.billing }
     ensures terms { All (λ v. AreTenures moment v.state.slots) shards.new }
     ensures held { All (λ v. AreHeld v.number (terms_of v.state) pool.new.table) shards.new }

@@ -1,6 +1,6 @@
 //! Sums over all shards.
 ghost use Rattle.std.specs.Prelude.{◌≡◌, ◌≤◌, ◌<◌, ◌+◌, ◌/◌, ◌^◌, IfOk, length, map, slice_get};
-ghost use Rattle.bng_desk.specs.Model.{sessions_in, carried_on, plus_traffic, traffic_at, traffic_or};
+ghost use Rattle.bng_desk.specs.Model.{sessions_in, carried_on, live_of, plus_traffic, traffic_at, traffic_or};
 ghost use Rattle.bng_desk.specs.Taking.{CarriesWithin, LinesWithin, far};
 ghost use Rattle.bng_shard.specs.Protocol.{row_at};
 
@@ -27,6 +27,13 @@ pub(crate) fn sessions_in(shards: &[Shard]) -> u64
     sessions
 }
 
+/// What all terms carried, in octets: those that have a Stop, and those that have none yet.
+#[derive(Clone, Copy)]
+pub(crate) struct Totals {
+    pub(crate) stopped: Traffic,
+    pub(crate) live: Traffic,
+}
+
 // What the term with an address carried; nothing where the shard has no such term.
 fn carried_in(shard: &Shard, address: Ip4) -> Traffic
     ensures { result ≡ traffic_or (row_at shard.now.rows address) }
@@ -37,8 +44,8 @@ fn carried_in(shard: &Shard, address: Ip4) -> Traffic
     }
 }
 
-// One and the other together.
-fn plus(a: Traffic, b: Traffic) -> Traffic
+/// One and the other together.
+pub(crate) fn plus(a: Traffic, b: Traffic) -> Traffic
     requires input { a.input + b.input < 2 ^ 64 }
     requires output { a.output + b.output < 2 ^ 64 }
     ensures { result ≡ plus_traffic a b }
@@ -84,4 +91,17 @@ pub(crate) fn all_carried(
         traffic.push_reserved(carried_on(shards, line));
     }
     Ok(traffic)
+}
+
+/// What the terms of all shards carried that have no Stop yet.
+pub(crate) fn live(shards: &[Shard]) -> Traffic
+    requires input { (live_of shards.now).input < 2 ^ 64 }
+    requires output { (live_of shards.now).output < 2 ^ 64 }
+    ensures { result ≡ live_of shards.now }
+{
+    let mut sum = NO_TRAFFIC;
+    for shard in shards {
+        sum = plus(sum, shard.live());
+    }
+    sum
 }

@@ -1,5 +1,5 @@
 -- The headline of a run, from its turns.
-use Rattle.std.proofs.Common.{◌≡◌, ◌⊎◌, inl, inr, ℕ, Bool, List, [], ◌∷◌, map, Option, refl, sym, ap, subst, ◌∙◌, arith}
+use Rattle.std.proofs.Common.{◌≡◌, ◌⊎◌, inl, inr, ℕ, Bool, List, [], ◌∷◌, length, map, Option, refl, sym, ap, subst, ◌∙◌, arith}
 use Rattle.std.specs.Prelude.{◌↔◌}
 use Rattle.std.specs.List.{All, AllByRecursion, AllZip, Contains, sum_by}
 use Rattle.bng_base.specs.declared.outside.Datagram.{Datagram}
@@ -15,7 +15,8 @@ use Rattle.bng_config.proofs.Kept.{read_keeps}
 use Rattle.bng_engine.specs.Accounted.{Accounted, opening as nothing_yet}
 use Rattle.bng_engine.specs.Histories.{History, ShardTurn, Run as Rounds}
 use Rattle.bng_engine.specs.Laws.{Opens, RunFrom, RowsAccountOnWire, sends_of, stops_of}
-use Rattle.bng_engine.specs.Quantities.{Quantity, empty_book}
+use Rattle.bng_engine.specs.Quantities.{Quantity, Octets, empty_book}
+use Rattle.bng_engine.specs.Sums.{is_any}
 use Rattle.bng_engine.specs.Terms.{Key}
 use Rattle.bng_engine.specs.Views.{DeskView, rows_where}
 use Rattle.bng_engine.specs.Wire.{went}
@@ -29,7 +30,8 @@ use Rattle.bng_shard.proofs.StepLaws.{pppoe_laws}
 use Rattle.bng_desk.specs.declared.desk.DeskState.TheVariants.{Ended}
 use Rattle.bng_desk.specs.declared.drops.Drops.{Drops}
 use Rattle.bng_desk.specs.declared.line.Line.{Line}
-use Rattle.bng_desk.specs.Model.{Desk, carried_on, all_carried, line_after, state_of, total_of}
+use Rattle.bng_desk.specs.declared.sums.Totals.{Totals}
+use Rattle.bng_desk.specs.Model.{Desk, all_stopped, carried_on, all_carried, line_after, no_traffic, plus_traffic, state_of, total_of, totals_of, traffic_by}
 use Rattle.bng_desk.specs.Opening.{billing_rules, line_of, opened_shards}
 use Rattle.bng_desk.specs.Report.{report_text, by_number}
 use Rattle.bng_desk.specs.Round.{view_of, views_of}
@@ -39,7 +41,7 @@ use Rattle.bng_gate.specs.Granted.{Granted}
 use Rattle.bng_gate.specs.Recorded.{Recorded}
 use Rattle.bng_gate.specs.Replied.{AreReplied}
 use Rattle.bng_gate.specs.Unanswered.{unanswered_of, NamesStops}
-use Rattle.bng_gate.specs.Headline.{AreStopped, HaveTerms, calls_in_run, Headline, IsSafe, IsQuiet, StopsAccount, WasSafe, all_terms_of, all_traffic, terms_of_run, total_in}
+use Rattle.bng_gate.specs.Headline.{AreStopped, HaveTerms, calls_in_run, Headline, IsSafe, IsQuiet, StopsAccount, WasSafe, all_terms_of, all_traffic, terms_of_run, total_in, totals_in}
 use Rattle.bng_gate.specs.Rounds.{rounds_in, rounds_of, plant_of, on_data, drops_of_run}
 use Rattle.bng_gate.specs.Run.{World, turns_most, outside, Prepares, Course, Runs, report_of, IsReady, IsUntouched, WantsToServe, Why, IsUnwritten, RunEnds}
 use Rattle.bng_gate.proofs.AddressedLive.{live_addressed}
@@ -50,7 +52,7 @@ use Rattle.bng_gate.proofs.Follows.{Follows, run_follows}
 use Rattle.bng_gate.proofs.Going.{Leads, stands_itself, rounds_lead}
 use Rattle.bng_gate.proofs.Keys.{IsOurs}
 use Rattle.bng_gate.proofs.Leaving.{HasNoRows, HasNoTerms, IsEmpty, all_stopped, ended_empty, rows_gone, rows_say_none, terms_gone}
-use Rattle.bng_gate.proofs.Lines.{lines_gone, report_told}
+use Rattle.bng_gate.proofs.Lines.{lines_gone, one_worker, report_told, stopped_gone, tallies_gone}
 use Rattle.bng_gate.proofs.LoginsGranted.{logins_granted}
 use Rattle.bng_gate.proofs.Openings.{opens}
 use Rattle.bng_gate.proofs.Owning.{sends_ours}
@@ -60,7 +62,7 @@ use Rattle.bng_gate.proofs.OnAcct.{all_else}
 use Rattle.bng_gate.proofs.Staging.{stages_acknowledged, stages_heard, stages_taken, stages_sent}
 use Rattle.bng_gate.proofs.Stopping.{run_causes, run_stays, run_terms}
 use Rattle.bng_gate.proofs.Telling.{sent_are, taken_are, unsent_failed}
-use Rattle.bng_gate.proofs.Traffic.{stops_account, total_same, traffic_same}
+use Rattle.bng_gate.proofs.Traffic.{stops_account, total_same, totals_same, traffic_same}
 
 -- each circuit of a configuration that is read has the first profile
 first_profiles : (text : List ℕ) (config : Config) → IsRead text config → All (λ c. c.profile ≡ 0) config.statics
@@ -203,13 +205,27 @@ module _ (text : List ℕ) (config : Config) (read : IsRead text config) (seed :
     total : total_of course.last.tallies ≡ total_in sent
     total = total_same sent rounds exact start end goes.0 goes.1 (balanced pppoe end goes.0 accounted) rows_none
 
-    report : report_of course.last ≡ report_text (total_in sent) (map line_of config.statics) (all_traffic config sent) (by_number (drops_of_run course.turns course.endings))
+    stopped_all_say : course.last.stopped_traffic ≡ plus_traffic no_traffic (all_stopped (stops_of rounds))
+    stopped_all_say =
+        stopped_gone course.opening course.last (rounds_in course.turns course.endings) follows ∙ ap (λ (d : Desk). plus_traffic d.stopped_traffic (all_stopped (stops_of rounds))) course.begins.is_opened.desk
+
+    totals : totals_of course.last ≡ totals_in sent
+    totals = totals_same sent (stops_of rounds) exact course.last stopped_all_say (λ input. rows_say_none Octets is_any input course.last.shards no_rows)
+
+    workers : map traffic_by course.last.tallies ≡ total_in sent ∷ []
+    workers =
+        one_worker course.last.tallies (tallies_gone course.opening course.last (rounds_in course.turns course.endings) follows ∙ ap (λ (d : Desk). length d.tallies) course.begins.is_opened.desk)
+        ∙ ap (λ (t : Traffic). let ts : List Traffic = t ∷ [] in ts) total
+
+    report : report_of course.last ≡ report_text (totals_in sent) (total_in sent ∷ []) (map line_of config.statics) (all_traffic config sent) (by_number (drops_of_run course.turns course.endings))
     report =
-        ap (λ (t : Traffic). report_text t course.last.lines (all_carried course.last) (by_number course.last.drops)) total
-        ∙ ap (λ (ls : List Line). report_text (total_in sent) ls (map (carried_on course.last.shards) ls) (by_number course.last.drops)) lines
-        ∙ ap (λ (ts : List Traffic). report_text (total_in sent) (map (line_after (stops_of rounds)) (map line_of config.statics)) ts (by_number course.last.drops)) (traffic_same sent (stops_of rounds) exact course.last.shards no_rows config.statics)
-        ∙ report_told (total_in sent) (stops_of rounds) (map line_of config.statics) (all_traffic config sent) (by_number course.last.drops)
-        ∙ ap (λ (d : Drops). report_text (total_in sent) (map line_of config.statics) (all_traffic config sent) (by_number d)) drops
+        let one : List Traffic = total_in sent ∷ [] in
+        ap (λ (t : Totals). report_text t (map traffic_by course.last.tallies) course.last.lines (all_carried course.last) (by_number course.last.drops)) totals
+        ∙ ap (λ (ws : List Traffic). report_text (totals_in sent) ws course.last.lines (all_carried course.last) (by_number course.last.drops)) workers
+        ∙ ap (λ (ls : List Line). report_text (totals_in sent) one ls (map (carried_on course.last.shards) ls) (by_number course.last.drops)) lines
+        ∙ ap (λ (ts : List Traffic). report_text (totals_in sent) one (map (line_after (stops_of rounds)) (map line_of config.statics)) ts (by_number course.last.drops)) (traffic_same sent (stops_of rounds) exact course.last.shards no_rows config.statics)
+        ∙ report_told (totals_in sent) one (stops_of rounds) (map line_of config.statics) (all_traffic config sent) (by_number course.last.drops)
+        ∙ ap (λ (d : Drops). report_text (totals_in sent) one (map line_of config.statics) (all_traffic config sent) (by_number d)) drops
 
     -- no Stop is open exactly where each was acknowledged
     answered : (unanswered_of course.last ≡ []) ↔ StopsAreAcknowledged (calls_in_run config seed old new course)

@@ -1,20 +1,22 @@
--- What the desk says of the Stops with an address is what the Stops of all rounds say.
-use Rattle.std.proofs.Common.{◌≡◌, ℕ, ◌+◌, Bool, true, false, cond, List, [], ◌∷◌, ◌++◌, codes, map, Option, Some, None, refl, sym, ap, ◌∙◌, add-zero, arith}
+-- What the desk says of the Stops with an address, and of all, is what the Stops of all rounds say.
+use Rattle.std.proofs.Common.{◌≡◌, ℕ, ◌+◌, Bool, true, false, cond, List, [], ◌∷◌, ◌++◌, codes, length, map, Option, Some, None, refl, sym, ap, ◌∙◌, add-zero, arith}
 use Rattle.std.specs.List.{flat_map}
-use Rattle.std.proofs.lemmas.List.Sums.{sum_by-append}
+use Rattle.std.proofs.lemmas.List.Sums.{sum_by-append, sum_by-cons}
 use Rattle.bng_base.specs.declared.address.Ip4.{Ip4}
+use Rattle.bng_base.specs.declared.book.Book.{Book}
 use Rattle.bng_base.specs.Chain.{Chain}
 use Rattle.bng_engine.specs.Histories.{stops_in}
 use Rattle.bng_engine.specs.Laws.{stops_of}
 use Rattle.bng_engine.specs.Quantities.{Octets, in_book}
-use Rattle.bng_engine.specs.Sums.{has_lease, stopped_where}
+use Rattle.bng_engine.specs.Sums.{has_lease, is_any, stopped_where}
 use Rattle.bng_engine.specs.Terms.{Key, Stop}
 use Rattle.bng_engine.specs.Views.{ShardView, turn_in}
 use Rattle.bng_shard.specs.declared.sums.Traffic.{Traffic}
 use Rattle.bng_shard.specs.Protocol.{ShardState, Handled}
 use Rattle.bng_desk.specs.declared.line.Line.{Line}
-use Rattle.bng_desk.specs.Model.{Desk, line_after, plus_traffic, stopped_of}
-use Rattle.bng_desk.specs.Report.{causes, drop_lines, quantities, report_text, static_line, static_lines}
+use Rattle.bng_desk.specs.declared.sums.Totals.{Totals}
+use Rattle.bng_desk.specs.Model.{Desk, all_stopped, line_after, plus_traffic, stopped_of, total_of, traffic_by}
+use Rattle.bng_desk.specs.Report.{causes, drop_lines, report_text, static_line, static_lines, traffic_line, worker_lines}
 use Rattle.bng_desk.specs.Round.{Round}
 use Rattle.bng_gate.specs.Rounds.{turns_of}
 use Rattle.bng_gate.proofs.Follows.{Follows}
@@ -70,6 +72,40 @@ lines_gone d d' (Some round ∷ rounds) run =
     ∙ ap (map (line_after rest)) (run.1.lines ∙ ap (λ (ss : List Stop). map (line_after ss) d.lines) (round_stops round.shards))
     ∙ lines_more (stops_in (map turn_in round.shards)) rest d.lines
 
+-- what all Stops say, after all rounds
+all_none : (t : Traffic) → plus_traffic t (all_stopped []) ≡ t
+all_none t = traffic_is (plus_traffic t (all_stopped [])) t.input t.output (add-zero t.input) (add-zero t.output)
+
+all_more : (t : Traffic) (a b : List Stop) → plus_traffic (plus_traffic t (all_stopped a)) (all_stopped b) ≡ plus_traffic t (all_stopped (a ++ b))
+all_more t a b =
+    traffic_is (plus_traffic (plus_traffic t (all_stopped a)) (all_stopped b)) (t.input + (all_stopped (a ++ b)).input) (t.output + (all_stopped (a ++ b)).output) (omega (arith, stopped_more is_any true a b)) (omega (arith, stopped_more is_any false a b))
+
+pub stopped_gone : (d d' : Desk) (rounds : List (Option Round)) → Chain Follows d rounds d' → d'.stopped_traffic ≡ plus_traffic d.stopped_traffic (all_stopped (stops_of (flat_map turns_of rounds)))
+stopped_gone d d' [] run = ap (λ (x : Desk). x.stopped_traffic) run ∙ sym (all_none d.stopped_traffic)
+stopped_gone d d' (None ∷ rounds) run =
+    stopped_gone run.0 d' rounds run.2 ∙ ap (λ (t : Traffic). plus_traffic t (all_stopped (stops_of (flat_map turns_of rounds)))) run.1.stopped
+stopped_gone d d' (Some round ∷ rounds) run =
+    let rest = stops_of (flat_map turns_of rounds) in
+    stopped_gone run.0 d' rounds run.2
+    ∙ ap (λ (t : Traffic). plus_traffic t (all_stopped rest)) (run.1.stopped ∙ ap (λ (ss : List Stop). plus_traffic d.stopped_traffic (all_stopped ss)) (round_stops round.shards))
+    ∙ all_more d.stopped_traffic (stops_in (map turn_in round.shards)) rest
+
+-- Workers --------------------------------------------------------------------------------------------------------------
+
+-- there are as many tallies as at the opening
+pub tallies_gone : (d d' : Desk) (rounds : List (Option Round)) → Chain Follows d rounds d' → length d'.tallies ≡ length d.tallies
+tallies_gone d d' [] run = ap (λ (x : Desk). length x.tallies) run
+tallies_gone d d' (None ∷ rounds) run = tallies_gone run.0 d' rounds run.2 ∙ ap (λ (bs : List Book). length bs) run.1.tallies
+tallies_gone d d' (Some round ∷ rounds) run = tallies_gone run.0 d' rounds run.2 ∙ ap (λ (bs : List Book). length bs) run.1.tallies ∙ run.1.is_round.2.2.turn.tallies.count
+
+-- one worker has passed what all have
+pub one_worker : (bs : List Book) → length bs ≡ 1 → map traffic_by bs ≡ total_of bs ∷ []
+one_worker [] e = absurd (omega (arith, e))
+one_worker (b ∷ []) e =
+    ap (λ (t : Traffic). let ts : List Traffic = t ∷ [] in ts)
+    (sym (traffic_is (total_of (b ∷ [])) b.input b.output (omega (arith, sum_by-cons (λ (x : Book). x.input) b [])) (omega (arith, sum_by-cons (λ (x : Book). x.output) b []))))
+one_worker (b ∷ c ∷ bs) e = absurd (omega (arith, e))
+
 -- The report -----------------------------------------------------------------------------------------------------------
 
 -- it names a circuit by its address alone
@@ -78,6 +114,8 @@ lines_told stops [] ts = refl
 lines_told stops (l ∷ ls) [] = refl
 lines_told stops (l ∷ ls) (t ∷ ts) = ap (λ (x : List ℕ). static_line l.address t ++ x) (lines_told stops ls ts)
 
-pub report_told : (total : Traffic) (stops : List Stop) (ls : List Line) (ts : List Traffic) (drops : List ℕ) → report_text total (map (line_after stops) ls) ts drops ≡ report_text total ls ts drops
-report_told total stops ls ts drops =
-    ap (λ (x : List ℕ). codes "total" ++ quantities total.input total.output ++ x ++ drop_lines causes drops) (lines_told stops ls ts)
+pub report_told : (totals : Totals) (workers : List Traffic) (stops : List Stop) (ls : List Line) (ts : List Traffic) (drops : List ℕ) → report_text totals workers (map (line_after stops) ls) ts drops ≡ report_text totals workers ls ts drops
+report_told totals workers stops ls ts drops =
+    ap
+    (λ (x : List ℕ). traffic_line (codes "stopped") totals.stopped ++ traffic_line (codes "live") totals.live ++ traffic_line (codes "total") (plus_traffic totals.stopped totals.live) ++ worker_lines 0 workers ++ x ++ drop_lines causes drops)
+    (lines_told stops ls ts)

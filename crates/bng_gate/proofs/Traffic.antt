@@ -25,9 +25,10 @@ use Rattle.bng_shard.specs.declared.sums.Traffic.{Traffic}
 use Rattle.bng_shard.specs.Protocol.{ShardState, Handled, pppoe, row_at}
 use Rattle.bng_shard.specs.Reader.{pppoe_reader}
 use Rattle.bng_desk.specs.declared.line.Line.{Line}
-use Rattle.bng_desk.specs.Model.{carried_on, line_after, no_traffic, plus_traffic, total_of, traffic_at, traffic_or}
+use Rattle.bng_desk.specs.declared.sums.Totals.{Totals}
+use Rattle.bng_desk.specs.Model.{Desk, all_stopped, carried_on, line_after, live_of, no_traffic, plus_traffic, total_of, totals_of, traffic_at, traffic_or}
 use Rattle.bng_desk.specs.Opening.{line_of}
-use Rattle.bng_gate.specs.Headline.{StopsAccount, total_in, traffic_of}
+use Rattle.bng_gate.specs.Headline.{StopsAccount, total_in, totals_in, traffic_of}
 use Rattle.bng_gate.specs.Rounds.{on_data}
 use Rattle.bng_gate.proofs.Lines.{traffic_is}
 
@@ -129,3 +130,11 @@ module _ (sent : List Datagram) (rounds : List (List (ShardTurn Handled))) (exac
   total_same =
       let t = total_in sent in
       traffic_is (total_of end.tallies) t.input t.output (tally_is true ∙ exact.all_input Octets) (tally_is false ∙ exact.all_output Octets)
+
+-- what the report says of all terms: the Stops say what was sent, where no row says anything
+pub totals_same : (sent : List Datagram) (stops : List Stop) → StopsAccount stops sent → (d : Desk) → d.stopped_traffic ≡ plus_traffic no_traffic (all_stopped stops) → ((input : Bool) → sum_by (λ (v : ShardView ShardState Entry). rows_where Octets is_any input v.rows) d.shards ≡ 0) → totals_of d ≡ totals_in sent
+totals_same sent stops exact d stopped none =
+    let t = total_in sent in
+    let with = λ (a b : Traffic). let x : Totals = record { stopped = a; live = b } in x in
+    ap (λ (a : Traffic). with a (live_of d.shards)) (stopped ∙ traffic_is (plus_traffic no_traffic (all_stopped stops)) t.input t.output (omega (arith, exact.all_input Octets)) (omega (arith, exact.all_output Octets)))
+    ∙ ap (λ (b : Traffic). with t b) (traffic_is (live_of d.shards) 0 0 (none true) (none false))

@@ -1,5 +1,5 @@
 -- What a run says in the subject's own words.
-use Rattle.std.specs.Prelude.{◌≡◌, ℕ, ◌+◌, ◌++◌, true, false, List, [], Option, None, Some, filter, length, map, take, drop, slice_get, count_by}
+use Rattle.std.specs.Prelude.{◌≡◌, ℕ, ◌+◌, ◌++◌, true, false, List, [], ◌∷◌, Option, None, Some, filter, length, map, take, drop, slice_get, count_by}
 use Rattle.std.specs.List.{All, AllZip, Contains, flat_map, range_with_len}
 use Rattle.byteorder.specs.Endian.{big_from}
 use Rattle.bng_base.specs.declared.address.Ip4.{Ip4}
@@ -32,8 +32,11 @@ use Rattle.bng_engine.specs.Terms.{Key, Stop, is_live, keys, stopped_keys}
 use Rattle.bng_engine.specs.Wire.{is_input, is_from, is_output, is_to, is_on, is_on_to, told_of, went}
 use Rattle.bng_shard.specs.declared.sums.Traffic.{Traffic}
 use Rattle.bng_shard.specs.Protocol.{Handled, ShardState, terms_of, terms_of_circuits, pppoe}
+use Rattle.bng_shard.specs.Lasting.{IsCause}
 use Rattle.bng_shard.specs.Link.{nas_request}
 use Rattle.bng_shard.specs.Reader.{is_session_data, pppoe_reader, tells_pppoe}
+use Rattle.bng_desk.specs.declared.sums.Totals.{Totals}
+use Rattle.bng_desk.specs.Model.{no_traffic}
 use Rattle.bng_desk.specs.Opening.{line_of, statics_of}
 use Rattle.bng_desk.specs.Reading.{taken_in}
 use Rattle.bng_desk.specs.Report.{report_text, by_number}
@@ -90,6 +93,10 @@ traffic_of sent c = record {
 -- and of all packets: those to the core, and those that went out on access ports
 abbrev pub total_in : List Datagram → Traffic
 total_in sent = record { input = told_of pppoe_reader Octets is_input sent; output = told_of pppoe_reader Octets is_output sent }
+
+-- what all terms carried, once each has its Stop: that is what the Stops say, and nothing is live
+abbrev pub totals_in : List Datagram → Totals
+totals_in sent = record { stopped = total_in sent; live = no_traffic }
 
 -- of each circuit, in the order of the configuration
 abbrev pub all_traffic : Config → List Datagram → List Traffic
@@ -171,11 +178,13 @@ pub record IsSafe (config : Config) (seed : List ℕ) (old new : World) (course 
   pub history : History ShardState
   pub rounds : Chain (RightRound pppoe) (history_of course.opening) (rounds_of course.turns course.endings) history
   -- The terms are those that the circuits have from the opening on, and those of which a Start was formed: each has one Stop, or is live in
-  -- the end, and there is no other. The Stop of a circuit's term says that the gateway stopped. For each circuit, address and direction what was
+  -- the end, and there is no other. The Stop of a circuit's term says that the gateway stopped, and each Stop has one of the causes that there
+  -- are: User Request, Lost Carrier, Idle Timeout, Session Timeout, NAS Request (RFC 2866 section 5.10). For each circuit, address and direction what was
   -- sent is what the Stops and the live terms say, in octets and in packets; and the books of the profiles, the tallies of the seats and
   -- what the terms carried have one total, all that was sent.
   pub terms : AllZip HaveTerms history.shards (terms_of_run config (rounds_of course.turns course.endings))
   pub causes : All (λ s. IsOfCircuit config s.key → s.cause ≡ nas_request) (stops_of (rounds_of course.turns course.endings))
+  pub causes_known : All (λ s. IsCause s.cause) (stops_of (rounds_of course.turns course.endings))
   pub conserved : ConservedAt pppoe history.shards
   pub balanced : Balanced (view_of course.last.shards course.last.pool course.last.tallies) history
   -- Each datagram to the core was a packet from the address of a term, and each packet on an access port was on the circuit of a term, to
@@ -223,9 +232,10 @@ pub record Headline (config : Config) (status : ℕ) (old new : World) : Type 0 
   -- was sent: whoever reads the sent octets alone finds for each address and for each circuit that the Stops with it sum to its packets.
   pub stopped : AllZip AreStopped safe.history.shards (terms_of_run config (rounds_of run.completes.course.turns run.completes.course.endings))
   pub exact : StopsAccount (stops_of (rounds_of run.completes.course.turns run.completes.course.endings)) safe.sent
-  -- The total that is printed is that of the octets of all packets that were sent, and the octets printed for a circuit are those of the
-  -- packets from its address and to it. The drops printed are those of the rounds, and of those that could not be opened.
-  pub printed : Grows old.out.bytes new.out.bytes (report_text (total_in safe.sent) (map line_of config.statics) (all_traffic config safe.sent) (by_number (drops_of_run run.completes.course.turns run.completes.course.endings)))
+  -- What the Stops say, as it is printed, is the octets of all packets that were sent. Nothing is printed as live, so that the total printed
+  -- is that same number, and it is what is printed for the one worker. The octets printed for a circuit are those of the packets from its
+  -- address and to it. The drops printed are those of the rounds, and of those that could not be opened.
+  pub printed : Grows old.out.bytes new.out.bytes (report_text (totals_in safe.sent) (total_in safe.sent ∷ []) (map line_of config.statics) (all_traffic config safe.sent) (by_number (drops_of_run run.completes.course.turns run.completes.course.endings)))
   -- With status 0 each Stop that was formed was acknowledged by a datagram that was heard later. With status 6 some was not, and the
   -- lines of those that were not were written.
   pub acknowledged : status ≡ 0 → StopsAreAcknowledged (calls_in_run config seed old new run.completes.course)

@@ -1,5 +1,5 @@
 -- A whole run, from the words to the report.
-use Rattle.std.specs.Prelude.{◌≡◌, ℕ, ◌+◌, ◌-◌, ◌^◌, ◌≤◌, ◌<◌, ◌⊎◌, false, List, [], ◌∷◌, ◌++◌, take, length}
+use Rattle.std.specs.Prelude.{◌≡◌, ℕ, ◌+◌, ◌-◌, ◌^◌, ◌≤◌, ◌<◌, ◌⊎◌, false, List, [], ◌∷◌, ◌++◌, take, length, map}
 use Rattle.std.specs.List.{list_any}
 use Rattle.bng_base.specs.declared.outside.Role.TheVariants.{Access, Auth, Acct, Core, Control}
 use Rattle.bng_base.specs.declared.outside.ClockAnswer.TheVariants.{Now, Wall}
@@ -12,7 +12,7 @@ use Rattle.bng_config.specs.declared.config.Config.{Config}
 use Rattle.bng_config.specs.declared.fault.Fault.{Fault}
 use Rattle.bng_config.specs.Configuration.{IsRead, HasFault}
 use Rattle.bng_desk.specs.declared.desk.DeskState.TheVariants.{Ended, Starved}
-use Rattle.bng_desk.specs.Model.{Desk, state_of, all_carried, total_of}
+use Rattle.bng_desk.specs.Model.{Desk, state_of, all_carried, totals_of, traffic_by}
 use Rattle.bng_desk.specs.Opening.{IsOpened}
 use Rattle.bng_desk.specs.Report.{report_text, by_number}
 use Rattle.bng_gate.specs.declared.texts.Opening.{Opening}
@@ -250,7 +250,7 @@ pub record FailsToNote (config : Config) (seed : List ℕ) (old new : Outside) :
 -- The report ----------------------------------------------------------------------------------------------------------------
 
 abbrev pub report_of : Desk → List ℕ
-report_of d = report_text (total_of d.tallies) d.lines (all_carried d) (by_number d.drops)
+report_of d = report_text (totals_of d) (map traffic_by d.tallies) d.lines (all_carried d) (by_number d.drops)
 
 -- the report of a desk that did not starve was written
 pub record Reports (last : Desk) (out out' : SinkTold) : Type 0 where

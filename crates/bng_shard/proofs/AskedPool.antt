@@ -1,5 +1,5 @@
 -- What an item asks of the pools, and what is answered.
-use Rattle.std.proofs.Common.{◌≡◌, ◌⊎◌, inl, inr, ℕ, zero, suc, ◌≤◌, ◌&&◌, ◌||◌, Bool, true, false, cond, List, [], ◌∷◌, Option, Some, None, option_map, refl, sym, ap, subst, ◌∙◌, arith}
+use Rattle.std.proofs.Common.{◌≡◌, ◌⊎◌, inl, inr, ℕ, suc, ◌&&◌, ◌||◌, Bool, true, false, List, [], ◌∷◌, Option, Some, None, refl, sym, ap, subst, ◌∙◌, arith}
 use Rattle.std.specs.Prelude.{get_or, slice_get, if◌then◌else◌, nat_le}
 use Rattle.std.specs.List.{list_any}
 use Rattle.std.proofs.lemmas.Bool.{false≢true}
@@ -9,7 +9,7 @@ use Rattle.std.proofs.lemmas.Bool.Decides.{nat_tests}
 use Rattle.bng_base.specs.declared.address.Ip4.{Ip4}
 use Rattle.bng_base.specs.declared.book.Range.{Range}
 use Rattle.bng_base.specs.declared.item.Claim.{Claim}
-use Rattle.bng_base.specs.declared.item.Claim.TheVariants.{NoClaim, Claimed, Held, Exhausted}
+use Rattle.bng_base.specs.declared.item.Claim.TheVariants.{NoClaim, Claimed, Held}
 use Rattle.bng_base.specs.declared.item.Item.{Item}
 use Rattle.bng_base.specs.declared.item.ItemKind.{ItemKind}
 use Rattle.bng_base.specs.declared.item.ItemKind.TheVariants.{Access, Core, Tunnel, Verdict, Change, Tick, End}
@@ -17,15 +17,15 @@ use Rattle.bng_base.specs.declared.settings.NamedRange.{NamedRange}
 use Rattle.bng_grant.specs.Grants.{Gift}
 use Rattle.bng_pool.specs.Plain.{PlainView}
 use Rattle.bng_pool.specs.Ranges.{HasAddress, InRange}
-use Rattle.bng_pool.specs.Tables.{IsTaken, Puts, Table, TableClaims, TableScans}
+use Rattle.bng_pool.specs.Tables.{TableClaims, TableScans}
 use Rattle.bng_shard.specs.declared.rules.Rules.{Rules}
 use Rattle.bng_shard.specs.declared.wish.Wish.{Wish}
 use Rattle.bng_shard.specs.declared.wish.Wish.TheVariants.{Nothing, Address, Pool}
 use Rattle.bng_shard.specs.Protocol.{AnswersClaim, HasPools}
 use Rattle.bng_shard.specs.State.{State}
-use Rattle.bng_shard.specs.Wished.{IsAnswered, IsWished, MayWish, WishesFor, WishesVerdict}
-use Rattle.bng_shard.specs.Wishes.{IsAnswerTo, Wishes, has_none, is_named, is_within, pool_for, wish_at, wish_in, wish_of}
-use Rattle.bng_shard.proofs.Values.{none_some, same_some}
+use Rattle.bng_shard.specs.Wished.{IsAnswered, IsWished, MayWish, WishesFor}
+use Rattle.bng_shard.specs.Wishes.{IsAnswerTo, Wishes, is_named, is_within, pool_for, wish_at, wish_in, wish_of}
+use Rattle.bng_shard.proofs.Values.{same_some}
 
 -- What is asked -----------------------------------------------------------------------------------------------------------------
 

@@ -1,15 +1,13 @@
 -- A term begins, and another ends.
-use Rattle.std.proofs.Common.{◌≡◌, ℕ, ◌+◌, ◌≤◌, Bool, true, false, cond, List, [], ◌∷◌, ◌++◌, length, map, Option, None, Some, inl, inr, refl, sym, ap, subst, ◌∙◌, arith, append-nil}
+use Rattle.std.proofs.Common.{◌≡◌, ℕ, ◌+◌, ◌≤◌, Bool, true, false, cond, List, [], ◌∷◌, ◌++◌, map, Option, None, Some, inl, inr, refl, sym, ap, subst, ◌∙◌, arith}
 use Rattle.std.specs.Prelude.{◌≢◌, ◌&&◌, not, sum_by}
 use Rattle.std.specs.List.{All, AllPairs}
-use Rattle.std.proofs.lemmas.Bool.{cases_eq, ne_eqb}
+use Rattle.std.proofs.lemmas.Bool.{ne_eqb}
 use Rattle.std.proofs.lemmas.List.{map-append}
 use Rattle.std.proofs.lemmas.List.Sums.{sum_by-append, sum_by-cons}
-use Rattle.bng_base.specs.declared.book.Book.{Book}
 use Rattle.bng_engine.specs.Calls.{SayTheSame}
 use Rattle.bng_engine.specs.Lists.{AnyOf}
 use Rattle.bng_engine.specs.Quantities.{Quantity, Octets, Packets, empty_book, in_book}
-use Rattle.bng_engine.specs.Terms.{Key}
 use Rattle.bng_engine.specs.Views.{Row, rows_where}
 use Rattle.bng_shard.specs.declared.session.Lease.{Lease}
 use Rattle.bng_shard.specs.declared.terms.Running.{Running}
@@ -17,7 +15,6 @@ use Rattle.bng_shard.specs.Running.{closed_rows, key_from, row_from, rows_in, te
 use Rattle.bng_shard.specs.Tenures.{Tenure, closed, is_over, over_by}
 use Rattle.bng_shard.proofs.Closing.{closed_sums}
 use Rattle.bng_shard.proofs.ListParts.{all_more, pairs_more}
-use Rattle.bng_shard.proofs.SameKeys.{same_apart, same_numbered}
 
 pub begun_tenures : (rows : List Running) (r : Running) → tenures_in (rows ++ r ∷ []) ≡ tenures_in rows ++ tenure_in r ∷ []
 begun_tenures rows r = map-append tenure_in rows (r ∷ [])

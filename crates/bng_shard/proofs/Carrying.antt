@@ -1,5 +1,5 @@
 -- What was done with a packet of a term, of what is known of its parts.
-use Rattle.std.proofs.Common.{◌≡◌, ℕ, Bool, true, false, List, [], ◌∷◌, ◌++◌, Option, Some, None, length, inl, inr, refl, sym, ap, subst, ◌∙◌, arith}
+use Rattle.std.proofs.Common.{◌≡◌, ℕ, true, false, List, [], ◌∷◌, ◌++◌, Option, Some, None, length, inl, inr, refl, sym, ap, subst, ◌∙◌, arith}
 use Rattle.std.specs.Prelude.{◌≢◌, ◌==◌, option_map}
 use Rattle.std.specs.Option.{option_map_or}
 use Rattle.std.proofs.lemmas.Bool.Decides.{nat_tests}
@@ -28,6 +28,7 @@ use Rattle.bng_shard.specs.State.{State, IsTermOf, port_at, session_of, holder_o
 use Rattle.bng_shard.specs.Deed.{Deed, at_of, out, only}
 use Rattle.bng_shard.specs.Doing.{DoesWith}
 use Rattle.bng_shard.specs.Frames.{HearsData, HearsPacket, charge_of, forwarded, found_up, found_down}
+use Rattle.bng_shard.specs.Passing.{with_passed}
 use Rattle.bng_shard.specs.Protocol.{entry_of}
 use Rattle.bng_shard.proofs.Values.{same_some, none_some, found_is}
 
@@ -76,7 +77,7 @@ module _ (r : Rules) (s : State) (a : At) (item : Item) (outs : List OutRecord) 
       → found ≡ found_up s number p → session_of s number p.src p.session ≡ Some x → x.lease ≡ Some l → AnyOf (IsTermOf x l) s.terms
       → UpFate found info Forwarded → (v : Ipv4) × MayPassUp found v × IsPassedOn v info packet → length packet ≡ octets
       → outs' ≡ outs ++ out a Core r.core_peer packet (Some (charge_of x l true octets)) ∷ []
-      → (moment : ℕ) → DoesWith (λ e d. HearsData r s e number p info d) 1 s s outs outs' a moment item Forwarded
+      → (moment : ℕ) → DoesWith (λ e d. HearsData r s e number p info d) 1 s (with_passed s x.number moment) outs outs' a moment item Forwarded
   goes_up number p info packet found x l octets outs' is at leased term up (v, may, passed) count pushed moment =
       let e : Entry = entry_of a.seat a.place moment item in
       let sent : At → ℕ → OutRecord = λ b n. out b Core r.core_peer packet (Some (charge_of x l true n)) in
@@ -86,7 +87,7 @@ module _ (r : Rules) (s : State) (a : At) (item : Item) (outs : List OutRecord) 
       sym may.term ∙ is ∙ ap (λ (o : Option Session). option_map view_of o) at ∙ ap (λ (o : Option TermView). Some o) (ap (option_map (λ (k : Lease). let t : TermView = record { lease = k.address; opened = passes_in x.service } in t)) leased) in
       let same : may.view ≡ its_view = same_some may.view its_view (same_some (Some may.view) (Some its_view) view) in
       record {
-        deed = forwarded s e (sent (at_of s e) v.total);
+        deed = forwarded s e x.number (sent (at_of s e) v.total);
         entry = refl;
         fate_is = refl;
         next = refl;
@@ -110,12 +111,12 @@ module _ (r : Rules) (s : State) (a : At) (item : Item) (outs : List OutRecord) 
       → DownFate (found_down s) item.frame.payload Forwarded → IsPassedOn v item.frame.payload packet
       → octets ≡ circuit_frame port x.mac x.number.0 packet → IsFrameTo port x.mac x.number.0 packet octets
       → outs' ≡ outs ++ out a (Access x.port) port.peer octets (Some (charge_of x l false v.total)) ∷ []
-      → (moment : ℕ) → DoesWith (λ e d. HearsPacket r s e v d) 1 s s outs outs' a moment item Forwarded
+      → (moment : ℕ) → DoesWith (λ e d. HearsPacket r s e v d) 1 s (with_passed s x.number moment) outs outs' a moment item Forwarded
   goes_down v packet octets x l port outs' at leased term its_port down passed framed again pushed moment =
       let e : Entry = entry_of a.seat a.place moment item in
       let sent : At → List ℕ → OutRecord = λ b f. out b (Access x.port) port.peer f (Some (charge_of x l false v.total)) in
       record {
-        deed = forwarded s e (sent (at_of s e) (circuit_frame port x.mac x.number.0 packet));
+        deed = forwarded s e x.number (sent (at_of s e) (circuit_frame port x.mac x.number.0 packet));
         entry = refl;
         fate_is = refl;
         next = refl;

@@ -1,6 +1,6 @@
 -- The terms of provisioned circuits end by the gateway's own stop alone: what each entry keeps of it.
-use Rattle.std.proofs.Common.{◌≡◌, ◌≢◌, ◌⊎◌, ⊎_elim, inl, inr, ℕ, ◌+◌, ◌<◌, ◌≤◌, Bool, true, false, not, ◌&&◌, List, [], ◌∷◌, length, cond, map, Option, Some, None, refl, sym, ap, subst, ◌∙◌, arith}
-use Rattle.std.specs.List.{All, AllByRecursion, AllPairs}
+use Rattle.std.proofs.Common.{◌≡◌, ◌≢◌, ◌⊎◌, ⊎_elim, inl, inr, ℕ, zero, suc, ◌+◌, ◌<◌, ◌≤◌, Bool, true, false, not, ◌&&◌, List, [], ◌∷◌, length, cond, map, Option, Some, None, refl, sym, ap, subst, ◌∙◌, arith}
+use Rattle.std.specs.List.{All, AllByRecursion, AllPairs, Contains}
 use Rattle.std.proofs.lemmas.Bool.{cases_eq, ne_eqb}
 use Rattle.std.proofs.lemmas.List.Elements.{All-filter, All-from_recursion, recursion_from_All, All-push}
 use Rattle.bng_base.specs.declared.address.Ip4.{Ip4}
@@ -8,23 +8,28 @@ use Rattle.bng_base.specs.declared.item.ItemKind.{ItemKind}
 use Rattle.bng_base.specs.declared.item.ItemKind.TheVariants.{End, Verdict}
 use Rattle.bng_base.specs.declared.item.OutRecord.{OutRecord}
 use Rattle.bng_base.specs.declared.settings.Static.{Static}
+use Rattle.bng_ppp.specs.declared.whole_input.WholeInput.TheVariants.{Close}
+use Rattle.bng_slots.specs.Listed.{values}
 use Rattle.bng_slots.specs.Sessions.{value_at, with_value}
 use Rattle.bng_slots.proofs.SessionLaws.{value_at-with_value, value_at-with_other}
 use Rattle.bng_shard.specs.declared.rules.Rules.{Rules}
 use Rattle.bng_shard.specs.declared.sending.At.{At}
 use Rattle.bng_shard.specs.declared.session.Lease.{Lease}
+use Rattle.bng_shard.specs.declared.session.Service.TheVariants.{Provisioned}
 use Rattle.bng_shard.specs.declared.session.Session.{Session}
 use Rattle.bng_shard.specs.Deed.{Deed, at_of, handled, ignored}
 use Rattle.bng_shard.specs.Lasting.{CircuitsLast}
-use Rattle.bng_shard.specs.Link.{Drives, LinkStep, Told, ended, nas_request, settles, user_request}
-use Rattle.bng_shard.specs.Opening.{in_order, opened_slots, tenures_after}
+use Rattle.bng_shard.specs.Link.{Drives, LinkStep, Told, ended, nas_request, settles, told, user_request}
+use Rattle.bng_shard.specs.Opening.{in_order, numbered_after, opened_slots, tenures_after}
+use Rattle.bng_shard.specs.Passing.{lapsed, looked}
 use Rattle.bng_shard.specs.State.{State, leaves, made_one, settled, with_driven, with_ended, with_session}
 use Rattle.bng_shard.specs.Step.{Hears, Step}
 use Rattle.bng_shard.specs.Tenures.{Tenure, closed, is_over, kept_lease, over_by}
 use Rattle.bng_shard.specs.Verdicts.{HearsVerdict, Judges, next_lease, next_term, settled_by, with_term}
+use Rattle.bng_shard.proofs.InOrder.{apart_of, opened_entries}
+use Rattle.bng_shard.proofs.SeenLeases.{looked_was}
 use Rattle.bng_shard.proofs.Naming.{next_of}
-use Rattle.bng_shard.proofs.Poolless.{logins_opened}
-use Rattle.bng_shard.proofs.Values.{kept_from, none_some, same_some}
+use Rattle.bng_shard.proofs.Values.{kept_from, none_some, same_some, stands}
 use Rattle.bng_shard.proofs.Walking.{Stops, Walks, end_walks, hears_walks}
 
 pub lease_was : (cause : Option ℕ) (lease : Option Lease) (l : Lease) → kept_lease cause lease ≡ Some l → lease ≡ Some l
@@ -107,6 +112,12 @@ module _ (circuits : ℕ) where
   made_spares : (s : State) (n : ℕ) (x : Session) (cause : Option ℕ) → value_at s.sessions n ≡ Some x → made_one x.service ≡ 1 → CircuitsLast circuits s → Spares x.lease cause
   made_spares s n x cause at made h l c leased is low = absurd (omega (arith, h.later n x l at made leased, low))
 
+  -- the lease that has been looked at has the number of before
+  looked_later : (s : State) (n at : ℕ) (x : Session) → value_at s.sessions n ≡ Some x → CircuitsLast circuits s → IsLater (looked at x)
+  looked_later s n at x found h l made leased =
+      let was = looked_was at x.lease l leased in
+      omega (arith, h.later n x was.0 found made was.1, ap (λ (k : Lease). k.serial) was.2)
+
   keeps_walk : (r : Rules) → Walks r Keeps
   keeps_walk r = record {
     same = λ s s' e h. subst (CircuitsLast circuits) (sym e) h;
@@ -117,16 +128,21 @@ module _ (circuits : ℕ) where
     made = λ Steps e s n x x' outs cause asked' none drives.
         keeps_with s n None cause x' asked' (λ h l is leased. absurd (none_some l (sym none ∙ drives_was r (at_of s e) s.asked x x' outs cause asked' Steps drives l leased))) (λ h l c leased. absurd (none_some l leased));
     padt = λ s n x m at is. keeps_ended s n x user_request (made_spares s n x (Some user_request) at (ap made_one is));
+    passes = λ s n moment h. record { few = h.few; later = h.later; causes = h.causes };
+    looks = λ s n at x found h. record { few = h.few; later = later_with s n (looked at x) (looked_later s n at x found h) h.later; causes = h.causes };
+    lapses = λ e s n x x' outs cause none asked' at over drives.
+        keeps_with s n x.lease (Some cause) x' asked' (λ h l is leased. absurd (none_some l (drives_was r (at_of s e) s.asked (lapsed x) x' outs none asked' (told r e Close) drives l leased)))
+        (made_spares s n x (Some cause) at (ap made_one drives.is_made));
   }
 
   keeps_stops : Stops Keeps
   keeps_stops s n x at = keeps_ended s n x nas_request (λ h l c leased is low. sym (same_some nas_request c is))
 
   -- a term begins, numbered on
-  begun_keeps : (s : State) (n : ℕ) (y : Session) (asked : ℕ) (a : Ip4) (t : Tenure) → t.cause ≡ None → Keeps s (with_term s n y asked a t)
-  begun_keeps s n y asked a t live h = record {
+  begun_keeps : (s : State) (n : ℕ) (y : Session) (asked : ℕ) (k : Lease) (t : Tenure) → k.serial ≡ s.begun + 1 → t.cause ≡ None → Keeps s (with_term s n y asked k t)
+  begun_keeps s n y asked k t serial live h = record {
     few = omega (arith, h.few);
-    later = later_with s n (record y { lease = Some (next_lease s a) }) (λ l made is. omega (arith, h.few, ap (λ (k : Lease). k.serial) (same_some (next_lease s a) l is))) h.later;
+    later = later_with s n (record y { lease = Some k }) (λ l made is. omega (arith, h.few, serial, ap (λ (j : Lease). j.serial) (same_some k l is))) h.later;
     causes = All-push Lasting s.terms t h.causes (λ low. inl live);
   }
 
@@ -135,7 +151,7 @@ module _ (circuits : ℕ) where
     judged_keeps t h None =
         let after : (l : Lease) → h.after.lease ≡ Some l → h.x.lease ≡ Some l = drives_was r (at_of s d.entry) s.asked h.x h.after h.outs h.cause h.asked (settles r d.entry t) h.drives in
         keeps_with s d.entry.item.target None None h.after h.asked (λ k l made leased. absurd (none_some l (sym h.no_term ∙ after l leased))) (λ k l c leased. absurd (none_some l leased))
-    judged_keeps t h (Some a) = begun_keeps s d.entry.item.target h.after h.asked a (next_term s h.x h.question t.class d.entry.moment a) refl
+    judged_keeps t h (Some a) = begun_keeps s d.entry.item.target h.after h.asked (next_lease s t.limits d.entry.moment a) (next_term s h.x h.question t.class d.entry.moment a) refl refl
 
     verdict_keeps : HearsVerdict r s d.entry limited d → Keeps s d.next
     verdict_keeps (inl (asks, t, decides, h)) =
@@ -167,9 +183,22 @@ each_live : (circuits now k : ℕ) (cs : List Static) → AllByRecursion (Lastin
 each_live circuits now k [] = tt
 each_live circuits now k (c ∷ cs) = (λ low. inl refl, each_live circuits now (k + 1) cs)
 
+-- each session is of a circuit
+of_circuit : (k : ℕ) (cs : List Static) (x : Session) → Contains (map (λ e. e.1) (numbered_after k cs)) x → x.service ≡ Provisioned false
+of_circuit k [] x (i, within, is) = absurd (omega (arith, within))
+of_circuit k (c ∷ cs) x (zero, within, is) = ap (λ (y : Session). y.service) (sym is)
+of_circuit k (c ∷ cs) x (suc i, within, is) = of_circuit (k + 1) cs x (i, omega (arith, within), is)
+
+pub are_circuits : (number : ℕ) (circuits : List Static) (now : ℕ) → AllPairs (λ a b. a.session ≢ b.session) circuits → (n : ℕ) (x : Session)
+    → value_at (opened_slots number circuits now).sessions n ≡ Some x → x.service ≡ Provisioned false
+are_circuits number circuits now apart n x at =
+    let s = opened_slots number circuits now in
+    let same : values s.sessions ≡ map (λ e. e.1) (numbered_after 0 (in_order number circuits)) = ap (λ es. map (λ e. e.1) es) (opened_entries number circuits now (apart_of circuits apart)) in
+    of_circuit 0 (in_order number circuits) x (subst (λ (xs : List Session). Contains xs x) same (stands s.sessions n x at))
+
 pub circuits_opened : (number : ℕ) (circuits : List Static) (now : ℕ) → AllPairs (λ a b. a.session ≢ b.session) circuits → CircuitsLast (length circuits) (opened_slots number circuits now)
 circuits_opened number circuits now apart = record {
   few = omega arith;
-  later = λ n x l at made leased. absurd (none_some l (sym (logins_opened number circuits now apart n x at made) ∙ leased));
+  later = λ n x l at made leased. absurd (omega (arith, ap made_one (are_circuits number circuits now apart n x at), made));
   causes = All-from_recursion (Lasting (length circuits)) (tenures_after now 0 (in_order number circuits)) (each_live (length circuits) now 0 (in_order number circuits));
 }

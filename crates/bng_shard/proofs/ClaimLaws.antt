@@ -18,13 +18,14 @@ use Rattle.bng_discovery.specs.declared.answers.Answer.{Answer}
 use Rattle.bng_discovery.specs.declared.answers.Answer.TheVariants.{Offer, Make, Again, Refuse, Ended, NoSession, Ignore}
 use Rattle.bng_discovery.specs.declared.port.PortRules.{PortRules}
 use Rattle.bng_forward.specs.Fates.{IsFrame}
-use Rattle.bng_ppp.specs.declared.whole_input.WholeInput.TheVariants.{Start, Timer}
+use Rattle.bng_ppp.specs.declared.whole_input.WholeInput.TheVariants.{Start, Timer, Close}
 use Rattle.bng_ppp.specs.Claims.{Claim}
 use Rattle.bng_ppp.specs.Phases.{is_begun}
 use Rattle.bng_ppp.specs.PppRelation.{PppSaid}
 use Rattle.bng_ppp.proofs.Claimed.{octets_say}
 use Rattle.bng_ppp.proofs.WholeQuestions.{only_frames_ask}
 use Rattle.bng_slots.specs.Sessions.{value_at}
+use Rattle.bng_slots.proofs.SessionLaws.{value_at-with_value}
 use Rattle.bng_shard.specs.Claiming.{IsAskedBy}
 use Rattle.bng_shard.specs.Made.{Made, Question}
 use Rattle.bng_shard.specs.declared.rules.Rules.{Rules}
@@ -38,9 +39,10 @@ use Rattle.bng_shard.specs.Discovery.{Answers, Makes, host_uniq_of, new_session}
 use Rattle.bng_shard.specs.Frames.{HearsData, HearsPpp, HearsControl, HearsIn, HearsFrame, HearsAccess, HearsCore}
 use Rattle.bng_shard.specs.Granting.{IsSound}
 use Rattle.bng_shard.specs.Link.{LinkStep, Drives, Told, asked_after, ended, ended_service, hears, nas_request, next_ask, question_after, settles, told}
+use Rattle.bng_shard.specs.Passing.{cause_at, lapsed, looked, passed_at}
 use Rattle.bng_shard.specs.Questions.{Asking, asking_of, last_asking, last_asking_at, last_in}
 use Rattle.bng_shard.specs.Step.{Hears, Step}
-use Rattle.bng_shard.specs.Timers.{Ticks, Ends, at_once}
+use Rattle.bng_shard.specs.Timers.{IsTimed, LooksAt, Ticks, Ends, at_once}
 use Rattle.bng_shard.specs.Verdicts.{HearsVerdict, Judges, next_lease, settled_by}
 use Rattle.bng_shard.proofs.GrantLaws.{if_some, last_there, last_with, step_last}
 use Rattle.bng_shard.proofs.LinkSteps.{verdict_of, verdict_steps}
@@ -116,14 +118,28 @@ silent_keeps r s n a x Steps outs cause x' asked' at h silent q is =
     ∙ ap (λ (b : Asking). Some b) (sym (same_asking r a s.asked x Steps outs cause x' asked' h q))
 
 module _ (r : Rules) (e : Entry) where
+  looks_keep : (o : Option ℕ) (s : State) (n : ℕ) (x : Session) (outs : List OutRecord) (s' : State) → value_at s.sessions n ≡ Some x → LooksAt o r e s n x outs s' → Keeps s s'
+  looks_keep None s n x outs s' at (none, next) =
+      let y = looked (passed_at s.passed x.number) x in
+      subst (Keeps s) (sym next) (with_keeps s n y (λ q is. ap (option_and_then last_asking) at ∙ ap (option_map (asking_of x)) is))
+  looks_keep (Some cause) s n x outs s' at (y, none, asked', drives, next) =
+      let silent = only_frames_ask r.link e.moment e.item.random Close drives.made.link drives.says drives.link drives.steps refl in
+      subst (Keeps s) (sym next) (with_keeps s n y (λ q is.
+      last_there s n x at drives.made drives.is_made q (silent_last r (at_of s e) s.asked (lapsed x) (told r e Close) outs none y asked' drives silent q is)
+      ∙ ap (λ (b : Asking). Some b) (sym (same_asking r (at_of s e) s.asked (lapsed x) (told r e Close) outs none y asked' drives q))))
+
+  timed_keeps : (s : State) (n : ℕ) (outs : List OutRecord) (s' : State) → IsTimed r e s n outs s' → Keeps s s'
+  timed_keeps s n outs s' h =
+      let next = with_driven s n h.x.lease h.cause h.after h.asked in
+      chain_keeps s next s'
+      (with_keeps s n h.after (silent_keeps r s n (at_of s e) h.x (told r e Timer) h.first h.cause h.after h.asked h.found h.drives
+      (only_frames_ask r.link e.moment e.item.random Timer h.drives.made.link h.drives.says h.drives.link h.drives.steps refl)))
+      (looks_keep (cause_at (passed_at s.passed h.after.number) h.after.lease e.moment) next n h.after h.then s' (value_at-with_value s.sessions n h.after) h.looks)
+
   ticks_keep : (k : ℕ) (s : State) (outs : List OutRecord) (s' : State) → Ticks k r e s outs s' → Keeps s s'
   ticks_keep zero s outs s' h = same_keeps s s' h.1
   ticks_keep (suc k) s outs s' (inl h) = same_keeps s s' h.2
-  ticks_keep (suc k) s outs s' (inr (n, due, x, x', at, first, cause, asked', drives, rest, more, are)) =
-      let next = with_driven s n x.lease cause x' asked' in
-      chain_keeps s next s'
-      (with_keeps s n x' (silent_keeps r s n (at_of s e) x (told r e Timer) first cause x' asked' at drives (only_frames_ask r.link e.moment e.item.random Timer drives.made.link drives.says drives.link drives.steps refl)))
-      (ticks_keep k next rest s' more)
+  ticks_keep (suc k) s outs s' (inr (n, due, first, next, timed, rest, more, are)) = chain_keeps s next s' (timed_keeps s n first next timed) (ticks_keep k next rest s' more)
 
   ends_keep : (k : ℕ) (s : State) (outs : List OutRecord) (s' : State) → Ends k r e s outs s' → Keeps s s'
   ends_keep zero s outs s' h = same_keeps s s' h.1
@@ -168,12 +184,12 @@ module _ (r : Rules) (s : State) (limited : Bool) (d : Deed) where
   answers Ignore number port offers p tags h = still _ h refl
 
   packets : (number : ℕ) (p : PppoeFrame) (info : List ℕ) → HearsData r s d.entry number p info d → Heard
-  packets number p info (fate, is, inl (forwards, up)) = still _ up.done refl
+  packets number p info (fate, is, inl (forwards, up)) = keeping _ up.done (λ n a is. is)
   packets number p info (fate, is, inr (stays, h)) = still _ h refl
 
   core : HearsCore r s d.entry d → Heard
   core (inl (none, h)) = still _ h refl
-  core (inr (v, is, (fate, decides, inl (forwards, down)))) = still _ down.done refl
+  core (inr (v, is, (fate, decides, inl (forwards, down)))) = keeping _ down.done (λ n a is. is)
   core (inr (v, is, (fate, decides, inr (stays, h)))) = still _ h refl
 
   -- a verdict asks nothing, whether a term begins or not
@@ -186,7 +202,7 @@ module _ (r : Rules) (s : State) (limited : Bool) (d : Deed) where
 
     settled_keeps : (lease : Option Ip4) → Keeps s (settled_by s d.entry.item.target h.x h.question t d.entry.moment h.after h.asked lease)
     settled_keeps None = with_keeps s d.entry.item.target h.after verdict_keeps
-    settled_keeps (Some a) = with_keeps s d.entry.item.target (record h.after { lease = Some (next_lease s a) }) verdict_keeps
+    settled_keeps (Some a) = with_keeps s d.entry.item.target (record h.after { lease = Some (next_lease s t.limits d.entry.moment a) }) verdict_keeps
 
   judged : HearsVerdict r s d.entry limited d → Heard
   judged (inl (asks, t, decides, h)) = keeping _ h.done (settled_keeps t h t.lease)

@@ -1,7 +1,7 @@
 -- A term begins with each address that a step claims, and no other begins.
-use Rattle.std.proofs.Common.{◌≡◌, inl, inr, ℕ, ◌+◌, Bool, List, [], ◌∷◌, ◌++◌, length, map, refl, sym, ap, ◌∙◌, append-nil, arith}
+use Rattle.std.proofs.Common.{◌≡◌, inl, inr, ℕ, Bool, List, [], ◌∷◌, ◌++◌, map, refl, sym, ap, ◌∙◌, append-nil, arith}
 use Rattle.bng_base.specs.declared.address.Ip4.{Ip4}
-use Rattle.bng_engine.specs.Terms.{Key, Term, keys}
+use Rattle.bng_engine.specs.Terms.{Key, keys}
 use Rattle.bng_shard.specs.declared.rules.Rules.{Rules}
 use Rattle.bng_shard.specs.Deed.{Deed}
 use Rattle.bng_shard.specs.Lasting.{BeginsByClaims}

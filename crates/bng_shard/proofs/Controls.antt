@@ -12,7 +12,6 @@ use Rattle.bng_base.specs.PppoeGrammar.{PppoeFrame}
 use Rattle.bng_ppp.specs.PppRelation.{PppSaid}
 use Rattle.bng_ppp.specs.PppState.{PppState}
 use Rattle.bng_slots.specs.Sessions.{value_at}
-use Rattle.bng_shard.specs.Made.{Made}
 use Rattle.bng_shard.specs.declared.frames.Control.TheVariants.{Unknown, Ignored, Heard}
 use Rattle.bng_shard.specs.declared.rules.Rules.{Rules}
 use Rattle.bng_shard.specs.declared.sending.At.{At}

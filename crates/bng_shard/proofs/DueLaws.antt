@@ -2,6 +2,7 @@
 use Rattle.std.proofs.Common.{◌≡◌, ℕ, Bool, true, false, not, Option, Some, None, refl, ap, ◌∙◌}
 use Rattle.std.specs.Option.{option_and_then}
 use Rattle.bng_slots.specs.Sessions.{value_at}
+use Rattle.bng_shard.specs.declared.session.Lease.{Lease}
 use Rattle.bng_shard.specs.declared.session.Service.{Service}
 use Rattle.bng_shard.specs.declared.session.Service.TheVariants.{Provisioned, Discovered}
 use Rattle.bng_shard.specs.declared.session.Session.{Session}
@@ -17,15 +18,15 @@ not_over : (b : Bool) (o : Option ℕ) (d : ℕ) → deadline_unless b o ≡ Som
 not_over true o d e = absurd (none_some d e)
 not_over false o d e = refl
 
-due_lives : (v : Service) (d : ℕ) → deadline_in v ≡ Some d → lives_in v ≡ true
-due_lives (Provisioned l) d e = absurd (none_some d e)
-due_lives (Discovered m) d e = not_over m.ended _ d e
+due_lives : (v : Service) (lease : Option Lease) (d : ℕ) → deadline_in v lease ≡ Some d → lives_in v ≡ true
+due_lives (Provisioned l) lease d e = absurd (none_some d e)
+due_lives (Discovered m) lease d e = not_over m.ended _ d e
 
 -- the session that has a deadline
 pub has_deadline : (s : State) (n d : ℕ) → due_at s n ≡ Some d → (x : Session) × (value_at s.sessions n ≡ Some x) × (lives_at s n ≡ true)
 has_deadline s n d e =
     let (x, at, is) = read_some (value_at s.sessions n) d e in
-    (x, at, ap does_live at ∙ due_lives x.service d is)
+    (x, at, ap does_live at ∙ due_lives x.service x.lease d is)
 
 there_if : (o : Option Session) → does_live o ≡ true → (x : Session) × (o ≡ Some x)
 there_if None e = absurd (let never : ⊥ = cc in never)

@@ -23,7 +23,7 @@ use Rattle.bng_discovery.specs.Reply.{pado_of, pads_of, refusal_of}
 use Rattle.bng_ppp.specs.declared.authentication.Authentication.{Authentication}
 use Rattle.bng_ppp.specs.declared.authentication.Authentication.TheVariants as auth
 use Rattle.bng_ppp.specs.declared.whole_input.WholeInput.{WholeInput}
-use Rattle.bng_ppp.specs.declared.whole_input.WholeInput.TheVariants.{Start, Timer}
+use Rattle.bng_ppp.specs.declared.whole_input.WholeInput.TheVariants.{Start, Timer, Close}
 use Rattle.bng_ppp.specs.Claims.{Claim}
 use Rattle.bng_ppp.specs.Granting.{IsYes, MayAccept, is_frame, is_yes_verdict}
 use Rattle.bng_ppp.specs.Phases.{is_begun}
@@ -48,10 +48,11 @@ use Rattle.bng_shard.specs.Discovery.{Answers, Makes, host_uniq_of, new_session}
 use Rattle.bng_shard.specs.Frames.{HearsData, HearsPpp, HearsControl, HearsIn, HearsFrame, HearsAccess, HearsCore}
 use Rattle.bng_shard.specs.Granting.{HasQuestion, IsGranted, IsGrantedOn, IsSound, IsYesOn, accepted_ask_at, accepted_in}
 use Rattle.bng_shard.specs.Link.{LinkStep, Drives, EndsWith, Told, asked_after, ended, ended_service, hears, nas_request, next_ask, question_after, settles, told, user_request}
+use Rattle.bng_shard.specs.Passing.{cause_at, lapsed, looked, passed_at, with_passed}
 use Rattle.bng_shard.specs.Questions.{Asking, asking_of, last_asking, last_asking_at, last_in, open_ask_at, open_in, open_of}
 use Rattle.bng_shard.specs.Step.{Hears, Step}
 use Rattle.bng_shard.specs.Tenures.{Tenure, closed}
-use Rattle.bng_shard.specs.Timers.{Ticks, Ends, HearsTick, HearsEnd, at_once, TellsEnd}
+use Rattle.bng_shard.specs.Timers.{IsTimed, LooksAt, Ticks, Ends, HearsTick, HearsEnd, at_once, TellsEnd}
 use Rattle.bng_shard.specs.Verdicts.{HearsVerdict, Judges, next_lease, next_term, settled_by}
 use Rattle.bng_shard.specs.Wishes.{Decides, refused_with}
 use Rattle.bng_shard.proofs.Granted.{NoYes, both_no_yes, core_no_yes, discovery_no_yes, none_yes, packet_no_yes, padt_no_yes, said_yes}
@@ -251,6 +252,21 @@ leased what asked x outs x' asked' lease d = record {
   yes = d.yes;
 }
 
+-- or leased before it
+abbrev before_lapse : (what : WholeInput) (asked : ℕ) (x : Session) (outs : List OutRecord) (x' : Session) (asked' : ℕ) → Drove what asked (lapsed x) outs x' asked' → Drove what asked x outs x' asked'
+before_lapse what asked x outs x' asked' d = record {
+  made = d.made;
+  is_made = d.is_made;
+  number = d.number;
+  asking = d.asking;
+  accepted = d.accepted;
+  last = d.last;
+  few = d.few;
+  still = d.still;
+  has = d.has;
+  yes = d.yes;
+}
+
 -- Sound states ------------------------------------------------------------------------------------------------------------
 
 number_small : (shard n : ℕ) → shard < 64 → IsNumberOf shard n → n < 65536
@@ -332,6 +348,16 @@ same_still s s' outs e none = record {
   asked = ap (λ (t : State). t.asked) e;
 }
 
+-- a packet passes
+passes_still : (s : State) (n : SessionNo) (moment : ℕ) (outs : List OutRecord) → NoYes outs → Still s outs (with_passed s n moment)
+passes_still s n moment outs none = record {
+  sound = λ h. record { shard = h.shard; own = h.own; of_shard = h.of_shard; questions = h.questions };
+  yes = λ sound port mac m o c tells. absurd (none port mac m o c tells);
+  accepted = λ m ask is. is;
+  last = λ m a is. is;
+  asked = refl;
+}
+
 chain_still : (s s' s'' : State) (outs rest : List OutRecord) → Still s outs s' → Still s' rest s'' → Still s (outs ++ rest) s''
 chain_still s s' s'' outs rest g h = record {
   sound = λ sound. h.sound (g.sound sound);
@@ -346,25 +372,31 @@ chain_still s s' s'' outs rest g h = record {
   asked = h.asked ∙ g.asked;
 }
 
--- a session that ends keeps its question
-over_still : (s : State) (n : ℕ) (x : Session) (outs : List OutRecord) (terms : List Tenure) → value_at s.sessions n ≡ Some x → NoYes outs → Still s outs (state_with s n (ended x) s.asked s.begun terms s.news)
-over_still s n x outs terms at none = record {
-  sound = λ h. sound_driven s n (ended x) s.asked s.begun terms s.news (sound_with s n (ended x) h (h.own n x at) (h.of_shard n (ap is_some at)) (has_ended x.service (h.questions n x at)));
+-- a session that keeps its question is another one
+kept_still : (s : State) (n : ℕ) (x y : Session) (outs : List OutRecord) (terms : List Tenure) → value_at s.sessions n ≡ Some x → y.number ≡ x.number → (HasQuestion x.service → HasQuestion y.service)
+    → accepted_in x.service ≡ accepted_in y.service → last_in x.service ≡ last_in y.service → ((q : Question) → asking_of x q ≡ asking_of y q) → NoYes outs
+    → Still s outs (state_with s n y s.asked s.begun terms s.news)
+kept_still s n x y outs terms at number has accepted last circuit none = record {
+  sound = λ h. sound_driven s n y s.asked s.begun terms s.news (sound_with s n y h (ap (λ (i : SessionNo). i.0) number ∙ h.own n x at) (h.of_shard n (ap is_some at)) (has (h.questions n x at)));
   yes = λ sound port mac m o c tells. absurd (none port mac m o c tells);
-  accepted = λ m ask is. elim (accepted_with s n (ended x) m ask is) [
+  accepted = λ m ask is. elim (accepted_with s n y m ask is) [
     | inl here ↦
         ap (λ (i : ℕ). accepted_ask_at s i) here.0 ∙ ap (λ (o : Option Session). option_map (λ (q : Question). q.ask) (option_and_then ask_in o)) at
-        ∙ ap (option_map (λ (q : Question). q.ask)) (same_accepted x.service ∙ here.2)
+        ∙ ap (option_map (λ (q : Question). q.ask)) (accepted ∙ here.2)
         ∙ ap (λ (i : ℕ). Some i) here.3
     | inr before ↦ before
   ];
-  last = λ m a is. elim (last_with s n (ended x) m a is) [
+  last = λ m a is. elim (last_with s n y m a is) [
     | inl here ↦
-        ap (λ (i : ℕ). last_asking_at s i) here.0 ∙ ap (option_and_then last_asking) at ∙ ap (option_map (asking_of x)) (same_last x.service ∙ here.2) ∙ ap (λ (b : Asking). Some b) here.3
+        ap (λ (i : ℕ). last_asking_at s i) here.0 ∙ ap (option_and_then last_asking) at ∙ ap (option_map (asking_of x)) (last ∙ here.2) ∙ ap (λ (b : Asking). Some b) (circuit here.1 ∙ here.3)
     | inr before ↦ before
   ];
   asked = refl;
 }
+
+-- one that ends does
+over_still : (s : State) (n : ℕ) (x : Session) (outs : List OutRecord) (terms : List Tenure) → value_at s.sessions n ≡ Some x → NoYes outs → Still s outs (state_with s n (ended x) s.asked s.begun terms s.news)
+over_still s n x outs terms at none = kept_still s n x (ended x) outs terms at refl (has_ended x.service) (same_accepted x.service) (same_last x.service) (λ q. refl) none
   where
     has_ended : (v : Service) → HasQuestion v → HasQuestion (ended_service v)
     has_ended (Provisioned l) h = h
@@ -469,14 +501,26 @@ module _ (r : Rules) (e : Entry) where
   empty_no_yes : (outs : List OutRecord) → outs ≡ [] → NoYes outs
   empty_no_yes outs e = subst (λ (os : List OutRecord). NoYes os) (sym e) none_yes
 
+  looks_still : (o : Option ℕ) (s : State) (n : ℕ) (x : Session) (outs : List OutRecord) (s' : State) → value_at s.sessions n ≡ Some x → LooksAt o r e s n x outs s' → Still s outs s'
+  looks_still None s n x outs s' at (none, next) =
+      subst (Still s outs) (sym next) (kept_still s n x (looked (passed_at s.passed x.number) x) outs s.terms at refl (λ h. h) refl refl (λ q. refl) (empty_no_yes outs none))
+  looks_still (Some cause) s n x outs s' at (y, none, asked', drives, next) =
+      let d = before_lapse Close s.asked x outs y asked' (drove r e (at_of s e) (told r e Close) Close (told_is Close) s.asked (lapsed x) outs none y asked' drives) in
+      subst (Still s outs) (sym next) (drove_still s n x outs y asked' Close at d s.begun (closed x.lease (Some cause) s.terms) s.news refl refl)
+
+  timed_still : (s : State) (n : ℕ) (outs : List OutRecord) (s' : State) → IsTimed r e s n outs s' → Still s outs s'
+  timed_still s n outs s' h =
+      let d = drove r e (at_of s e) (told r e Timer) Timer (told_is Timer) s.asked h.x h.first h.cause h.after h.asked h.drives in
+      let next = with_driven s n h.x.lease h.cause h.after h.asked in
+      equal_still s (h.first ++ h.then) outs s' h.outs_are
+      (chain_still s next s' h.first h.then (drove_still s n h.x h.first h.after h.asked Timer h.found d s.begun (closed h.x.lease h.cause s.terms) s.news refl refl)
+      (looks_still (cause_at (passed_at s.passed h.after.number) h.after.lease e.moment) next n h.after h.then s' (value_at-with_value s.sessions n h.after) h.looks))
+
   ticks_still : (k : ℕ) (s : State) (outs : List OutRecord) (s' : State) → Ticks k r e s outs s' → Still s outs s'
   ticks_still zero s outs s' h = same_still s s' outs h.1 (empty_no_yes outs h.0)
   ticks_still (suc k) s outs s' (inl h) = same_still s s' outs h.2 (empty_no_yes outs h.1)
-  ticks_still (suc k) s outs s' (inr (n, due, x, x', at, first, cause, asked', drives, rest, more, are)) =
-      let d = drove r e (at_of s e) (told r e Timer) Timer (told_is Timer) s.asked x first cause x' asked' drives in
-      let next = with_driven s n x.lease cause x' asked' in
-      equal_still s (first ++ rest) outs s' are
-      (chain_still s next s' first rest (drove_still s n x first x' asked' Timer at d s.begun (closed x.lease cause s.terms) s.news refl refl) (ticks_still k next rest s' more))
+  ticks_still (suc k) s outs s' (inr (n, due, first, next, timed, rest, more, are)) =
+      equal_still s (first ++ rest) outs s' are (chain_still s next s' first rest (timed_still s n first next timed) (ticks_still k next rest s' more))
 
   ends_no_yes : (a : At) (x : Session) (outs : List OutRecord) → EndsWith r a x outs → NoYes outs
   ends_no_yes a x outs h = subst (λ (os : List OutRecord). NoYes os) (sym h.outs_are) (padt_no_yes a x h.port h.offers)
@@ -573,7 +617,7 @@ module _ (r : Rules) (s : State) (limited : Bool) (e : Entry) (d : Deed) where
   answers Ignore number port offers p tags h = quiet _ h refl none_yes
 
   packets : (number : ℕ) (p : PppoeFrame) (info : List ℕ) → HearsData r s e number p info d → Deeds
-  packets number p info (fate, is, inl (forwards, up)) = quiet _ up.done refl (core_no_yes _ refl)
+  packets number p info (fate, is, inl (forwards, up)) = still _ up.done (passes_still s up.x.number e.moment _ (core_no_yes _ refl))
   packets number p info (fate, is, inr (stays, h)) = quiet _ h refl none_yes
 
   -- the link of a session hears a frame
@@ -607,7 +651,7 @@ module _ (r : Rules) (s : State) (limited : Bool) (e : Entry) (d : Deed) where
 
   core : HearsCore r s e d → Deeds
   core (inl (none, h)) = quiet _ h refl none_yes
-  core (inr (v, is, (fate, decides, inl (forwards, down)))) = quiet _ down.done refl (packet_no_yes _ down.port down.x.mac down.x.number.0 down.packet down.again)
+  core (inr (v, is, (fate, decides, inl (forwards, down)))) = still _ down.done (passes_still s down.x.number e.moment _ (packet_no_yes _ down.port down.x.mac down.x.number.0 down.packet down.again))
   core (inr (v, is, (fate, decides, inr (stays, h)))) = quiet _ h refl none_yes
 
   -- the session's open question is the last one
@@ -638,7 +682,7 @@ module _ (r : Rules) (s : State) (limited : Bool) (e : Entry) (d : Deed) where
         drove_grants s e.item.target h.x h.outs h.after h.asked (verdict_of t) h.found was_told s.begun s.terms s.news (IsGranted s e) told_grants (λ m k before. inl before)
     settled_grants (Some a) =
         let new = next_term s h.x h.question t.class e.moment a in
-        let lease = Some (next_lease s a) in
+        let lease = Some (next_lease s t.limits e.moment a) in
         drove_grants s e.item.target h.x h.outs (record h.after { lease = lease }) h.asked (verdict_of t) h.found (leased (verdict_of t) s.asked h.x h.outs h.after h.asked lease was_told)
         (s.begun + 1) (s.terms ++ new ∷ []) (s.news ++ new ∷ []) (IsGranted s e) told_grants (λ m k before. inl before)
 

@@ -1,13 +1,12 @@
 -- No term outlasts its session: at the opening, and once a round is settled.
-use Rattle.std.proofs.Common.{◌≡◌, ◌≢◌, ℕ, zero, suc, ◌+◌, ◌*◌, true, false, not, T, List, [], ◌∷◌, length, map, filter, Option, Some, None, is_some, refl, sym, ap, subst, ◌∙◌, arith}
+use Rattle.std.proofs.Common.{◌≡◌, ◌≢◌, ℕ, ◌+◌, ◌*◌, true, false, not, T, List, [], ◌∷◌, length, filter, Option, Some, None, is_some, refl, sym, ap, subst, ◌∙◌, arith}
 use Rattle.std.specs.FinMap.{get-from_sorted, is_sorted}
 use Rattle.std.specs.FinMap.{find as find_at}
-use Rattle.std.specs.List.{AllByRecursion, AllPairs, Contains}
+use Rattle.std.specs.List.{AllByRecursion, AllPairs}
 use Rattle.std.specs.Ordering.{nat_cmp}
 use Rattle.std.proofs.lemmas.List.Elements.{All-filter, All-from_recursion, All-weaker, filter_passes, recursion_from_All}
 use Rattle.bng_base.specs.declared.settings.Static.{Static}
 use Rattle.bng_engine.proofs.Everywhere.{all_weaker}
-use Rattle.bng_slots.specs.Sessions.{value_at}
 use Rattle.bng_slots.specs.Listed.{values}
 use Rattle.bng_shard.specs.declared.session.Lease.{Lease}
 use Rattle.bng_shard.specs.declared.session.Service.{Service}
@@ -17,8 +16,9 @@ use Rattle.bng_shard.specs.Lasting.{AreHoused, HasPhases, KeepsTerm}
 use Rattle.bng_shard.specs.Opening.{in_order, lease_from, numbered_after, opened_slots, provisioned, tenures_after}
 use Rattle.bng_shard.specs.State.{State, count_in, leaves, leaves_in, settled}
 use Rattle.bng_shard.specs.Tenures.{Tenure, is_over}
+use Rattle.bng_shard.proofs.CircuitsKept.{are_circuits}
 use Rattle.bng_shard.proofs.Housing.{Housed}
-use Rattle.bng_shard.proofs.InOrder.{apart_of, opened_entries, rising_in_order, sorted}
+use Rattle.bng_shard.proofs.InOrder.{apart_of, rising_in_order, sorted}
 use Rattle.bng_shard.proofs.Values.{behind, first, first_found, kept_from, second, stands, value_at-kept}
 
 -- Settlements ------------------------------------------------------------------------------------------------------------
@@ -59,12 +59,6 @@ housed_none s h none =
 
 -- Openings ---------------------------------------------------------------------------------------------------------------
 
--- each session is of a circuit
-of_circuit : (k : ℕ) (cs : List Static) (x : Session) → Contains (map (λ e. e.1) (numbered_after k cs)) x → x.service ≡ Provisioned false
-of_circuit k [] x (i, within, is) = absurd (omega (arith, within))
-of_circuit k (c ∷ cs) x (zero, within, is) = ap (λ (y : Session). y.service) (sym is)
-of_circuit k (c ∷ cs) x (suc i, within, is) = of_circuit (k + 1) cs x (i, omega (arith, within), is)
-
 -- each term is that of a session among these
 abbrev IsAmong : List (ℕ × Session) → Tenure → Type 0
 IsAmong es t = (x : Session) × (l : Lease) × (find_at nat_cmp t.term.session.0 es ≡ Some x) × (x.lease ≡ Some l) × (l.serial ≡ t.term.serial)
@@ -84,11 +78,9 @@ housed_opened number circuits now apart =
     let s = opened_slots number circuits now in
     let cs = in_order number circuits in
     let sorts = sorted (number * 1024 + 1) 0 cs (rising_in_order number circuits (apart_of circuits apart)) in
-    let entries_are : values s.sessions ≡ map (λ e. e.1) (numbered_after 0 cs) = ap (λ es. map (λ e. e.1) es) (opened_entries number circuits now (apart_of circuits apart)) in
-    let is_circuit : (n : ℕ) (x : Session) → value_at s.sessions n ≡ Some x → x.service ≡ Provisioned false = λ n x at. of_circuit 0 cs x (subst (λ (xs : List Session). Contains xs x) entries_are (stands s.sessions n x at)) in
     record {
-      phases = λ n x at. subst HasPhases (sym (is_circuit n x at)) tt;
-      lasting = λ n x l at leased. subst KeepsTerm (sym (is_circuit n x at)) refl;
+      phases = λ n x at. subst HasPhases (sym (are_circuits number circuits now apart n x at)) tt;
+      lasting = λ n x l at leased. subst KeepsTerm (sym (are_circuits number circuits now apart n x at)) refl;
       housed = All-from_recursion (Housed s) (tenures_after now 0 cs)
           (all_weaker (IsAmong (numbered_after 0 cs)) (Housed s) (λ t (x, l, at, leased, same) live. (x, l, get-from_sorted nat_cmp (numbered_after 0 cs) t.term.session.0 sorts ∙ at, leased, same)) (tenures_after now 0 cs) (among now 0 cs sorts));
     }

@@ -17,7 +17,7 @@ use Rattle.bng_ppp.proofs.TermLaws.{lasts, settled_live}
 use Rattle.bng_ppp.proofs.WholePhases.{phases_kept, term_while_opened}
 use Rattle.bng_ppp.specs.declared.rules.LinkRules.{LinkRules}
 use Rattle.bng_ppp.specs.declared.whole_input.WholeInput.{WholeInput}
-use Rattle.bng_ppp.specs.declared.whole_input.WholeInput.TheVariants.{Start, Timer}
+use Rattle.bng_ppp.specs.declared.whole_input.WholeInput.TheVariants.{Start, Timer, Close}
 use Rattle.bng_ppp.specs.Granting.{goes_by_itself}
 use Rattle.bng_ppp.specs.LinkState.{is_down, is_opened}
 use Rattle.bng_ppp.specs.Phases.{KeepsPhases, is_begun}
@@ -38,6 +38,7 @@ use Rattle.bng_shard.specs.Granting.{IsSound}
 use Rattle.bng_shard.specs.Lasting.{AreHoused, HasPhases, IsHousedIn, KeepsTerm}
 use Rattle.bng_shard.specs.Link.{Drives, LinkStep, Told, ended, ended_service, hears, nas_request, settles, told, user_request}
 use Rattle.bng_shard.specs.Made.{Made}
+use Rattle.bng_shard.specs.Passing.{lapsed, looked, looked_on}
 use Rattle.bng_shard.specs.Questions.{open_in}
 use Rattle.bng_shard.specs.State.{State, with_driven, with_ended, with_session}
 use Rattle.bng_shard.specs.Step.{Hears, Step}
@@ -46,6 +47,7 @@ use Rattle.bng_shard.specs.Verdicts.{HearsVerdict, Judges, next_lease, next_term
 use Rattle.bng_shard.specs.Wishes.{Decides, pool_for, refused_with, told_at, told_by, told_of}
 use Rattle.bng_shard.proofs.CircuitsKept.{lease_was}
 use Rattle.bng_shard.proofs.LinkSteps.{frame_steps, verdict_steps}
+use Rattle.bng_shard.proofs.SeenLeases.{looked_was, seen_at}
 use Rattle.bng_shard.proofs.Naming.{next_of}
 use Rattle.bng_shard.proofs.TermBegins.{asks_open}
 use Rattle.bng_shard.proofs.Values.{none_some, same_some}
@@ -140,6 +142,14 @@ ended_phases (Discovered m) h = h
 ended_keeps : (x : Session) → SessionKeeps x → SessionKeeps (ended x)
 ended_keeps x h = record { phases = ended_phases x.service h.phases; lasting = λ l leased. absurd (none_some l leased) }
 
+looked_keeps : (at : ℕ) (x : Session) → SessionKeeps x → SessionKeeps (looked at x)
+looked_keeps at x h = record {
+  phases = h.phases;
+  lasting = λ l leased.
+      let was = looked_was at x.lease l leased in
+      h.lasting was.0 was.1;
+}
+
 -- Terms ------------------------------------------------------------------------------------------------------------------
 
 never_live : (b : Bool) (o : Option ℕ) (cause : ℕ) (t : Tenure) → b ≡ true → t.cause ≡ o → (cond (b && not (is_some o)) (record t { cause = Some cause }) t).cause ≡ None → ⊥
@@ -186,6 +196,14 @@ module _ (s : State) (n : ℕ) (lease : Option Lease) (y : Session) (was : (x : 
       (λ (here : (l : Lease) × (lease ≡ Some l) × (l.serial ≡ t.term.serial) × (t.term.session.0 ≡ n)). house_on t here.0 (same ∙ here.1) here.2 here.3)
       (house_or t (h live))
 
+  -- or has been looked at
+  house_looked : (at : ℕ) (t : Tenure) → y.lease ≡ looked_on at lease → Housed s t → Housed (with_session s n y) t
+  house_looked at t seen h live = ⊎_elim
+      (λ (other : IsHousedIn (with_session s n y) t). other)
+      (λ (here : (l : Lease) × (lease ≡ Some l) × (l.serial ≡ t.term.serial) × (t.term.session.0 ≡ n)).
+      house_on t (seen_at at here.0) (seen ∙ ap (looked_on at) here.1) here.2 here.3)
+      (house_or t (h live))
+
   -- or has ended
   house_over : (l : Lease) (c : ℕ) (t : Tenure) → lease ≡ Some l → Housed s t → Housed (with_session s n y) (over_by l.serial c t)
   house_over l c t leased h live =
@@ -214,6 +232,9 @@ module _ (s : State) (n : ℕ) (lease : Option Lease) (y : Session) (was : (x : 
 
   houses_others : lease ≡ None → All (Housed s) s.terms → All (Housed (with_session s n y)) s.terms
   houses_others none h = All-from_recursion (Housed (with_session s n y)) s.terms (each_so s.terms (λ t. house_other t none) (recursion_from_All (Housed s) s.terms h))
+
+  houses_looked : (at : ℕ) → y.lease ≡ looked_on at lease → All (Housed s) s.terms → All (Housed (with_session s n y)) s.terms
+  houses_looked at seen h = All-from_recursion (Housed (with_session s n y)) s.terms (each_so s.terms (λ t. house_looked at t seen) (recursion_from_All (Housed s) s.terms h))
 
 -- States -----------------------------------------------------------------------------------------------------------------
 
@@ -246,6 +267,15 @@ same_lease s n x at y there = ap (λ (z : Session). z.lease) (same_some y x (sym
 keeps_ended : (s : State) (n : ℕ) (x : Session) (cause : ℕ) → value_at s.sessions n ≡ Some x → Keeps s (with_ended s n x.lease cause (ended x))
 keeps_ended s n x cause at = keeps_with s n x.lease (Some cause) (ended x) s.asked (same_lease s n x at) refl (λ h. ended_keeps x (kept_at s n x at h))
 
+keeps_looked : (s : State) (n at : ℕ) (x : Session) → value_at s.sessions n ≡ Some x → Keeps s (with_session s n (looked at x))
+keeps_looked s n at x found h =
+    let each = sessions_with s n (looked at x) (looked_keeps at x (kept_at s n x found h)) h in
+    record {
+      phases = λ m z there. (each m z there).phases;
+      lasting = λ m z l there leased. (each m z there).lasting l leased;
+      housed = houses_looked s n x.lease (looked at x) (same_lease s n x found) at refl h.housed;
+    }
+
 keeps_walk : (r : Rules) → WalksBy r Keeps
 keeps_walk r = record {
   same = λ s s' e h. subst AreHoused (sym e) h;
@@ -264,6 +294,13 @@ keeps_walk r = record {
       (λ h. driven_none r (at_of s e) s.asked (new_session n port mac host_uniq link) x' outs cause asked' (told r e Start) drives
       (by_itself r.link Start e.moment e.item.random drives.made.link drives.says drives.link refl drives.steps).phases refl (new_phases e.item.random link new));
   padt = λ s n x m at is. keeps_ended s n x user_request at;
+  passes = λ s n moment h. record { phases = h.phases; lasting = h.lasting; housed = h.housed };
+  looks = keeps_looked;
+  lapses = λ e s n x x' outs cause none asked' at over drives.
+      keeps_with s n x.lease (Some cause) x' asked' (same_lease s n x at)
+      (lease_after r (at_of s e) s.asked (lapsed x) x' outs none asked' (told r e Close) drives ∙ none_kept none)
+      (λ h. driven_none r (at_of s e) s.asked (lapsed x) x' outs none asked' (told r e Close) drives
+      (λ keeps. phases_kept r.link e.moment e.item.random Close drives.made.link drives.says drives.link keeps drives.steps) refl (kept_at s n x at h).phases);
 }
 
 keeps_stops : Stops Keeps
@@ -341,18 +378,19 @@ module _ (r : Rules) (s : State) (limited : Bool) (d : Deed) (t : Told) (h : Jud
       (lease_after r (at_of s d.entry) s.asked h.x h.after h.outs h.cause h.asked Says h.drives ∙ ap (kept_lease h.cause) h.no_term ∙ none_kept h.cause)
       after_keeps
 
-  one_begins : (a : Ip4) → IsSound s → t.yes ≡ true → t.lease ≡ Some a → Keeps s (with_term s d.entry.item.target h.after h.asked a (next_term s h.x h.question t.class d.entry.moment a))
+  one_begins : (a : Ip4) → IsSound s → t.yes ≡ true → t.lease ≡ Some a → Keeps s (with_term s d.entry.item.target h.after h.asked (next_lease s t.limits d.entry.moment a) (next_term s h.x h.question t.class d.entry.moment a))
   one_begins a sound accepted leased housed =
       let n = d.entry.item.target in
-      let y : Session = record h.after { lease = Some (next_lease s a) } in
+      let lease = next_lease s t.limits d.entry.moment a in
+      let y : Session = record h.after { lease = Some lease } in
       let one = next_term s h.x h.question t.class d.entry.moment a in
-      let each = sessions_with s n y (begun_keeps a (next_lease s a) accepted leased housed) housed in
+      let each = sessions_with s n y (begun_keeps a lease accepted leased housed) housed in
       let own : h.x.number.0 ≡ n = sound.own n h.x h.found in
       let there : value_at (with_value s.sessions n y) h.x.number.0 ≡ Some y = subst (λ (k : ℕ). value_at (with_value s.sessions n y) k ≡ Some y) (sym own) (value_at-with_value s.sessions n y) in
       record {
         phases = λ m x at. (each m x at).phases;
         lasting = λ m x l at leases. (each m x at).lasting l leases;
-        housed = All-push (Housed (with_session s n y)) s.terms one (houses_others s n None y had_none refl housed.housed) (λ live. (y, next_lease s a, there, refl, refl));
+        housed = All-push (Housed (with_session s n y)) s.terms one (houses_others s n None y had_none refl housed.housed) (λ live. (y, lease, there, refl, refl));
       }
 
   judged_keeps : (lease : Option Ip4) → IsSound s → ((a : Ip4) → t.lease ≡ Some a → t.yes ≡ true) → t.lease ≡ lease → Keeps s (settled_by s d.entry.item.target h.x h.question t d.entry.moment h.after h.asked lease)

@@ -1,5 +1,5 @@
 -- A live term lasts over a step of its link until the link says its end.
-use Rattle.std.proofs.Common.{◌≡◌, ℕ, Bool, true, false, List, Option, Some, None, is_some, refl, sym, ap, ◌∙◌}
+use Rattle.std.proofs.Common.{◌≡◌, ℕ, true, List, Option, Some, None, refl, sym}
 use Rattle.std.specs.Prelude.{IsSome}
 use Rattle.std.proofs.lemmas.Bool.{false≢true}
 use Rattle.bng_ppp.proofs.TermLaws.{lasts}
@@ -16,13 +16,13 @@ use Rattle.bng_shard.specs.Driven.{LastsOver}
 use Rattle.bng_shard.specs.Tenures.{kept_lease}
 use Rattle.bng_shard.proofs.Values.{none_some}
 
--- there is a term, so no verdict is told
+-- there is a term, so neither a verdict is told nor Close
 by_itself : (what : WholeInput) (l : Lease) → LastsOver what (Some l) → goes_by_itself what ≡ true
 by_itself Start l over = refl
 by_itself (Frame octets) l over = refl
 by_itself Timer l over = refl
 by_itself (Verdict accepted address text) l over = absurd (none_some l (sym over))
-by_itself Close l over = absurd over
+by_itself Close l over = absurd (none_some l (sym over))
 by_itself Lost l over = absurd over
 
 module _ (r : LinkRules) (what : WholeInput) (now : ℕ) (random : List ℕ) (old : PppState) (says : PppSaid) (new : PppState) (steps : PppSteps r what now random old says new) where

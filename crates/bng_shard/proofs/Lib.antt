@@ -10,10 +10,10 @@ pub mod ListParts
 pub mod LeavingFirst
 pub mod Beginning
 pub mod Walking
+pub mod SeenLeases
 pub mod Wishing
 pub mod TermBegins
 pub mod TermLaws
-pub mod Poolless
 pub mod CircuitsKept
 pub mod Housing
 pub mod HousedSettled
@@ -33,6 +33,7 @@ pub mod KeyLaws
 pub mod Stepping
 pub mod Carrying
 pub mod Driving
+pub mod FewOuts
 pub mod Lasting
 pub mod Speaking
 pub mod Finding
@@ -41,6 +42,7 @@ pub mod Judging
 pub mod Discovering
 pub mod Arriving
 pub mod Timing
+pub mod Looking
 pub mod Framing
 pub mod ByKind
 pub mod Values

@@ -26,7 +26,7 @@ use Rattle.bng_shard.specs.Opening.{in_order, opened_slots, tenures_after}
 use Rattle.bng_shard.specs.State.{State, settled}
 use Rattle.bng_shard.specs.Step.{Hears, Step}
 use Rattle.bng_shard.specs.Tenures.{Tenure, is_over}
-use Rattle.bng_shard.specs.Verdicts.{HearsVerdict, Judges, next_term, with_term}
+use Rattle.bng_shard.specs.Verdicts.{HearsVerdict, Judges, next_lease, next_term, with_term}
 use Rattle.bng_shard.specs.Wishes.{Decides, pool_for, refused_with, told_at, told_by, told_of}
 use Rattle.bng_shard.proofs.InOrder.{all_in_order}
 use Rattle.bng_shard.proofs.Naming.{next_of}
@@ -194,7 +194,7 @@ module _ (r : Rules) (s : State) (limited : Bool) (d : Deed) (m : ℕ) (sound : 
     judged_tenures (Some a) is =
         let one = next_term s j.x j.question t.class d.entry.moment a in
         subst (AreTenures d.entry.moment) (sym (settled_as r s d.entry t d j (Some a) is))
-        (tenures_begin m d.entry.moment s (with_term s d.entry.item.target j.after j.asked a one) le h one refl refl refl refl refl (new_tenure a))
+        (tenures_begin m d.entry.moment s (with_term s d.entry.item.target j.after j.asked (next_lease s t.limits d.entry.moment a) one) le h one refl refl refl refl refl (new_tenure a))
 
   unchanged : (f : Deed) → d ≡ f → f.next ≡ s → AreTenures d.entry.moment d.next
   unchanged f is next = subst (AreTenures d.entry.moment) (sym (next_of d f is ∙ next)) (tenures_later m d.entry.moment s le h)

@@ -32,7 +32,7 @@ use Rattle.bng_grant.proofs.One.{one_grant}
 use Rattle.bng_lcp.specs.Ask.{Ask}
 use Rattle.bng_lcp.specs.declared.configure_request.SentRequest.{SentRequest}
 use Rattle.bng_ppp.specs.declared.whole_input.WholeInput.{WholeInput}
-use Rattle.bng_ppp.specs.declared.whole_input.WholeInput.TheVariants.{Start, Timer}
+use Rattle.bng_ppp.specs.declared.whole_input.WholeInput.TheVariants.{Start, Timer, Close}
 use Rattle.bng_ppp.specs.LinkState.{IsFirstAsk}
 use Rattle.bng_ppp.specs.PppRelation.{PppSaid}
 use Rattle.bng_ppp.specs.PppState.{PppState}
@@ -53,10 +53,11 @@ use Rattle.bng_shard.specs.Deed.{Deed, at_of, out, frame_outs, only, handled, ar
 use Rattle.bng_shard.specs.Discovery.{Answers, Discovers, IsNewLink, IsVacancy, Makes, Repeats, host_uniq_of, new_session, repeated}
 use Rattle.bng_shard.specs.Frames.{charge_of, forwarded, found_up, found_down, GoesUp, GoesDown, HearsData, HearsPadt, HearsPpp, HearsControl, HearsIn, HearsFrame, HearsAccess, HearsPacket, HearsCore}
 use Rattle.bng_shard.specs.Link.{LinkStep, Drives, EndsWith, padt_outs, said_outs, asked_after, with_link, Told, told, hears, nas_request, settles, ended}
+use Rattle.bng_shard.specs.Passing.{cause_at, lapsed, passed_at}
 use Rattle.bng_shard.specs.Protocol.{pppoe, refused_by}
 use Rattle.bng_shard.specs.Questions.{open_of}
 use Rattle.bng_shard.specs.Step.{Hears, Step}
-use Rattle.bng_shard.specs.Timers.{Ticks, Ends, HearsTick, HearsEnd, at_once, IsFirstDue, NoneIsDue, ComesFirst, IsLowest, NoneStays, TellsEnd}
+use Rattle.bng_shard.specs.Timers.{Ticks, Ends, HearsTick, HearsEnd, at_once, IsFirstDue, IsTimed, LooksAt, NoneIsDue, ComesFirst, IsLowest, NoneStays, TellsEnd}
 use Rattle.bng_shard.specs.Verdicts.{HearsVerdict, Judges, settled_by}
 use Rattle.bng_shard.specs.Wishes.{Decides, refused_with, told_of}
 use Rattle.bng_shard.proofs.LinkSteps.{frame_of, verdict_of, frame_steps, verdict_steps}
@@ -138,9 +139,7 @@ Alone Says = (s : State) (outs outs' : List OutRecord) (s' s'' : State) → Says
 
 -- one deadline, and those after it
 abbrev TicksAt : ℕ → ℕ → Rules → Entry → State → List OutRecord → State → Type 0
-TicksAt k n r e s outs s' =
-    (x x' : Session) × (value_at s.sessions n ≡ Some x) × (first : List OutRecord) × (cause : Option ℕ) × (asked' : ℕ) × Drives r (at_of s e) s.asked x (told r e Timer) first cause x' asked'
-    × (rest : List OutRecord) × Ticks k r e (with_driven s n x.lease cause x' asked') rest s' × (outs ≡ first ++ rest)
+TicksAt k n r e s outs s' = (first : List OutRecord) × (next : State) × IsTimed r e s n first next × (rest : List OutRecord) × Ticks k r e next rest s' × (outs ≡ first ++ rest)
 
 abbrev EndsAt : ℕ → ℕ → Rules → Entry → State → List OutRecord → State → Type 0
 EndsAt k n r e s outs s' =
@@ -152,26 +151,44 @@ driven_equal : (s : State) (n : ℕ) (lease : Option Lease) (cause cause' : Opti
 driven_equal s n lease cause cause' x y asked asked' causes same count =
     ap (λ (c : Option ℕ). with_driven s n lease c x asked) causes ∙ ap (λ (z : Session). with_driven s n lease cause' z asked) same ∙ ap (λ (m : ℕ). with_driven s n lease cause' y m) count
 
+-- a session's live term is looked at in one way
+looks_one : (over : Option ℕ) (r : Rules) (e : Entry) (s : State) (n : ℕ) (x : Session) (outs outs' : List OutRecord) (s' s'' : State) → LooksAt over r e s n x outs s' → LooksAt over r e s n x outs' s'' → (outs ≡ outs') × (s' ≡ s'')
+looks_one None r e s n x outs outs' s' s'' h k = (h.0 ∙ sym k.0, h.1 ∙ sym k.1)
+looks_one (Some over) r e s n x outs outs' s' s'' (after, none, asked, drives, is) (after', none', asked', drives', is') =
+    let one = drives_one r (at_of s e) s.asked (told r e Close) (told_is_one r e Close) (lapsed x) outs outs' none none' after after' asked asked' drives drives' in
+    (one.0, is ∙ driven_equal s n x.lease (Some over) (Some over) after after' asked asked' refl one.1 one.2 ∙ sym is')
+
 module _ (r : Rules) (e : Entry) where
+  -- and so is a deadline handled
+  timed_one : (s : State) (n : ℕ) (outs outs' : List OutRecord) (s' s'' : State) → IsTimed r e s n outs s' → IsTimed r e s n outs' s'' → (outs ≡ outs') × (s' ≡ s'')
+  timed_one s n outs outs' s' s'' h k =
+      let same = same_found _ h.x k.x h.found k.found in
+      let moved : Drives r (at_of s e) s.asked h.x (told r e Timer) k.first k.cause k.after k.asked = subst (λ (z : Session). Drives r (at_of s e) s.asked z (told r e Timer) k.first k.cause k.after k.asked) (sym same) k.drives in
+      let one = drives_one r (at_of s e) s.asked (told r e Timer) (told_is_one r e Timer) h.x h.first k.first h.cause k.cause h.after k.after h.asked k.asked h.drives moved in
+      let driven : with_driven s n h.x.lease h.cause h.after h.asked ≡ with_driven s n k.x.lease k.cause k.after k.asked =
+      ap (λ (z : Session). with_driven s n z.lease h.cause h.after h.asked) same ∙ driven_equal s n k.x.lease h.cause k.cause h.after k.after h.asked k.asked one.3 one.1 one.2 in
+      let over : Session → Option ℕ = λ z. cause_at (passed_at s.passed z.number) z.lease e.moment in
+      let by_state : LooksAt (over k.after) r e (with_driven s n h.x.lease h.cause h.after h.asked) n k.after k.then s'' = subst (λ (t : State). LooksAt (over k.after) r e t n k.after k.then s'') (sym driven) k.looks in
+      let by_session : LooksAt (over h.after) r e (with_driven s n h.x.lease h.cause h.after h.asked) n h.after k.then s'' =
+      subst (λ (z : Session). LooksAt (over z) r e (with_driven s n h.x.lease h.cause h.after h.asked) n z k.then s'') (sym one.1) by_state in
+      let last = looks_one (over h.after) r e (with_driven s n h.x.lease h.cause h.after h.asked) n h.after h.then k.then s' s'' h.looks by_session in
+      (h.outs_are ∙ ap (λ (os : List OutRecord). os ++ h.then) one.0 ∙ ap (λ (os : List OutRecord). k.first ++ os) last.0 ∙ sym k.outs_are, last.1)
+
   tick_one : (k n : ℕ) → Alone (Ticks k r e) → Alone (TicksAt k n r e)
-  tick_one k n alone s outs outs' s' s'' (x, x', at, first, cause, asked', drives, rest, more, are) (y, y', at', first', cause', asked'', drives', rest', more', are') =
-      let same = same_found _ x y at at' in
-      let moved : Drives r (at_of s e) s.asked x (told r e Timer) first' cause' y' asked'' = subst (λ (z : Session). Drives r (at_of s e) s.asked z (told r e Timer) first' cause' y' asked'') (sym same) drives' in
-      let one = drives_one r (at_of s e) s.asked (told r e Timer) (told_is_one r e Timer) x first first' cause cause' x' y' asked' asked'' drives moved in
-      let leased : with_driven s n y.lease cause' y' asked'' ≡ with_driven s n x.lease cause x' asked' =
-      sym (ap (λ (z : Session). with_driven s n z.lease cause x' asked') same ∙ driven_equal s n y.lease cause cause' x' y' asked' asked'' one.3 one.1 one.2) in
-      let later : Ticks k r e (with_driven s n x.lease cause x' asked') rest' s'' = subst (λ (t : State). Ticks k r e t rest' s'') leased more' in
-      let last = alone (with_driven s n x.lease cause x' asked') rest rest' s' s'' more later in
+  tick_one k n alone s outs outs' s' s'' (first, next, timed, rest, more, are) (first', next', timed', rest', more', are') =
+      let one = timed_one s n first first' next next' timed timed' in
+      let later : Ticks k r e next rest' s'' = subst (λ (t : State). Ticks k r e t rest' s'') (sym one.1) more' in
+      let last = alone next rest rest' s' s'' more later in
       (are ∙ ap (λ (os : List OutRecord). os ++ rest) one.0 ∙ ap (λ (os : List OutRecord). first' ++ os) last.0 ∙ sym are', last.1)
 
   ticks_one : (k : ℕ) → Alone (Ticks k r e)
   ticks_one zero s outs outs' s' s'' h i = (h.0 ∙ sym i.0, h.1 ∙ sym i.1)
   ticks_one (suc k) s outs outs' s' s'' (inl h) (inl i) = (h.1 ∙ sym i.1, h.2 ∙ sym i.2)
-  ticks_one (suc k) s outs outs' s' s'' (inl h) (inr (n, due, x, x', at, first, cause, asked', drives, rest, more, are)) = absurd (none_due s e.moment n h.0 due)
-  ticks_one (suc k) s outs outs' s' s'' (inr (n, due, x, x', at, first, cause, asked', drives, rest, more, are)) (inl i) = absurd (none_due s e.moment n i.0 due)
-  ticks_one (suc k) s outs outs' s' s'' (inr (n, due, x, x', at, first, cause, asked', drives, rest, more, are)) (inr (n', due', y, y', at', first', cause', asked'', drives', rest', more', are')) =
-      let moved : TicksAt k n r e s outs' s'' = subst (λ (m : ℕ). TicksAt k m r e s outs' s'') (sym (first_due_one s e.moment n n' due due')) (y, y', at', first', cause', asked'', drives', rest', more', are') in
-      tick_one k n (ticks_one k) s outs outs' s' s'' (x, x', at, first, cause, asked', drives, rest, more, are) moved
+  ticks_one (suc k) s outs outs' s' s'' (inl h) (inr (n, due, first, next, timed, rest, more, are)) = absurd (none_due s e.moment n h.0 due)
+  ticks_one (suc k) s outs outs' s' s'' (inr (n, due, first, next, timed, rest, more, are)) (inl i) = absurd (none_due s e.moment n i.0 due)
+  ticks_one (suc k) s outs outs' s' s'' (inr (n, due, first, next, timed, rest, more, are)) (inr (n', due', first', next', timed', rest', more', are')) =
+      let moved : TicksAt k n r e s outs' s'' = subst (λ (m : ℕ). TicksAt k m r e s outs' s'') (sym (first_due_one s e.moment n n' due due')) (first', next', timed', rest', more', are') in
+      tick_one k n (ticks_one k) s outs outs' s' s'' (first, next, timed, rest, more, are) moved
 
   end_one : (k n : ℕ) → Alone (Ends k r e) → Alone (EndsAt k n r e)
   end_one k n alone s outs outs' s' s'' (x, at, padt, rest, with_padt, more, are) (y, at', padt', rest', with_padt', more', are') =
@@ -254,7 +271,7 @@ passed_one v w before after after' a b =
 
 module _ (r : Rules) (s : State) (e : Entry) where
   sent_up : Session → Lease → Ipv4 → List ℕ → Deed
-  sent_up x l v packet = forwarded s e (out (at_of s e) role.Core r.core_peer packet (Some (charge_of x l true v.total)))
+  sent_up x l v packet = forwarded s e x.number (out (at_of s e) role.Core r.core_peer packet (Some (charge_of x l true v.total)))
 
   up_equal : (x x' : Session) (l l' : Lease) (v v' : Ipv4) (packet packet' : List ℕ) → x ≡ x' → l ≡ l' → v ≡ v' → packet ≡ packet' → sent_up x l v packet ≡ sent_up x' l' v' packet'
   up_equal x x' l l' v v' packet packet' p q t u = cc
@@ -268,7 +285,7 @@ module _ (r : Rules) (s : State) (e : Entry) where
       h.done ∙ up_equal h.x k.x h.lease k.lease h.header k.header h.packet k.packet x lease packet.0 packet.1 ∙ sym k.done
 
   sent_down : Session → Lease → AccessPort → Ipv4 → List ℕ → Deed
-  sent_down x l port v packet = forwarded s e (out (at_of s e) (role.Access x.port) port.peer (circuit_frame port x.mac x.number.0 packet) (Some (charge_of x l false v.total)))
+  sent_down x l port v packet = forwarded s e x.number (out (at_of s e) (role.Access x.port) port.peer (circuit_frame port x.mac x.number.0 packet) (Some (charge_of x l false v.total)))
 
   down_equal : (v : Ipv4) (x x' : Session) (l l' : Lease) (port port' : AccessPort) (packet packet' : List ℕ) → x ≡ x' → l ≡ l' → port ≡ port' → packet ≡ packet' → sent_down x l port v packet ≡ sent_down x' l' port' v packet'
   down_equal v x x' l l' port port' packet packet' p q t u = cc

@@ -155,6 +155,7 @@ opened_whole shard now cs s t opened are none = λ i. record {
   asked = (opened i).asked;
   terms = are i;
   news = tenures_in (none i);
+  passed = (opened i).passed;
 }
 
 module _ (r : Rules) (shard : ℕ) (cs : List Static) (now : ℕ) where

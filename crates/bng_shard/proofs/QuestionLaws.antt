@@ -1,10 +1,11 @@
 -- After a step each open question was open before, or has a number that the step gave.
-use Rattle.std.proofs.Common.{◌≡◌, ◌⊎◌, inl, inr, ℕ, zero, suc, ◌+◌, ◌-◌, ◌^◌, ◌<◌, ◌≤◌, Bool, true, false, not, ◌&&◌, List, [], ◌∷◌, ◌++◌, Option, Some, None, is_some, if◌then◌else◌, Contains, refl, sym, ap, subst, ◌∙◌, arith}
+use Rattle.std.proofs.Common.{◌≡◌, ◌≢◌, ◌⊎◌, inl, inr, ℕ, zero, suc, ◌+◌, ◌-◌, ◌^◌, ◌<◌, ◌≤◌, Bool, true, false, not, ◌&&◌, List, [], ◌∷◌, ◌++◌, Option, Some, None, is_some, if◌then◌else◌, Contains, refl, sym, ap, subst, ◌∙◌, arith}
 use Rattle.std.specs.List.{flat_map}
 use Rattle.std.specs.Option.{option_map, option_and_then}
 use Rattle.std.proofs.lemmas.Bool.{cases_eq, false≢true}
 use Rattle.std.proofs.lemmas.List.Elements.{Contains-append_cases, Contains-append_left, Contains-append_right}
 use Rattle.bng_base.specs.declared.address.Ip4.{Ip4}
+use Rattle.bng_base.specs.declared.address.SessionNo.{SessionNo}
 use Rattle.bng_base.specs.declared.item.Entry.{Entry}
 use Rattle.bng_base.specs.declared.item.ItemKind.{ItemKind}
 use Rattle.bng_base.specs.declared.item.ItemKind.TheVariants.{Access, Core, Tunnel, Verdict, Change, Tick, End}
@@ -15,12 +16,14 @@ use Rattle.bng_discovery.specs.declared.answers.Answer.{Answer}
 use Rattle.bng_discovery.specs.declared.answers.Answer.TheVariants.{Offer, Make, Again, Refuse, Ended, NoSession, Ignore}
 use Rattle.bng_discovery.specs.declared.port.PortRules.{PortRules}
 use Rattle.bng_ppp.specs.declared.whole_input.WholeInput.{WholeInput}
-use Rattle.bng_ppp.specs.declared.whole_input.WholeInput.TheVariants.{Start, Timer}
+use Rattle.bng_ppp.specs.declared.whole_input.WholeInput.TheVariants.{Start, Timer, Close}
 use Rattle.bng_ppp.specs.Claims.{Claim}
+use Rattle.bng_ppp.specs.Granting.{is_frame}
+use Rattle.bng_ppp.specs.LinkRelation.{earliest}
 use Rattle.bng_ppp.specs.Phases.{is_begun}
 use Rattle.bng_ppp.specs.PppRelation.{PppSaid}
 use Rattle.bng_ppp.specs.PppState.{PppState, is_open}
-use Rattle.bng_slots.specs.Sessions.{value_at, with_value}
+use Rattle.bng_slots.specs.Sessions.{Sessions, value_at, with_value}
 use Rattle.bng_slots.specs.Listed.{values}
 use Rattle.bng_slots.proofs.SessionLaws.{value_at-with_value, value_at-with_other}
 use Rattle.bng_shard.specs.Made.{Made, Question}
@@ -35,12 +38,13 @@ use Rattle.bng_shard.specs.Deed.{Deed, at_of}
 use Rattle.bng_shard.specs.Discovery.{Answers, Makes, host_uniq_of, new_session}
 use Rattle.bng_shard.specs.Frames.{HearsData, HearsPpp, HearsControl, HearsIn, HearsFrame, HearsAccess, HearsCore}
 use Rattle.bng_shard.specs.Link.{LinkStep, Drives, Told, asked_after, ended, ended_service, hears, nas_request, next_ask, question_after, settles, told, user_request, with_link}
+use Rattle.bng_shard.specs.Passing.{cause_at, lapsed, looked, passed_at, with_passed}
 use Rattle.bng_shard.specs.Questions.{Asking, AsksOn, asked_in, asking_of, open_in, open_of, questions_of}
 use Rattle.bng_shard.specs.Step.{Hears, Step}
 use Rattle.bng_shard.specs.Tenures.{Tenure, closed, kept_lease}
-use Rattle.bng_shard.specs.Timers.{Ticks, Ends, HearsTick, HearsEnd, at_once, deadline_in, deadline_of, deadline_unless, link_deadline}
+use Rattle.bng_shard.specs.Timers.{IsFirstDue, IsTimed, LooksAt, Ticks, Ends, HearsTick, HearsEnd, at_once, deadline_in, deadline_of, deadline_unless, lease_deadline, link_deadline}
 use Rattle.bng_shard.specs.Verdicts.{HearsVerdict, Judges, next_lease, next_term, settled_by}
-use Rattle.bng_ppp.proofs.WholeQuestions.{open_was_asked}
+use Rattle.bng_ppp.proofs.WholeQuestions.{only_frames_ask, open_was_asked}
 use Rattle.bng_shard.proofs.LinkSteps.{frame_of, verdict_of, frame_steps, verdict_steps}
 use Rattle.bng_shard.proofs.Naming.{at_number, next_of, same_made}
 use Rattle.bng_shard.proofs.Values.{none_some, numbered, same_some, stands}
@@ -76,20 +80,42 @@ the_question x (Some q) a (suc k, l, is) = absurd (omega arith)
 
 -- the state with another session at a number, after so many questions, whatever it has of terms
 abbrev pub state_with : State → ℕ → Session → ℕ → ℕ → List Tenure → List Tenure → State
-state_with s n x asked begun terms news = record { sessions = with_value s.sessions n x; begun = begun; asked = asked; terms = terms; news = news }
+state_with s n x asked begun terms news = record {
+  sessions = with_value s.sessions n x;
+  begun = begun;
+  asked = asked;
+  terms = terms;
+  news = news;
+  passed = s.passed;
+}
 
--- once another session stands at a number, a question is its own, or was open before
-among : (s : State) (n : ℕ) (y : Session) (a : Asking) → Contains (questions_of (with_session s n y)) a → Contains (asks y) a ⊎ Contains (questions_of s) a
-among s n y a h =
-    let found = held asks (values (with_value s.sessions n y)) a h in
-    let at = numbered (with_value s.sessions n y) found.0 found.1 in
+-- then this session stands at the number, and the others stand where they stood
+record Puts (ss ss' : Sessions Session) (n : ℕ) (y : Session) : Type 0 where
+  here : value_at ss' n ≡ Some y
+  others : (m : ℕ) → m ≢ n → value_at ss' m ≡ value_at ss m
+
+puts_one : (ss : Sessions Session) (n : ℕ) (y : Session) → Puts ss (with_value ss n y) n y
+puts_one ss n y = record { here = value_at-with_value ss n y; others = value_at-with_other ss n y }
+
+-- one after another at the same number
+puts_again : (ss : Sessions Session) (n : ℕ) (x y : Session) → Puts ss (with_value (with_value ss n x) n y) n y
+puts_again ss n x y = record {
+  here = value_at-with_value (with_value ss n x) n y;
+  others = λ m ne. value_at-with_other (with_value ss n x) n y m ne ∙ value_at-with_other ss n x m ne;
+}
+
+-- then a question is its own, or was open before
+among : (s s' : State) (n : ℕ) (y : Session) (a : Asking) → Puts s.sessions s'.sessions n y → Contains (questions_of s') a → Contains (asks y) a ⊎ Contains (questions_of s) a
+among s s' n y a puts h =
+    let found = held asks (values s'.sessions) a h in
+    let at = numbered s'.sessions found.0 found.1 in
     elim (cases_eq at.0 n) [
       | inl e ↦
-          let there : value_at (with_value s.sessions n y) n ≡ Some found.0 = subst (λ (m : ℕ). value_at (with_value s.sessions n y) m ≡ Some found.0) e at.1 in
-          let same : found.0 ≡ y = same_some found.0 y (sym there ∙ value_at-with_value s.sessions n y) in
+          let there : value_at s'.sessions n ≡ Some found.0 = subst (λ (m : ℕ). value_at s'.sessions m ≡ Some found.0) e at.1 in
+          let same : found.0 ≡ y = same_some found.0 y (sym there ∙ puts.here) in
           inl (subst (λ (z : Session). Contains (asks z) a) same found.2)
       | inr ne ↦
-          let there : value_at s.sessions at.0 ≡ Some found.0 = sym (value_at-with_other s.sessions n y at.0 ne) ∙ at.1 in
+          let there : value_at s.sessions at.0 ≡ Some found.0 = sym (puts.others at.0 ne) ∙ at.1 in
           inr (holds asks (values s.sessions) found.0 a (stands s.sessions at.0 found.0 there) found.2)
     ]
 
@@ -135,6 +161,10 @@ same s s' e = record {
   counted = counts_same s.asked s'.asked (ap (λ (t : State). t.asked) e);
   asked = λ low a h. inl (subst (λ (t : State). Contains (questions_of t) a) e h);
 }
+
+-- a packet passes
+passes_on : (s : State) (n : SessionNo) (moment : ℕ) → On s (with_passed s n moment)
+passes_on s n moment = record { counted = counts_same s.asked s.asked refl; asked = λ low a h. inl h }
 
 chained : (s s' s'' : State) → On s s' → On s' s'' → On s s''
 chained s s' s'' g h = record {
@@ -191,7 +221,7 @@ module _ (r : Rules) (a : At) (s : State) (n : ℕ) (x : Session) (outs : List O
   with_lease : (y : Session) (lease : Option Lease) → y ≡ record (with_link x h.made s.asked h.says h.link) { lease = lease } → On s (state_with s n y asked' begun terms news)
   with_lease y lease is = record {
     counted = subst (λ (m : ℕ). Counts s.asked m) (sym h.count) (after_counts s.asked h.says.asked);
-    asked = λ low b there. elim (among s n y b there) [
+    asked = λ low b there. elim (among s (with_session s n y) n y b (puts_one s.sessions n y) there) [
       | inr before ↦ inl before
       | inl own ↦
           let z : Session = record (with_link x h.made s.asked h.says h.link) { lease = lease } in
@@ -232,7 +262,7 @@ live_of_deadline true deadline t e = absurd (none_some t e)
 live_of_deadline false deadline t e = refl
 
 due_lives : (x : Session) (t : ℕ) → deadline_of x ≡ Some t → (m : Made) → x.service ≡ Discovered m → m.ended ≡ false
-due_lives x t e m is = live_of_deadline m.ended (link_deadline m.link) t (ap deadline_in (sym is) ∙ e)
+due_lives x t e m is = live_of_deadline m.ended (earliest (link_deadline m.link) (lease_deadline x.lease)) t (ap (λ (v : Service). deadline_in v x.lease) (sym is) ∙ e)
 
 live_of_open : (over still : Bool) (last : Option Question) (n : ℕ) → option_map (λ q. q.ask) (if not over && still then last else None) ≡ Some n → over ≡ false
 live_of_open true still last n e = absurd (none_some n e)
@@ -249,24 +279,92 @@ ended_silent (Discovered m) = refl
 over : (s : State) (n : ℕ) (x : Session) (terms : List Tenure) → On s (state_with s n (ended x) s.asked s.begun terms s.news)
 over s n x terms = record {
   counted = counts_same s.asked s.asked refl;
-  asked = λ low a there. elim (among s n (ended x) a there) [
+  asked = λ low a there. elim (among s (with_session s n (ended x)) n (ended x) a (puts_one s.sessions n (ended x)) there) [
     | inl own ↦ absurd (no_question (ended x) (open_of (ended x)) a (ended_silent x.service) own)
     | inr before ↦ inl before
+  ];
+}
+
+-- Steps by which nothing is asked -----------------------------------------------------------------------------------------
+
+-- what a step leaves of the last question, where it asks nothing
+last_stays : (n : ℕ) (claim : Option Claim) (begun : Bool) (last : Option Question) (q : Question) → claim ≡ None → question_after n claim begun last ≡ Some q → last ≡ Some q
+last_stays n (Some claim) begun last q none e = absurd (none_some claim (sym none))
+last_stays n None true last q none e = e
+last_stays n None false last q none e = absurd (none_some q e)
+
+module _ (r : Rules) (a : At) (s : State) (asked : ℕ) (x : Session) (outs : List OutRecord) (cause : Option ℕ) (x' : Session) (asked' : ℕ) (Steps : LinkStep) (opens : OpensByAsking Steps)
+    (h : Drives r a asked x Steps outs cause x' asked') (silent : h.says.asked ≡ None) where
+  count_stays : asked' ≡ asked
+  count_stays = h.count ∙ ap (asked_after asked) silent
+
+  -- what is open of the session after it was open before
+  open_stays : IsOpenIn s x → IsOpenIn s x'
+  open_stays was m q is last still =
+      let new : Made = record h.made { link = h.link; question = question_after asked h.says.asked (is_begun h.link.auth) h.made.question; ended = h.says.finished } in
+      let same : new ≡ m = same_made x'.service new m (ap (λ (y : Session). y.service) h.session) is in
+      let before : h.made.question ≡ Some q = last_stays asked h.says.asked (is_begun h.link.auth) h.made.question q silent (ap (λ (k : Made). k.question) same ∙ last) in
+      elim (opens h.made.link h.says h.link h.steps (ap (λ (k : Made). is_open k.link.auth) same ∙ still)) [
+        | inl asks_now ↦ absurd (false≢true (sym (ap is_some silent) ∙ asks_now))
+        | inr opened ↦ subst (λ (b : Asking). Contains (questions_of s) b) (ap (λ (y : Session). asking_of y q) (sym h.session)) (was h.made q h.is_made before opened)
+      ]
+
+open_within : (over still : Bool) (last : Option Question) (q : Question) → (if not over && still then last else None) ≡ Some q → (last ≡ Some q) × (still ≡ true)
+open_within true still last q e = absurd (none_some q e)
+open_within false false last q e = absurd (none_some q e)
+open_within false true last q e = (e, refl)
+
+-- so is each open question then
+own_was : (s : State) (y : Session) (v : Service) (q : Question) → y.service ≡ v → open_in v ≡ Some q → IsOpenIn s y → Contains (questions_of s) (asking_of y q)
+own_was s y (Provisioned l) q is e was = absurd (none_some q e)
+own_was s y (Discovered m) q is e was =
+    let parts = open_within m.ended (is_open m.link.auth) m.question q e in
+    was m q is parts.0 parts.1
+
+still_on : (s s' : State) (n : ℕ) (y : Session) → Puts s.sessions s'.sessions n y → IsOpenIn s y → s'.asked ≡ s.asked → On s s'
+still_on s s' n y puts was count = record {
+  counted = counts_same s.asked s'.asked count;
+  asked = λ low b there. elim (among s s' n y b puts there) [
+    | inr before ↦ inl before
+    | inl own ↦
+        let found = the_question y (open_of y) b own in
+        inl (subst (λ (c : Asking). Contains (questions_of s) c) found.2 (own_was s y y.service found.0 refl found.1 was))
   ];
 }
 
 -- Ticks and Ends ----------------------------------------------------------------------------------------------------------
 
 module _ (r : Rules) (e : Entry) where
+  -- the link is told this, by which it asks nothing
+  told_silent : (what : WholeInput) → is_frame what ≡ false → (old : PppState) (says : PppSaid) (new : PppState) → told r e what old says new → says.asked ≡ None
+  told_silent what other old says new h = only_frames_ask r.link e.moment e.item.random what old says new h other
+
+  -- the live term of a session whose link had taken Timer is looked at
+  looks_on : (o : Option ℕ) (s : State) (n : ℕ) (x : Session) (asked : ℕ) (terms : List Tenure) (outs : List OutRecord) (s' : State) → IsOpenIn s x → asked ≡ s.asked
+      → LooksAt o r e (state_with s n x asked s.begun terms s.news) n x outs s' → On s s'
+  looks_on None s n x asked terms outs s' was count (none, next) =
+      let y = looked (passed_at s.passed x.number) x in
+      let t = state_with s n x asked s.begun terms s.news in
+      subst (On s) (sym next) (still_on s (with_session t n y) n y (puts_again s.sessions n x y) was count)
+  looks_on (Some cause) s n x asked terms outs s' was count (y, none, asked', drives, next) =
+      let t = state_with s n x asked s.begun terms s.news in
+      let silent = told_silent Close refl drives.made.link drives.says drives.link drives.steps in
+      let stays = count_stays r (at_of t e) s asked (lapsed x) outs none y asked' (told r e Close) (told_opens r e Close) drives silent in
+      let opened = open_stays r (at_of t e) s asked (lapsed x) outs none y asked' (told r e Close) (told_opens r e Close) drives silent was in
+      subst (On s) (sym next) (still_on s (with_driven t n x.lease (Some cause) y asked') n y (puts_again s.sessions n x y) opened (stays ∙ count))
+
+  timed_on : (s : State) (n : ℕ) (outs : List OutRecord) (s' : State) → IsFirstDue s e.moment n → IsTimed r e s n outs s' → On s s'
+  timed_on s n outs s' due h =
+      let deadline : deadline_of h.x ≡ Some due.deadline = ap (option_and_then deadline_of) (sym h.found) ∙ due.is in
+      let silent = told_silent Timer refl h.drives.made.link h.drives.says h.drives.link h.drives.steps in
+      let count = count_stays r (at_of s e) s s.asked h.x h.first h.cause h.after h.asked (told r e Timer) (told_opens r e Timer) h.drives silent in
+      let opened = open_stays r (at_of s e) s s.asked h.x h.first h.cause h.after h.asked (told r e Timer) (told_opens r e Timer) h.drives silent (was_open s n h.x h.found (due_lives h.x due.deadline deadline)) in
+      looks_on (cause_at (passed_at s.passed h.after.number) h.after.lease e.moment) s n h.after h.asked (closed h.x.lease h.cause s.terms) h.then s' opened count h.looks
+
   ticks_on : (k : ℕ) (s : State) (outs : List OutRecord) (s' : State) → Ticks k r e s outs s' → On s s'
   ticks_on zero s outs s' h = same s s' h.1
   ticks_on (suc k) s outs s' (inl h) = same s s' h.2
-  ticks_on (suc k) s outs s' (inr (n, due, x, x', at, first, cause, asked', drives, rest, more, are)) =
-      let deadline : deadline_of x ≡ Some due.deadline = ap (option_and_then deadline_of) (sym at) ∙ due.is in
-      let next = with_driven s n x.lease cause x' asked' in
-      let here : On s next =
-      driven r (at_of s e) s n x first cause x' asked' (told r e Timer) (told_opens r e Timer) (was_open s n x at (due_lives x due.deadline deadline)) drives s.begun (closed x.lease cause s.terms) s.news in
-      chained s next s' here (ticks_on k next rest s' more)
+  ticks_on (suc k) s outs s' (inr (n, due, first, next, timed, rest, more, are)) = chained s next s' (timed_on s n first next due timed) (ticks_on k next rest s' more)
 
   ends_on : (k : ℕ) (s : State) (outs : List OutRecord) (s' : State) → Ends k r e s outs s' → On s s'
   ends_on zero s outs s' h = same s s' h.1
@@ -305,9 +403,9 @@ module _ (r : Rules) (s : State) (limited : Bool) (e : Entry) (d : Deed) where
   answers NoSession number port offers p tags h = kept _ h refl
   answers Ignore number port offers p tags h = kept _ h refl
 
-  data_kept : (number : ℕ) (p : PppoeFrame) (info : List ℕ) → HearsData r s e number p info d → On s d.next
-  data_kept number p info (fate, is, inl (forwards, up)) = kept _ up.done refl
-  data_kept number p info (fate, is, inr (stays, h)) = kept _ h refl
+  packets : (number : ℕ) (p : PppoeFrame) (info : List ℕ) → HearsData r s e number p info d → On s d.next
+  packets number p info (fate, is, inl (forwards, up)) = after (with_passed s up.x.number e.moment) _ up.done refl (passes_on s up.x.number e.moment)
+  packets number p info (fate, is, inr (stays, h)) = kept _ h refl
 
   ppp : (x : Session) (made : Made) (p : PppoeFrame) → value_at s.sessions p.session ≡ Some x → x.service ≡ Discovered made → HearsPpp r s e x made p d → On s d.next
   ppp x made p at is (inl (gone, h)) = kept _ h refl
@@ -327,7 +425,7 @@ module _ (r : Rules) (s : State) (limited : Bool) (e : Entry) (d : Deed) where
   named number p (Some x) is h = control x.service x p (at_number number p.src (value_at s.sessions p.session) x is) refl h
 
   frame : (number : ℕ) (p : PppoeFrame) → HearsFrame r s e number p d → On s d.next
-  frame number p (inl (info, carries, h)) = data_kept number p info h
+  frame number p (inl (info, carries, h)) = packets number p info h
   frame number p (inr (inl (names, no_packet, h))) = named number p (session_of s number p.src p.session) refl h
   frame number p (inr (inr (before, h))) = answers h.answer number h.port h.offers p h.tags h.does
 
@@ -337,7 +435,7 @@ module _ (r : Rules) (s : State) (limited : Bool) (e : Entry) (d : Deed) where
 
   core : HearsCore r s e d → On s d.next
   core (inl (none, h)) = kept _ h refl
-  core (inr (v, is, (fate, decides, inl (forwards, down)))) = kept _ down.done refl
+  core (inr (v, is, (fate, decides, inl (forwards, down)))) = after (with_passed s down.x.number e.moment) _ down.done refl (passes_on s down.x.number e.moment)
   core (inr (v, is, (fate, decides, inr (stays, h)))) = kept _ h refl
 
   -- a session whose link was told what was found, whether a term begins or not
@@ -346,7 +444,7 @@ module _ (r : Rules) (s : State) (limited : Bool) (e : Entry) (d : Deed) where
     settled_on None = driven r (at_of s e) s e.item.target h.x h.outs h.cause h.after h.asked (settles r e t) (settles_opens r e t) was h.drives s.begun s.terms s.news
     settled_on (Some a) =
         let new = next_term s h.x h.question t.class e.moment a in
-        leased r (at_of s e) s e.item.target h.x h.outs h.cause h.after h.asked (settles r e t) (settles_opens r e t) was h.drives (s.begun + 1) (s.terms ++ new ∷ []) (s.news ++ new ∷ []) (Some (next_lease s a))
+        leased r (at_of s e) s e.item.target h.x h.outs h.cause h.after h.asked (settles r e t) (settles_opens r e t) was h.drives (s.begun + 1) (s.terms ++ new ∷ []) (s.news ++ new ∷ []) (Some (next_lease s t.limits e.moment a))
 
   judged : HearsVerdict r s e limited d → On s d.next
   judged (inl (asked_it, t, decides, h)) =

@@ -1,13 +1,11 @@
 -- What is said of rows by their keys, or by their terms, holds of other rows with the same.
-use Rattle.std.proofs.Common.{◌≡◌, ℕ, zero, suc, ◌+◌, ◌<◌, ◌≤◌, Bool, true, false, cond, List, [], ◌∷◌, ◌++◌, length, map, filter, Option, None, Some, is_some, inl, inr, refl, sym, ap, subst, ◌∙◌, arith}
+use Rattle.std.proofs.Common.{◌≡◌, ℕ, zero, suc, ◌≤◌, Bool, cond, List, [], ◌∷◌, length, map, refl, sym, ap, subst, ◌∙◌, arith}
 use Rattle.std.specs.Prelude.{◌≢◌, ◌||◌, count_by}
-use Rattle.std.specs.List.{All, AllByRecursion, AllPairs, list_any}
+use Rattle.std.specs.List.{All, AllPairs, list_any}
 use Rattle.std.proofs.Math.ListN.{get_or}
-use Rattle.std.proofs.lemmas.List.Elements.{All-from_recursion, recursion_from_All}
 use Rattle.std.proofs.lemmas.List.Sums.{sum_by-cons}
 use Rattle.bng_engine.specs.Terms.{Key}
 use Rattle.bng_engine.specs.Views.{row_keys}
-use Rattle.bng_engine.proofs.Everywhere.{all_append}
 use Rattle.bng_shard.specs.declared.terms.Running.{Running}
 use Rattle.bng_shard.specs.Protocol.{key_in}
 use Rattle.bng_shard.specs.Running.{AreRising, has_ended, key_from, rows_in, tenure_in, tenures_in}

@@ -20,7 +20,7 @@ use Rattle.bng_engine.proofs.Everywhere.{all_append}
 use Rattle.bng_forward.specs.Fates.{IsFrame, Carries}
 use Rattle.bng_forward.specs.Framed.{circuit_frame}
 use Rattle.bng_ppp.specs.declared.whole_input.WholeInput.{WholeInput}
-use Rattle.bng_ppp.specs.declared.whole_input.WholeInput.TheVariants.{Start, Timer}
+use Rattle.bng_ppp.specs.declared.whole_input.WholeInput.TheVariants.{Start, Timer, Close}
 use Rattle.bng_ppp.proofs.WholeOuts.{ppp_steps_written}
 use Rattle.bng_shard.specs.Made.{Made}
 use Rattle.bng_shard.specs.declared.rules.Rules.{Rules}
@@ -34,9 +34,10 @@ use Rattle.bng_shard.specs.Deed.{Deed, at_of, out, frame_outs, is_forwarded, arr
 use Rattle.bng_shard.specs.Discovery.{Answers, Discovers}
 use Rattle.bng_shard.specs.Frames.{charge_of, HearsData, HearsPpp, HearsControl, HearsIn, HearsFrame, HearsAccess, HearsCore}
 use Rattle.bng_shard.specs.Link.{Drives, EndsWith, Told, told, hears, settles, ended, nas_request}
+use Rattle.bng_shard.specs.Passing.{cause_at, lapsed, passed_at}
 use Rattle.bng_shard.specs.Reader.{IsInDirection}
 use Rattle.bng_shard.specs.Step.{Hears, Step}
-use Rattle.bng_shard.specs.Timers.{Ticks, Ends, TellsEnd, at_once, HearsTick, HearsEnd}
+use Rattle.bng_shard.specs.Timers.{Ticks, Ends, IsTimed, LooksAt, TellsEnd, at_once, HearsTick, HearsEnd}
 use Rattle.bng_shard.specs.Verdicts.{HearsVerdict}
 use Rattle.bng_shard.proofs.LinkSteps.{frame_of, verdict_of, frame_steps, verdict_steps}
 use Rattle.bng_shard.proofs.Packets.{spelled_up, short_up, spelled_down}
@@ -84,12 +85,22 @@ module _ (r : Rules) (e : Entry) (a : At) (asked : ℕ) (x : Session) (outs : Li
       subst (λ (os : List OutRecord). AreControl a.seat os) (sym h.outs_are)
       (said_control a x h.port h.offers h.says (ppp_steps_written r.link e.moment e.item.random (verdict_of t) h.made.link h.says h.link (verdict_steps r.link e.moment e.item.random h.made.link h.says h.link t h.steps)))
 
+-- where a term is over, its session's link takes Close
+looks_control : (over : Option ℕ) (r : Rules) (e : Entry) (s : State) (n : ℕ) (x : Session) (outs : List OutRecord) (s' : State) → LooksAt over r e s n x outs s' → AreControl e.seat outs
+looks_control None r e s n x outs s' h = subst (λ (os : List OutRecord). AreControl e.seat os) (sym h.0) tt
+looks_control (Some over) r e s n x outs s' (after, none, asked, drives, is) = told_control r e (at_of s e) s.asked (lapsed x) outs none after asked Close drives
+
+timed_control : (r : Rules) (e : Entry) (s : State) (n : ℕ) (outs : List OutRecord) (s' : State) → IsTimed r e s n outs s' → AreControl e.seat outs
+timed_control r e s n outs s' h =
+    subst (λ (os : List OutRecord). AreControl e.seat os) (sym h.outs_are)
+    (all_append (IsControl e.seat) h.first h.then (told_control r e (at_of s e) s.asked h.x h.first h.cause h.after h.asked Timer h.drives)
+    (looks_control (cause_at (passed_at s.passed h.after.number) h.after.lease e.moment) r e (with_driven s n h.x.lease h.cause h.after h.asked) n h.after h.then s' h.looks))
+
 ticks_control : (n : ℕ) (r : Rules) (e : Entry) (s : State) (outs : List OutRecord) (s' : State) → Ticks n r e s outs s' → AreControl e.seat outs
 ticks_control zero r e s outs s' h = subst (λ (os : List OutRecord). AreControl e.seat os) (sym h.0) tt
 ticks_control (suc n) r e s outs s' (inl h) = subst (λ (os : List OutRecord). AreControl e.seat os) (sym h.1) tt
-ticks_control (suc n) r e s outs s' (inr (k, due, x, x', at, first, cause, asked', drives, rest, more, are)) =
-    subst (λ (os : List OutRecord). AreControl e.seat os) (sym are)
-    (all_append (IsControl e.seat) first rest (told_control r e (at_of s e) s.asked x first cause x' asked' Timer drives) (ticks_control n r e (with_driven s k x.lease cause x' asked') rest s' more))
+ticks_control (suc n) r e s outs s' (inr (k, due, first, next, timed, rest, more, are)) =
+    subst (λ (os : List OutRecord). AreControl e.seat os) (sym are) (all_append (IsControl e.seat) first rest (timed_control r e s k first next timed) (ticks_control n r e next rest s' more))
 
 ends_with_control : (r : Rules) (a : At) (x : Session) (outs : List OutRecord) → EndsWith r a x outs → AreControl a.seat outs
 ends_with_control r a x outs h = subst (λ (os : List OutRecord). AreControl a.seat os) (sym h.outs_are) (padt_control a x h.port h.offers)

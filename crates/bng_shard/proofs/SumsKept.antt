@@ -1,5 +1,5 @@
 -- The sums of terms say the same where terms end, and where none is touched.
-use Rattle.std.proofs.Common.{◌≡◌, ◌≤◌, ◌+◌, ℕ, Option, refl, sym, ap, subst, ◌∙◌, arith}
+use Rattle.std.proofs.Common.{◌≡◌, ℕ, Option, refl, sym, subst, ◌∙◌, arith}
 use Rattle.bng_shard.specs.declared.session.Lease.{Lease}
 use Rattle.bng_shard.specs.Running.{KeepSums, SumsStay, TermsView, closed_rows}
 use Rattle.bng_shard.proofs.Beginning.{closed_same}

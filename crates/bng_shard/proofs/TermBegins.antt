@@ -160,11 +160,11 @@ none_begins s s' terms n x q t now x' asked none next = ap (λ (u : State). whol
 
 -- one begins
 pub one_begins : (s s₃ s' : State) (terms terms' : TermsView) (n m : ℕ) (x : Session) (q : Question) (t : Told) (now : ℕ) (x' x'' : Session) (asked : ℕ) (a : Ip4) → t.lease ≡ Some a
-    → s₃ ≡ record s { sessions = without s.sessions n; asked = asked; begun = s.begun + 1 } → m ≡ n → s' ≡ with_session s₃ m x'' → x'' ≡ record x' { lease = Some (next_lease s a) }
+    → s₃ ≡ record s { sessions = without s.sessions n; asked = asked; begun = s.begun + 1 } → m ≡ n → s' ≡ with_session s₃ m x'' → x'' ≡ record x' { lease = Some (next_lease s t.limits now a) }
     → tenures_in terms'.rows ≡ tenures_in terms.rows ++ next_term s x q t.class now a ∷ [] → tenures_in terms'.news ≡ tenures_in terms.news ++ next_term s x q t.class now a ∷ []
     → whole s' terms' ≡ settled_by (whole s terms) n x q t now x' asked t.lease
 one_begins s s₃ s' terms terms' n m x q t now x' x'' asked a leased begun is put with_lease rows news =
-    let y : Session = record x' { lease = Some (next_lease s a) } in
+    let y : Session = record x' { lease = Some (next_lease s t.limits now a) } in
     ap (λ (u : State). whole u terms') (put
     ∙ ap (λ (u : State). with_session u m x'') begun
     ∙ ap (λ (k : ℕ). with_session (record s { sessions = without s.sessions n; asked = asked; begun = s.begun + 1 }) k x'') is

@@ -14,6 +14,7 @@ use Rattle.bng_base.specs.declared.settings.NamedRange.{NamedRange}
 use Rattle.bng_engine.specs.Protocol.{HaveProfiles}
 use Rattle.bng_engine.specs.Terms.{Term, is_ended, is_live, keys}
 use Rattle.bng_grant.specs.Grants.{Gift}
+use Rattle.bng_ppp.specs.declared.whole_input.WholeInput.TheVariants.{Close}
 use Rattle.bng_slots.specs.Sessions.{value_at, with_value}
 use Rattle.bng_slots.proofs.SessionLaws.{value_at-with_value, value_at-with_other}
 use Rattle.bng_shard.specs.declared.rules.Rules.{Rules}
@@ -23,7 +24,8 @@ use Rattle.bng_shard.specs.declared.session.Session.{Session}
 use Rattle.bng_shard.specs.State.{State, port_at, settled, with_session, with_driven, with_ended}
 use Rattle.bng_shard.specs.Deed.{Deed, at_of, handled, ignored}
 use Rattle.bng_shard.specs.Fits.{ArePlaced}
-use Rattle.bng_shard.specs.Link.{LinkStep, Drives, Told, ended, nas_request, settles, user_request}
+use Rattle.bng_shard.specs.Link.{LinkStep, Drives, Told, ended, nas_request, settles, told, user_request}
+use Rattle.bng_shard.specs.Passing.{lapsed, looked}
 use Rattle.bng_shard.specs.Protocol.{claimed_by, term_in}
 use Rattle.bng_shard.specs.Step.{Hears, MayClaim, Step}
 use Rattle.bng_shard.specs.Tenures.{Tenure, closed, is_over, over_by}
@@ -193,6 +195,10 @@ module _ (r : Rules) where
         → Remains C r s (with_driven s n lease cause y asked)
     remain_with s n lease cause y asked is there = record { shard = refl; begun = refl; terms = closed_last C lease cause s.terms is; news = refl; placed = placed_with s n y there }
 
+    -- its live term goes on
+    remain_looked : (s : State) (n at : ℕ) (x : Session) → value_at s.sessions n ≡ Some x → Remains C r s (with_session s n (looked at x))
+    remain_looked s n at x found = record { shard = refl; begun = refl; terms = each_lasts C s.terms; news = refl; placed = placed_with s n (looked at x) (λ p. p n x found) }
+
     remain_ended : (s : State) (n : ℕ) (x : Session) (cause : ℕ) → C cause → value_at s.sessions n ≡ Some x → Remains C r s (with_ended s n x.lease cause (ended x))
     remain_ended s n x cause is at = record {
       shard = refl;
@@ -209,6 +215,10 @@ module _ (r : Rules) where
     driven = λ Steps e s n x x' outs cause asked' at drives. remain_with AnyCause s n x.lease cause x' asked' (λ c is. tt) (λ p. drives_there (at_of s e) s.asked x x' outs cause asked' Steps drives);
     made = λ Steps e s n x x' outs cause asked' none drives. remain_with AnyCause s n None cause x' asked' (λ c is. tt) (λ p. drives_there (at_of s e) s.asked x x' outs cause asked' Steps drives);
     padt = λ s n x m at is. remain_ended AnyCause s n x user_request tt at;
+    passes = λ s n moment. record { shard = refl; begun = refl; terms = each_lasts AnyCause s.terms; news = refl; placed = λ p. p };
+    looks = remain_looked AnyCause;
+    lapses = λ e s n x x' outs cause none asked' at over drives.
+        remain_with AnyCause s n x.lease (Some cause) x' asked' (λ c is. tt) (λ p. drives_there (at_of s e) s.asked (lapsed x) x' outs none asked' (told r e Close) drives);
   }
 
 -- Verdicts -------------------------------------------------------------------------------------------------------------------
@@ -277,8 +287,9 @@ module _ (r : Rules) (s : State) (e : Entry) (t : Told) (d : Deed) (h : Judges r
   judged_begins : (a : Ip4) → t.lease ≡ Some a → Begins r s d.next a
   judged_begins a is =
       let one : Tenure = next_term s h.x h.question t.class e.moment a in
-      let y : Session = record h.after { lease = Some (next_lease s a) } in
-      let begins : Begins r s (with_term s e.item.target h.after h.asked a one) a = record {
+      let lease : Lease = next_lease s t.limits e.moment a in
+      let y : Session = record h.after { lease = Some lease } in
+      let begins : Begins r s (with_term s e.item.target h.after h.asked lease one) a = record {
         shard = refl;
         begun = refl;
         one = one;

@@ -1,17 +1,13 @@
 -- What a Tick and an End did so far, and what follows on it.
-use Rattle.std.proofs.Common.{◌≡◌, ◌<◌, ◌≤◌, ◌+◌, ◌-◌, ℕ, suc, true, false, List, [], ◌++◌, length, Option, refl, inl, inr, sym, ap, subst, ◌∙◌, arith, append_assoc, append-nil, length-append, add-zero, zero-add}
+use Rattle.std.proofs.Common.{◌≡◌, ◌<◌, ◌≤◌, ◌+◌, ◌-◌, ℕ, suc, true, false, List, [], ◌++◌, length, Option, Some, None, refl, inl, inr, sym, ap, subst, ◌∙◌, arith, append_assoc, append-nil, length-append, add-zero, zero-add}
 use Rattle.bng_base.specs.declared.item.Entry.{Entry}
 use Rattle.bng_base.specs.declared.item.OutRecord.{OutRecord}
-use Rattle.bng_ppp.specs.declared.whole_input.WholeInput.TheVariants.{Timer}
-use Rattle.bng_ppp.specs.PppRelation.{PppSteps}
 use Rattle.bng_shard.specs.declared.rules.Rules.{Rules}
 use Rattle.bng_shard.specs.declared.sending.At.{At}
 use Rattle.bng_shard.specs.declared.session.Session.{Session}
 use Rattle.bng_shard.specs.State.{State}
 use Rattle.bng_shard.specs.Deed.{at_of}
-use Rattle.bng_shard.specs.Link.{Drives, told}
-use Rattle.bng_shard.specs.Driven.{Driven}
-use Rattle.bng_shard.specs.Timers.{Ticks, Ends, TellsEnd, IsFirstDue, NoneIsDue}
+use Rattle.bng_shard.specs.Timers.{Ticks, Ends, TellsEnd, IsFirstDue, IsTimed, LooksAt, NoneIsDue}
 use Rattle.bng_shard.specs.Timed.{TickedOnce, EndedOnce, Ticked, Ended}
 
 -- whose outs they are stays while the shard's number stays
@@ -22,44 +18,46 @@ same_at s s₀ e same = ap (λ (n : ℕ). let a : At = record { shard = n; seat 
 few_more : (outs₀ sent outs : List OutRecord) (most : ℕ) → outs ≡ outs₀ ++ sent → length outs ≤ length outs₀ + most → length sent ≤ most
 few_more outs₀ sent outs most e few = omega (arith, length-append outs₀ sent, ap length e)
 
-more_sent : (outs₀ sent outs first outs₁ : List OutRecord) → outs ≡ outs₀ ++ sent → outs₁ ≡ outs ++ first → outs₁ ≡ outs₀ ++ (sent ++ first)
+pub more_sent : (outs₀ sent outs first outs₁ : List OutRecord) → outs ≡ outs₀ ++ sent → outs₁ ≡ outs ++ first → outs₁ ≡ outs₀ ++ (sent ++ first)
 more_sent outs₀ sent outs first outs₁ e f = f ∙ ap (λ (front : List OutRecord). front ++ first) e ∙ append_assoc outs₀ sent first
 
-drives_from : (r : Rules) (e : Entry) (a b : At) (now : ℕ) (random : List ℕ) (asked : ℕ) (x x' : Session) (cause : Option ℕ) (asked' : ℕ) (outs outs' : List OutRecord) (d : Driven r a (PppSteps r.link Timer now random) asked x cause x' asked' outs outs')
-    → e.moment ≡ now → e.item.random ≡ random → b ≡ a → Drives r b asked x (told r e Timer) d.more cause x' asked'
-drives_from r e a b now random asked x x' cause asked' outs outs' d moment octets at =
-    subst (λ (c : At). Drives r c asked x (told r e Timer) d.more cause x' asked') (sym at)
-    (subst (λ (t : ℕ). Drives r a asked x (PppSteps r.link Timer t e.item.random) d.more cause x' asked') (sym moment)
-    (subst (λ (o : List ℕ). Drives r a asked x (PppSteps r.link Timer now o) d.more cause x' asked') (sym octets) d.drives))
+-- a look keeps the shard's number, and so does the handling of a deadline
+looks_number : (k : Option ℕ) (r : Rules) (e : Entry) (s : State) (n : ℕ) (x : Session) (outs : List OutRecord) (s' : State) → LooksAt k r e s n x outs s' → s'.sessions.shard ≡ s.sessions.shard
+looks_number None r e s n x outs s' h = ap (λ (q : State). q.sessions.shard) h.1
+looks_number (Some cause) r e s n x outs s' h = ap (λ (q : State). q.sessions.shard) h.4
+
+timed_number : (r : Rules) (e : Entry) (s : State) (n : ℕ) (outs : List OutRecord) (s' : State) → IsTimed r e s n outs s' → s'.sessions.shard ≡ s.sessions.shard
+timed_number r e s n outs s' h = looks_number _ r e _ n h.after h.then s' h.looks
 
 -- After n deadlines this is the state and this is what was sent: whatever Ticks go on from there are so many more from the first
 -- state on.
 pub record TicksOn (n : ℕ) (r : Rules) (a : At) (now : ℕ) (random : List ℕ) (s₀ s : State) (outs₀ outs : List OutRecord) : Type 0 where
   pub sent : List OutRecord
   pub outs_are : outs ≡ outs₀ ++ sent
-  pub number : s.sessions.shard ≡ s₀.sessions.shard
+  pub number : (e : Entry) → e.moment ≡ now → e.item.random ≡ random → at_of s₀ e ≡ a → s.sessions.shard ≡ s₀.sessions.shard
   pub go_on : (e : Entry) → e.moment ≡ now → e.item.random ≡ random → at_of s₀ e ≡ a → (m : ℕ) (more : List OutRecord) (s' : State) → Ticks m r e s more s' → Ticks (n + m) r e s₀ (sent ++ more) s'
 
 pub ticks_begin : (r : Rules) (a : At) (now : ℕ) (random : List ℕ) (s : State) (outs : List OutRecord) → TicksOn 0 r a now random s s outs outs
 ticks_begin r a now random s outs = record {
   sent = [];
   outs_are = sym (append-nil outs);
-  number = refl;
+  number = λ e moment octets at. refl;
   go_on = λ e moment octets at m more s' h. subst (λ (k : ℕ). Ticks k r e s more s') (sym (zero-add m)) h;
 }
 
 module _ (r : Rules) (a : At) (now : ℕ) (random : List ℕ) (s₀ s : State) (outs₀ outs : List OutRecord) where
   pub ticks_more : (n : ℕ) (s₁ : State) (outs₁ : List OutRecord) → TicksOn n r a now random s₀ s outs₀ outs → TickedOnce true r a now random s s₁ outs outs₁ → TicksOn (n + 1) r a now random s₀ s₁ outs₀ outs₁
-  ticks_more n s₁ outs₁ on (m₀, first, x, x', at_n, cause, asked', driven, next) =
-      let said = driven.more in
+  ticks_more n s₁ outs₁ on (m₀, first, said, timed, sent) =
       record {
         sent = on.sent ++ said;
-        outs_are = more_sent outs₀ on.sent outs said outs₁ on.outs_are driven.outs_are;
-        number = ap (λ (t : State). t.sessions.shard) next ∙ on.number;
+        outs_are = more_sent outs₀ on.sent outs said outs₁ on.outs_are sent;
+        number = λ e moment octets at.
+            let before = on.number e moment octets at in
+            timed_number r e s m₀ said s₁ (timed e moment octets (same_at s s₀ e before ∙ at)) ∙ before;
         go_on = λ e moment octets at m more s' h.
-            let drives = drives_from r e a (at_of s e) now random s.asked x x' cause asked' outs outs₁ driven moment octets (same_at s s₀ e on.number ∙ at) in
+            let now_at = same_at s s₀ e (on.number e moment octets at) ∙ at in
             let due = subst (λ (t : ℕ). IsFirstDue s t m₀) (sym moment) first in
-            let once : Ticks (suc m) r e s (said ++ more) s' = inr (m₀, due, x, x', at_n, said, cause, asked', drives, more, subst (λ (t : State). Ticks m r e t more s') next h, refl) in
+            let once : Ticks (suc m) r e s (said ++ more) s' = inr (m₀, due, said, s₁, timed e moment octets now_at, more, h, refl) in
             let all = on.go_on e moment octets at (suc m) (said ++ more) s' once in
             let count : n + suc m ≡ n + 1 + m = omega arith in
             subst (λ (outs' : List OutRecord). Ticks (n + 1 + m) r e s₀ outs' s') (sym (append_assoc on.sent said more)) (subst (λ (k : ℕ). Ticks k r e s₀ (on.sent ++ (said ++ more)) s') count all);

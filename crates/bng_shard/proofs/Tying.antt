@@ -1,6 +1,6 @@
 -- Each session's lease stays that of a live term over a step, as no two terms have one number.
-use Rattle.std.proofs.Common.{◌≡◌, ◌≢◌, ◌⊎◌, ⊎_elim, inl, inr, ℕ, zero, suc, ◌+◌, ◌<◌, ◌≤◌, Bool, true, false, cond, not, ◌&&◌, ◌==◌, List, [], ◌∷◌, ◌++◌, length, Option, Some, None, map, refl, sym, ap, subst, ◌∙◌, arith}
-use Rattle.std.specs.List.{All, AllByRecursion, AllPairs, AllZip}
+use Rattle.std.proofs.Common.{◌≡◌, ◌≢◌, ◌⊎◌, ⊎_elim, inl, inr, ℕ, ◌+◌, ◌<◌, ◌≤◌, Bool, true, false, cond, not, ◌&&◌, ◌==◌, List, [], ◌∷◌, ◌++◌, Option, Some, None, map, refl, sym, ap, subst, ◌∙◌, arith}
+use Rattle.std.specs.List.{AllByRecursion}
 use Rattle.std.proofs.lemmas.Bool.{cases_eq}
 use Rattle.bng_base.specs.declared.address.Ip4.{Ip4}
 use Rattle.bng_base.specs.declared.address.SessionNo.{SessionNo}
@@ -10,16 +10,18 @@ use Rattle.bng_base.specs.declared.item.ItemKind.{ItemKind}
 use Rattle.bng_base.specs.declared.item.ItemKind.TheVariants.{Verdict, End}
 use Rattle.bng_base.specs.declared.item.OutRecord.{OutRecord}
 use Rattle.bng_engine.specs.Lists.{AnyOf}
-use Rattle.bng_slots.specs.Sessions.{Sessions, value_at, with_value}
+use Rattle.bng_slots.specs.Sessions.{value_at, with_value}
 use Rattle.bng_slots.proofs.SessionLaws.{value_at-with_value, value_at-with_other}
+use Rattle.bng_term.specs.declared.limits.Limits.{Limits}
 use Rattle.bng_shard.specs.Made.{Question}
+use Rattle.bng_shard.specs.Passing.{looked}
 use Rattle.bng_shard.specs.Serving.{AreOwn}
 use Rattle.bng_shard.specs.declared.sending.At.{At}
 use Rattle.bng_shard.specs.declared.rules.Rules.{Rules}
 use Rattle.bng_shard.specs.declared.session.Lease.{Lease}
 use Rattle.bng_shard.specs.declared.session.Session.{Session}
-use Rattle.bng_shard.specs.State.{State, IsTermOf, with_driven, with_ended}
-use Rattle.bng_shard.specs.Deed.{Deed, at_of, handled, ignored}
+use Rattle.bng_shard.specs.State.{State, IsTermOf, with_session, with_driven, with_ended}
+use Rattle.bng_shard.specs.Deed.{Deed, at_of, ignored}
 use Rattle.bng_shard.specs.Link.{Drives, LinkStep, Told, ended, nas_request, user_request}
 use Rattle.bng_shard.specs.Running.{AreTied}
 use Rattle.bng_shard.specs.Step.{Hears, Step}
@@ -27,6 +29,7 @@ use Rattle.bng_shard.specs.Tenures.{Tenure, closed, is_over, kept_lease, over_by
 use Rattle.bng_shard.specs.Verdicts.{HearsVerdict, Judges, next_lease, next_term, settled_by, with_term}
 use Rattle.bng_shard.proofs.Beginning.{any_closed}
 use Rattle.bng_shard.proofs.ListParts.{any_last, any_more}
+use Rattle.bng_shard.proofs.SeenLeases.{looked_was, seen_at}
 use Rattle.bng_shard.proofs.Naming.{next_of}
 use Rattle.bng_shard.proofs.Serves.{none_kept}
 use Rattle.bng_shard.proofs.Values.{none_some, same_some}
@@ -112,6 +115,11 @@ same_term x y l t number port mac is =
       live = is.live;
     }
 
+-- so it is of a lease that differs in how long it lasts alone
+looked_term : (at : ℕ) (x : Session) (k l : Lease) (t : Tenure) → l ≡ seen_at at k → IsTermOf x k t → IsTermOf (looked at x) l t
+looked_term at x k l t same is =
+    subst (λ (j : Lease). IsTermOf (looked at x) j t) (sym same) (record { term = is.term; circuit = is.circuit; address = is.address; profile = is.profile; live = is.live })
+
 any_of : (P Q : Tenure → Type 0) (ts : List Tenure) → ((t : Tenure) → P t → Q t) → AnyOf P ts → AnyOf Q ts
 any_of P Q [] f any = any
 any_of P Q (t ∷ ts) f (inl is) = inl (f t is)
@@ -179,16 +187,42 @@ module _ (s : State) (h : Holds s) where
   ended_ties : (n : ℕ) (x : Session) (cause : ℕ) → value_at s.sessions n ≡ Some x → Holds (with_ended s n x.lease cause (ended x))
   ended_ties n x cause at = holds_with n x x.lease (λ k is. (at, is)) (Some cause) (ended x) s.asked (λ l its. absurd (none_some l its))
 
+  -- once its live term has been looked at
+  looked_ties : (n at : ℕ) (x : Session) → value_at s.sessions n ≡ Some x → Holds (with_session s n (looked at x))
+  looked_ties n at x found =
+      let stands : (m : ℕ) (y : Session) → m ≡ n → value_at (with_value s.sessions n (looked at x)) m ≡ Some y → y ≡ looked at x = λ m y e there.
+      same_some y (looked at x) (sym there ∙ ap (λ (k : ℕ). value_at (with_value s.sessions n (looked at x)) k) e ∙ value_at-with_value s.sessions n (looked at x)) in
+      record {
+        own = λ m y l there its. elim (cases_eq m n) [
+          | inl e ↦
+              let it = stands m y e there in
+              let was = looked_was at x.lease l (ap (λ (z : Session). z.lease) (sym it) ∙ its) in
+              ap (λ (z : Session). z.number.0) it ∙ h.own n x was.0 found was.1 ∙ sym e
+          | inr d ↦ h.own m y l (sym (value_at-with_other s.sessions n (looked at x) m d) ∙ there) its
+        ];
+        tied = λ m y l there its. elim (cases_eq m n) [
+          | inl e ↦
+              let it = stands m y e there in
+              let was = looked_was at x.lease l (ap (λ (z : Session). z.lease) (sym it) ∙ its) in
+              subst (λ (z : Session). AnyOf (IsTermOf z l) s.terms) (sym it)
+              (any_of (IsTermOf x was.0) (IsTermOf (looked at x) l) s.terms (λ t. looked_term at x was.0 l t was.2) (h.tied n x was.0 found was.1))
+          | inr d ↦ h.tied m y l (sym (value_at-with_other s.sessions n (looked at x) m d) ∙ there) its
+        ];
+        apart = h.apart;
+        numbered = h.numbered;
+      }
+
   -- once a term of it has begun
-  term_ties : (n : ℕ) (x x' : Session) (asked : ℕ) (a : Ip4) (q : Question) (class : List ℕ) (moment : ℕ) → x.number.0 ≡ n → x'.number ≡ x.number → x'.port ≡ x.port → x'.mac ≡ x.mac
-      → Holds (with_term s n x' asked a (next_term s x q class moment a))
-  term_ties n x x' asked a q class moment its number port mac =
+  term_ties : (n : ℕ) (x x' : Session) (asked : ℕ) (limits : Limits) (a : Ip4) (q : Question) (class : List ℕ) (moment : ℕ) → x.number.0 ≡ n → x'.number ≡ x.number → x'.port ≡ x.port → x'.mac ≡ x.mac
+      → Holds (with_term s n x' asked (next_lease s limits moment a) (next_term s x q class moment a))
+  term_ties n x x' asked limits a q class moment its number port mac =
       let t = next_term s x q class moment a in
-      let y : Session = record x' { lease = Some (next_lease s a) } in
+      let lease = next_lease s limits moment a in
+      let y : Session = record x' { lease = Some lease } in
       let k = sym number in
       let p = sym port in
       let c = sym mac in
-      let is : IsTermOf y (next_lease s a) t = record {
+      let is : IsTermOf y lease t = record {
         term = λ i. record { session = k i; serial = s.begun + 1 };
         circuit = λ i. Pppoe (p i) (c i) (k i);
         address = refl;
@@ -205,7 +239,7 @@ module _ (s : State) (h : Holds s) where
         tied = λ m z l at leased. elim (cases_eq m n) [
           | inl e ↦
               let it = stands m z e at in
-              let same : next_lease s a ≡ l = same_some (next_lease s a) l (ap (λ (w : Session). w.lease) (sym it) ∙ leased) in
+              let same : lease ≡ l = same_some lease l (ap (λ (w : Session). w.lease) (sym it) ∙ leased) in
               any_last (IsTermOf z l) s.terms t (subst (λ (w : Session). IsTermOf w l t) (sym it) (subst (λ (k : Lease). IsTermOf y k t) same is))
           | inr d ↦ any_more (IsTermOf z l) s.terms (t ∷ []) (h.tied m z l (sym (value_at-with_other s.sessions n y m d) ∙ at) leased)
         ];
@@ -226,6 +260,11 @@ ties_walk r = record {
   made = λ Steps e s n x x' outs cause asked' none d h.
       bare_ties s h n x x' cause asked' (ap (λ (y : Session). y.lease) d.session ∙ ap (kept_lease d.says.term_ended) none ∙ none_kept d.says.term_ended);
   padt = λ s n x m at is h. ended_ties s h n x user_request at;
+  passes = λ s n moment h. record { own = h.own; tied = h.tied; apart = h.apart; numbered = h.numbered };
+  looks = λ s n at x found h. looked_ties s h n at x found;
+  lapses = λ e s n x x' outs cause none asked' at over d h.
+      let bare : x'.lease ≡ None = ap (λ (y : Session). y.lease) d.session ∙ none_kept d.says.term_ended in
+      holds_with s h n x x.lease (λ k is. (at, is)) (Some cause) x' asked' (λ l its. absurd (none_some l (sym bare ∙ its)));
 }
 
 module _ (r : Rules) (s : State) (limited : Bool) (d : Deed) (own : AreOwn s.sessions) (h : Holds s) where
@@ -243,7 +282,7 @@ module _ (r : Rules) (s : State) (limited : Bool) (d : Deed) (own : AreOwn s.ses
       settles_ties t j bare None = bare_ties s h d.entry.item.target j.x j.after None j.asked bare
       settles_ties t j bare (Some a) =
           let session = j.drives.session in
-          term_ties s h d.entry.item.target j.x j.after j.asked a j.question t.class d.entry.moment (own d.entry.item.target j.x j.found) (ap (λ (y : Session). y.number) session) (ap (λ (y : Session). y.port) session) (ap (λ (y : Session). y.mac) session)
+          term_ties s h d.entry.item.target j.x j.after j.asked t.limits a j.question t.class d.entry.moment (own d.entry.item.target j.x j.found) (ap (λ (y : Session). y.number) session) (ap (λ (y : Session). y.port) session) (ap (λ (y : Session). y.mac) session)
 
   verdict_ties : HearsVerdict r s d.entry limited d → Holds d.next
   verdict_ties (inl (asks, t, decides, judges)) = judged_ties t judges

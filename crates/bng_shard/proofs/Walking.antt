@@ -1,6 +1,7 @@
 -- What holds of each change that an entry makes to a shard's state holds of the step, a verdict aside.
 use Rattle.std.proofs.Common.{◌≡◌, ◌⊎◌, inl, inr, ℕ, zero, suc, Bool, List, Option, Some, None, refl, sym, subst, ◌∙◌}
 use Rattle.bng_base.specs.declared.address.Mac.{Mac}
+use Rattle.bng_base.specs.declared.address.SessionNo.{SessionNo}
 use Rattle.bng_base.specs.declared.item.Entry.{Entry}
 use Rattle.bng_base.specs.declared.item.ItemKind.{ItemKind}
 use Rattle.bng_base.specs.declared.item.ItemKind.TheVariants.{Access, Core, Tunnel, Verdict, Change, Tick, End}
@@ -10,25 +11,28 @@ use Rattle.bng_base.specs.PppoeGrammar.{PppoeFrame, PppoeTag}
 use Rattle.bng_discovery.specs.declared.answers.Answer.{Answer}
 use Rattle.bng_discovery.specs.declared.answers.Answer.TheVariants.{Offer, Make, Again, Refuse, Ended, NoSession, Ignore}
 use Rattle.bng_discovery.specs.declared.port.PortRules.{PortRules}
-use Rattle.bng_ppp.specs.declared.whole_input.WholeInput.TheVariants.{Start, Timer}
+use Rattle.bng_ppp.specs.declared.whole_input.WholeInput.TheVariants.{Start, Timer, Close}
 use Rattle.bng_ppp.specs.PppState.{PppState}
 use Rattle.bng_slots.specs.Sessions.{IsLowestVacant, value_at}
+use Rattle.bng_slots.proofs.SessionLaws.{value_at-with_value}
 use Rattle.bng_shard.specs.Made.{Made}
 use Rattle.bng_shard.specs.declared.rules.Rules.{Rules}
 use Rattle.bng_shard.specs.declared.session.Service.{Service}
 use Rattle.bng_shard.specs.declared.session.Service.TheVariants.{Provisioned, Discovered}
 use Rattle.bng_shard.specs.declared.session.Session.{Session}
-use Rattle.bng_shard.specs.State.{State, session_of, with_driven, with_ended}
+use Rattle.bng_shard.specs.State.{State, session_of, with_session, with_driven, with_ended}
 use Rattle.bng_shard.specs.Deed.{Deed, at_of}
 use Rattle.bng_shard.specs.Discovery.{Answers, Discovers, IsNewLink, host_uniq_of, new_session}
 use Rattle.bng_shard.specs.Frames.{HearsData, HearsPpp, HearsControl, HearsIn, HearsFrame, HearsAccess, HearsCore}
 use Rattle.bng_shard.specs.Link.{LinkStep, Drives, ended, hears, nas_request, told, user_request}
+use Rattle.bng_shard.specs.Passing.{cause_at, lapsed, looked, passed_at, with_passed}
 use Rattle.bng_shard.specs.Step.{Hears}
-use Rattle.bng_shard.specs.Timers.{Ticks, Ends, HearsTick, HearsEnd, at_once}
+use Rattle.bng_shard.specs.Timers.{IsTimed, LooksAt, Ticks, Ends, HearsTick, HearsEnd, at_once}
 use Rattle.bng_shard.proofs.Naming.{at_number, next_of}
 
 -- A relation of states that holds where nothing changes, and of two changes one after the other. It holds of a step of the link of a
--- session that stands there, of one of a session that is made, and of a PADT.
+-- session that stands there, of one of a session that is made, and of a PADT; of a packet that passes, of a look at a live term that goes
+-- on, and of one at a live term that is over, whose session's link takes Close.
 pub record Walks (r : Rules) (R : State → State → Type 0) : Type 1 where
   pub same : (s s' : State) → s' ≡ s → R s s'
   pub then : (s s' s'' : State) → R s s' → R s' s'' → R s s''
@@ -37,6 +41,11 @@ pub record Walks (r : Rules) (R : State → State → Type 0) : Type 1 where
   pub made : (Steps : LinkStep) (e : Entry) (s : State) (n : ℕ) (x x' : Session) (outs : List OutRecord) (cause : Option ℕ) (asked' : ℕ) → x.lease ≡ None
       → Drives r (at_of s e) s.asked x Steps outs cause x' asked' → R s (with_driven s n None cause x' asked')
   pub padt : (s : State) (n : ℕ) (x : Session) (m : Made) → value_at s.sessions n ≡ Some x → x.service ≡ Discovered m → R s (with_ended s n x.lease user_request (ended x))
+  pub passes : (s : State) (n : SessionNo) (moment : ℕ) → R s (with_passed s n moment)
+  pub looks : (s : State) (n at : ℕ) (x : Session) → value_at s.sessions n ≡ Some x → R s (with_session s n (looked at x))
+  pub lapses : (e : Entry) (s : State) (n : ℕ) (x x' : Session) (outs : List OutRecord) (cause : ℕ) (none : Option ℕ) (asked' : ℕ) → value_at s.sessions n ≡ Some x
+      → cause_at (passed_at s.passed x.number) x.lease e.moment ≡ Some cause → Drives r (at_of s e) s.asked (lapsed x) (told r e Close) outs none x' asked'
+      → R s (with_driven s n x.lease (Some cause) x' asked')
 
 -- The same by what makes each change: the time that has run out for a session, a frame that its link hears, and discovery, which makes a
 -- session where none stood.
@@ -50,6 +59,11 @@ pub record WalksBy (r : Rules) (R : State → State → Type 0) : Type 0 where
   pub made : (e : Entry) (s : State) (n port : ℕ) (mac : Mac) (host_uniq : Option (List ℕ)) (link : PppState) (x' : Session) (outs : List OutRecord) (cause : Option ℕ) (asked' : ℕ)
       → IsLowestVacant s.sessions n → IsNewLink e.item.random link → Drives r (at_of s e) s.asked (new_session n port mac host_uniq link) (told r e Start) outs cause x' asked' → R s (with_driven s n None cause x' asked')
   pub padt : (s : State) (n : ℕ) (x : Session) (m : Made) → value_at s.sessions n ≡ Some x → x.service ≡ Discovered m → R s (with_ended s n x.lease user_request (ended x))
+  pub passes : (s : State) (n : SessionNo) (moment : ℕ) → R s (with_passed s n moment)
+  pub looks : (s : State) (n at : ℕ) (x : Session) → value_at s.sessions n ≡ Some x → R s (with_session s n (looked at x))
+  pub lapses : (e : Entry) (s : State) (n : ℕ) (x x' : Session) (outs : List OutRecord) (cause : ℕ) (none : Option ℕ) (asked' : ℕ) → value_at s.sessions n ≡ Some x
+      → cause_at (passed_at s.passed x.number) x.lease e.moment ≡ Some cause → Drives r (at_of s e) s.asked (lapsed x) (told r e Close) outs none x' asked'
+      → R s (with_driven s n x.lease (Some cause) x' asked')
 
 walks_by : (r : Rules) (R : State → State → Type 0) → Walks r R → WalksBy r R
 walks_by r R w = record {
@@ -59,6 +73,9 @@ walks_by r R w = record {
   heard = λ octets e s n x x' outs cause asked' at drives. w.driven (hears r e octets) e s n x x' outs cause asked' at drives;
   made = λ e s n port mac host_uniq link x' outs cause asked' vacant new drives. w.made (told r e Start) e s n (new_session n port mac host_uniq link) x' outs cause asked' refl drives;
   padt = w.padt;
+  passes = w.passes;
+  looks = w.looks;
+  lapses = w.lapses;
 }
 
 -- and of one that the gateway ends
@@ -66,12 +83,21 @@ abbrev pub Stops : (State → State → Type 0) → Type 0
 Stops R = (s : State) (n : ℕ) (x : Session) → value_at s.sessions n ≡ Some x → R s (with_ended s n x.lease nas_request (ended x))
 
 module _ (r : Rules) (R : State → State → Type 0) (w : WalksBy r R) where
+  looks_walk : (o : Option ℕ) (e : Entry) (s : State) (n : ℕ) (x : Session) (outs : List OutRecord) (s' : State) → value_at s.sessions n ≡ Some x
+      → cause_at (passed_at s.passed x.number) x.lease e.moment ≡ o → LooksAt o r e s n x outs s' → R s s'
+  looks_walk None e s n x outs s' at is (none, next) = subst (R s) (sym next) (w.looks s n (passed_at s.passed x.number) x at)
+  looks_walk (Some cause) e s n x outs s' at is (x', none, asked', drives, next) = subst (R s) (sym next) (w.lapses e s n x x' outs cause none asked' at is drives)
+
+  timed_walk : (e : Entry) (s : State) (n : ℕ) (outs : List OutRecord) (s' : State) → IsTimed r e s n outs s' → R s s'
+  timed_walk e s n outs s' h =
+      let next = with_driven s n h.x.lease h.cause h.after h.asked in
+      w.then s next s' (w.timed e s n h.x h.after h.first h.cause h.asked h.found h.drives)
+      (looks_walk (cause_at (passed_at s.passed h.after.number) h.after.lease e.moment) e next n h.after h.then s' (value_at-with_value s.sessions n h.after) refl h.looks)
+
   ticks_walk : (k : ℕ) (e : Entry) (s : State) (outs : List OutRecord) (s' : State) → Ticks k r e s outs s' → R s s'
   ticks_walk zero e s outs s' h = w.same s s' h.1
   ticks_walk (suc k) e s outs s' (inl h) = w.same s s' h.2
-  ticks_walk (suc k) e s outs s' (inr (n, due, x, x', at, first, cause, asked', drives, rest, more, are)) =
-      w.then s (with_driven s n x.lease cause x' asked') s' (w.timed e s n x x' first cause asked' at drives)
-      (ticks_walk k e (with_driven s n x.lease cause x' asked') rest s' more)
+  ticks_walk (suc k) e s outs s' (inr (n, due, first, next, timed, rest, more, are)) = w.then s next s' (timed_walk e s n first next timed) (ticks_walk k e next rest s' more)
 
   ends_walk : Stops R → (k : ℕ) (e : Entry) (s : State) (outs : List OutRecord) (s' : State) → Ends k r e s outs s' → R s s'
   ends_walk stops zero e s outs s' h = w.same s s' h.1
@@ -100,9 +126,9 @@ module _ (r : Rules) (R : State → State → Type 0) (w : WalksBy r R) where
     discovers : (number : ℕ) (p : PppoeFrame) → Discovers r s e number p d → R s d.next
     discovers number p h = answers h.answer number h.port h.offers p h.tags h.does
 
-    data_kept : (number : ℕ) (p : PppoeFrame) (info : List ℕ) → HearsData r s e number p info d → R s d.next
-    data_kept number p info (fate, is, inl (forwards, up)) = kept _ up.done refl
-    data_kept number p info (fate, is, inr (stays, h)) = kept _ h refl
+    packets : (number : ℕ) (p : PppoeFrame) (info : List ℕ) → HearsData r s e number p info d → R s d.next
+    packets number p info (fate, is, inl (forwards, up)) = after (with_passed s up.x.number e.moment) _ up.done refl (w.passes s up.x.number e.moment)
+    packets number p info (fate, is, inr (stays, h)) = kept _ h refl
 
     ppp : (x : Session) (made : Made) (p : PppoeFrame) → value_at s.sessions p.session ≡ Some x → HearsPpp r s e x made p d → R s d.next
     ppp x made p at (inl (over, h)) = kept _ h refl
@@ -120,7 +146,7 @@ module _ (r : Rules) (R : State → State → Type 0) (w : WalksBy r R) where
     named number p (Some x) is h = control x.service x p (at_number number p.src (value_at s.sessions p.session) x is) refl h
 
     frame : (number : ℕ) (p : PppoeFrame) → HearsFrame r s e number p d → R s d.next
-    frame number p (inl (info, carries, h)) = data_kept number p info h
+    frame number p (inl (info, carries, h)) = packets number p info h
     frame number p (inr (inl (names, no_packet, h))) = named number p (session_of s number p.src p.session) refl h
     frame number p (inr (inr (before, h))) = discovers number p h
 
@@ -130,7 +156,7 @@ module _ (r : Rules) (R : State → State → Type 0) (w : WalksBy r R) where
 
     core : HearsCore r s e d → R s d.next
     core (inl (none, h)) = kept _ h refl
-    core (inr (v, is, (fate, decides, inl (forwards, down)))) = kept _ down.done refl
+    core (inr (v, is, (fate, decides, inl (forwards, down)))) = after (with_passed s down.x.number e.moment) _ down.done refl (w.passes s down.x.number e.moment)
     core (inr (v, is, (fate, decides, inr (stays, h)))) = kept _ h refl
 
     tick : HearsTick r s e d → R s d.next

@@ -1,20 +1,19 @@
 -- What the octets of a reply ask of the pools of addresses, and what they come to.
-use Rattle.std.proofs.Common.{◌≡◌, ℕ, Bool, true, false, not, List, Option, Some, None, inl, inr, refl, sym, ap, subst, ◌∙◌}
-use Rattle.std.specs.Prelude.{if◌then◌else◌}
-use Rattle.bng_base.specs.declared.address.Ip4.{Ip4}
+use Rattle.std.proofs.Common.{◌≡◌, ◌≤◌, ℕ, max, Bool, true, false, not, List, Option, Some, None, option_map, inl, inr, refl, sym, ap, subst, ◌∙◌, arith}
 use Rattle.bng_base.specs.declared.item.Claim.{Claim}
-use Rattle.bng_base.specs.declared.item.Claim.TheVariants.{NoClaim, Claimed, Held, Exhausted}
+use Rattle.bng_base.specs.declared.item.Claim.TheVariants.{NoClaim}
 use Rattle.bng_base.specs.declared.settings.NamedRange.{NamedRange}
 use Rattle.bng_grant.specs.Grants.{Gift, IsGrant}
 use Rattle.bng_grant.specs.Grants.IsGrant.{Replied as Given, NoReply as NotGiven}
 use Rattle.bng_grant.proofs.One.{one_grant}
+use Rattle.bng_term.specs.Lifetimes.{HasAllowedInterval}
 use Rattle.bng_verdict.specs.Verdicts.{Saying, IsVerdict, silence}
 use Rattle.bng_verdict.specs.Verdicts.IsVerdict.{Silent, Replied, NoReply}
 use Rattle.bng_verdict.proofs.One.{one_verdict}
 use Rattle.bng_shard.specs.declared.wish.Wish.{Wish}
 use Rattle.bng_shard.specs.declared.wish.Wish.TheVariants.{Nothing}
-use Rattle.bng_shard.specs.Link.{Told}
-use Rattle.bng_shard.specs.Wishes.{Decides, IsAnswerTo, Wishes, accepted_with, has_none, pool_for, refused_with, told_at, told_by, told_of, wish_of}
+use Rattle.bng_shard.specs.Limited.{limits_of}
+use Rattle.bng_shard.specs.Wishes.{Decides, IsAnswerTo, Wishes, refused_with, told_of, wish_of}
 
 same : {A : Type 0} (a b : A) → Some a ≡ Some b → a ≡ b
 same a b e = cc
@@ -39,6 +38,17 @@ yes_gives octets v (Silent none told) accepts grant = both v.yes accepts (ap (λ
 yes_gives octets v (Replied p reply told) accepts (Given q is g gives e) = never g e
 yes_gives octets v (Replied p reply told) accepts (NotGiven other e) = other p (record { packet = reply.packet; few = reply.few })
 yes_gives octets v (NoReply some other told) accepts grant = never v (sym told)
+
+at_least : (o : Option ℕ) (v : ℕ) → option_map (λ (n : ℕ). max n 60) o ≡ Some v → 60 ≤ v
+at_least None v e = absurd (never v e)
+at_least (Some n) v e =
+    let is : max n 60 ≡ v = same (max n 60) v e in
+    omega (arith, is)
+
+-- what is given leaves a minute between Interims
+pub allowed : (octets : List ℕ) (g : Gift) → IsGrant octets (Some g) → HasAllowedInterval (limits_of g)
+allowed octets g (Given p reply h gives is) seconds e = at_least _ seconds (sym gives.interim ∙ ap (λ (k : Gift). k.interim) (sym (same g h is)) ∙ e)
+allowed octets g (NotGiven other none) seconds e = absurd (never g (sym none))
 
 -- what was asked was answered by this claim
 abbrev pub Answered : List NamedRange → Bool → List ℕ → Claim → Type 0

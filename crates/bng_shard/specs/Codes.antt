@@ -25,8 +25,8 @@ tenure_code =
 abbrev pub state_code : Coded State
 state_code =
     code_by
-    (Sessions Session × (ℕ × (ℕ × (List Tenure × List Tenure))))
-    (coded× (sessions_code the_row.coded) (coded× coded_ℕ (coded× coded_ℕ (coded× (coded_list tenure_code) (coded_list tenure_code)))))
-    (λ s. (s.sessions, (s.begun, (s.asked, (s.terms, s.news)))))
-    (λ p. record { sessions = p.0; begun = p.1.0; asked = p.1.1.0; terms = p.1.1.1.0; news = p.1.1.1.1 })
+    (Sessions Session × (ℕ × (ℕ × (List Tenure × (List Tenure × List ℕ)))))
+    (coded× (sessions_code the_row.coded) (coded× coded_ℕ (coded× coded_ℕ (coded× (coded_list tenure_code) (coded× (coded_list tenure_code) (coded_list coded_ℕ))))))
+    (λ s. (s.sessions, (s.begun, (s.asked, (s.terms, (s.news, s.passed))))))
+    (λ p. record { sessions = p.0; begun = p.1.0; asked = p.1.1.0; terms = p.1.1.1.0; news = p.1.1.1.1.0; passed = p.1.1.1.1.1 })
     (λ _. refl)

@@ -15,11 +15,11 @@ pub record Driven (r : Rules) (a : At) (Steps : LinkStep) (asked : ℕ) (x : Ses
   pub drives : Drives r a asked x Steps more cause x' asked'
   pub outs_are : outs' ≡ outs ++ more
 
--- A live term of a session goes on over this input until the link says its end. A verdict is told where there is none.
+-- A live term of a session goes on over this input until the link says its end. A verdict and Close are told where there is none.
 abbrev pub LastsOver : WholeInput → Option Lease → Type 0
 LastsOver Start lease = Unit {0}
 LastsOver (Frame octets) lease = Unit {0}
 LastsOver Timer lease = Unit {0}
 LastsOver (Verdict accepted address text) lease = lease ≡ None
-LastsOver Close lease = ⊥
+LastsOver Close lease = lease ≡ None
 LastsOver Lost lease = ⊥

@@ -41,5 +41,5 @@ pub record Fits (a : Inside) : Type 0 where
   pub auth : 0 < length a.rules.link.auth.items
   pub offers : length a.rules.offers ≡ length a.rules.access
   pub journal_room : length a.journal.items + a.room ≤ vec_capacity a.journal
-  pub outs_room : 0 < a.room → length a.outs.items + 10 * a.room + owed a.journal.items ≤ vec_capacity a.outs
+  pub outs_room : 0 < a.room → length a.outs.items + 10 * a.room + owed a.journal.items + 3 ≤ vec_capacity a.outs
   pub terms_room : a.room ≤ a.terms.room

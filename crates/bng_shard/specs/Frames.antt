@@ -2,6 +2,7 @@
 use Rattle.std.specs.Prelude.{◌≡◌, ◌≢◌, ◌⊎◌, ℕ, Bool, true, false, List, [], ◌∷◌, Option, Some, None, IsTrue, IsFalse}
 use Rattle.std.specs.Option.{option_map}
 use Rattle.bng_base.specs.declared.address.Ip4.{Ip4}
+use Rattle.bng_base.specs.declared.address.SessionNo.{SessionNo}
 use Rattle.bng_base.specs.declared.fate.DropCause.TheVariants.{Malformed, NoSession}
 use Rattle.bng_base.specs.declared.fate.Fate.{Fate}
 use Rattle.bng_base.specs.declared.fate.Fate.TheVariants.{Forwarded}
@@ -27,6 +28,7 @@ use Rattle.bng_shard.specs.State.{State, IsTermOf, circuit_of, session_of, holde
 use Rattle.bng_shard.specs.Deed.{Deed, at_of, out, only, ignored, dropped, handled, arrival_in}
 use Rattle.bng_shard.specs.Link.{Drives, ended, hears, user_request}
 use Rattle.bng_shard.specs.Discovery.{Discovers}
+use Rattle.bng_shard.specs.Passing.{with_passed}
 
 -- whose packet passes: the session's term
 abbrev pub charge_of : Session → Lease → Bool → ℕ → Charge
@@ -39,8 +41,9 @@ charge_of x l input octets = record {
   octets = octets;
 }
 
-abbrev pub forwarded : State → Entry → OutRecord → Deed
-forwarded s e o = record { entry = e; fate = Forwarded; outs = o ∷ []; next = s }
+-- a packet of the session with this number passes
+abbrev pub forwarded : State → Entry → SessionNo → OutRecord → Deed
+forwarded s e n o = record { entry = e; fate = Forwarded; outs = o ∷ []; next = with_passed s n e.moment }
 
 -- what is known of the session of a frame: whether there is one, and the view of its live term, if it has one
 abbrev pub found_up : State → ℕ → PppoeFrame → Option (Option TermView)
@@ -66,7 +69,7 @@ pub record GoesUp (r : Rules) (s : State) (e : Entry) (number : ℕ) (p : PppoeF
   pub packet : List ℕ
   pub source : header.src ≡ lease.address
   pub passed : IsPassedOn header info packet
-  pub done : d ≡ forwarded s e (out (at_of s e) Core r.core_peer packet (Some (charge_of x lease true header.total)))
+  pub done : d ≡ forwarded s e x.number (out (at_of s e) Core r.core_peer packet (Some (charge_of x lease true header.total)))
 
 -- A frame with an IPv4 packet: the first case that holds of the table of fates.
 abbrev pub HearsData : Rules → State → Entry → ℕ → PppoeFrame → List ℕ → Deed → Type 0
@@ -127,7 +130,7 @@ pub record GoesDown (r : Rules) (s : State) (e : Entry) (v : Ipv4) (d : Deed) : 
   pub packet : List ℕ
   pub passed : IsPassedOn v e.item.frame.payload packet
   pub again : IsFrameTo port x.mac x.number.0 packet (circuit_frame port x.mac x.number.0 packet)
-  pub done : d ≡ forwarded s e (out (at_of s e) (Access x.port) port.peer (circuit_frame port x.mac x.number.0 packet) (Some (charge_of x lease false v.total)))
+  pub done : d ≡ forwarded s e x.number (out (at_of s e) (Access x.port) port.peer (circuit_frame port x.mac x.number.0 packet) (Some (charge_of x lease false v.total)))
 
 -- A packet of the core: the first case that holds of the table of fates.
 abbrev pub HearsPacket : Rules → State → Entry → Ipv4 → Deed → Type 0

@@ -1,5 +1,6 @@
 pub mod Made
 pub mod Tenures
+pub mod Limited
 pub mod State
 pub mod Codes
 pub mod Indexed
@@ -10,6 +11,7 @@ pub mod Controlling
 pub mod Deed
 pub mod Link
 pub mod Questions
+pub mod Passing
 pub mod Wishes
 pub mod Verdicts
 pub mod Discovery
@@ -34,3 +36,4 @@ pub mod Replying
 pub mod Making
 pub mod Granting
 pub mod Claiming
+pub mod Live

@@ -17,6 +17,7 @@ use Rattle.bng_ppp.specs.PppRelation.{PppSaid, PppSteps, ended_by, after_turn, s
 use Rattle.bng_ppp.specs.PppState.{PppState, is_open}
 use Rattle.bng_ppp.specs.Verdict.{Settles}
 use Rattle.bng_ppp.specs.WholeFrame.{HearsOctets}
+use Rattle.bng_term.specs.declared.limits.Limits.{Limits}
 use Rattle.bng_shard.specs.Made.{Made, Question}
 use Rattle.bng_shard.specs.declared.rules.Rules.{Rules}
 use Rattle.bng_shard.specs.declared.sending.At.{At}
@@ -108,12 +109,13 @@ abbrev pub hears : Rules → Entry → List ℕ → LinkStep
 hears r e octets old says new = HearsPppFrame r.link octets e.moment e.item.random old says new
 
 -- What a link is told of its peer: whether it is accepted, the address that it has then, if it has one, and the text of the reply. And
--- what the records of its term say of the Class attributes of the Accept.
+-- what the records of its term say of the Class attributes of the Accept, and how long the term may last.
 pub record Told : Type 0 where
   pub yes : Bool
   pub lease : Option Ip4
   pub text : List ℕ
   pub class : List ℕ
+  pub limits : Limits
 
 pub record IsToldVerdict (r : LinkRules) (t : Told) (now : ℕ) (random : List ℕ) (old : PppState) (says : PppSaid) (new : PppState) : Type 0 where
   pub turn : Turn

@@ -1,5 +1,5 @@
 -- A shard at its opening: the sessions of its provisioned circuits.
-use Rattle.std.specs.Prelude.{ℕ, ◌+◌, ◌*◌, ◌==◌, false, List, [], ◌∷◌, Some, None, length, filter}
+use Rattle.std.specs.Prelude.{ℕ, ◌+◌, ◌*◌, ◌==◌, false, List, [], ◌∷◌, Some, None, length, filter, replicate}
 use Rattle.std.specs.List.{flat_map, range_with_len}
 use Rattle.std.specs.FinMap.{from_sorted}
 use Rattle.bng_base.specs.declared.circuit.Circuit.TheVariants.{Pppoe}
@@ -9,10 +9,12 @@ use Rattle.bng_shard.specs.declared.session.Service.TheVariants.{Provisioned}
 use Rattle.bng_shard.specs.declared.session.Session.{Session}
 use Rattle.bng_shard.specs.State.{State}
 use Rattle.bng_shard.specs.Tenures.{Tenure}
+use Rattle.bng_shard.specs.Limited.{no_limits}
+use Rattle.bng_term.specs.Lifetimes.{leased}
 
--- what a circuit leases, by a term with this number
+-- what a circuit leases, by a term with this number; it has no timeouts, so that no moment counts for it
 abbrev pub lease_from : Static → ℕ → Lease
-lease_from c serial = record { serial = serial; address = c.address; profile = c.profile }
+lease_from c serial = record { serial = serial; address = c.address; profile = c.profile; life = leased no_limits 0 }
 
 -- the session of a provisioned circuit, whose term has this number
 abbrev pub provisioned : Static → ℕ → Session
@@ -55,6 +57,10 @@ abbrev pub tenures_after : ℕ → ℕ → List Static → List Tenure
 tenures_after now n [] = []
 tenures_after now n (c ∷ cs) = tenure_from now c (n + 1) ∷ tenures_after now (n + 1) cs
 
+-- no packet passed yet
+abbrev pub none_passed : List ℕ
+none_passed = replicate 1024 0
+
 -- what stands in a shard at its opening, which is at this moment: of each term a Start is formed then
 abbrev pub opened_slots : ℕ → List Static → ℕ → State
 opened_slots number circuits now = record {
@@ -63,4 +69,5 @@ opened_slots number circuits now = record {
   asked = 0;
   terms = tenures_after now 0 (in_order number circuits);
   news = [];
+  passed = none_passed;
 }

@@ -1,5 +1,5 @@
 -- The protocol of a shard, as the engine reads it.
-use Rattle.std.specs.Prelude.{◌≡◌, ◌⊎◌, ℕ, ◌+◌, ◌≤◌, ◌==◌, Bool, true, false, List, [], ◌∷◌, ◌++◌, Option, Some, None, filter, length, map, find, slice_get, sum_by}
+use Rattle.std.specs.Prelude.{◌≡◌, ℕ, ◌+◌, ◌≤◌, ◌==◌, Bool, List, [], ◌∷◌, ◌++◌, Option, Some, None, filter, length, map, find, slice_get, sum_by}
 use Rattle.std.specs.List.{range_with_len, All, AllByRecursion}
 use Rattle.bng_base.specs.declared.address.Ip4.{Ip4}
 use Rattle.bng_base.specs.declared.book.Book.{Book}
@@ -24,10 +24,7 @@ use Rattle.bng_pool.specs.Tables.{Table, IsTaken, Puts, entry}
 use Rattle.bng_shard.specs.declared.rules.Rules.{Rules}
 use Rattle.bng_shard.specs.declared.term.EndedTerm.{EndedTerm}
 use Rattle.bng_shard.specs.declared.term.LiveTerm.{LiveTerm}
-use Rattle.bng_slots.specs.Sessions.{value_at}
-use Rattle.bng_shard.specs.declared.session.Session.{Session}
-use Rattle.bng_shard.specs.Link.{nas_request}
-use Rattle.bng_shard.specs.State.{State, count_in, made_one, reaped, settled}
+use Rattle.bng_shard.specs.State.{State, count_in, reaped, settled}
 use Rattle.bng_shard.specs.Tenures.{LeavesTerms, Tenure, is_over}
 use Rattle.bng_shard.specs.Deed.{Deed}
 use Rattle.bng_shard.specs.Due.{due_of}
@@ -223,11 +220,3 @@ pub record TellsNew (s s' : State) (t : Tenure) : Type 0 where
   pub leaves : LeavesTerms s.news s'.news t
   pub least : AllByRecursion (λ (u : Tenure). ComesBefore (key_in t) (key_in u)) s'.news
   pub others : s' ≡ record s { news = s'.news }
-
--- A term before a step and after it: it is as it was, or it was live and has ended by the gateway's own stop.
-abbrev pub StaysOrEnds : Term → Term → Type 0
-StaysOrEnds t t' = (t' ≡ t) ⊎ ((t.ended ≡ false) × (t' ≡ record t { ended = true; cause = nas_request }))
-
--- no session that discovery made has a term, as where no pool has an address for one
-abbrev pub HasNoLogins : State → Type 0
-HasNoLogins s = (n : ℕ) (x : Session) → value_at s.sessions n ≡ Some x → made_one x.service ≡ 1 → x.lease ≡ None

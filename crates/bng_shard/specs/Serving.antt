@@ -1,5 +1,6 @@
 -- What a shard keeps of its sessions, beside them.
-use Rattle.std.specs.Prelude.{◌≡◌, is_some, not, ℕ, ◌<◌, ◌&&◌, Bool, false, true, List, Option, Some, IsSome, length, vec_capacity}
+use Rattle.std.specs.Prelude.{◌≡◌, is_some, not, ℕ, ◌<◌, ◌^◌, ◌&&◌, Bool, false, true, List, Option, Some, IsSome, length, vec_capacity}
+use Rattle.std.specs.List.{All}
 use Rattle.bng_base.specs.declared.address.Ip4.{Ip4}
 use Rattle.bng_base.specs.declared.address.SessionNo.{SessionNo}
 use Rattle.bng_slots.specs.Sessions.{Sessions, IsNumberOf, read_at, value_at}
@@ -59,7 +60,8 @@ KeepsLease (Discovered m) lease = KeepsPhases m.link × (IsSome lease → m.link
 abbrev pub AreLeased : Sessions Session → Type 0
 AreLeased sessions = (n : ℕ) (x : Session) → value_at sessions n ≡ Some x → KeepsLease x.service x.lease
 
--- The numbers of the sessions that have ended, of those that have an open question, and of the young ones, for which there is room.
+-- The numbers of the sessions that have ended, of those that have an open question, and of the young ones, for which there is room. And
+-- of each number a moment, in milliseconds.
 pub record Keeps (a : Inside) : Type 0 where
   pub own : AreOwn a.sessions
   pub of_shard : AreOfShard a.sessions
@@ -74,3 +76,5 @@ pub record Keeps (a : Inside) : Type 0 where
   pub young : AreYoung a.sessions a.young.items
   pub young_counted : passing_in is_young a.sessions ≡ length a.young.items
   pub young_room : 1022 < vec_capacity a.young
+  pub passed : length a.passed.items ≡ 1024
+  pub passed_low : All (λ moment. moment < 2 ^ 60) a.passed.items

@@ -21,13 +21,15 @@ use Rattle.bng_shard.specs.declared.session.Session.{Session}
 use Rattle.bng_shard.specs.Tenures.{Tenure, closed, has_kept, is_over}
 
 -- The shard's number with its sessions, how many terms began in it, how many questions were asked, the terms that have no Stop yet, in
--- the order in which they began, and those of whose beginning no Start was formed yet, in the same order.
+-- the order in which they began, and those of whose beginning no Start was formed yet, in the same order. And by session number the moment,
+-- in milliseconds, at which its last packet passed.
 pub record State : Type 0 where
   pub sessions : Sessions Session
   pub begun : ℕ
   pub asked : ℕ
   pub terms : List Tenure
   pub news : List Tenure
+  pub passed : List ℕ
 
 -- the access port with this number, from 1 on, and what it offers
 abbrev pub port_at : List AccessPort → ℕ → Option AccessPort

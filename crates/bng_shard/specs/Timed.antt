@@ -1,25 +1,34 @@
 -- What a Tick and an End leave.
-use Rattle.std.specs.Prelude.{◌≡◌, ℕ, ◌≤◌, Bool, true, false, List, ◌++◌, Option, Some, length}
+use Rattle.std.specs.Prelude.{◌≡◌, ℕ, ◌≤◌, Bool, true, false, List, ◌++◌, Option, Some, None, length}
 use Rattle.bng_base.specs.declared.item.Entry.{Entry}
 use Rattle.bng_base.specs.declared.item.OutRecord.{OutRecord}
-use Rattle.bng_ppp.specs.declared.whole_input.WholeInput.TheVariants.{Timer}
+use Rattle.bng_ppp.specs.declared.whole_input.WholeInput.TheVariants.{Close}
 use Rattle.bng_ppp.specs.PppRelation.{PppSteps}
 use Rattle.bng_slots.specs.Sessions.{value_at}
 use Rattle.bng_shard.specs.declared.rules.Rules.{Rules}
 use Rattle.bng_shard.specs.declared.sending.At.{At}
 use Rattle.bng_shard.specs.declared.session.Session.{Session}
-use Rattle.bng_shard.specs.State.{State, with_ended, with_driven}
+use Rattle.bng_shard.specs.State.{State, with_ended}
 use Rattle.bng_shard.specs.Deed.{at_of}
 use Rattle.bng_shard.specs.Link.{ended, nas_request}
 use Rattle.bng_shard.specs.Driven.{Driven}
-use Rattle.bng_shard.specs.Timers.{Ticks, Ends, IsFirstDue, NoneIsDue, IsLowest, NoneStays, TellsEnd}
+use Rattle.bng_shard.specs.Passing.{lapsed, looked}
+use Rattle.bng_shard.specs.Running.{TermsView, closed_rows}
+use Rattle.bng_shard.specs.Timers.{Ticks, Ends, IsFirstDue, IsTimed, NoneIsDue, IsLowest, NoneStays, TellsEnd}
 
 -- The due deadline that comes first was handled; or none is due, and all is as before.
 abbrev pub TickedOnce : Bool → Rules → At → ℕ → List ℕ → State → State → List OutRecord → List OutRecord → Type 0
 TickedOnce false r a now random s s' outs outs' = NoneIsDue s now × (s' ≡ s) × (outs' ≡ outs)
 TickedOnce true r a now random s s' outs outs' =
-    (n : ℕ) × IsFirstDue s now n × (x x' : Session) × (value_at s.sessions n ≡ Some x)
-    × (cause : Option ℕ) × (asked' : ℕ) × Driven r a (PppSteps r.link Timer now random) s.asked x cause x' asked' outs outs' × (s' ≡ with_driven s n x.lease cause x' asked')
+    (n : ℕ) × IsFirstDue s now n × (more : List OutRecord) × ((e : Entry) → e.moment ≡ now → e.item.random ≡ random → at_of s e ≡ a → IsTimed r e s n more s') × (outs' ≡ outs ++ more)
+
+-- A session's live term was looked at, whose last packet passed at this moment: it ended by this cause, and the session's link took Close;
+-- or it goes on.
+abbrev pub LookedOnce : Option ℕ → Rules → At → ℕ → List ℕ → ℕ → ℕ → Session → Session → ℕ → TermsView → TermsView → List OutRecord → List OutRecord → Type 0
+LookedOnce None r a now random passed asked x x' asked' t t' outs outs' = (x' ≡ looked passed x) × (asked' ≡ asked) × (t' ≡ t) × (outs' ≡ outs)
+LookedOnce (Some cause) r a now random passed asked x x' asked' t t' outs outs' =
+    (none : Option ℕ) × Driven r a (PppSteps r.link Close now random) asked (lapsed x) none x' asked' outs outs'
+    × (t' ≡ record t { rows = closed_rows x.lease (Some cause) t.rows })
 
 -- The session with the lowest number ended; or all had ended, and all is as before.
 abbrev pub EndedOnce : Bool → Rules → At → State → State → List OutRecord → List OutRecord → Type 0

@@ -2,19 +2,22 @@
 use Rattle.std.specs.Prelude.{◌≡◌, ◌⊎◌, ℕ, zero, suc, ◌+◌, ◌≤◌, ◌<◌, Bool, true, false, not, List, [], ◌++◌, Option, Some, None, IsTrue, IsFalse, option_map}
 use Rattle.bng_base.specs.declared.item.Entry.{Entry}
 use Rattle.bng_base.specs.declared.item.OutRecord.{OutRecord}
-use Rattle.bng_ppp.specs.declared.whole_input.WholeInput.TheVariants.{Timer}
+use Rattle.bng_ppp.specs.declared.whole_input.WholeInput.TheVariants.{Timer, Close}
 use Rattle.bng_ppp.specs.LinkRelation.{earliest}
 use Rattle.bng_ppp.specs.PppState.{PppState}
 use Rattle.bng_slots.specs.Sessions.{value_at, read_at}
+use Rattle.bng_term.specs.Lifetimes.{deadline_of as term_deadline}
 use Rattle.bng_shard.specs.Made.{Made}
 use Rattle.bng_shard.specs.declared.rules.Rules.{Rules}
+use Rattle.bng_shard.specs.declared.session.Lease.{Lease}
 use Rattle.bng_shard.specs.declared.session.Service.{Service}
 use Rattle.bng_shard.specs.declared.session.Service.TheVariants.{Provisioned, Discovered}
 use Rattle.bng_shard.specs.declared.session.Session.{Session}
 use Rattle.bng_shard.specs.declared.sending.At.{At}
-use Rattle.bng_shard.specs.State.{State, leaves, with_ended, with_driven}
+use Rattle.bng_shard.specs.State.{State, leaves, with_session, with_ended, with_driven}
 use Rattle.bng_shard.specs.Deed.{Deed, at_of, handled}
 use Rattle.bng_shard.specs.Link.{Drives, EndsWith, ended, nas_request, told}
+use Rattle.bng_shard.specs.Passing.{cause_at, lapsed, looked, passed_at}
 
 -- the first moment at which a link's Timer does something
 abbrev pub link_deadline : PppState → Option ℕ
@@ -24,16 +27,21 @@ abbrev pub deadline_unless : Bool → Option ℕ → Option ℕ
 deadline_unless true deadline = None
 deadline_unless false deadline = deadline
 
-abbrev pub made_deadline : Made → Option ℕ
-made_deadline m = deadline_unless m.ended (link_deadline m.link)
+-- the first moment at which a session's live term has to be looked at, as far as it is known when its packets passed
+abbrev pub lease_deadline : Option Lease → Option ℕ
+lease_deadline None = None
+lease_deadline (Some l) = term_deadline l.life
 
-abbrev pub deadline_in : Service → Option ℕ
-deadline_in (Provisioned p) = None
-deadline_in (Discovered m) = made_deadline m
+abbrev pub made_deadline : Made → Option Lease → Option ℕ
+made_deadline m lease = deadline_unless m.ended (earliest (link_deadline m.link) (lease_deadline lease))
 
--- the deadline of a session; a provisioned circuit has none, and one that has ended has none
+abbrev pub deadline_in : Service → Option Lease → Option ℕ
+deadline_in (Provisioned p) lease = None
+deadline_in (Discovered m) lease = made_deadline m lease
+
+-- the deadline of a session, of its link or of its live term; a provisioned circuit has none, and one that has ended has none
 abbrev pub deadline_of : Session → Option ℕ
-deadline_of x = deadline_in x.service
+deadline_of x = deadline_in x.service x.lease
 
 -- the deadline of the session with this number, if there is such a session and it has one
 abbrev pub due_at : State → ℕ → Option ℕ
@@ -53,14 +61,34 @@ pub record IsFirstDue (s : State) (now n : ℕ) : Type 0 where
 abbrev pub NoneIsDue : State → ℕ → Type 0
 NoneIsDue s now = (n deadline : ℕ) → due_at s n ≡ Some deadline → now < deadline
 
--- So many due deadlines at most, the earliest first: each time the session's link takes Timer.
+-- The live term of the session is looked at. Where one of its timeouts is over it ends by that cause, and the session's link takes Close;
+-- else it goes on.
+abbrev pub LooksAt : Option ℕ → Rules → Entry → State → ℕ → Session → List OutRecord → State → Type 0
+LooksAt None r e s n x outs s' = (outs ≡ []) × (s' ≡ with_session s n (looked (passed_at s.passed x.number) x))
+LooksAt (Some cause) r e s n x outs s' =
+    (after : Session) × (none : Option ℕ) × (asked : ℕ) × Drives r (at_of s e) s.asked (lapsed x) (told r e Close) outs none after asked
+    × (s' ≡ with_driven s n x.lease (Some cause) after asked)
+
+-- A due deadline of the session with this number: its link takes Timer, and then its term, if one is live still, is looked at.
+pub record IsTimed (r : Rules) (e : Entry) (s : State) (n : ℕ) (outs : List OutRecord) (s' : State) : Type 0 where
+  pub x : Session
+  pub found : value_at s.sessions n ≡ Some x
+  pub first : List OutRecord
+  pub cause : Option ℕ
+  pub after : Session
+  pub asked : ℕ
+  pub drives : Drives r (at_of s e) s.asked x (told r e Timer) first cause after asked
+  pub then : List OutRecord
+  pub looks : LooksAt (cause_at (passed_at s.passed after.number) after.lease e.moment) r e (with_driven s n x.lease cause after asked) n after then s'
+  pub outs_are : outs ≡ first ++ then
+
+-- So many due deadlines at most, the earliest first.
 abbrev pub Ticks : ℕ → Rules → Entry → State → List OutRecord → State → Type 0
 Ticks zero r e s outs s' = (outs ≡ []) × (s' ≡ s)
 Ticks (suc k) r e s outs s' =
     (NoneIsDue s e.moment × (outs ≡ []) × (s' ≡ s))
-    ⊎ ((n : ℕ) × IsFirstDue s e.moment n × (x x' : Session) × (value_at s.sessions n ≡ Some x)
-    × (first : List OutRecord) × (cause : Option ℕ) × (asked' : ℕ) × Drives r (at_of s e) s.asked x (told r e Timer) first cause x' asked'
-    × (rest : List OutRecord) × Ticks k r e (with_driven s n x.lease cause x' asked') rest s' × (outs ≡ first ++ rest))
+    ⊎ ((n : ℕ) × IsFirstDue s e.moment n × (first : List OutRecord) × (next : State) × IsTimed r e s n first next
+    × (rest : List OutRecord) × Ticks k r e next rest s' × (outs ≡ first ++ rest))
 
 -- how many sessions a Tick and an End take
 abbrev pub at_once : ℕ

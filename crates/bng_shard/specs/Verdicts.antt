@@ -5,6 +5,8 @@ use Rattle.bng_base.specs.declared.item.Entry.{Entry}
 use Rattle.bng_base.specs.declared.item.Claim.TheVariants.{NoClaim}
 use Rattle.bng_base.specs.declared.item.OutRecord.{OutRecord}
 use Rattle.bng_slots.specs.Sessions.{value_at}
+use Rattle.bng_term.specs.Lifetimes.{leased}
+use Rattle.bng_term.specs.declared.limits.Limits.{Limits}
 use Rattle.bng_shard.specs.Made.{Question}
 use Rattle.bng_shard.specs.declared.rules.Rules.{Rules}
 use Rattle.bng_shard.specs.declared.session.Lease.{Lease}
@@ -16,9 +18,9 @@ use Rattle.bng_shard.specs.Link.{Drives, Told, settles}
 use Rattle.bng_shard.specs.Questions.{open_ask_at, open_of}
 use Rattle.bng_shard.specs.Wishes.{Decides}
 
--- the lease of the term that begins next, with this address; it has the first profile
-abbrev pub next_lease : State → Ip4 → Lease
-next_lease s a = record { serial = s.begun + 1; address = a; profile = 0 }
+-- the lease of the term that begins next, with this address, within these limits, from this moment on; it has the first profile
+abbrev pub next_lease : State → Limits → ℕ → Ip4 → Lease
+next_lease s limits moment a = record { serial = s.begun + 1; address = a; profile = 0; life = leased limits moment }
 
 -- that term: the session's peer answers to the name of its question (User-Name), and it begins at this moment
 abbrev pub next_term : State → Session → Question → List ℕ → ℕ → Ip4 → Tenure
@@ -33,9 +35,9 @@ next_term s x q class moment a = record {
   cause = None;
 }
 
--- the state once a term has begun, of the session that is so after a step of its link
-abbrev pub with_term : State → ℕ → Session → ℕ → Ip4 → Tenure → State
-with_term s n x asked a t = record (with_driven s n None None (record x { lease = Some (next_lease s a) }) asked) {
+-- the state once a term has begun, by this lease, of the session that is so after a step of its link
+abbrev pub with_term : State → ℕ → Session → ℕ → Lease → Tenure → State
+with_term s n x asked l t = record (with_driven s n None None (record x { lease = Some l }) asked) {
   begun = s.begun + 1;
   terms = s.terms ++ t ∷ [];
   news = s.news ++ t ∷ [];
@@ -44,7 +46,7 @@ with_term s n x asked a t = record (with_driven s n None None (record x { lease 
 -- A term begins where the peer is accepted with an address, and else none does.
 abbrev pub settled_by : State → ℕ → Session → Question → Told → ℕ → Session → ℕ → Option Ip4 → State
 settled_by s n x q t moment x' asked None = with_driven s n None None x' asked
-settled_by s n x q t moment x' asked (Some a) = with_term s n x' asked a (next_term s x q t.class moment a)
+settled_by s n x q t moment x' asked (Some a) = with_term s n x' asked (next_lease s t.limits moment a) (next_term s x q t.class moment a)
 
 -- the session that the item names has an open question, and no live term, and is told what was found
 pub record Judges (r : Rules) (s : State) (e : Entry) (t : Told) (d : Deed) : Type 0 where

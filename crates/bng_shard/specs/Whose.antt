@@ -1,5 +1,5 @@
 -- Which shard an item is for.
-use Rattle.std.specs.Prelude.{◌≡◌, ◌⊎◌, ℕ, ◌/◌, ◌%◌, ◌<◌, ◌≤◌, List, Option, Some, None, sum}
+use Rattle.std.specs.Prelude.{◌≡◌, ◌⊎◌, ℕ, ◌/◌, ◌%◌, ◌<◌, ◌≤◌, Option, Some, None, sum}
 use Rattle.bng_base.specs.declared.address.Mac.{Mac}
 use Rattle.bng_base.specs.declared.fate.DropCause.TheVariants.{Malformed, NoSession}
 use Rattle.bng_base.specs.declared.fate.Fate.TheVariants.{Consumed, Dropped}

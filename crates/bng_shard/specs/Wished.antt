@@ -1,5 +1,5 @@
 -- What an item asks of the pools of addresses.
-use Rattle.std.specs.Prelude.{◌≡◌, ◌⊎◌, ℕ, Bool, true, List, Some, slice_get}
+use Rattle.std.specs.Prelude.{◌≡◌, ◌⊎◌, Bool, true, List, Some, slice_get}
 use Rattle.std.specs.List.{list_any}
 use Rattle.bng_base.specs.declared.item.Claim.{Claim}
 use Rattle.bng_base.specs.declared.item.Item.{Item}

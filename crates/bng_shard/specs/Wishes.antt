@@ -11,6 +11,7 @@ use Rattle.bng_pool.specs.Ranges.{InRange}
 use Rattle.bng_verdict.specs.Verdicts.{Saying, IsVerdict}
 use Rattle.bng_shard.specs.declared.wish.Wish.{Wish}
 use Rattle.bng_shard.specs.declared.wish.Wish.TheVariants.{Nothing, Address, Pool}
+use Rattle.bng_shard.specs.Limited.{limits_of, no_limits}
 use Rattle.bng_shard.specs.Link.{Told}
 
 abbrev pub is_named : List ℕ → NamedRange → Bool
@@ -51,11 +52,11 @@ IsAnswerTo pools (Pool k) claim = ((a : Ip4) × (p : NamedRange) × (slice_get p
 
 -- the peer is refused with this text
 abbrev pub refused_with : List ℕ → Told
-refused_with text = record { yes = false; lease = None; text = text; class = [] }
+refused_with text = record { yes = false; lease = None; text = text; class = []; limits = no_limits }
 
 -- it is accepted, with this address if there is one
 abbrev pub accepted_with : Option Ip4 → List ℕ → Gift → Told
-accepted_with lease text g = record { yes = true; lease = lease; text = text; class = g.class }
+accepted_with lease text g = record { yes = true; lease = lease; text = text; class = g.class; limits = limits_of g }
 
 -- what comes of the answer to a wish
 abbrev pub told_by : Claim → List ℕ → Gift → Told

@@ -1,5 +1,5 @@
 //! Packets of the sessions' terms: from a circuit to the core, and from the core to a circuit.
-ghost use Rattle.std.specs.Prelude.{◌≡◌, ◌<◌, ℕ, List, None as Nothing, length, vec_capacity, option_map};
+ghost use Rattle.std.specs.Prelude.{◌≡◌, ◌<◌, ◌^◌, ℕ, List, None as Nothing, length, vec_capacity, option_map};
 ghost use Rattle.std.specs.List.{list_any};
 ghost use Rattle.std.specs.Option.{option_copied};
 ghost use Rattle.bng_base.specs.FateOf.{arrival_of};
@@ -90,25 +90,27 @@ fn kept_view(terms: &Terms, address: Ip4) -> Option<TermView>
     }
 }
 
-/// Handles a frame that came to the port with this number and carries an IPv4 packet of so many octets.
+/// Handles a frame that came at this moment to the port with this number and carries an IPv4 packet of so many octets.
 pub(crate) fn hear_data(
-    served: &Served,
+    served: &mut Served,
     terms: &Terms,
     rules: &Rules,
     at: At,
+    now: u64,
     number: u8,
     frame: &Pppoe<'_>,
     size: usize,
     item: &Item,
     outs: &mut Vec<OutRecord>,
 ) -> Fate
+    requires moment { now < 2 ^ 60 }
     requires whole { item.now.frame.headroom ≡ 64 }
-    requires here { at.shard ≡ served.now.sessions.shard }
-    requires tied { AreTied served.now.sessions (tenures_in terms.now.rows) }
+    requires here { at.shard ≡ served.old.sessions.shard }
+    requires tied { AreTied served.old.sessions (tenures_in terms.now.rows) }
     requires room { length outs.old.items < vec_capacity outs.old }
     requires came { IsFrame rules.now.access number (arrival_of item.now) (frame_of frame.now) }
     requires carries { (info : List ℕ) × Carries (frame_of frame.now) info × (length info ≡ size) }
-    ensures does { (moment : ℕ) (info : List ℕ) → Carries (frame_of frame.now) info → DoesWith (λ e d. HearsData rules.now (whole served.now terms.now) e number (frame_of frame.now) info d) 1 (whole served.now terms.now) (whole served.now terms.now) outs.old.items outs.new.items at moment item.now result }
+    ensures does { (info : List ℕ) → Carries (frame_of frame.now) info → DoesWith (λ e d. HearsData rules.now (whole served.old terms.now) e number (frame_of frame.now) info d) 1 (whole served.old terms.now) (whole served.new terms.now) outs.old.items outs.new.items at now item.now result }
     ensures capacity { vec_capacity outs.new ≡ vec_capacity outs.old }
 {
     let session = served.session_of(number, frame.src, SessionNo(frame.session));
@@ -126,27 +128,30 @@ pub(crate) fn hear_data(
     };
     let octets = packet.payload().len() as u16;
     let charge = charge_of(session, lease, true, octets);
+    served.note_passed(charge.term.session, now);
     push_out(outs, at, Role::Core, rules.core_peer, packet, Some(charge));
     Fate::Forwarded
 }
 
-// Handles a packet of the core that says this.
+// Handles a packet of the core that says this, at this moment.
 fn hear_packet(
-    served: &Served,
+    served: &mut Served,
     terms: &Terms,
     rules: &Rules,
     at: At,
+    now: u64,
     header: Ipv4,
     item: &Item,
     outs: &mut Vec<OutRecord>,
 ) -> Fate
+    requires moment { now < 2 ^ 60 }
     requires whole { item.now.frame.headroom ≡ 64 }
-    requires here { at.shard ≡ served.now.sessions.shard }
-    requires tied { AreTied served.now.sessions (tenures_in terms.now.rows) }
-    requires placed { ArePlaced rules.now served.now.sessions }
+    requires here { at.shard ≡ served.old.sessions.shard }
+    requires tied { AreTied served.old.sessions (tenures_in terms.now.rows) }
+    requires placed { ArePlaced rules.now served.old.sessions }
     requires room { length outs.old.items < vec_capacity outs.old }
     requires came { IsCorePacket rules.now.core_peer (arrival_of item.now) header }
-    ensures does { (moment : ℕ) → DoesWith (λ e d. HearsPacket rules.now (whole served.now terms.now) e header d) 1 (whole served.now terms.now) (whole served.now terms.now) outs.old.items outs.new.items at moment item.now result }
+    ensures does { DoesWith (λ e d. HearsPacket rules.now (whole served.old terms.now) e header d) 1 (whole served.old terms.now) (whole served.new terms.now) outs.old.items outs.new.items at now item.now result }
     ensures capacity { vec_capacity outs.new ≡ vec_capacity outs.old }
 {
     let holder = served.holder_of(header.dst);
@@ -166,32 +171,29 @@ fn hear_packet(
     };
     put_in_frame(&port, session.mac, session.number, &mut packet);
     let charge = charge_of(session, lease, false, header.total);
-    push_out(
-        outs,
-        at,
-        Role::Access(session.port),
-        port.peer,
-        packet,
-        Some(charge),
-    );
+    let role = Role::Access(session.port);
+    served.note_passed(charge.term.session, now);
+    push_out(outs, at, role, port.peer, packet, Some(charge));
     Fate::Forwarded
 }
 
-/// Handles a datagram of the core.
+/// Handles a datagram of the core, at this moment.
 pub(crate) fn hear_core(
-    served: &Served,
+    served: &mut Served,
     terms: &Terms,
     rules: &Rules,
     at: At,
+    now: u64,
     item: &Item,
     outs: &mut Vec<OutRecord>,
 ) -> Fate
+    requires moment { now < 2 ^ 60 }
     requires whole { item.now.frame.headroom ≡ 64 }
-    requires here { at.shard ≡ served.now.sessions.shard }
-    requires tied { AreTied served.now.sessions (tenures_in terms.now.rows) }
-    requires placed { ArePlaced rules.now served.now.sessions }
+    requires here { at.shard ≡ served.old.sessions.shard }
+    requires tied { AreTied served.old.sessions (tenures_in terms.now.rows) }
+    requires placed { ArePlaced rules.now served.old.sessions }
     requires room { length outs.old.items < vec_capacity outs.old }
-    ensures does { (moment : ℕ) → DoesWith (λ e d. HearsCore rules.now (whole served.now terms.now) e d) 1 (whole served.now terms.now) (whole served.now terms.now) outs.old.items outs.new.items at moment item.now result }
+    ensures does { DoesWith (λ e d. HearsCore rules.now (whole served.old terms.now) e d) 1 (whole served.old terms.now) (whole served.new terms.now) outs.old.items outs.new.items at now item.now result }
     ensures capacity { vec_capacity outs.new ≡ vec_capacity outs.old }
 {
     let arrived = Arrived {
@@ -200,7 +202,7 @@ pub(crate) fn hear_core(
         octets: item.frame.payload(),
     };
     match packet_from(rules.core_peer, &arrived) {
-        Some(header) => hear_packet(served, terms, rules, at, header, item, outs),
+        Some(header) => hear_packet(served, terms, rules, at, now, header, item, outs),
         None => Fate::Dropped(DropCause::Malformed),
     }
 }

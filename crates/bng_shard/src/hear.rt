@@ -60,6 +60,7 @@ fn hear_frame(
             terms,
             rules,
             at,
+            now,
             number,
             frame,
             info.len(),
@@ -127,14 +128,14 @@ pub(crate) fn hear(
     requires place { at.shard ≡ served.old.sessions.shard }
     requires asked { IsAnswered rules.now served.old item.now limited claim }
     requires begins { (a : Address) → claim ≡ Claim.Claimed a → MayBegin a served.old terms.old }
-    requires room { length outs.old.items + outs_most item.now.kind ≤ vec_capacity outs.old }
+    requires room { length outs.old.items + outs_most item.now.kind + 3 ≤ vec_capacity outs.old }
     ensures sums { SumsStay terms.old terms.new }
     ensures does { Does (Step rules.now (whole served.old terms.old) limited) (outs_most item.now.kind) (whole served.old terms.old) (whole served.new terms.new) outs.old.items outs.new.items (entry_with claim at.seat at.place now item.now) result }
     ensures capacity { vec_capacity outs.new ≡ vec_capacity outs.old }
 {
     match item.kind {
         ItemKind::Access(number) => hear_access(served, terms, rules, at, now, number, item, outs),
-        ItemKind::Core => hear_core(served, terms, rules, at, item, outs),
+        ItemKind::Core => hear_core(served, terms, rules, at, now, item, outs),
         ItemKind::Tunnel => Fate::Consumed,
         ItemKind::Verdict => hear_verdict(
             served, terms, rules, at, now, item, claim, limited, outs,

@@ -1,17 +1,16 @@
 //! The laws that the steps of a shard meet.
 ghost use Rattle.std.specs.Prelude.{◌≡◌, ◌≢◌, ◌⊎◌, ◌+◌, ◌-◌, ◌^◌, ◌/◌, ◌<◌, ◌≤◌, ◌++◌, ℕ, Bool, List, [], Some, count_by, is_some, length, if◌then◌else◌};
-ghost use Rattle.bng_base.specs.declared.item.Claim.TheVariants.{NoClaim};
 ghost use Rattle.bng_base.specs.declared.item.ItemKind.TheVariants.{End};
 ghost use Rattle.bng_engine.specs.Protocol.{Alike, StepLaws};
 ghost use Rattle.bng_engine.specs.Views.{row_keys};
-ghost use Rattle.std.specs.List.{All, AllByRecursion, AllPairs, AllZip, Contains};
+ghost use Rattle.std.specs.List.{All, AllByRecursion, AllPairs, Contains};
 ghost use Rattle.bng_base.specs.declared.address.Mac.{Mac};
 ghost use Rattle.bng_base.specs.declared.item.OutRecord.{OutRecord};
 ghost use Rattle.bng_base.specs.declared.settings.Static.{Static};
 ghost use Rattle.bng_slots.specs.Sessions.{IsNumberOf};
 ghost use Rattle.bng_shard.specs.declared.rules.Rules.{Rules};
 ghost use Rattle.bng_shard.specs.Deed.{Deed, is_forwarded};
-ghost use Rattle.bng_shard.specs.Protocol.{ShardState, Handled, HasNoLogins, StaysOrEnds, opened, pppoe, packet_octets, sessions_of, terms_of};
+ghost use Rattle.bng_shard.specs.Protocol.{ShardState, Handled, opened, pppoe, packet_octets, sessions_of};
 ghost use Rattle.bng_shard.specs.Claiming.{IsAskedBy};
 ghost use Rattle.bng_shard.specs.Lasting.{AreHoused, AreTenures, BeginsByClaims, CircuitsLast};
 ghost use Rattle.bng_shard.specs.Granting.{BeginsByYes, IsGranted, IsGrantedOn, IsSound, IsYesOn, accepted_ask_at};
@@ -37,20 +36,6 @@ pub fn steps_meet_laws()
     ensures fates { (r : Rules) (s : State) (limited : Bool) (d : Deed) → Step r s limited d → count_by (λ o. is_some o.charge) d.outs ≡ (if is_forwarded d.fate then 1 else 0) }
     ensures alike { Alike pppoe }
     ensures questions { (r : Rules) (s : State) (limited : Bool) (d : Deed) → Step r s limited d → AsksOn s d.next }
-{}
-
-/// A gateway without pools gives no address, so no session that discovery made has a term: none has one at the opening, and none from
-/// then on. No step claims an address, and no term begins. Only an End changes a term: it ends some, by the gateway's own stop.
-pub fn gateways_without_pools_have_no_logins()
-    ensures opened { (number : ℕ) (circuits : List Static) (now : ℕ) → number < 64 → All (λ c. IsNumberOf number c.session.0) circuits → AllPairs (λ a b. a.session ≢ b.session) circuits
-        → HasNoLogins (opened_slots number circuits now) }
-    ensures kept { (r : Rules) (s : State) (limited : Bool) (d : Deed) → Step r s limited d → r.pools ≡ [] → HasNoLogins s → HasNoLogins d.next }
-    ensures settled { (s : State) → HasNoLogins s → HasNoLogins (settled s) }
-    ensures claims { (r : Rules) (s : State) (limited : Bool) (d : Deed) → Step r s limited d → r.pools ≡ [] → d.entry.claim ≡ NoClaim }
-    ensures begun { (r : Rules) (s : State) (limited : Bool) (d : Deed) → Step r s limited d → r.pools ≡ [] → (d.next.begun ≡ s.begun) × (d.next.news ≡ s.news) }
-    ensures terms { (r : Rules) (s : State) (limited : Bool) (d : Deed) → Step r s limited d → r.pools ≡ [] → HasNoLogins s → ¬ (d.entry.item.kind ≡ End) → d.next.terms ≡ s.terms }
-    ensures ends { (r : Rules) (s : State) (limited : Bool) (d : Deed) → Step r s limited d → r.pools ≡ [] → HasNoLogins s
-        → AllZip StaysOrEnds (terms_of (record { rules = r; slots = s })) (terms_of (record { rules = r; slots = d.next })) }
 {}
 
 /// A term begins with each address that a step claims, and no other begins.

@@ -15,6 +15,8 @@ mod hear;
 mod host_uniq;
 mod laws;
 mod leaving;
+mod limited;
+mod live;
 mod questions;
 mod replies;
 mod rules;
@@ -33,8 +35,7 @@ mod wish;
 mod young;
 
 pub use crate::laws::{
-    gateways_without_pools_have_no_logins, questions_are_heard, steps_meet_laws,
-    terms_of_circuits_are_apart, yeses_are_granted,
+    questions_are_heard, steps_meet_laws, terms_of_circuits_are_apart, yeses_are_granted,
 };
 pub use crate::questions::Handed;
 pub use crate::rules::Rules;

@@ -9,29 +9,33 @@ ghost use Rattle.bng_shard.specs.Opening.{circuit_at, opened_slots, provisioned 
 ghost use Rattle.std.specs.Prelude.{drop, slice_get};
 ghost use Rattle.bng_shard.specs.Questions.{asking_from, handed_after, open_ask_at, place_of, waiting};
 ghost use Rattle.bng_shard.specs.Indexed.{address_of};
+ghost use Rattle.bng_shard.specs.Passing.{passed_at, with_passed};
 ghost use Rattle.bng_slots.specs.Sessions.{NoneShares};
 ghost use Rattle.bng_shard.specs.Serving.{AreOwn, KeepsLease};
 ghost use Rattle.bng_shard.specs.State.{count_in, holder_of, reaped, session_of, with_session};
 ghost use Rattle.bng_shard.specs.Timers.{IsFirstDue, IsLowest, NoneIsDue, NoneStays, stays_at};
 
 use crate::leaving::list_leaving;
+use crate::limited::NO_LIMITS;
 use crate::questions::{Handed, copied, list, lowest_waiting, unlist};
 use crate::session::{Lease, Service, Session};
 use crate::young::{list_young, lowest_repeated, unlist_young};
 use bng_base::{Ip4, Mac, SessionNo, Static};
 use bng_slots::Slots;
+use bng_term::Lifetime;
 use bng_verdict::{AuthAsk, QuestionNo};
 use std::alloc::{AllocError, Global};
 use std::marker::Model;
 
-/// The sessions of a shard by number, provisioned circuits among them; how many terms began, how many questions were asked, the
-/// numbers of the sessions that have ended and leave at the settlement, of those whose question has no verdict yet, and of those for
-/// which a request may come again.
+/// The sessions of a shard by number, provisioned circuits among them; how many terms began, how many questions were asked, by session
+/// number the moment in milliseconds at which its last packet passed, the numbers of the sessions that have ended and leave at the
+/// settlement, of those whose question has no verdict yet, and of those for which a request may come again.
 #[derive(Drop)]
 pub struct Served {
     pub(crate) sessions: Slots<Session>,
     pub(crate) begun: u64,
     pub(crate) asked: u64,
+    pub(crate) passed: Vec<u64>,
     pub(crate) leaving: Vec<SessionNo>,
     pub(crate) asking: Vec<SessionNo>,
     pub(crate) young: Vec<SessionNo>,
@@ -47,13 +51,16 @@ impl Model for Served {
 
     ghost coded = { state_code };
 
-    ghost view = { λ a. record { sessions = a.sessions; begun = a.begun; asked = a.asked; terms = []; news = [] } };
+    ghost view = { λ a. record { sessions = a.sessions; begun = a.begun; asked = a.asked; terms = []; news = []; passed = a.passed.items } };
 
     ghost invariant = { Keeps };
 }
 
 /// So many session numbers are a shard's, from 1 past 1,024 times the shard's number on (`SessionNo`).
 const NUMBERS: u16 = 1022;
+
+/// By this a session number is told from those of other shards.
+const SPAN: u16 = 1024;
 
 /// The circuit with this session number.
 pub(crate) fn circuit_with(circuits: &[Static], session: SessionNo) -> Option<&Static>
@@ -77,6 +84,7 @@ fn provisioned(circuit: &Static, serial: u64) -> Session
             serial,
             address: circuit.address,
             profile: circuit.profile,
+            life: Lifetime::new(NO_LIMITS, 0),
         }),
     }
 }
@@ -97,6 +105,7 @@ impl Served {
         let Ok(mut sessions) = Slots::open(alloc, number) else {
             return Err(AllocError);
         };
+        let passed = Vec::from_elem(alloc, 0, usize::from(SPAN))?;
         let leaving = Vec::with_capacity(alloc, usize::from(NUMBERS) + 1)?;
         let asking = Vec::with_capacity(alloc, usize::from(NUMBERS) + 1)?;
         let young = Vec::with_capacity(alloc, usize::from(NUMBERS) + 1)?;
@@ -112,6 +121,7 @@ impl Served {
             sessions,
             begun,
             asked: 0,
+            passed,
             leaving,
             asking,
             young,
@@ -164,6 +174,22 @@ impl Served {
     {
         self.begun += 1;
         self.begun
+    }
+
+    /// The moment at which a packet of the session with this number passed last, in milliseconds; 0 before the first.
+    pub(crate) fn passed_at(&self, number: SessionNo) -> u64
+        ensures moment { result ≡ passed_at self.now.passed number }
+        ensures low { result < 2 ^ 60 }
+    {
+        self.passed[usize::from(number.0 % SPAN)]
+    }
+
+    /// A packet of the session with this number passed at this moment, in milliseconds.
+    pub(crate) fn note_passed(&mut self, number: SessionNo, now: u64)
+        requires moment { now < 2 ^ 60 }
+        ensures { self.new ≡ with_passed self.old number now }
+    {
+        self.passed[usize::from(number.0 % SPAN)] = now;
     }
 
     /// The number of the open question of the session with this number.

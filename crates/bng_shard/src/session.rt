@@ -1,5 +1,5 @@
 //! A session: its circuit, and what serves it.
-ghost use Rattle.std.specs.Prelude.{◌≡◌, ◌<◌, ◌^◌, Some, length, option_map};
+ghost use Rattle.std.specs.Prelude.{◌≡◌, ◌<◌, ◌^◌, Some, length, option_map, IfNone, OnSome};
 ghost use Rattle.bng_shard.specs.Discovery.{is_repeated, same_option};
 ghost use Rattle.bng_ppp.specs.PppRelation.{PppSaid, PppSteps};
 ghost use Rattle.bng_ppp.specs.PppState.{PppState};
@@ -12,7 +12,9 @@ ghost use Rattle.bng_shard.specs.Made.{Made as DiscoveredMade};
 ghost use Rattle.bng_shard.specs.Serving.{is_young, KeepsLease};
 ghost use Rattle.bng_shard.specs.State.{circuit_of, is_on, leaves, made_one, passes_in, view_of};
 ghost use Rattle.bng_shard.specs.Tenures.{kept_lease};
-ghost use Rattle.bng_shard.specs.Timers.{deadline_of, lives_in};
+ghost use Rattle.bng_shard.specs.Timers.{deadline_of, lease_deadline, lives_in};
+ghost use Rattle.bng_ppp.specs.LinkRelation.{earliest as first_of};
+ghost use Rattle.bng_shard.specs.Passing.{cause_at, lapsed, looked};
 ghost use Rattle.bng_shard.specs.Indexed.{address_of, term_of};
 
 use arrayvec::ArrayVec;
@@ -21,15 +23,17 @@ use bng_base::{Circuit, Ip4, Mac, SessionNo, TermId};
 use bng_forward::TermView;
 use bng_ppp::{LinkRules, WholeInput, WholeLink, WholeSteps};
 use bng_slots::Slotted;
+use bng_term::Lifetime;
 use std::marker::Model;
 use std::mem;
 
-/// A term's number in its shard, from 1 on, its address, and the place of its profile.
-#[derive(Clone, Copy, PartialEq, Eq, Debug)]
+/// A term's number in its shard, from 1 on, its address, the place of its profile, and how long it lasts.
+#[derive(Clone, Copy)]
 pub struct Lease {
     pub(crate) serial: u64,
     pub(crate) address: Ip4,
     pub(crate) profile: u8,
+    pub(crate) life: Lifetime,
 }
 
 /// A question of a shard, by its number, from 1 on: is the peer what it claims to be?
@@ -111,7 +115,7 @@ impl Slotted for Session {
     fn deadline(&self) -> Option<u64> {
         match &self.service {
             Service::Provisioned { .. } => None,
-            Service::Discovered(made) => made.deadline(),
+            Service::Discovered(made) => made.deadline(self.lease),
         }
     }
 }
@@ -142,15 +146,34 @@ impl Made {
         }
     }
 
-    /// The first moment in milliseconds at which its link's Timer does something; none once it has ended.
-    pub(crate) fn deadline(&self) -> Option<u64>
-        ensures { result ≡ made_deadline self.now }
+    /// The first moment in milliseconds at which its link's Timer does something, or its live term is to be looked at; none once it has
+    /// ended.
+    pub(crate) fn deadline(&self, lease: Option<Lease>) -> Option<u64>
+        ensures { result ≡ made_deadline self.now lease }
     {
         if self.ended {
             return None;
         }
-        self.link.deadline()
+        earlier(self.link.deadline(), lease_deadline(lease))
     }
+}
+
+// The earlier of two moments that may be there.
+fn earlier(a: Option<u64>, b: Option<u64>) -> Option<u64>
+    ensures { result ≡ first_of a b }
+{
+    match (a, b) {
+        (Some(a), Some(b)) => Some(a.min(b)),
+        (Some(a), None) => Some(a),
+        (None, b) => b,
+    }
+}
+
+// The first moment at which a live term is to be looked at, as far as it is known when its packets passed.
+fn lease_deadline(lease: Option<Lease>) -> Option<u64>
+    ensures { result ≡ lease_deadline lease }
+{
+    lease?.life.deadline()
 }
 
 // A lease, once a step has ended its term by a cause, or has not.
@@ -255,7 +278,7 @@ impl Session {
             Service::Provisioned { ended } => *ended = true,
             Service::Discovered(made) => made.ended = true,
         }
-        self.lease = None;
+        self.lapse();
     }
 
     /// Its question whose verdict is not there yet. One that has ended has none.
@@ -306,6 +329,30 @@ impl Session {
                 asked
             }
         }
+    }
+
+    /// Looks at its live term, if it has one, at this moment in milliseconds: answers the cause with which one of its timeouts is over (RFC
+    /// 2866 section 5.10). Its last packet passed at the moment `passed`, if one did since its lease.
+    pub(crate) fn look(&mut self, passed: u64, now: u64) -> Option<u8>
+        requires low { passed < 2 ^ 60 }
+        ensures cause { result ≡ cause_at passed self.old.lease now }
+        ensures goes_on { IfNone result (self.new ≡ looked passed self.old) }
+        ensures over { OnSome result (self.new ≡ self.old) }
+    {
+        let Some(mut lease) = self.lease else {
+            return None;
+        };
+        let last = lease.life.began().max(passed);
+        let cause = lease.life.look(now, last);
+        self.lease = Some(lease);
+        cause
+    }
+
+    /// It has no term any longer.
+    pub(crate) fn lapse(&mut self)
+        ensures { self.new ≡ lapsed self.old }
+    {
+        self.lease = None;
     }
 
     /// What its lease is, where a term of it is live.

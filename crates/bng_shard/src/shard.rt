@@ -13,6 +13,7 @@ ghost use Rattle.bng_slots.specs.Sessions.{IsNumberOf};
 ghost use Rattle.std.specs.List.{All, AllPairs};
 ghost use Rattle.bng_engine.specs.Lists.{AnyOf};
 ghost use Rattle.bng_pool.specs.Tables.{TableFrees};
+ghost use Rattle.bng_shard.specs.Live.{live_in};
 ghost use Rattle.bng_shard.specs.State.{reaped};
 ghost use Rattle.bng_shard.specs.Tenures.{LeavesTerms, Tenure};
 ghost use Rattle.bng_shard.specs.Sums.{charged_as, traffic_in, AreCovered, AreLow, IsLow, RowsAreLow};
@@ -80,8 +81,8 @@ impl Model for Shard {
 
 /// How many outs an item has at most, a Tick and an End aside.
 const OUTS: usize = 10;
-/// How many a Tick and an End have in all.
-const TIMED_OUTS: usize = 640;
+/// How many a Tick and an End have in all, and the last session of a Tick might have beside them.
+const TIMED_OUTS: usize = 643;
 
 /// For how many items a round makes room at first: as many as a turn of the desk has at most, so that no later round makes the lists
 /// anew. Of the room only what is used is touched.
@@ -93,7 +94,7 @@ fn reserve(journal: &mut Vec<Entry>, outs: &mut Vec<OutRecord>, items: usize) ->
     requires none { (journal.old.items ≡ []) × (outs.old.items ≡ []) }
     ensures none_still { (journal.new.items ≡ []) × (outs.new.items ≡ []) }
     ensures journal { result ≡ true → items ≤ vec_capacity journal.new }
-    ensures outs { result ≡ true → 10 * items + 640 ≤ vec_capacity outs.new }
+    ensures outs { result ≡ true → 10 * items + 643 ≤ vec_capacity outs.new }
 {
     if journal.reserve(items).is_err() {
         return false;
@@ -107,7 +108,7 @@ fn reserve_amply(journal: &mut Vec<Entry>, outs: &mut Vec<OutRecord>, items: usi
     requires none { (journal.old.items ≡ []) × (outs.old.items ≡ []) }
     ensures none_still { (journal.new.items ≡ []) × (outs.new.items ≡ []) }
     ensures journal { result ≡ true → items ≤ vec_capacity journal.new }
-    ensures outs { result ≡ true → 10 * items + 640 ≤ vec_capacity outs.new }
+    ensures outs { result ≡ true → 10 * items + 643 ≤ vec_capacity outs.new }
 {
     if items < ITEMS_AT_FIRST && reserve(journal, outs, ITEMS_AT_FIRST) {
         return true;
@@ -387,6 +388,16 @@ impl Shard {
         ensures { result ≡ option_map traffic_in (row_at self.now.rows address) }
     {
         self.terms.carried_by(address)
+    }
+
+    /// The octets that the terms that are there, those of which no Stop was handed out yet, carried together: from their subscribers
+    /// (input) and towards them (output). Each sum is below 2^64.
+    pub fn live(&self) -> Traffic
+        requires input { (live_in self.now.rows).input < 2 ^ 64 }
+        requires output { (live_in self.now.rows).output < 2 ^ 64 }
+        ensures { result ≡ live_in self.now.rows }
+    {
+        self.terms.live()
     }
 
     /// The term at this place, from 0, of those that are there, by their numbers: which it is, its circuit and its address. One that

@@ -8,12 +8,14 @@ ghost use Rattle.bng_engine.specs.Protocol.{IsOwned};
 ghost use Rattle.bng_engine.specs.Terms.{keys};
 ghost use Rattle.bng_engine.specs.Views.{new_row, row_keys};
 ghost use Rattle.bng_engine.specs.Quantities.{empty_book};
+ghost use Rattle.bng_shard.specs.Live.{live_in};
 ghost use Rattle.bng_shard.specs.Opening.{in_order, tenure_from, tenures_after};
 ghost use Rattle.bng_shard.specs.Protocol.{key_of, row_at, term_in, SaysOf};
 ghost use Rattle.bng_shard.specs.Running.{closed_rows, has_ended, rows_in, tenure_in, tenures_in, AreRising, TakesFirst};
 ghost use Rattle.bng_shard.specs.Sums.{traffic_in, AreCovered, RowsAreLow};
 ghost use Rattle.bng_shard.specs.Tenures.{has_kept};
 
+use crate::live::live;
 use crate::served::circuit_with;
 use crate::session::Lease;
 use crate::sums::{Traffic, take_off};
@@ -230,6 +232,15 @@ impl Terms {
         ensures { result ≡ option_map traffic_in (row_at (rows_in self.now.rows) address) }
     {
         carried_by(&self.rows, address)
+    }
+
+    /// What the terms carried that have no Stop yet, in all.
+    pub(crate) fn live(&self) -> Traffic
+        requires input { (live_in (rows_in self.now.rows)).input < 2 ^ 64 }
+        requires output { (live_in (rows_in self.now.rows)).output < 2 ^ 64 }
+        ensures { result ≡ live_in (rows_in self.now.rows) }
+    {
+        live(&self.rows)
     }
 
     /// Takes the answer to a send: a packet that was sent is added to the row of its term, and one that was not is taken off the book

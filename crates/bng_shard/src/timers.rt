@@ -1,15 +1,19 @@
 //! Ticks and Ends.
-ghost use Rattle.std.specs.Prelude.{◌≡◌, ◌+◌, ◌<◌, ◌≤◌, ◌^◌, ◌++◌, List, Some, length, vec_capacity};
+ghost use Rattle.std.specs.Prelude.{◌≡◌, ◌+◌, ◌<◌, ◌≤◌, ◌^◌, ◌++◌, ℕ, List, Option as Maybe, Some, length, vec_capacity};
+ghost use Rattle.bng_ppp.specs.PppRelation.{PppSteps};
+ghost use Rattle.bng_ppp.specs.declared.whole_input.WholeInput.TheVariants.{Timer};
 ghost use Rattle.bng_base.specs.declared.item.OutRecord.{OutRecord as Out};
 ghost use Rattle.bng_base.specs.declared.settings.AccessPort.{AccessPort as Port};
 ghost use Rattle.bng_shard.specs.Fits.{ArePlaced};
-ghost use Rattle.bng_shard.specs.Timed.{TickedOnce, EndedOnce, Ticked, Ended};
-ghost use Rattle.bng_shard.specs.Running.{whole, KeepSums};
-ghost use Rattle.bng_shard.specs.State.{port_at};
+ghost use Rattle.bng_shard.specs.Driven.{Driven};
+ghost use Rattle.bng_shard.specs.Passing.{cause_at};
+ghost use Rattle.bng_shard.specs.Serving.{KeepsLease};
+ghost use Rattle.bng_shard.specs.Timed.{LookedOnce, TickedOnce, EndedOnce, Ticked, Ended};
+ghost use Rattle.bng_shard.specs.Running.{closed_rows, whole, KeepSums};
+ghost use Rattle.bng_shard.specs.State.{made_one, port_at};
 ghost use Rattle.bng_shard.specs.Timers.{TellsEnd, at_once};
 
-use crate::drive::send_padt;
-use crate::frames::drive_at;
+use crate::drive::{drive, send_padt};
 use crate::rules::Rules;
 use crate::sending::At;
 use crate::served::Served;
@@ -23,6 +27,91 @@ const NAS_REQUEST: u8 = 10;
 
 /// How many due deadlines a Tick handles, and how many sessions an End ends.
 const AT_ONCE: u8 = 64;
+
+// A session's link takes Timer; where that ends its live term, the term ends. Answers how many questions were asked then.
+fn remind(
+    session: &mut Session,
+    terms: &mut Terms,
+    asked: u64,
+    rules: &Rules,
+    at: At,
+    now: u64,
+    random: &[u8; 16],
+    outs: &mut Vec<OutRecord>,
+) -> u64
+    requires moment { now < 2 ^ 60 }
+    requires auth { 0 < length rules.now.link.auth.items }
+    requires offers { length rules.now.offers ≡ length rules.now.access }
+    requires placed { (port : Port) × (port_at rules.now.access session.old.port ≡ Some port) }
+    requires made { made_one session.old.service ≡ 1 }
+    requires leased { KeepsLease session.old.service session.old.lease }
+    requires room { length outs.old.items + 5 ≤ vec_capacity outs.old }
+    ensures driven { (cause : Maybe ℕ) × Driven rules.now at (PppSteps rules.now.link Timer now random.now) asked session.old cause session.new result outs.old.items outs.new.items
+        × (terms.new ≡ record terms.old { rows = closed_rows session.old.lease cause terms.old.rows }) }
+    ensures leased { KeepsLease session.new.service session.new.lease }
+    ensures number { session.new.number ≡ session.old.number }
+    ensures capacity { vec_capacity outs.new ≡ vec_capacity outs.old }
+    ensures few { length outs.new.items ≤ length outs.old.items + 3 }
+{
+    let lease = session.lease();
+    let (asked, cause) = drive(
+        session,
+        asked,
+        rules,
+        at,
+        WholeInput::Timer,
+        now,
+        random,
+        outs,
+    );
+    terms.close(lease, cause);
+    asked
+}
+
+// A session's live term is looked at, whose last packet passed at the moment `passed`: where one of its timeouts is over it ends, and the
+// link takes Close. Answers how many questions were asked then.
+fn look_at(
+    session: &mut Session,
+    terms: &mut Terms,
+    asked: u64,
+    passed: u64,
+    rules: &Rules,
+    at: At,
+    now: u64,
+    random: &[u8; 16],
+    outs: &mut Vec<OutRecord>,
+) -> u64
+    requires moment { now < 2 ^ 60 }
+    requires low { passed < 2 ^ 60 }
+    requires auth { 0 < length rules.now.link.auth.items }
+    requires offers { length rules.now.offers ≡ length rules.now.access }
+    requires placed { (port : Port) × (port_at rules.now.access session.old.port ≡ Some port) }
+    requires made { made_one session.old.service ≡ 1 }
+    requires leased { KeepsLease session.old.service session.old.lease }
+    requires room { length outs.old.items + 5 ≤ vec_capacity outs.old }
+    ensures looked { LookedOnce (cause_at passed session.old.lease now) rules.now at now random.now passed asked session.old session.new result terms.old terms.new outs.old.items outs.new.items }
+    ensures leased { KeepsLease session.new.service session.new.lease }
+    ensures number { session.new.number ≡ session.old.number }
+    ensures capacity { vec_capacity outs.new ≡ vec_capacity outs.old }
+    ensures few { length outs.new.items ≤ length outs.old.items + 2 }
+{
+    let Some(cause) = session.look(passed, now) else {
+        return asked;
+    };
+    terms.close(session.lease(), Some(cause));
+    session.lapse();
+    let (asked, _) = drive(
+        session,
+        asked,
+        rules,
+        at,
+        WholeInput::Close,
+        now,
+        random,
+        outs,
+    );
+    asked
+}
 
 // Handles the due deadline that comes first, and says whether one is due.
 fn tick_once(
@@ -38,27 +127,33 @@ fn tick_once(
     requires auth { 0 < length rules.now.link.auth.items }
     requires offers { length rules.now.offers ≡ length rules.now.access }
     requires placed { ArePlaced rules.now served.old.sessions }
-    requires room { length outs.old.items + 5 ≤ vec_capacity outs.old }
+    requires room { length outs.old.items + 8 ≤ vec_capacity outs.old }
     ensures sums { KeepSums terms.old terms.new }
     ensures ticked { TickedOnce result rules.now at now random.now (whole served.old terms.old) (whole served.new terms.new) outs.old.items outs.new.items }
     ensures placed { ArePlaced rules.now served.new.sessions }
     ensures capacity { vec_capacity outs.new ≡ vec_capacity outs.old }
     ensures few { length outs.new.items ≤ length outs.old.items + 5 }
 {
-    let Some(session) = served.first_due(now) else {
+    let Some(number) = served.first_due(now) else {
         return false;
     };
-    drive_at(
-        served,
+    let passed = served.passed_at(number);
+    let mut session = served.take(number);
+    let asked = served.asked();
+    let asked = remind(&mut session, terms, asked, rules, at, now, random, outs);
+    let asked = look_at(
+        &mut session,
         terms,
-        session,
+        asked,
+        passed,
         rules,
         at,
-        WholeInput::Timer,
         now,
         random,
         outs,
     );
+    served.put(session);
+    served.count_asked(asked);
     true
 }
 
@@ -106,7 +201,8 @@ fn end_once(
 }
 
 /// Handles the deadlines that are due at this moment in milliseconds, the earliest first, and of equal ones that of the lower
-/// session number first: at most 64. Each time the session's link takes Timer.
+/// session number first: at most 64. Each time the session's link takes Timer, and then its live term is looked at: where one of its
+/// timeouts is over it ends (RFC 2865 sections 5.27 and 5.28), and the link takes Close.
 pub(crate) fn tick(
     served: &mut Served,
     terms: &mut Terms,
@@ -120,7 +216,7 @@ pub(crate) fn tick(
     requires auth { 0 < length rules.now.link.auth.items }
     requires offers { length rules.now.offers ≡ length rules.now.access }
     requires placed { ArePlaced rules.now served.old.sessions }
-    requires room { length outs.old.items + 320 ≤ vec_capacity outs.old }
+    requires room { length outs.old.items + 323 ≤ vec_capacity outs.old }
     ensures sums { KeepSums terms.old terms.new }
     ensures ticked { Ticked at_once rules.now at now random.now (whole served.old terms.old) (whole served.new terms.new) outs.old.items outs.new.items }
     ensures capacity { vec_capacity outs.new ≡ vec_capacity outs.old }

@@ -7,6 +7,7 @@ ghost use Rattle.bng_grant.specs.Grants.{gift};
 ghost use Rattle.bng_shard.specs.Driven.{Driven};
 ghost use Rattle.bng_shard.specs.Fits.{ArePlaced};
 ghost use Rattle.bng_shard.specs.Hearing.{Does};
+ghost use Rattle.bng_shard.specs.Limited.{limits_of};
 ghost use Rattle.bng_shard.specs.Link.{IsToldVerdict};
 ghost use Rattle.bng_shard.specs.Made.{Question as Asked};
 ghost use Rattle.bng_shard.specs.Protocol.{entry_with};
@@ -18,8 +19,10 @@ ghost use Rattle.bng_shard.specs.Wishes.{refused_with, told_by, told_of, Decides
 ghost use Rattle.bng_shard.specs.declared.session.Session.{Session as Seen};
 ghost use Rattle.bng_shard.specs.declared.wish.Wish.{Wish as Asks};
 ghost use Rattle.bng_slots.specs.Sessions.{value_at};
+ghost use Rattle.bng_term.specs.Lifetimes.{HasAllowedInterval};
 
 use crate::drive::drive;
+use crate::limited::{NO_LIMITS, limits_of};
 use crate::rules::Rules;
 use crate::sending::At;
 use crate::served::Served;
@@ -31,25 +34,30 @@ use arrayvec::ArrayVec;
 use bng_base::{Book, Claim, Fate, Ip4, Item, NamedRange, OutRecord, SessionNo, TermId};
 use bng_grant::{Grant, grant_of};
 use bng_ppp::WholeInput;
+use bng_term::{Lifetime, Limits};
 use bng_verdict::verdict_of;
 use std::marker::Model;
 
 /// What a link is told of its peer: whether it is accepted, the address that it has then, if it has one, and the text of the reply. And
-/// what the records of its term say of the Class attributes of the Accept.
+/// what the records of its term say of the Class attributes of the Accept, and how long the term may last.
 #[derive(Drop)]
 struct Told {
     yes: bool,
     lease: Option<Ip4>,
     text: ArrayVec<u8, 253>,
     class: ArrayVec<u8, 512>,
+    limits: Limits,
 }
 
 impl Model for Told {
     ghost use Rattle.bng_shard.specs.Link.{Told as Seen};
+    ghost use Rattle.bng_term.specs.Lifetimes.{HasAllowedInterval};
 
     ghost Value = { Seen };
 
-    ghost view = { λ t. record { yes = t.yes; lease = t.lease; text = t.text.items; class = t.class.items } };
+    ghost view = { λ t. record { yes = t.yes; lease = t.lease; text = t.text.items; class = t.class.items; limits = t.limits } };
+
+    ghost invariant = { λ t. HasAllowedInterval t.limits };
 }
 
 // The peer is refused with this text.
@@ -65,11 +73,13 @@ fn refused(text: &[u8]) -> Told
         lease: None,
         text,
         class: ArrayVec::new(),
+        limits: NO_LIMITS,
     }
 }
 
 // What comes of the answer to what an Accept asked of the pools.
 fn told_by(claim: Claim, text: ArrayVec<u8, 253>, grant: Grant<'_>) -> Told
+    requires interval { HasAllowedInterval (limits_of (gift grant)) }
     ensures { result ≡ told_by claim text.items (gift grant.entry) }
 {
     match claim {
@@ -77,6 +87,7 @@ fn told_by(claim: Claim, text: ArrayVec<u8, 253>, grant: Grant<'_>) -> Told
             yes: true,
             lease: Some(address),
             text,
+            limits: limits_of(&grant),
             class: grant.class,
         },
         Claim::NoClaim | Claim::Held(_) | Claim::Exhausted(_) => refused(b"no address"),
@@ -92,6 +103,7 @@ fn told_of(
     grant: Grant<'_>,
 ) -> Told
     requires few { length pools.now ≤ 16 }
+    requires interval { HasAllowedInterval (limits_of (gift grant)) }
     ensures { result ≡ told_of pools.now limited claim text.items (gift grant.entry) }
 {
     if pools.is_empty() {
@@ -99,6 +111,7 @@ fn told_of(
             yes: true,
             lease: None,
             text,
+            limits: limits_of(&grant),
             class: grant.class,
         };
     }
@@ -124,6 +137,7 @@ fn told_for(pools: &[NamedRange], limited: bool, octets: &[u8], claim: Claim) ->
             lease: None,
             text: verdict.text,
             class: ArrayVec::new(),
+            limits: NO_LIMITS,
         });
     }
     let Some(grant) = grant_of(octets) else {
@@ -143,7 +157,7 @@ fn name_of(session: &Session) -> ArrayVec<u8, 128>
     copied(&question.credentials.name)
 }
 
-// A term of the session begins, with this address.
+// A term of the session begins, with this address, within these limits.
 fn begin_term(
     served: &mut Served,
     terms: &mut Terms,
@@ -151,13 +165,16 @@ fn begin_term(
     address: Ip4,
     user: ArrayVec<u8, 128>,
     class: ArrayVec<u8, 512>,
+    limits: Limits,
     now: u64,
 )
+    requires moment { now < 2 ^ 60 }
+    requires interval { HasAllowedInterval limits }
     requires few { served.old.begun + 1 < 2 ^ 48 }
     requires room { 0 < terms.old.room }
     requires numbered { All (λ r. r.term.serial ≤ served.old.begun) terms.old.rows }
     requires numbered_news { All (λ r. r.term.serial ≤ served.old.begun) terms.old.news }
-    ensures session { session.new ≡ record session.old { lease = Some (next_lease served.old address) } }
+    ensures session { session.new ≡ record session.old { lease = Some (next_lease served.old limits now address) } }
     ensures served { served.new ≡ record served.old { begun = served.old.begun + 1 } }
     ensures terms { (q : Asked) → q.claim.name ≡ user.items → tenures_in terms.new.rows ≡ tenures_in terms.old.rows ++ next_term served.old session.old q class.items now address ∷ [] }
     ensures sums { SumsStay terms.old terms.new }
@@ -168,6 +185,7 @@ fn begin_term(
         serial,
         address,
         profile: 0,
+        life: Lifetime::new(limits, now),
     });
     terms.begin(Running {
         term: TermId {
@@ -218,6 +236,7 @@ fn settle_question(
         lease,
         text,
         class,
+        limits,
     } = told;
     let input = WholeInput::Verdict { yes, lease, text };
     let (asked, _) = drive(
@@ -235,7 +254,16 @@ fn settle_question(
         served.put(session);
         return;
     };
-    begin_term(served, terms, &mut session, address, user, class, now);
+    begin_term(
+        served,
+        terms,
+        &mut session,
+        address,
+        user,
+        class,
+        limits,
+        now,
+    );
     served.put(session);
 }
 

@@ -53,7 +53,8 @@ impl Lifetime {
 
     /// The moment of the lease.
     pub fn began(&self) -> u64
-        ensures { result ≡ self.now.began }
+        ensures moment { result ≡ self.now.began }
+        ensures low { result < 2 ^ 60 }
     {
         self.began
     }

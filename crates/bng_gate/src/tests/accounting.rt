@@ -89,7 +89,11 @@ fn a_stop_is_waited_for_until_it_is_acknowledged(rt: HostRuntime) -> Result<(), 
     let ended = run_slow(&rt, alloc, script)?;
     assert_eq!(rt; ended.status, 0);
     assert!(rt; ended.err.text().is_empty());
-    assert!(rt; ended.out.text().starts_with(b"total in=84 out=20\n"));
+    assert!(rt;
+        ended.out.text().starts_with(
+            b"stopped in=84 out=20\nlive in=0 out=0\ntotal in=84 out=20\nworker 0 in=84 out=20\n"
+        )
+    );
     let requests: [&str; 2] = [START, STOP];
     let sent = ended.plant.sent().iter();
     let mut records = sent.filter(|datagram| datagram.role == Role::Acct);

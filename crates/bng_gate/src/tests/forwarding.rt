@@ -125,7 +125,7 @@ fn a_packet_is_forwarded_with_ttl_and_sum_changed(rt: HostRuntime) -> Result<(),
     assert_eq!(rt; ended.status, 6);
     assert_eq!(rt;
         ended.out.text(),
-        b"total in=84 out=0\nstatic 10.0.0.2 in=84 out=0\ndrop Malformed 0\ndrop NoSession 0\ndrop NotOpen 0\ndrop Expired 0\ndrop Spoofed 0\ndrop TooBig 0\ndrop Exceeded 0\ndrop LinkFailed 0\ndrop WantOfMemory 0\n".as_slice()
+        b"stopped in=84 out=0\nlive in=0 out=0\ntotal in=84 out=0\nworker 0 in=84 out=0\nstatic 10.0.0.2 in=84 out=0\ndrop Malformed 0\ndrop NoSession 0\ndrop NotOpen 0\ndrop Expired 0\ndrop Spoofed 0\ndrop TooBig 0\ndrop Exceeded 0\ndrop LinkFailed 0\ndrop WantOfMemory 0\n".as_slice()
     );
     assert_eq!(rt;
         ended.err.text(),
@@ -162,14 +162,14 @@ fn a_packet_that_does_not_go_is_counted_as_a_drop_alone(rt: HostRuntime) -> Resu
     assert_eq!(rt; failed.status, 6);
     assert_eq!(rt;
         failed.out.text(),
-        b"total in=0 out=0\nstatic 10.0.0.2 in=0 out=0\ndrop Malformed 0\ndrop NoSession 0\ndrop NotOpen 0\ndrop Expired 0\ndrop Spoofed 0\ndrop TooBig 0\ndrop Exceeded 0\ndrop LinkFailed 1\ndrop WantOfMemory 0\n".as_slice()
+        b"stopped in=0 out=0\nlive in=0 out=0\ntotal in=0 out=0\nworker 0 in=0 out=0\nstatic 10.0.0.2 in=0 out=0\ndrop Malformed 0\ndrop NoSession 0\ndrop NotOpen 0\ndrop Expired 0\ndrop Spoofed 0\ndrop TooBig 0\ndrop Exceeded 0\ndrop LinkFailed 1\ndrop WantOfMemory 0\n".as_slice()
     );
     let script = frame_and_stop(alloc, &SPOOFED)?;
     let spoofed = run_over(&rt, alloc, &SERVE, CONFIGURATION, script, &[], &[])?;
     assert_eq!(rt; spoofed.status, 6);
     assert_eq!(rt;
         spoofed.out.text(),
-        b"total in=0 out=0\nstatic 10.0.0.2 in=0 out=0\ndrop Malformed 0\ndrop NoSession 0\ndrop NotOpen 0\ndrop Expired 0\ndrop Spoofed 1\ndrop TooBig 0\ndrop Exceeded 0\ndrop LinkFailed 0\ndrop WantOfMemory 0\n".as_slice()
+        b"stopped in=0 out=0\nlive in=0 out=0\ntotal in=0 out=0\nworker 0 in=0 out=0\nstatic 10.0.0.2 in=0 out=0\ndrop Malformed 0\ndrop NoSession 0\ndrop NotOpen 0\ndrop Expired 0\ndrop Spoofed 1\ndrop TooBig 0\ndrop Exceeded 0\ndrop LinkFailed 0\ndrop WantOfMemory 0\n".as_slice()
     );
     // The Start, `stopping` and eleven times the Stop.
     assert_eq!(rt; spoofed.plant.sent().len(), 13);
@@ -190,7 +190,7 @@ fn what_comes_after_a_failed_send_is_sent(rt: HostRuntime) -> Result<(), Fail> {
     assert_eq!(rt; ended.status, 6);
     assert_eq!(rt;
         ended.out.text(),
-        b"total in=20 out=0\nstatic 10.0.0.2 in=20 out=0\ndrop Malformed 0\ndrop NoSession 0\ndrop NotOpen 0\ndrop Expired 0\ndrop Spoofed 0\ndrop TooBig 0\ndrop Exceeded 0\ndrop LinkFailed 1\ndrop WantOfMemory 0\n".as_slice()
+        b"stopped in=20 out=0\nlive in=0 out=0\ntotal in=20 out=0\nworker 0 in=20 out=0\nstatic 10.0.0.2 in=20 out=0\ndrop Malformed 0\ndrop NoSession 0\ndrop NotOpen 0\ndrop Expired 0\ndrop Spoofed 0\ndrop TooBig 0\ndrop Exceeded 0\ndrop LinkFailed 1\ndrop WantOfMemory 0\n".as_slice()
     );
     let wanted: [(Role, u16, &[u8]); 2] = [
         (Role::Core, 9001, &UP),
@@ -213,7 +213,7 @@ fn packets_pass_both_ways_without_their_padding(rt: HostRuntime) -> Result<(), F
     assert_eq!(rt; ended.status, 6);
     assert_eq!(rt;
         ended.out.text(),
-        b"total in=20 out=20\nstatic 10.0.0.2 in=20 out=20\ndrop Malformed 0\ndrop NoSession 0\ndrop NotOpen 0\ndrop Expired 0\ndrop Spoofed 0\ndrop TooBig 0\ndrop Exceeded 0\ndrop LinkFailed 0\ndrop WantOfMemory 0\n".as_slice()
+        b"stopped in=20 out=20\nlive in=0 out=0\ntotal in=20 out=20\nworker 0 in=20 out=20\nstatic 10.0.0.2 in=20 out=20\ndrop Malformed 0\ndrop NoSession 0\ndrop NotOpen 0\ndrop Expired 0\ndrop Spoofed 0\ndrop TooBig 0\ndrop Exceeded 0\ndrop LinkFailed 0\ndrop WantOfMemory 0\n".as_slice()
     );
     let wanted: [(Role, u16, &[u8]); 4] = [
         (Role::Core, 9001, &UP),
@@ -239,7 +239,7 @@ fn each_circuit_gets_its_own_packets_on_its_own_port(rt: HostRuntime) -> Result<
     assert_eq!(rt; ended.status, 6);
     assert_eq!(rt;
         ended.out.text(),
-        b"total in=20 out=40\nstatic 10.0.0.2 in=20 out=20\nstatic 10.0.0.3 in=0 out=20\ndrop Malformed 1\ndrop NoSession 0\ndrop NotOpen 0\ndrop Expired 0\ndrop Spoofed 0\ndrop TooBig 0\ndrop Exceeded 0\ndrop LinkFailed 0\ndrop WantOfMemory 0\n".as_slice()
+        b"stopped in=20 out=40\nlive in=0 out=0\ntotal in=20 out=40\nworker 0 in=20 out=40\nstatic 10.0.0.2 in=20 out=20\nstatic 10.0.0.3 in=0 out=20\ndrop Malformed 1\ndrop NoSession 0\ndrop NotOpen 0\ndrop Expired 0\ndrop Spoofed 0\ndrop TooBig 0\ndrop Exceeded 0\ndrop LinkFailed 0\ndrop WantOfMemory 0\n".as_slice()
     );
     let wanted: [(Role, u16, &[u8]); 4] = [
         (Role::Core, 9001, &UP),
@@ -266,7 +266,7 @@ fn circuits_stand_in_any_order(rt: HostRuntime) -> Result<(), Fail> {
     assert_eq!(rt; ended.status, 6);
     assert_eq!(rt;
         ended.out.text(),
-        b"total in=20 out=40\nstatic 10.0.0.2 in=20 out=20\nstatic 10.0.0.3 in=0 out=20\ndrop Malformed 0\ndrop NoSession 0\ndrop NotOpen 0\ndrop Expired 0\ndrop Spoofed 0\ndrop TooBig 0\ndrop Exceeded 0\ndrop LinkFailed 0\ndrop WantOfMemory 0\n".as_slice()
+        b"stopped in=20 out=40\nlive in=0 out=0\ntotal in=20 out=40\nworker 0 in=20 out=40\nstatic 10.0.0.2 in=20 out=20\nstatic 10.0.0.3 in=0 out=20\ndrop Malformed 0\ndrop NoSession 0\ndrop NotOpen 0\ndrop Expired 0\ndrop Spoofed 0\ndrop TooBig 0\ndrop Exceeded 0\ndrop LinkFailed 0\ndrop WantOfMemory 0\n".as_slice()
     );
     let mut down = DOWN;
     down[17] = 2;
@@ -308,7 +308,7 @@ fn what_does_not_pass_is_counted_by_its_cause(rt: HostRuntime) -> Result<(), Fai
     assert_eq!(rt; ended.status, 6);
     assert_eq!(rt;
         ended.out.text(),
-        b"total in=0 out=0\nstatic 10.0.0.2 in=0 out=0\ndrop Malformed 2\ndrop NoSession 3\ndrop NotOpen 0\ndrop Expired 1\ndrop Spoofed 0\ndrop TooBig 0\ndrop Exceeded 0\ndrop LinkFailed 0\ndrop WantOfMemory 0\n".as_slice()
+        b"stopped in=0 out=0\nlive in=0 out=0\ntotal in=0 out=0\nworker 0 in=0 out=0\nstatic 10.0.0.2 in=0 out=0\ndrop Malformed 2\ndrop NoSession 3\ndrop NotOpen 0\ndrop Expired 1\ndrop Spoofed 0\ndrop TooBig 0\ndrop Exceeded 0\ndrop LinkFailed 0\ndrop WantOfMemory 0\n".as_slice()
     );
     assert_eq!(rt; ended.plant.sent().len(), 14);
     assert_eq!(rt; ended.plant.sent()[0].octets.as_slice().get(15), Some(&7));

@@ -59,6 +59,17 @@ const STOP: &str =
 
 const STOPPED: &str = "0501001479555a32cd1a181d7537ce19cd9af25a";
 
+/// An Access-Accept with the Session-Timeout of an hour and the Idle-Timeout of 2 seconds beside these (RFC 2865 sections 5.27 and 5.28).
+/// The Stop of a term that such an Accept began, formed 3 s later with the Acct-Terminate-Cause 4, Idle Timeout, and the
+/// Accounting-Response to it.
+const ACCEPT_IDLE: &str =
+    "0200003245bf7879bb3376226a4dc34cf05b6f1e06060000000208060a0000321906676f6c641b0600000e101c0600000002";
+
+const IDLE_STOP: &str =
+    "040100c92ea4c49acb8e046be501c411a8d4cd4001066e656d6f0406c0a80110050600000c0106060000000207060000000108060a0000321906676f6c641f1330323a30303a30303a30303a30303a30312006626e67312806000000022a06000000282b060000001c2c1a3635353366313031306330313030303030303030303030312e06000000032f060000000130060000000131060000000434060000000035060000000037066553f1063d0600000005571670312f3032303030303030303030312f33303733";
+
+const IDLE_STOPPED: &str = "05010014f25e633ff24e3df526cf7f078b422307";
+
 /// The host asks by IPCP for any address, and hears which it is to be; asks for that, and hears that it has it; and takes the gateway's
 /// (RFC 1332 section 3.3).
 const ANY: &[u8] = b"\x80\x21\x01\x01\x00\x0a\x03\x06\x00\x00\x00\x00";
@@ -154,17 +165,22 @@ fn response(alloc: Global, octets: &str) -> Result<Arrival, Fail> {
     Ok(Arrival::new(Role::Acct, loopback(1813), octets.as_slice()))
 }
 
-/// A host logs in and leaves, at moments that are 1,000 ms apart: the Access-Accept comes in the second turn; in the third the server has
-/// the Start, the host comes to its address, and a packet goes each way; the host leaves in the fourth, and the server has the Stop in the
-/// fifth.
-fn visit(alloc: Global) -> Result<Vec<Arrival>, Fail> {
+/// A host logs in, at moments that are 1,000 ms apart: this Access-Accept comes in the second turn; in the third the server has the Start,
+/// the host comes to its address, and a packet goes each way.
+fn arrival(alloc: Global, accept: &str) -> Result<Vec<Arrival>, Fail> {
     let mut script = begun(alloc)?;
-    script.push(reply(alloc, 1812, ACCEPT_50)?)?;
+    script.push(reply(alloc, 1812, accept)?)?;
     script.push(response(alloc, STARTED)?)?;
     for heard in [ANY, ASKS, TAKES, FROM_HOST] {
         script.push(from_host(alloc, heard)?)?;
     }
     script.push(Arrival::new(Role::Core, loopback(9001), FROM_CORE))?;
+    Ok(script)
+}
+
+/// It leaves in the fourth turn, and the server has the Stop in the fifth.
+fn visit(alloc: Global) -> Result<Vec<Arrival>, Fail> {
+    let mut script = arrival(alloc, ACCEPT_50)?;
     script.push(from_host(alloc, LEAVES)?)?;
     script.push(response(alloc, STOPPED)?)?;
     script.push(stop(0))?;
@@ -192,7 +208,7 @@ fn a_subscriber_logs_in_and_is_accounted_for(rt: HostRuntime) -> Result<(), Fail
     assert!(rt; ended.err.text().is_empty());
     assert_eq!(rt;
         ended.out.text(),
-        b"total in=40 out=28\ndrop Malformed 0\ndrop NoSession 0\ndrop NotOpen 0\ndrop Expired 0\ndrop Spoofed 0\ndrop TooBig 0\ndrop Exceeded 0\ndrop LinkFailed 0\ndrop WantOfMemory 0\n".as_slice()
+        b"stopped in=40 out=28\nlive in=0 out=0\ntotal in=40 out=28\nworker 0 in=40 out=28\ndrop Malformed 0\ndrop NoSession 0\ndrop NotOpen 0\ndrop Expired 0\ndrop Spoofed 0\ndrop TooBig 0\ndrop Exceeded 0\ndrop LinkFailed 0\ndrop WantOfMemory 0\n".as_slice()
     );
     let passed = framed(alloc, &TO_HOST, PASSED)?;
     let own = framed(alloc, &TO_HOST, OWN_ADDRESS)?;
@@ -214,6 +230,40 @@ fn a_subscriber_logs_in_and_is_accounted_for(rt: HostRuntime) -> Result<(), Fail
     ];
     sends_after(&rt, alloc, &ended, 0, &rest)?;
     records(&rt, alloc, &ended, &[START, STOP])
+}
+
+/// It says nothing more, which the turn tells that is 2 s after the packets; the server has the Stop in the turn after that.
+fn silence(alloc: Global) -> Result<Vec<Arrival>, Fail> {
+    let mut script = arrival(alloc, ACCEPT_IDLE)?;
+    script.push(response(alloc, IDLE_STOPPED)?.after(2))?;
+    script.push(stop(0))?;
+    Ok(script)
+}
+
+#[test]
+fn a_subscriber_who_is_silent_is_logged_out(rt: HostRuntime) -> Result<(), Fail> {
+    let alloc = rt.alloc();
+    let ended = run_in(&rt, alloc, PAP, silence(alloc)?, 1000)?;
+    let passed = framed(alloc, &TO_HOST, PASSED)?;
+    let own = framed(alloc, &TO_HOST, OWN_ADDRESS)?;
+    let to_be = framed(alloc, &TO_HOST, TO_BE)?;
+    let gets = framed(alloc, &TO_HOST, GETS)?;
+    let down = framed(alloc, &TO_HOST, DOWN)?;
+    let closed = framed(alloc, &TO_HOST, TERMINATE)?;
+    let port = Role::Access(1);
+    let rest: [(Role, u16, &[u8]); 9] = [
+        (port, 9011, passed.as_slice()),
+        (port, 9011, own.as_slice()),
+        (port, 9011, to_be.as_slice()),
+        (port, 9011, gets.as_slice()),
+        (Role::Core, 9001, UP),
+        (port, 9011, down.as_slice()),
+        (port, 9011, closed.as_slice()),
+        (Role::Control, 5, b"stopping\n"),
+        (port, 9011, &PADT),
+    ];
+    sends_after(&rt, alloc, &ended, 0, &rest)?;
+    records(&rt, alloc, &ended, &[START, IDLE_STOP])
 }
 
 /// The first host gets its Access-Accept in the second turn, in which the other one asks for a session and sends the same password. That

@@ -22,6 +22,10 @@ const OWN: &[u8; 12] = b"\x80\x21\x01\x01\x00\x0a\x03\x06\x0a\0\0\x01";
 
 const NO_ADDRESS: &[u8; 17] = b"\xc0\x23\x03\x07\x00\x0f\x0ano address";
 
+// An Access-Accept with a Session-Timeout of 60 seconds and an Idle-Timeout of 30 (RFC 2865 sections 5.27 and 5.28).
+const LIMITED: &[u8; 32] =
+    b"\x02\0\0\x20\0\0\0\0\0\0\0\0\0\0\0\0\0\0\0\0\x1b\x06\0\0\0\x3c\x1c\x06\0\0\0\x1e";
+
 // The peer's end of LCP (RFC 1661 section 5.5).
 const TERMINATE: &[u8; 6] = b"\xc0\x21\x05\x09\x00\x04";
 
@@ -48,11 +52,49 @@ fn accepted(
     host: u8,
     ask: u64,
 ) -> Vec<OutRecord> {
+    accepted_by(rt, alloc, bench, host, ask, ACCEPT)
+}
+
+// The same with this reply.
+fn accepted_by(
+    rt: &impl Abort,
+    alloc: Global,
+    bench: &mut Bench,
+    host: u8,
+    ask: u64,
+    reply: &[u8],
+) -> Vec<OutRecord>
+    requires { length reply.now ≤ 4096 }
+{
     let _made = request(rt, alloc, bench, u16::from(host));
     let _answered = hear(rt, alloc, bench, in_session_of(host, REQUEST));
     let _opened = hear(rt, alloc, bench, in_session_of(host, ACK));
     let _asked = hear(rt, alloc, bench, in_session_of(host, PASSWORD));
-    hear(rt, alloc, bench, verdict(u16::from(host), ask, ACCEPT))
+    hear(rt, alloc, bench, verdict(u16::from(host), ask, reply))
+}
+
+// A shard whose first host has a term within those limits, from moment 0 on.
+fn limited(rt: &impl Abort, alloc: Global) -> Result<Bench, Fail> {
+    let mut bench = open_bench(alloc, rules_with(alloc, ONE)?, ONE)?;
+    let _accepted = accepted_by(rt, alloc, &mut bench, 1, 1, LIMITED);
+    open_ipcp(rt, alloc, &mut bench);
+    Ok(bench)
+}
+
+// How many outs a Tick at this moment has; and the next deadline then.
+fn ticked(rt: &impl Abort, alloc: Global, bench: &mut Bench, now: u32) -> (usize, Option<u64>) {
+    let mut tally = NOTHING;
+    let tick = item(ItemKind::Tick, &[]);
+    let (_fate, outs) = bench.handled(rt, alloc, &mut tally, u64::from(now), tick);
+    (outs.len(), bench.shard.due())
+}
+
+// A packet of the first host passes at this moment.
+fn pass(rt: &impl Abort, alloc: Global, bench: &mut Bench, now: u32) {
+    let mut tally = NOTHING;
+    let packet = in_session_of(1, FROM_IT);
+    let (fate, _sent) = bench.handled(rt, alloc, &mut tally, u64::from(now), packet);
+    assert!(rt; fate == Fate::Forwarded);
 }
 
 // A packet of the first host and one towards it have this fate.
@@ -149,6 +191,27 @@ fn an_address_that_is_held_is_given_to_nobody_else(rt: HostRuntime) -> Result<()
     let third = accepted(&rt, alloc, &mut bench, 3, 3);
     assert_eq!(rt; third.len(), 2);
     assert_eq!(rt; bench.pool.look(ADDRESS), Some(0));
+    Ok(())
+}
+
+#[test]
+fn a_term_ends_when_it_was_silent_or_lasted_too_long(rt: HostRuntime) -> Result<(), Fail> {
+    let alloc = rt.alloc();
+    let mut bench = limited(&rt, alloc)?;
+    assert_eq!(rt; bench.shard.due(), Some(30_000));
+    pass(&rt, alloc, &mut bench, 20_000);
+    // what passed is known when the deadline comes, which moves then
+    assert_eq!(rt; ticked(&rt, alloc, &mut bench, 30_000), (0, Some(50_000)));
+    // no packet for 30 seconds: the term ends, and the link by a Terminate-Request
+    assert_eq!(rt; ticked(&rt, alloc, &mut bench, 50_000), (1, Some(53_000)));
+    assert_reaps(&rt, &mut bench, 1, 4);
+    // packets do not let it last for more than 60 seconds
+    let mut bench = limited(&rt, alloc)?;
+    pass(&rt, alloc, &mut bench, 29_999);
+    pass(&rt, alloc, &mut bench, 59_998);
+    assert_eq!(rt; ticked(&rt, alloc, &mut bench, 59_999), (0, Some(60_000)));
+    assert_eq!(rt; ticked(&rt, alloc, &mut bench, 60_000), (1, Some(63_000)));
+    assert_reaps(&rt, &mut bench, 1, 5);
     Ok(())
 }
 

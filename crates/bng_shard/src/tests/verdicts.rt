@@ -57,7 +57,8 @@ fn in_session(ppp: &[u8]) -> Item
 }
 
 // A RADIUS server's reply to this question of this session.
-pub(super) fn verdict(session: u16, ask: u64, reply: &[u8; 24]) -> Item
+pub(super) fn verdict(session: u16, ask: u64, reply: &[u8]) -> Item
+    requires { length reply.now ≤ 4096 }
     ensures { result.frame.headroom ≡ 64 }
 {
     let mut told = item(ItemKind::Verdict, reply);

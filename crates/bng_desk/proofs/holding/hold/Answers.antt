@@ -18,7 +18,7 @@ use Rattle.bng_desk.proofs.Readying.{WorksBy, all_onward, order_kept}
 use Rattle.bng_desk.proofs.Shares.{allowed_sum, shares_few}
 use Rattle.bng_desk.proofs.Returning.{held_kept}
 use Rattle.bng_desk.proofs.SameTerms.{MadeReady, allowed_as, kept_keys, knows_held, ready_each, terms_held}
-use Rattle.bng_desk.proofs.Tallied.{lines_kept}
+use Rattle.bng_desk.proofs.Tallied.{lines_kept, sum_kept}
 use Rattle.bng_desk.proofs.holding.hold.Goals as goal
 
 pub opened-requires-clause-numbers : goal.opened-requires-clause-numbers
@@ -32,6 +32,9 @@ opened-requires-clause-low_books g c = books_kept (2 ^ 62 + 2 ^ 61) c.args.shard
 
 pub opened-requires-clause-lines : goal.opened-requires-clause-lines
 opened-requires-clause-lines g c = lines_kept (λ input. in_book Octets input c.args.tally.now) c.args.shards.now c.prepare_all.new.shards c.args.accounts.now.lines c.prepare_all.ensures.kept c.requires.lines
+
+pub opened-requires-clause-adds_up : goal.opened-requires-clause-adds_up
+opened-requires-clause-adds_up g c = sum_kept c.args.tally.now c.args.shards.now c.prepare_all.new.shards c.args.accounts.now.stopped c.prepare_all.ensures.kept c.requires.adds_up
 
 pub opened-requires-clause-billed : goal.opened-requires-clause-billed
 opened-requires-clause-billed g c = subst (λ (ks : List Key). AreBilled ks c.args.accounts.now.billing) (sym (kept_keys c.args.shards.now c.prepare_all.new.shards c.prepare_all.ensures.kept)) c.requires.billed
@@ -97,6 +100,9 @@ returns-then-prepare_all-clause-round g c =
 
 pub returns-clause-lines : goal.returns-clause-lines
 returns-clause-lines g c = lines_kept (λ input. in_book Octets input c.args.tally.now) c.args.shards.now c.prepare_all.new.shards c.args.accounts.now.lines c.prepare_all.ensures.kept c.requires.lines
+
+pub returns-clause-adds_up : goal.returns-clause-adds_up
+returns-clause-adds_up g c = sum_kept c.args.tally.now c.args.shards.now c.prepare_all.new.shards c.args.accounts.now.stopped c.prepare_all.ensures.kept c.requires.adds_up
 
 pub returns-then-prepare_all-clause-low : goal.returns-then-prepare_all-clause-low
 returns-then-prepare_all-clause-low g c most low = c.opened.ensures.low most (low_kept most c.args.shards.now c.prepare_all.new.shards c.prepare_all.ensures.kept low)

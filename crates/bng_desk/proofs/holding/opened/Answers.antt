@@ -1,4 +1,4 @@
-use Rattle.std.proofs.Common.{◌≡◌, ℕ, ◌+◌, ◌*◌, ◌^◌, Bool, List, [], length, map, sum_by, sym, ap, subst, arith, ◌∙◌}
+use Rattle.std.proofs.Common.{◌≡◌, ℕ, ◌+◌, ◌*◌, ◌^◌, Bool, List, length, map, sum_by, ap, arith, ◌∙◌}
 use Rattle.std.specs.List.{All, AllZip}
 use Rattle.std.proofs.lemmas.List.{length-replicate}
 use Rattle.std.proofs.lemmas.List.Elements.{recursion_from_All}
@@ -11,18 +11,18 @@ use Rattle.bng_desk.specs.Accounting.{AreSettling}
 use Rattle.bng_desk.specs.Kept.{octets_most, drops_most}
 use Rattle.bng_desk.specs.Model.{keys_in}
 use Rattle.bng_desk.specs.Round.{news_in}
-use Rattle.bng_desk.specs.Taking.{AllTurn, AreTallied, BegunTo, HasFewSessions, IsEmpty, KeepsTerms, OwesNone, ReapedTo, SentTo, Shown, states_of}
+use Rattle.bng_desk.specs.Taking.{AddsUp, AllTurn, AreTallied, BegunTo, HasFewSessions, IsEmpty, KeepsTerms, OwesNone, ReapedTo, SentTo, Shown, states_of}
 use Rattle.bng_desk.proofs.Dealt.{dealt_books, dealt_count, dealt_rows}
 use Rattle.bng_desk.proofs.DropLaws.{within_wider}
 use Rattle.bng_desk.proofs.Growing.{Grown, all_grown, all_worked, moments_dealt}
 use Rattle.bng_desk.proofs.Joining.{HasLow, HasLowBooks, all_turn, all_turning, allowances_in, books_wider, dealt_covered, round_held, told_as}
 use Rattle.bng_desk.proofs.Newcomers.{are_settling}
 use Rattle.bng_desk.proofs.OneMore.{low_more}
-use Rattle.bng_desk.proofs.Overs.{all_started, grown_tenures, round_knows, started, started_order, started_within, terms_kept}
+use Rattle.bng_desk.proofs.Overs.{all_started, grown_tenures, round_knows, started, started_order, started_same, started_within, terms_kept}
 use Rattle.bng_desk.proofs.Reaping.{all_empty as reaped_empty, all_few as reaped_few, all_low as reaped_low, all_books as reaped_books, in_order as reaped_order}
 use Rattle.bng_desk.proofs.Returning.{HoldsOwn}
 use Rattle.bng_desk.proofs.Settling.{all_empty as sent_empty, all_held as sent_held, all_low as sent_low, all_books as sent_books, in_order as sent_order}
-use Rattle.bng_desk.proofs.Tallied.{lines_far, sent_tallied}
+use Rattle.bng_desk.proofs.Tallied.{lines_far, sent_sum_up, sent_tallied, sum_far}
 use Rattle.bng_desk.proofs.Zips.{zip3_length}
 use Rattle.bng_desk.proofs.holding.opened.Given.{Over}
 use Rattle.bng_desk.proofs.holding.opened.Goals as goal
@@ -66,11 +66,22 @@ module _ (g : Over) (c : After-send_all g) where
       sent_tallied c.args.rules.now c.args.pool.now c.deal_all.new.pool c.args.named.moment c.args.lists.items.items c.args.shards.now c.deal_all.new.shards c.send_all.new.shards c.deal_all.new.loose.items c.args.drops.now c.deal_all.new.drops c.send_all.new.drops c.args.tally.now c.deal_all.new.tally c.send_all.new.tally
       (g.P.Plant.told c.args.plant.now) (g.P.Plant.told c.send_all.new.plant) c.send_all.new.outs.items c.send_all.new.journals.items c.args.accounts.now.lines c.deal_all.ensures.deals c.send_all.ensures.sends c.requires.lines
 
+  adds_up : AddsUp c.send_all.new.tally c.send_all.new.shards c.args.accounts.now.stopped
+  adds_up =
+      sent_sum_up c.args.rules.now c.args.pool.now c.deal_all.new.pool c.args.named.moment c.args.lists.items.items c.args.shards.now c.deal_all.new.shards c.send_all.new.shards c.deal_all.new.loose.items c.args.drops.now c.deal_all.new.drops c.send_all.new.drops c.args.tally.now c.deal_all.new.tally c.send_all.new.tally
+      (g.P.Plant.told c.args.plant.now) (g.P.Plant.told c.send_all.new.plant) c.send_all.new.outs.items c.send_all.new.journals.items c.args.accounts.now.stopped c.deal_all.ensures.deals c.send_all.ensures.sends c.requires.adds_up
+
 pub reap_all-requires-clause-low : goal.reap_all-requires-clause-low
 reap_all-requires-clause-low g c =
     let n = length c.args.lists.items.items in
     lines_far (2 ^ 62 + 2 ^ 61 + 4160 * n) c.send_all.new.tally c.send_all.new.shards c.args.accounts.now.lines (omega (arith, c.requires.items.few))
     (c.send_all.ensures.tally (2 ^ 62 + 2 ^ 61 + 4160 * n) (c.deal_all.ensures.tally (2 ^ 62 + 2 ^ 61) c.requires.low_tally)) (tallied g (goal.at.reap_all-requires-clause-low g c).After-send_all)
+
+pub reap_all-requires-clause-low_in_all : goal.reap_all-requires-clause-low_in_all
+reap_all-requires-clause-low_in_all g c =
+    let n = length c.args.lists.items.items in
+    sum_far (2 ^ 62 + 2 ^ 61 + 4160 * n) c.send_all.new.tally c.send_all.new.shards c.args.accounts.now.stopped (omega (arith, c.requires.items.few))
+    (c.send_all.ensures.tally (2 ^ 62 + 2 ^ 61 + 4160 * n) (c.deal_all.ensures.tally (2 ^ 62 + 2 ^ 61) c.requires.low_tally)) (adds_up g (goal.at.reap_all-requires-clause-low_in_all g c).After-send_all)
 
 -- what the shards are once all was sent
 module _ (g : Over) (c : After-send_all g) where
@@ -200,6 +211,12 @@ returns-clause-lines g c =
     let begun = c.begin_all.ensures.begins in
     started_within most c.reap_all.new.shards c.begin_all.new.shards begun.starts c.reap_all.new.accounts.lines c.begin_all.new.accounts.lines begun.each begun.booked.lines_are
     (c.reap_all.ensures.within most (tallied g (goal.at.returns-clause-lines g c).After-send_all))
+
+pub returns-clause-adds_up : goal.returns-clause-adds_up
+returns-clause-adds_up g c input =
+    let begun = c.begin_all.ensures.begins in
+    started_same input c.reap_all.new.shards c.begin_all.new.shards begun.starts c.reap_all.new.accounts.stopped c.begin_all.new.accounts.stopped begun.each begun.booked.stopped_is ∙ c.reap_all.ensures.same input
+    ∙ adds_up g (goal.at.returns-clause-adds_up g c).After-send_all input
 
 pub returns-clause-knows : goal.returns-clause-knows
 returns-clause-knows g c =

@@ -2,12 +2,13 @@ use Rattle.std.proofs.Common.{◌≡◌, ℕ, ◌+◌, ◌*◌, ◌^◌, ◌≤�
 use Rattle.std.specs.List.{All}
 use Rattle.std.specs.Vec.{with_items}
 use Rattle.std.proofs.lemmas.List.{with_items_is}
+use Rattle.bng_shard.specs.declared.sums.Traffic.{Traffic}
 use Rattle.bng_desk.specs.declared.line.Line.{Line}
 use Rattle.bng_desk.specs.Accounting.{AreBilled, KnowsBegun}
 use Rattle.bng_desk.specs.Intake.{SendsRequests}
 use Rattle.bng_desk.specs.Kept.{octets_most}
 use Rattle.bng_desk.specs.Model.{keys_in}
-use Rattle.bng_desk.specs.Taking.{Accounts, IsEmpty, KeepsTerms, HasFewSessions, AreInOrder, AreTallied, Holds, outs_of_items}
+use Rattle.bng_desk.specs.Taking.{Accounts, IsEmpty, KeepsTerms, HasFewSessions, AddsUp, AreInOrder, AreTallied, Holds, outs_of_items}
 use Rattle.bng_desk.proofs.Billed.{billed_kept, settled_keeps}
 use Rattle.bng_desk.proofs.Joining.{HasLow, HasLowBooks}
 use Rattle.bng_desk.proofs.Readying.{Shards, WorksBy}
@@ -31,6 +32,9 @@ hold-record-requires-clause-low_books g c = subst (λ (vs : Shards). All (HasLow
 
 pub hold-record-requires-clause-lines : goal.hold-record-requires-clause-lines
 hold-record-requires-clause-lines g c = subst (λ (vs : Shards). AreTallied c.args.works.now.tally vs c.args.works.now.accounts.lines) (sym c.as_mut_slice.ensures.value) c.requires.ready.tallied
+
+pub hold-record-requires-clause-adds_up : goal.hold-record-requires-clause-adds_up
+hold-record-requires-clause-adds_up g c = subst (λ (vs : Shards). AddsUp c.args.works.now.tally vs c.args.works.now.accounts.stopped) (sym c.as_mut_slice.ensures.value) c.requires.ready.adds_up
 
 pub hold-record-requires-clause-billed : goal.hold-record-requires-clause-billed
 hold-record-requires-clause-billed g c = subst (λ (vs : Shards). AreBilled (keys_in vs) c.args.works.now.accounts.billing) (sym c.as_mut_slice.ensures.value) c.requires.ready.billed
@@ -118,6 +122,8 @@ returns-clause-keeps g c =
       tally = c.hold-record.ensures.tally;
       tallied = subst (λ (ls : List Line). AreTallied c.hold-record.new.tally (with_items w.shards ws).items ls) (sym (ap (λ (a : Accounts). a.lines) c.send.ensures.others))
           (subst (λ (vs : Shards). AreTallied c.hold-record.new.tally vs c.hold-record.new.accounts.lines) behind c.hold-record.ensures.lines);
+      adds_up = subst (λ (t : Traffic). AddsUp c.hold-record.new.tally (with_items w.shards ws).items t) (sym (ap (λ (a : Accounts). a.stopped) c.send.ensures.others))
+          (subst (λ (vs : Shards). AddsUp c.hold-record.new.tally vs c.hold-record.new.accounts.stopped) behind c.hold-record.ensures.adds_up);
       billed = subst (λ (vs : Shards). AreBilled (keys_in vs) c.send.new.self.billing) behind
           (billed_kept (keys_in ws) booked c.send.new.self.billing (settled_keeps c.args.named.moment booked c.send.new.self.billing bills.requests bills.settles) c.hold-record.ensures.billed);
       counts = c.hold-record.ensures.within;

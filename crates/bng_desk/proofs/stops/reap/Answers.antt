@@ -1,10 +1,11 @@
-use Rattle.std.proofs.Common.{sym, subst, arith}
+use Rattle.std.proofs.Common.{[], ◌∷◌, sym, subst, arith}
 use Rattle.bng_pool.specs.Plain.{PlainView}
 use Rattle.bng_shard.specs.Lasting.{IsTenureOf}
 use Rattle.bng_shard.specs.Protocol.{AreHeld, stop_of}
 use Rattle.bng_desk.specs.Round.{IsReturned}
 use Rattle.bng_desk.specs.Taking.{far}
 use Rattle.bng_desk.proofs.Booking.{leaver_says}
+use Rattle.bng_desk.proofs.InAll.{room_for}
 use Rattle.bng_desk.proofs.Reaping.{fewer_ended, leaves_all, left_admitted, left_once, over_settling, over_tenures, reaps_begin, reaps_on, takes_in}
 use Rattle.bng_desk.proofs.Returning.{held_key}
 use Rattle.bng_desk.proofs.TermsLeft.{it_was, its_classes}
@@ -42,6 +43,11 @@ stop-requires-clause-once c =
 
 pub stop-requires-clause-room : goal.stop-requires-clause-room
 stop-requires-clause-room c = takes_in c.loop-ended.shard c.reap.new.self (stop_of c.in-Some.ended) c.loop-ended.accounts.lines c.in-Some.ensures.one.0 (c.loop-ended.invariant.within far c.requires.low)
+
+pub stop-requires-clause-room_in_all : goal.stop-requires-clause-room_in_all
+stop-requires-clause-room_in_all c =
+    let so_far = c.loop-ended.invariant in
+    room_for c.loop-ended.shard c.reap.new.self (stop_of c.in-Some.ended ∷ []) c.loop-ended.accounts.stopped c.in-Some.ensures.one.0.rows (λ input. omega (arith, c.requires.low_in_all input, so_far.same input))
 
 pub loop-ended-preserved : goal.loop-ended-preserved
 loop-ended-preserved c =

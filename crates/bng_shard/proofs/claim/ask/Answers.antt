@@ -1,6 +1,5 @@
-use Rattle.std.proofs.Common.{◌≡◌, ◌⊎◌, Option, Some, sym, subst, ap, refl, ◌∙◌}
+use Rattle.std.proofs.Common.{sym, subst}
 use Rattle.std.proofs.lemmas.Option.{slice_get_within}
-use Rattle.bng_base.specs.declared.item.Claim.{Claim}
 use Rattle.bng_shard.specs.declared.wish.Wish.{Wish}
 use Rattle.bng_shard.specs.Wished.{MayWish}
 use Rattle.bng_shard.specs.Wishes.{IsAnswerTo}

@@ -7,9 +7,11 @@ use Rattle.bng_base.specs.declared.outside.Role.TheVariants.{Access}
 use Rattle.bng_forward.specs.Fates.{DownFate}
 use Rattle.bng_forward.specs.Packets.{IsPassedOn}
 use Rattle.bng_shard.specs.Deed.{out}
-use Rattle.bng_shard.specs.Frames.{found_among, found_down}
+use Rattle.bng_shard.specs.Doing.{DoesWith}
+use Rattle.bng_shard.specs.Frames.{HearsPacket, found_among, found_down}
+use Rattle.bng_shard.specs.Passing.{with_passed}
 use Rattle.bng_shard.specs.Running.{tenures_in, whole}
-use Rattle.bng_shard.specs.State.{leases}
+use Rattle.bng_shard.specs.State.{State, leases}
 use Rattle.bng_shard.specs.Tenures.{has_kept}
 use Rattle.bng_shard.specs.declared.session.Session.{Session}
 use Rattle.bng_shard.proofs.Carrying.{drops_down, goes_down}
@@ -32,21 +34,25 @@ unreachable-requires-in_default-port_of c =
     none_some port (sym c.in_default-port_of.is ∙ c.port_of.ensures ∙ is)
 
 pub returns-in_default-clause-does : goal.returns-in_default-clause-does
-returns-in_default-clause-does c moment =
-    drops_down c.args.rules.now (whole c.args.served.now c.args.terms.now) c.args.at c.args.item.now c.args.outs.now.items c.requires.here c.args.header c.down-fate.result (fated (goal.at.returns-in_default-clause-does c).After-down-fate) c.in_default.not-Forwarded moment
+returns-in_default-clause-does c =
+    drops_down c.args.rules.now (whole c.args.served.now c.args.terms.now) c.args.at c.args.item.now c.args.outs.now.items c.requires.here c.args.header c.down-fate.result (fated (goal.at.returns-in_default-clause-does c).After-down-fate) c.in_default.not-Forwarded c.args.now
 
 pub returns-clause-does : goal.returns-clause-does
-returns-clause-does c moment =
+returns-clause-does c =
     let d = (goal.at.returns-clause-does c).After-down-fate in
+    let r = c.args.rules.now in
+    let s = whole c.args.served.now c.args.terms.now in
+    let v = c.args.header in
     let on : c.down-fate.result ≡ Forwarded = c.in-Forwarded.is in
     let x = c.in-Some.session.now in
     let port = c.in-Some-port_of.port in
     let l = c.in-Some-lease.lease in
     let (n, at, passes) = found_at (leases c.args.header.dst) c.args.served.now.sessions x (sym c.in-Some.ensures) in
     let (may, passed) = c.down-fate.ensures.forwarded on in
-    goes_down c.args.rules.now (whole c.args.served.now c.args.terms.now) c.args.at c.args.item.now c.args.outs.now.items c.requires.here c.args.header c.down-fate.new.packet.payload c.put_in_frame.new.frame.payload x l port c.push_out.new.outs.items
+    let next : c.note_passed.new.self ≡ with_passed c.args.served.now x.number c.args.now =
+    c.note_passed.ensures ∙ ap (λ (y : Charge). with_passed c.args.served.now y.term.session c.args.now) c.charge_of-charge.ensures in
+    subst (λ (t : State). DoesWith (λ e d. HearsPacket r s e v d) 1 s (whole t c.args.terms.now) c.args.outs.now.items c.push_out.new.outs.items c.args.at c.args.now c.args.item.now Forwarded) (sym next)
+    (goes_down r s c.args.at c.args.item.now c.args.outs.now.items c.requires.here v c.down-fate.new.packet.payload c.put_in_frame.new.frame.payload x l port c.push_out.new.outs.items
     (sym c.in-Some.ensures) (sym c.in-Some-lease.ensures) (c.requires.tied n x l at (sym c.in-Some-lease.ensures)) (sym c.in-Some-port_of.ensures)
-    (subst (λ (f : Fate). DownFate (found_down (whole c.args.served.now c.args.terms.now)) c.args.item.now.frame.payload f) on (fated d))
-    (subst (λ (octets : List ℕ). IsPassedOn c.args.header octets c.down-fate.new.packet.payload) c.copied-packet.ensures.payload passed)
-    c.put_in_frame.ensures.framed c.put_in_frame.ensures.again
-    (c.push_out.ensures.items ∙ ap (λ (y : Charge). c.args.outs.now.items ++ out c.args.at (Access x.port) port.peer c.put_in_frame.new.frame.payload (Some y) ∷ []) c.charge_of-charge.ensures) moment
+    (subst (λ (f : Fate). DownFate (found_down s) c.args.item.now.frame.payload f) on (fated d)) (subst (λ (octets : List ℕ). IsPassedOn v octets c.down-fate.new.packet.payload) c.copied-packet.ensures.payload passed) c.put_in_frame.ensures.framed c.put_in_frame.ensures.again
+    (c.push_out.ensures.items ∙ ap (λ (y : Charge). c.args.outs.now.items ++ out c.args.at (Access x.port) port.peer c.put_in_frame.new.frame.payload (Some y) ∷ []) c.charge_of-charge.ensures) c.args.now)

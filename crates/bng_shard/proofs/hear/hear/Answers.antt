@@ -15,10 +15,11 @@ returns-in-Access-clause-does c =
 pub returns-in-Core-clause-does : goal.returns-in-Core-clause-does
 returns-in-Core-clause-does c =
     let s = whole c.args.served.now c.args.terms.now in
+    let s' = whole c.hear_core.new.served c.args.terms.now in
     let none = unasked c.args.rules.now c.args.served.now c.args.item.now c.args.limited c.args.claim Core c.in-Core.is (λ w e. e) c.requires.asked in
-    stepped c.args.rules.now s s c.args.outs.now.items c.hear_core.new.outs.items c.args.at c.args.now c.args.item.now c.args.limited c.args.claim none c.hear_core.result Core c.in-Core.is refl
-    (does_more s s c.args.outs.now.items c.hear_core.new.outs.items c.args.at c.args.now c.args.item.now c.hear_core.result (λ e d. HearsCore c.args.rules.now s e d) (λ e d. HearsCore c.args.rules.now s e d) 1 10 (omega arith)
-    (λ d says. says) (c.hear_core.ensures.does c.args.now))
+    stepped c.args.rules.now s s' c.args.outs.now.items c.hear_core.new.outs.items c.args.at c.args.now c.args.item.now c.args.limited c.args.claim none c.hear_core.result Core c.in-Core.is refl
+    (does_more s s' c.args.outs.now.items c.hear_core.new.outs.items c.args.at c.args.now c.args.item.now c.hear_core.result (λ e d. HearsCore c.args.rules.now s e d) (λ e d. HearsCore c.args.rules.now s e d) 1 10 (omega arith)
+    (λ d says. says) c.hear_core.ensures.does)
 
 pub returns-in-Tunnel-clause-does : goal.returns-in-Tunnel-clause-does
 returns-in-Tunnel-clause-does c =

@@ -14,8 +14,8 @@ returns-then-not-names_session-clause-does c =
 
 pub returns-in-Some-clause-does : goal.returns-in-Some-clause-does
 returns-in-Some-clause-does c =
-    by_data (whole c.args.served.now c.args.terms.now) (whole c.args.served.now c.args.terms.now) c.args.outs.now.items c.hear_data.new.outs.items c.args.at c.args.now c.args.item.now c.hear_data.result c.args.rules.now c.args.number (frame_of c.args.frame.now)
-    c.in-Some.info.now c.in-Some.ensures.found (c.hear_data.ensures.does c.args.now c.in-Some.info.now c.in-Some.ensures.found)
+    by_data (whole c.args.served.now c.args.terms.now) (whole c.hear_data.new.served c.args.terms.now) c.args.outs.now.items c.hear_data.new.outs.items c.args.at c.args.now c.args.item.now c.hear_data.result c.args.rules.now c.args.number (frame_of c.args.frame.now)
+    c.in-Some.info.now c.in-Some.ensures.found (c.hear_data.ensures.does c.in-Some.info.now c.in-Some.ensures.found)
 
 pub returns-in-None-clause-does : goal.returns-in-None-clause-does
 returns-in-None-clause-does c =

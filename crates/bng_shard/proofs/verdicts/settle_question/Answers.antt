@@ -26,7 +26,7 @@ returns-in_default-clause-settled c x q found asks =
     let r = c.args.rules.now in
     let s = c.args.served.now in
     let inside = c.told.inside in
-    let t : Told = record { yes = inside.yes; lease = inside.lease; text = inside.text.items; class = inside.class.items } in
+    let t : Told = record { yes = inside.yes; lease = inside.lease; text = inside.text.items; class = inside.class.items; limits = inside.limits } in
     let x' = c.drive-asked.new.session in
     let asked = c.drive-asked.result.0 in
     let cause = c.drive-asked.result.1 in
@@ -62,14 +62,14 @@ put-requires-2-clause-apart c =
     let s = c.args.served.now in
     let may = (c.requires.begins c.in-Some.address (ap (λ (t : Told). t.lease) (sym c.told.view_is) ∙ c.in-Some.is)).1 in
     let sessions = ap (λ (u : State). u.sessions) c.begin_term.ensures.served ∙ ap (λ (u : State). u.sessions) c.count_asked.ensures ∙ ap (λ (u : State). u.sessions) c.take-session.ensures.after in
-    shares_begun s.sessions c.begin_term.new.served.sessions c.args.number.0 c.in-Some.address c.args.terms.now.rows c.begin_term.new.session (next_lease c.count_asked.new.self c.in-Some.address) sessions
+    shares_begun s.sessions c.begin_term.new.served.sessions c.args.number.0 c.in-Some.address c.args.terms.now.rows c.begin_term.new.session (next_lease c.count_asked.new.self c.told.inside.limits c.args.now c.in-Some.address) sessions
     (ap (λ (y : Session). y.lease) c.begin_term.ensures.session) refl may.tied may.free
 
 pub put-requires-2-clause-leased : goal.put-requires-2-clause-leased
 put-requires-2-clause-leased c =
     let r = c.args.rules.now in
     let inside = c.told.inside in
-    let t : Told = record { yes = inside.yes; lease = inside.lease; text = inside.text.items; class = inside.class.items } in
+    let t : Told = record { yes = inside.yes; lease = inside.lease; text = inside.text.items; class = inside.class.items; limits = inside.limits } in
     let x' = c.drive-asked.new.session in
     let asked = c.drive-asked.result.0 in
     let cause = c.drive-asked.result.1 in
@@ -82,14 +82,14 @@ put-requires-2-clause-leased c =
     c.take-session.result cause x' asked outs outs' (λ old says new h. judged r.link t h.turn h.cause c.args.now c.args.random.now old says new h.goes h.said h.state) c.drive-asked.ensures.driven in
     subst (λ (y : Session). KeepsLease y.service y.lease) (sym c.begin_term.ensures.session)
     (begun_keeps r c.args.at t c.args.now c.args.random.now c.asked.result c.take-session.result cause x' asked outs outs' driven q c.in-Some.address (ap open_of it ∙ asks) accepted c.in-Some.is c.drive-asked.ensures.leased
-    (next_lease c.count_asked.new.self c.in-Some.address))
+    (next_lease c.count_asked.new.self c.told.inside.limits c.args.now c.in-Some.address))
 
 pub returns-clause-settled : goal.returns-clause-settled
 returns-clause-settled c x q found asks =
     let r = c.args.rules.now in
     let s = c.args.served.now in
     let inside = c.told.inside in
-    let t : Told = record { yes = inside.yes; lease = inside.lease; text = inside.text.items; class = inside.class.items } in
+    let t : Told = record { yes = inside.yes; lease = inside.lease; text = inside.text.items; class = inside.class.items; limits = inside.limits } in
     let x' = c.drive-asked.new.session in
     let asked = c.drive-asked.result.0 in
     let cause = c.drive-asked.result.1 in
@@ -105,7 +105,7 @@ returns-clause-settled c x q found asks =
     let its = subst (λ (n : ℕ). Driven r c.args.at Told_ n x cause x' asked outs outs') before (subst (λ (y : Session). Driven r c.args.at Told_ c.asked.result y cause x' asked outs outs') it driven) in
     let counted = c.count_asked.ensures ∙ ap (λ (u : State). let v : State = record u { asked = asked } in v) c.take-session.ensures.after in
     let begun = c.begin_term.ensures.served ∙ ap (λ (u : State). let v : State = record u { begun = u.begun + 1 } in v) counted in
-    let leased = c.begin_term.ensures.session ∙ ap (λ (u : State). let y : Session = record x' { lease = Some (next_lease u a) } in y) counted in
+    let leased = c.begin_term.ensures.session ∙ ap (λ (u : State). let y : Session = record x' { lease = Some (next_lease u inside.limits c.args.now a) } in y) counted in
     let named = sym (c.name_of-user.ensures q (ap open_of it ∙ asks)) in
     let term = ap (λ (u : State). next_term u x' q t.class c.args.now a) counted ∙ next_same r c.args.at t c.args.now c.args.random.now s.asked x cause x' asked outs outs' its s q t.class c.args.now a in
     let rows = c.begin_term.ensures.terms q named ∙ ap (λ (u : Tenure). tenures_in c.args.terms.now.rows ++ u ∷ []) term in

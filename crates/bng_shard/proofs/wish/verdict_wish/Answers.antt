@@ -1,4 +1,4 @@
-use Rattle.std.proofs.Common.{◌≡◌, List, inl, sym, subst, ◌∙◌}
+use Rattle.std.proofs.Common.{List, inl, sym, subst, ◌∙◌}
 use Rattle.bng_base.specs.declared.settings.NamedRange.{NamedRange}
 use Rattle.bng_shard.specs.Wishes.{Wishes}
 use Rattle.bng_shard.proofs.Telling.{same_ask}

@@ -34,6 +34,7 @@ module _ (g : Over) (c : After-to_end g) where
   desk = record {
     rules = c.self.inside.rules;
     lines = works.accounts.lines;
+    stopped_traffic = works.accounts.stopped;
     rounds = c.self.inside.rounds;
     turns = c.self.inside.turns;
     stopped = c.self.inside.stopped;
@@ -123,6 +124,7 @@ invariant_of-self g c =
         books = books_wider (octets_most * (turns + endings)) (octets_most * (turns + (endings + 1))) works.shards.items (omega arith) was.books;
         tallies = one_low (octets_most * (turns + (endings + 1))) works.tally (low_more (octets_most * (turns + endings)) (octets_most * (turns + (endings + 1))) works.tally (omega arith) (was.tallies 0 (omega arith)));
         tallied = was.tallied;
+        adds_up = was.adds_up;
         counts = within_wider (drops_most * (turns + endings)) (drops_most * (turns + (endings + 1))) works.drops (omega arith) was.counts;
         kept = was.kept;
         stays = was.stays;

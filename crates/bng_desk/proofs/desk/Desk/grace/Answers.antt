@@ -23,6 +23,7 @@ module _ (g : Over) (c : After-wait_if g) where
   desk = record {
     rules = c.self.inside.rules;
     lines = works.accounts.lines;
+    stopped_traffic = works.accounts.stopped;
     rounds = c.self.inside.rounds;
     turns = c.self.inside.turns;
     stopped = c.self.inside.stopped;

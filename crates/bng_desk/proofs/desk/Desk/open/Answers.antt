@@ -17,6 +17,7 @@ use Rattle.bng_engine.specs.Terms.{Key, keys}
 use Rattle.bng_engine.specs.Views.{ShardView}
 use Rattle.bng_discovery.specs.declared.port.PortRules.{PortRules}
 use Rattle.bng_shard.specs.declared.rules.Rules.{Rules}
+use Rattle.bng_shard.specs.declared.sums.Traffic.{Traffic}
 use Rattle.bng_shard.specs.Lasting.{AreTenures}
 use Rattle.bng_shard.specs.Protocol.{HasPools, ShardState, opened, terms_of}
 use Rattle.bng_shard.proofs.RowLaws.{new_keys}
@@ -25,7 +26,7 @@ use Rattle.bng_desk.specs.declared.line.Line.{Line}
 use Rattle.bng_desk.specs.Accounting.{AreBilled, IsStartOf, KnowsBegun}
 use Rattle.bng_desk.specs.Counting.{no_drops}
 use Rattle.bng_desk.specs.Kept.{rested}
-use Rattle.bng_desk.specs.Model.{Desk, keys_in}
+use Rattle.bng_desk.specs.Model.{Desk, keys_in, no_traffic}
 use Rattle.bng_desk.specs.Opening.{AreOffersOf, AreRules, AreServed, IsOpenedPool, OpensAccounts, line_of, shard_of, opened_shards, dns_of}
 use Rattle.bng_desk.specs.Random.{Drawn, draw}
 use Rattle.bng_desk.specs.Round.{terms_in}
@@ -63,6 +64,9 @@ module _ (c : After-new-2) where
 
   lines_are : c.in_ok-accounts.accounts.lines ≡ map line_of c.args.config.statics
   lines_are = opens_accounts.booked.lines_are ∙ circuits_named
+
+  stopped_is : c.in_ok-accounts.accounts.stopped ≡ no_traffic
+  stopped_is = opens_accounts.booked.stopped_is
 
   keys_are : keys_in c.as_slice-2.result.now ≡ keys_in c.in_ok-opens.opens.items
   keys_are = ap keys_in c.as_slice-2.ensures.value
@@ -127,7 +131,7 @@ module _ (c : After-new-2) where
 pub invariant_of-result : goal.invariant_of-result
 invariant_of-result c =
     let rules = are_rules c in (
-      kept_fresh _ (statics c) c.args.now c.args.config.statics (shards_are c) c.in_ok-opens.ensures.sessions (lines_are c)
+      kept_fresh _ (statics c) c.args.now c.args.config.statics (shards_are c) c.in_ok-opens.ensures.sessions (lines_are c) (stopped_is c)
           (omega (arith, c.requires.rules.some_port, ap (λ (ps : List AccessPort). length ps) rules.access)) (omega (arith, c.requires.rules.few_ports, ap (λ (ps : List AccessPort). length ps) rules.access))
           (omega (arith, c.requires.rules.some_shard, rules.shards)) (omega (arith, c.requires.rules.few_shards, rules.shards))
           (pools c) ((is_pool c).shards ∙ sym rules.shards) (held c) (terms c)
@@ -141,9 +145,10 @@ returns c =
     let b = (goal.at.returns c).After-new-2 in
     let config = c.args.config in
     let r = made b in
-    let desk = λ (tallies : List Book) (lines : List Line) (shards : List (ShardView ShardState Entry)) (draws : Drawn) (handed : List (List ℕ)) (kept : List Item). let x : Desk = record {
+    let desk = λ (tallies : List Book) (lines : List Line) (stopped : Traffic) (shards : List (ShardView ShardState Entry)) (draws : Drawn) (handed : List (List ℕ)) (kept : List Item). let x : Desk = record {
       rules = r;
       lines = lines;
+      stopped_traffic = stopped;
       rounds = c.args.rounds;
       turns = 0;
       stopped = false;
@@ -186,12 +191,13 @@ returns c =
       billing = c.in_ok-accounts.accounts.billing;
       forms = accounts.booked.forms;
       desk =
-          ap (λ (bs : List Book). desk bs c.in_ok-accounts.accounts.lines (map rested c.in_ok-opens.opens.items) c.sixteen-key.new.self c.in_ok-handed.handed.items c.in_ok-kept.kept.items) (tallies_are b)
-          ∙ ap (λ (ls : List Line). desk (empty_book ∷ []) ls (map rested c.in_ok-opens.opens.items) c.sixteen-key.new.self c.in_ok-handed.handed.items c.in_ok-kept.kept.items) (lines_are b)
-          ∙ ap (λ (xs : List (ShardView ShardState Entry)). desk (empty_book ∷ []) (map line_of config.statics) xs c.sixteen-key.new.self c.in_ok-handed.handed.items c.in_ok-kept.kept.items) shards
-          ∙ ap (λ (x : Drawn). desk (empty_book ∷ []) (map line_of config.statics) opens x c.in_ok-handed.handed.items c.in_ok-kept.kept.items) (draws_are b)
-          ∙ ap (λ (ls : List (List ℕ)). desk (empty_book ∷ []) (map line_of config.statics) opens first ls c.in_ok-kept.kept.items) c.in_ok-handed.ensures
-          ∙ ap (λ (is : List Item). desk (empty_book ∷ []) (map line_of config.statics) opens first (map (λ n. none_handed) (range_with_len 0 config.shards)) is) c.in_ok-kept.ensures.0;
+          ap (λ (bs : List Book). desk bs c.in_ok-accounts.accounts.lines c.in_ok-accounts.accounts.stopped (map rested c.in_ok-opens.opens.items) c.sixteen-key.new.self c.in_ok-handed.handed.items c.in_ok-kept.kept.items) (tallies_are b)
+          ∙ ap (λ (ls : List Line). desk (empty_book ∷ []) ls c.in_ok-accounts.accounts.stopped (map rested c.in_ok-opens.opens.items) c.sixteen-key.new.self c.in_ok-handed.handed.items c.in_ok-kept.kept.items) (lines_are b)
+          ∙ ap (λ (t : Traffic). desk (empty_book ∷ []) (map line_of config.statics) t (map rested c.in_ok-opens.opens.items) c.sixteen-key.new.self c.in_ok-handed.handed.items c.in_ok-kept.kept.items) (stopped_is b)
+          ∙ ap (λ (xs : List (ShardView ShardState Entry)). desk (empty_book ∷ []) (map line_of config.statics) no_traffic xs c.sixteen-key.new.self c.in_ok-handed.handed.items c.in_ok-kept.kept.items) shards
+          ∙ ap (λ (x : Drawn). desk (empty_book ∷ []) (map line_of config.statics) no_traffic opens x c.in_ok-handed.handed.items c.in_ok-kept.kept.items) (draws_are b)
+          ∙ ap (λ (ls : List (List ℕ)). desk (empty_book ∷ []) (map line_of config.statics) no_traffic opens first ls c.in_ok-kept.kept.items) c.in_ok-handed.ensures
+          ∙ ap (λ (is : List Item). desk (empty_book ∷ []) (map line_of config.statics) no_traffic opens first (map (λ n. none_handed) (range_with_len 0 config.shards)) is) c.in_ok-kept.ensures.0;
     }
 
 pub shards-requires-clause-circuits : goal.shards-requires-clause-circuits

@@ -1,15 +1,17 @@
 use Rattle.std.proofs.Common.{◌≡◌, ℕ, ◌+◌, ◌*◌, List, [], ◌∷◌, ◌++◌, map, sym, ap, subst, ◌∙◌, arith}
-use Rattle.bng_base.specs.declared.book.Book.{Book}
 use Rattle.bng_shard.specs.declared.sums.Traffic.{Traffic}
 use Rattle.bng_desk.specs.declared.line.Line.{Line}
 use Rattle.bng_desk.specs.Kept.{octets_most, rested}
-use Rattle.bng_desk.specs.Model.{Desk, carried_on, all_carried, total_of}
+use Rattle.bng_desk.specs.declared.sums.Totals.{Totals}
+use Rattle.bng_desk.specs.Model.{Desk, carried_on, all_carried, live_of, plus_traffic, total_of, totals_of, traffic_by}
 use Rattle.bng_desk.specs.Report.{by_number, report_text}
 use Rattle.bng_desk.proofs.Readying.{Shards}
-use Rattle.bng_desk.proofs.Resting.{all_carried_rested}
+use Rattle.bng_desk.proofs.InAll.{told_sum}
+use Rattle.bng_desk.proofs.Resting.{all_carried_rested, live_rested}
 use Rattle.bng_desk.specs.Taking.{LinesWithin, far}
 use Rattle.bng_desk.proofs.Tallied.{lines_far}
 use Rattle.bng_desk.proofs.desk.Desk.report.Goals as goal
+use Rattle.bng_desk.proofs.desk.Desk.report.Goals.{After-as_slice}
 
 pub all_carried-requires : goal.all_carried-requires
 all_carried-requires c =
@@ -21,24 +23,43 @@ all_carried-requires c =
           (lines_far (octets_most * (inside.turns + inside.endings)) inside.works.tally inside.works.shards.items inside.works.accounts.lines (omega (arith, was.made, was.most, was.endings)) (was.tallies 0 (omega arith)) was.tallied));
     }
 
--- the sum of one tally is that tally
-one_total : (b : Book) → (let t : Traffic = record { input = b.input; output = b.output } in t) ≡ total_of (b ∷ [])
-one_total b =
-    let with = λ (m n : ℕ). let t : Traffic = record { input = m; output = n } in t in
-    ap (λ (n : ℕ). with n b.output) (let e : b.input ≡ 0 + b.input = omega arith in e) ∙ ap (λ (n : ℕ). with (0 + b.input) n) (let e : b.output ≡ 0 + b.output = omega arith in e)
+-- the total of what the Stops and the terms that are left carried is that of the tally
+module _ (c : After-as_slice) where
+  adds_up : plus_traffic c.args.self.now.stopped_traffic (live_of c.args.self.now.shards) ≡ total_of c.args.self.now.tallies
+  adds_up =
+      let inside = c.self.inside in
+      let vs = inside.works.shards.items in
+      subst (λ (d : Desk). plus_traffic d.stopped_traffic (live_of d.shards) ≡ total_of d.tallies) c.self.view_is
+      (ap (plus_traffic inside.works.accounts.stopped) (live_rested vs) ∙ told_sum inside.works.tally vs inside.works.accounts.stopped c.self.invariant.0.adds_up)
+
+pub returns-in_default-clause-adds_up : goal.returns-in_default-clause-adds_up
+returns-in_default-clause-adds_up c = adds_up (goal.at.returns-in_default-clause-adds_up c).After-as_slice
+
+pub returns-in_default-report-clause-adds_up : goal.returns-in_default-report-clause-adds_up
+returns-in_default-report-clause-adds_up c = adds_up (goal.at.returns-in_default-report-clause-adds_up c).After-as_slice
+
+pub returns-in-Ok-extend_from_slice-clause-adds_up : goal.returns-in-Ok-extend_from_slice-clause-adds_up
+returns-in-Ok-extend_from_slice-clause-adds_up c = adds_up (goal.at.returns-in-Ok-extend_from_slice-clause-adds_up c).After-as_slice
+
+pub returns-clause-adds_up : goal.returns-clause-adds_up
+returns-clause-adds_up c = adds_up (goal.at.returns-clause-adds_up c).After-as_slice
 
 pub returns-in-Ok-extend_from_slice-clause-appended : goal.returns-in-Ok-extend_from_slice-clause-appended
 returns-in-Ok-extend_from_slice-clause-appended c =
     let vs = c.self.inside.works.shards.items in
     let lines = c.self.inside.works.accounts.lines in
-    let total : Traffic = record { input = c.self.inside.works.tally.input; output = c.self.inside.works.tally.output } in
-    let all : total ≡ total_of (c.self.inside.works.tally ∷ []) = one_total c.self.inside.works.tally in
-    let text = λ (t : Traffic) (ls : List Line) (ts : List Traffic) (ds : List ℕ). c.args.out.now.items ++ report_text t ls ts ds in
-    let traffic : c.as_slice-2.result.now ≡ map (carried_on (map rested vs)) lines =
+    let seen = c.args.self.now in
+    let carried : c.as_slice-2.result.now ≡ map (carried_on (map rested vs)) lines =
     c.as_slice-2.ensures.value ∙ c.in-Ok.ensures ∙ ap (λ (xs : Shards). map (carried_on xs) c.lines-lines.result.now) c.as_slice.ensures.value ∙ ap (λ (ls : List Line). map (carried_on vs) ls) c.lines-lines.ensures ∙ all_carried_rested vs lines in
-    subst (λ (d : Desk). c.extend_from_slice.new.self.items ≡ c.args.out.now.items ++ report_text (total_of d.tallies) d.lines (all_carried d) (by_number d.drops)) c.self.view_is
-    (c.in-Ok-extend_from_slice.ensures.items ∙ ap (λ (bs : List ℕ). c.args.out.now.items ++ bs) (c.as_bytes.ensures.value ∙ c.in-Ok-report.ensures)
-    ∙ ap (λ (ls : List Line). text total ls c.as_slice-2.result.now c.by_number-drops.result) c.lines-lines.ensures
-    ∙ ap (λ (ts : List Traffic). text total lines ts c.by_number-drops.result) traffic
-    ∙ ap (λ (ds : List ℕ). text total lines (map (carried_on (map rested vs)) lines) ds) c.by_number-drops.ensures
-    ∙ ap (λ (t : Traffic). text t lines (map (carried_on (map rested vs)) lines) (by_number c.self.inside.works.drops)) all)
+    let all : c.as_slice-2.result.now ≡ all_carried seen = carried ∙ ap (λ (d : Desk). all_carried d) c.self.view_is in
+    let named : c.lines-lines.result.now ≡ seen.lines = c.lines-lines.ensures ∙ ap (λ (d : Desk). d.lines) c.self.view_is in
+    let dropped : c.by_number-drops.result ≡ by_number seen.drops = c.by_number-drops.ensures ∙ ap (λ (d : Desk). by_number d.drops) c.self.view_is in
+    let one = λ (t : Traffic). let ts : List Traffic = t ∷ [] in ts in
+    let passed : one c.passed_by.result ≡ map traffic_by seen.tallies = ap one c.passed_by.ensures ∙ ap (λ (d : Desk). map traffic_by d.tallies) c.self.view_is in
+    let text = λ (t : Totals) (ws : List Traffic) (ls : List Line) (ts : List Traffic) (ds : List ℕ). c.args.out.now.items ++ report_text t ws ls ts ds in
+    c.in-Ok-extend_from_slice.ensures.items ∙ ap (λ (bs : List ℕ). c.args.out.now.items ++ bs) (c.as_bytes.ensures.value ∙ c.in-Ok-report.ensures)
+    ∙ ap (λ (t : Totals). text t (one c.passed_by.result) c.lines-lines.result.now c.as_slice-2.result.now c.by_number-drops.result) c.totals-totals.ensures.totals
+    ∙ ap (λ (ws : List Traffic). text (totals_of seen) ws c.lines-lines.result.now c.as_slice-2.result.now c.by_number-drops.result) passed
+    ∙ ap (λ (ls : List Line). text (totals_of seen) (map traffic_by seen.tallies) ls c.as_slice-2.result.now c.by_number-drops.result) named
+    ∙ ap (λ (ts : List Traffic). text (totals_of seen) (map traffic_by seen.tallies) seen.lines ts c.by_number-drops.result) all
+    ∙ ap (λ (ds : List ℕ). text (totals_of seen) (map traffic_by seen.tallies) seen.lines (all_carried seen) ds) dropped

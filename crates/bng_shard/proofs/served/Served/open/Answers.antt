@@ -1,10 +1,14 @@
-use Rattle.std.proofs.Common.{rules, ◌≡◌, ◌∙◌, ℕ, ◌+◌, ◌-◌, ◌*◌, ◌≤◌, List, [], Some, sym, ap, subst, refl, arith, length}
+use Rattle.std.proofs.Common.{rules, ◌≡◌, ◌∙◌, ℕ, ◌+◌, ◌-◌, ◌*◌, ◌^◌, ◌≤◌, ◌<◌, List, [], Some, replicate, sym, ap, subst, refl, arith, length}
+use Rattle.std.specs.List.{All}
+use Rattle.std.proofs.lemmas.List.{length-replicate}
+use Rattle.std.proofs.lemmas.List.Elements.{All-replicate}
 use Rattle.bng_base.specs.declared.address.SessionNo.{SessionNo}
 use Rattle.bng_slots.specs.Sessions.{NoneShares, with_value}
 use Rattle.bng_shard.specs.declared.session.Session.{Session}
 use Rattle.bng_shard.specs.Indexed.{address_of, term_of}
+use Rattle.bng_shard.specs.Opening.{none_passed}
 use Rattle.bng_shard.specs.Serving.{AreAsking, AreLeaving, AreYoung, asks, is_young}
-use Rattle.bng_shard.specs.State.{State, circuit_of, leaves}
+use Rattle.bng_shard.specs.State.{circuit_of, leaves}
 use Rattle.bng_shard.proofs.Circuits.{Opens, at, few_begun, opened_apart, opened_is, opened_leased, opened_listed, opened_none, opened_of_shard, opened_own, opens_none, opens_pass, opens_put, shares_address, shares_circuit, shares_term, vacant_there}
 use Rattle.bng_shard.proofs.served.Served.open.Goals as goal
 use Rattle.bng_shard.proofs.served.Served.open.Goals.{in-Some, in_default-circuit_with}
@@ -72,6 +76,7 @@ invariant_of-result c =
     let asking_room = c.in_ok-asking.ensures.capacity in
     let none_young = c.in_ok-young.ensures.items in
     let young_room = c.in_ok-young.ensures.capacity in
+    let zeros : c.in_ok-passed.passed.items ≡ none_passed = c.in_ok-passed.ensures.items_if_clones_equal (λ y same. same) ∙ ap (λ (n : ℕ). replicate n 0) c.from.ensures in
     record {
       own = opened_own c.args.number c.args.circuits.now c.loop-n.sessions c.loop-n.begun opens;
       of_shard = opened_of_shard c.args.number c.args.circuits.now c.loop-n.sessions c.loop-n.begun opens;
@@ -86,10 +91,14 @@ invariant_of-result c =
       young = subst (λ (ns : List SessionNo). AreYoung c.loop-n.sessions ns) (sym none_young) (opened_listed c.args.number c.args.circuits.now c.loop-n.sessions c.loop-n.begun opens is_young (λ k serial. refl));
       young_counted = opened_none c.args.number c.args.circuits.now c.loop-n.sessions c.loop-n.begun opens is_young (λ k serial. refl) ∙ sym (ap (λ (ns : List SessionNo). length ns) none_young);
       young_room = omega (arith, young_room);
+      passed = ap (λ (moments : List ℕ). length moments) zeros ∙ length-replicate {A = ℕ} 1024 0;
+      passed_low = subst (All (λ moment. moment < 2 ^ 60)) (sym zeros) (All-replicate (λ moment. moment < 2 ^ 60) 1024 0 (omega arith));
     }
 
 pub returns : goal.returns
 returns c =
     let all : c.loop-n.n - (c.args.number * 1024 + 1) ≡ 1022 = search rules in
     let opens = subst (λ (k : ℕ). Opens c.args.number c.args.circuits.now k c.loop-n.sessions c.loop-n.begun) all c.loop-n.invariant in
-    record { opened = ap (λ (s : State). let t : State = record s { terms = [] } in t) (opened_is c.args.number c.args.circuits.now c.loop-n.sessions c.loop-n.begun opens 0 c.requires.own) }
+    let zeros : c.in_ok-passed.passed.items ≡ none_passed = c.in_ok-passed.ensures.items_if_clones_equal (λ y same. same) ∙ ap (λ (n : ℕ). replicate n 0) c.from.ensures in
+    let opened = opened_is c.args.number c.args.circuits.now c.loop-n.sessions c.loop-n.begun opens 0 c.requires.own in
+    record { opened = λ i. record { sessions = (opened i).sessions; begun = (opened i).begun; asked = (opened i).asked; terms = []; news = (opened i).news; passed = zeros i } }

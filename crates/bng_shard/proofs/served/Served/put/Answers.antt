@@ -75,4 +75,6 @@ invariant_of-self c =
           (subst (λ (t : Sessions Session). AreYoung t (with_listed is_young x youths)) (sym put) (listed_put is_young s x youths is.young vacant));
       young_counted = ap (passing_in is_young) put ∙ counted_put is_young s x youths is.young vacant is.young_counted ∙ ap (λ (ns : List SessionNo). length ns) (sym c.list_young.ensures.items);
       young_room = omega (arith, young_wide, young_same);
+      passed = is.passed;
+      passed_low = is.passed_low;
     }

@@ -21,6 +21,9 @@ loop-number-init c =
       leased = is.leased;
       begun = refl;
       asked = refl;
+      passed = refl;
+      moments = is.passed;
+      moments_low = is.passed_low;
       room = is.room;
       asking = is.asking;
       asking_counted = is.asking_counted;
@@ -47,6 +50,9 @@ loop-number-preserved c =
       leased = was.leased;
       begun = was.begun;
       asked = was.asked;
+      passed = was.passed;
+      moments = was.moments;
+      moments_low = was.moments_low;
       room = omega (arith, room, same_room);
       asking = was.asking;
       asking_counted = was.asking_counted;
@@ -83,6 +89,8 @@ invariant_of-self c =
       young = listed_left is_young leaves_young s0 s c.loop-number.self-inside.young.items h.left was.young;
       young_counted = ap (passing_in is_young) (settles_all s0 s h) ∙ passing_settled is_young leaves_young s0 ∙ was.young_counted;
       young_room = was.young_room;
+      passed = was.moments;
+      passed_low = was.moments_low;
     }
 
 pub returns : goal.returns
@@ -96,6 +104,7 @@ returns c =
     let all = settles_all s0 s h in
     let begun = was.begun in
     let asked = was.asked in
+    let passed = was.passed in
     let terms = ap (λ (t : State). t.terms) c.self.view_is in
     let news = ap (λ (t : State). t.news) c.self.view_is in
-    λ i. record { sessions = all i; begun = begun i; asked = asked i; terms = terms i; news = news i }
+    λ i. record { sessions = all i; begun = begun i; asked = asked i; terms = terms i; news = news i; passed = passed i }

@@ -1,4 +1,5 @@
-use Rattle.std.proofs.Common.{◌≡◌, ◌<◌, length, vec_capacity}
+use Rattle.std.proofs.Common.{◌≡◌, ◌<◌, ◌^◌, length, vec_capacity}
+use Rattle.std.specs.List.{All}
 use Rattle.bng_shard.specs.Listing.{passing_in}
 use Rattle.bng_shard.specs.Serving.{AreApart, AreLeased, AreAsking, AreOfShard, AreOwn, AreYoung, asks, is_young}
 use Rattle.bng_shard.proofs.Settling.{Settles}
@@ -13,6 +14,9 @@ invariant-loop-number l = record {
   leased : AreLeased l.fn.self.sessions;
   begun : l.self-inside.begun ≡ l.fn.self.begun;
   asked : l.self-inside.asked ≡ l.fn.self.asked;
+  passed : l.self-inside.passed.items ≡ l.fn.self.passed;
+  moments : length l.self-inside.passed.items ≡ 1024;
+  moments_low : All (λ moment. moment < 2 ^ 60) l.self-inside.passed.items;
   room : 1022 < vec_capacity l.self-inside.leaving;
   asking : AreAsking l.fn.self.sessions l.self-inside.asking.items;
   asking_counted : passing_in asks l.fn.self.sessions ≡ length l.self-inside.asking.items;

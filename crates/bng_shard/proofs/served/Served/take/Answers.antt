@@ -49,6 +49,8 @@ invariant_of-self c =
           (subst (λ (t : Sessions Session). AreYoung t (without_listed is_young y youths)) (sym gone) (listed_take is_young s y youths is.young there));
       young_counted = ap (passing_in is_young) gone ∙ counted_take is_young s y youths is.young there is.young_counted ∙ ap (λ (ns : List SessionNo). length ns) (sym c.unlist_young.ensures.items);
       young_room = omega (arith, young_wide, young_same);
+      passed = is.passed;
+      passed_low = is.passed_low;
     }
 
 pub returns-clause-apart : goal.returns-clause-apart

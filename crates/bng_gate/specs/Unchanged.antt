@@ -1,0 +1,66 @@
+-- What is sent of packets is what was taken: nothing is invented, doubled, put into another order, or changed but for what forwarding
+-- changes.
+use Rattle.std.specs.Prelude.{◌≡◌, ◌⊎◌, ℕ, Bool, false, List, [], ◌∷◌, filter, drop}
+use Rattle.std.specs.Option.{option_map_or}
+use Rattle.bng_base.specs.declared.address.Ip4.{Ip4}
+use Rattle.bng_base.specs.declared.address.Peer.{Peer}
+use Rattle.bng_base.specs.declared.ipv4.Ipv4.{Ipv4}
+use Rattle.bng_base.specs.declared.outside.Datagram.{Datagram}
+use Rattle.bng_base.specs.declared.outside.Role.TheVariants.{Access, Core}
+use Rattle.bng_base.specs.declared.settings.AccessPort.{AccessPort}
+use Rattle.bng_base.specs.FateOf.{Arrival}
+use Rattle.bng_base.specs.PppoeGrammar.{PppoeFrame}
+use Rattle.bng_config.specs.declared.config.Config.{Config}
+use Rattle.bng_engine.specs.Wire.{is_from, is_to}
+use Rattle.bng_forward.specs.Fates.{Carries, IsCorePacket, IsFrame}
+use Rattle.bng_forward.specs.Packets.{IsPassedOn}
+use Rattle.bng_shard.specs.Reader.{pppoe_reader}
+
+-- Each of the second list comes of one of the first by this relation, each of another one, and in the order of these.
+abbrev pub Arises : {X Y : Type 0} → (X → Y → Type 0) → List X → List Y → Type 0
+Arises R [] ys = ys ≡ []
+Arises R (x ∷ xs) [] = Unit {0}
+Arises R (x ∷ xs) (y ∷ ys) = Arises R xs (y ∷ ys) ⊎ (R x y × Arises R xs ys)
+
+-- a datagram that came whole
+abbrev pub arrival_from : Datagram → Arrival
+arrival_from d = record { from = d.peer; cut = false; octets = d.octets }
+
+-- The datagram that was taken is a frame of the session stage for one of these access ports, with an IPv4 packet from this address (RFC
+-- 2516 section 6), and the one that was sent is that packet at the core: its TTL is one lower, its header checksum is computed again, and
+-- what stood past its total length is gone (RFC 791 section 3.1).
+pub record IsPassedUp (ports : List AccessPort) (address : Ip4) (taken sent : Datagram) : Type 0 where
+  pub port : ℕ
+  pub came : taken.role ≡ Access port
+  pub frame : PppoeFrame
+  pub is_frame : IsFrame ports port (arrival_from taken) frame
+  pub info : List ℕ
+  pub carries : Carries frame info
+  pub header : Ipv4
+  pub source : header.src ≡ address
+  pub went : sent.role ≡ Core
+  pub packet : IsPassedOn header info sent.octets
+
+-- The datagram that was taken is a packet of the core to this address, and the one that was sent has that packet after 22 octets, on an
+-- access port: changed in the same way.
+pub record IsPassedDown (core : Peer) (address : Ip4) (taken sent : Datagram) : Type 0 where
+  pub came : taken.role ≡ Core
+  pub header : Ipv4
+  pub is_packet : IsCorePacket core (arrival_from taken) header
+  pub destination : header.dst ≡ address
+  pub port : ℕ
+  pub went : sent.role ≡ Access port
+  pub packet : IsPassedOn header taken.octets (drop 22 sent.octets)
+
+-- of what was sent, the packets to the core from an address, and those on access ports to it, as anyone reads the octets
+abbrev pub sent_from : Ip4 → List Datagram → List Datagram
+sent_from address ds = filter (λ (d : Datagram). option_map_or (is_from address) (pppoe_reader d.role d.octets) false) ds
+
+abbrev pub sent_towards : Ip4 → List Datagram → List Datagram
+sent_towards address ds = filter (λ (d : Datagram). option_map_or (is_to address) (pppoe_reader d.role d.octets) false) ds
+
+-- For each address, the packets that were sent from it come, each of another one and in their order, of the frames that were taken with
+-- packets from it, and those that were sent to it of the packets that were taken to it.
+pub record NothingIsInvented (config : Config) (taken sent : List Datagram) : Type 0 where
+  pub up : (address : Ip4) → Arises (IsPassedUp config.access address) taken (sent_from address sent)
+  pub down : (address : Ip4) → Arises (IsPassedDown config.core_peer address) taken (sent_towards address sent)

@@ -1,0 +1,17 @@
+use Rattle.std.proofs.Common.{◌∙◌, ap, arith, length, length-append, Option}
+use Rattle.bng_shard.specs.declared.session.Lease.{Lease}
+use Rattle.bng_shard.specs.Running.{TermsView, closed_rows}
+use Rattle.bng_shard.proofs.FewOuts.{drives_by_timer}
+use Rattle.bng_shard.proofs.timers.remind.Goals as goal
+
+pub returns-clause-driven : goal.returns-clause-driven
+returns-clause-driven c =
+    let t = c.args.terms.now in
+    (c.drive-asked.result.1, c.drive-asked.ensures.driven, c.close.ensures ∙ ap (λ (l : Option Lease). let u : TermsView = record t { rows = closed_rows l c.drive-asked.result.1 t.rows } in u) c.lease-lease.ensures)
+
+pub returns-clause-few : goal.returns-clause-few
+returns-clause-few c =
+    let d = c.drive-asked.ensures.driven in
+    let most = drives_by_timer c.args.rules.now c.args.at c.args.now c.args.random.now c.args.asked c.args.session.now d.more c.drive-asked.result.1 c.drive-asked.new.session c.drive-asked.result.0 d.drives in
+    let all = length-append c.args.outs.now.items d.more in
+    omega (arith, most, all, ap length d.outs_are)

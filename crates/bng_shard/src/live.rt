@@ -1,0 +1,19 @@
+//! What the terms of a shard that have no Stop yet carried, in all.
+ghost use Rattle.std.specs.Prelude.{◌≡◌, ◌<◌, ◌^◌};
+ghost use Rattle.bng_shard.specs.Live.{live_in};
+ghost use Rattle.bng_shard.specs.Running.{rows_in};
+
+use crate::sums::Traffic;
+use crate::terms::Running;
+
+/// The octets of all these rows together, in each direction.
+pub(crate) fn live(rows: &[Running]) -> Traffic
+    requires input { (live_in (rows_in rows.now)).input < 2 ^ 64 }
+    requires output { (live_in (rows_in rows.now)).output < 2 ^ 64 }
+    ensures { result ≡ live_in (rows_in rows.now) }
+{
+    Traffic {
+        input: rows.iter().map(|row| row.carried.input).sum(),
+        output: rows.iter().map(|row| row.carried.output).sum(),
+    }
+}
