@@ -201,6 +201,34 @@ fn records(rt: &impl Abort, alloc: Global, ended: &Ended, wanted: &[&str]) -> Re
     Ok(())
 }
 
+/// What a run sent to the host and to the core: until the packets went both ways, then this last PPP frame, and a PADT at the stop.
+fn sends_of_visit(
+    rt: &impl Abort,
+    alloc: Global,
+    ended: &Ended,
+    last: &[u8],
+) -> Result<(), Fail> {
+    let passed = framed(alloc, &TO_HOST, PASSED)?;
+    let own = framed(alloc, &TO_HOST, OWN_ADDRESS)?;
+    let to_be = framed(alloc, &TO_HOST, TO_BE)?;
+    let gets = framed(alloc, &TO_HOST, GETS)?;
+    let down = framed(alloc, &TO_HOST, DOWN)?;
+    let last = framed(alloc, &TO_HOST, last)?;
+    let port = Role::Access(1);
+    let rest: [(Role, u16, &[u8]); 9] = [
+        (port, 9011, passed.as_slice()),
+        (port, 9011, own.as_slice()),
+        (port, 9011, to_be.as_slice()),
+        (port, 9011, gets.as_slice()),
+        (Role::Core, 9001, UP),
+        (port, 9011, down.as_slice()),
+        (port, 9011, last.as_slice()),
+        (Role::Control, 5, b"stopping\n"),
+        (port, 9011, &PADT),
+    ];
+    sends_after(rt, alloc, ended, 0, &rest)
+}
+
 #[test]
 fn a_subscriber_logs_in_and_is_accounted_for(rt: HostRuntime) -> Result<(), Fail> {
     let alloc = rt.alloc();
@@ -210,25 +238,7 @@ fn a_subscriber_logs_in_and_is_accounted_for(rt: HostRuntime) -> Result<(), Fail
         ended.out.text(),
         b"stopped in=40 out=28\nlive in=0 out=0\ntotal in=40 out=28\nworker 0 in=40 out=28\ndrop Malformed 0\ndrop NoSession 0\ndrop NotOpen 0\ndrop Expired 0\ndrop Spoofed 0\ndrop TooBig 0\ndrop Exceeded 0\ndrop LinkFailed 0\ndrop WantOfMemory 0\n".as_slice()
     );
-    let passed = framed(alloc, &TO_HOST, PASSED)?;
-    let own = framed(alloc, &TO_HOST, OWN_ADDRESS)?;
-    let to_be = framed(alloc, &TO_HOST, TO_BE)?;
-    let gets = framed(alloc, &TO_HOST, GETS)?;
-    let down = framed(alloc, &TO_HOST, DOWN)?;
-    let left = framed(alloc, &TO_HOST, LEFT)?;
-    let port = Role::Access(1);
-    let rest: [(Role, u16, &[u8]); 9] = [
-        (port, 9011, passed.as_slice()),
-        (port, 9011, own.as_slice()),
-        (port, 9011, to_be.as_slice()),
-        (port, 9011, gets.as_slice()),
-        (Role::Core, 9001, UP),
-        (port, 9011, down.as_slice()),
-        (port, 9011, left.as_slice()),
-        (Role::Control, 5, b"stopping\n"),
-        (port, 9011, &PADT),
-    ];
-    sends_after(&rt, alloc, &ended, 0, &rest)?;
+    sends_of_visit(&rt, alloc, &ended, LEFT)?;
     records(&rt, alloc, &ended, &[START, STOP])
 }
 
@@ -244,25 +254,7 @@ fn silence(alloc: Global) -> Result<Vec<Arrival>, Fail> {
 fn a_subscriber_who_is_silent_is_logged_out(rt: HostRuntime) -> Result<(), Fail> {
     let alloc = rt.alloc();
     let ended = run_in(&rt, alloc, PAP, silence(alloc)?, 1000)?;
-    let passed = framed(alloc, &TO_HOST, PASSED)?;
-    let own = framed(alloc, &TO_HOST, OWN_ADDRESS)?;
-    let to_be = framed(alloc, &TO_HOST, TO_BE)?;
-    let gets = framed(alloc, &TO_HOST, GETS)?;
-    let down = framed(alloc, &TO_HOST, DOWN)?;
-    let closed = framed(alloc, &TO_HOST, TERMINATE)?;
-    let port = Role::Access(1);
-    let rest: [(Role, u16, &[u8]); 9] = [
-        (port, 9011, passed.as_slice()),
-        (port, 9011, own.as_slice()),
-        (port, 9011, to_be.as_slice()),
-        (port, 9011, gets.as_slice()),
-        (Role::Core, 9001, UP),
-        (port, 9011, down.as_slice()),
-        (port, 9011, closed.as_slice()),
-        (Role::Control, 5, b"stopping\n"),
-        (port, 9011, &PADT),
-    ];
-    sends_after(&rt, alloc, &ended, 0, &rest)?;
+    sends_of_visit(&rt, alloc, &ended, TERMINATE)?;
     records(&rt, alloc, &ended, &[START, IDLE_STOP])
 }
 
