@@ -12,13 +12,13 @@ use Rattle.bng_config.specs.declared.config.Config.{Config}
 use Rattle.bng_config.specs.Configuration.{IsRead}
 use Rattle.bng_config.specs.Rules.{KeepsRules}
 use Rattle.bng_config.proofs.Kept.{read_keeps}
-use Rattle.bng_engine.specs.Accounted.{Accounted, opening as nothing_yet}
+use Rattle.bng_engine.specs.Accounted.{Accounted, nothing_yet as new_history, opening as nothing_yet}
 use Rattle.bng_engine.specs.Histories.{History, ShardTurn, Run as Rounds}
 use Rattle.bng_engine.specs.Laws.{Opens, RunFrom, RowsAccountOnWire, sends_of, stops_of}
 use Rattle.bng_engine.specs.Quantities.{Quantity, Octets, empty_book}
 use Rattle.bng_engine.specs.Sums.{is_any}
 use Rattle.bng_engine.specs.Terms.{Key}
-use Rattle.bng_engine.specs.Views.{DeskView, rows_where}
+use Rattle.bng_engine.specs.Views.{DeskView, ShardView, rows_where}
 use Rattle.bng_engine.specs.Wire.{went}
 use Rattle.bng_engine.proofs.Openings.{refused_keeps, opening_accounted}
 use Rattle.bng_engine.proofs.Runs.{rounds_are_right, run_conserves_at, turns_go_on, rows_account_on_wire}
@@ -43,6 +43,7 @@ use Rattle.bng_gate.specs.Replied.{AreReplied}
 use Rattle.bng_gate.specs.Unanswered.{unanswered_of, NamesStops}
 use Rattle.bng_gate.specs.Headline.{AreStopped, HaveTerms, calls_in_run, Headline, IsSafe, IsQuiet, StopsAccount, WasSafe, all_terms_of, all_traffic, terms_of_run, total_in, totals_in}
 use Rattle.bng_gate.specs.Rounds.{rounds_in, rounds_of, plant_of, on_data, drops_of_run}
+use Rattle.bng_gate.specs.Unchanged.{NothingIsInvented}
 use Rattle.bng_gate.specs.Run.{World, turns_most, outside, Prepares, Course, Runs, report_of, IsReady, IsUntouched, WantsToServe, Why, IsUnwritten, RunEnds}
 use Rattle.bng_gate.proofs.AddressedLive.{live_addressed}
 use Rattle.bng_gate.proofs.Addressing.{all_addressed}
@@ -50,6 +51,7 @@ use Rattle.bng_gate.proofs.Agreed.{agreed}
 use Rattle.bng_gate.proofs.Drops.{all_dropped}
 use Rattle.bng_gate.proofs.Follows.{Follows, run_follows}
 use Rattle.bng_gate.proofs.Going.{Leads, stands_itself, rounds_lead}
+use Rattle.bng_gate.proofs.Invented.{nothing_invented, opened_rules, HaveRules}
 use Rattle.bng_gate.proofs.Keys.{IsOurs}
 use Rattle.bng_gate.proofs.Leaving.{HasNoRows, HasNoTerms, IsEmpty, all_stopped, ended_empty, rows_gone, rows_say_none, terms_gone}
 use Rattle.bng_gate.proofs.Lines.{lines_gone, one_worker, report_told, stopped_gone, tallies_gone}
@@ -122,6 +124,17 @@ module _ (text : List ℕ) (config : Config) (read : IsRead text config) (seed :
   ours : AllByRecursion (IsOurs (Contains (all_terms_of config rounds))) (sends_of rounds)
   ours = sends_ours (nothing_yet start) goes.0 rounds (terms_of_run config rounds) goes.1 terms accounted.fine.sound
 
+  -- the shards work by the rules of the configuration, which they had at the opening
+  have_rules : HaveRules r (nothing_yet start).shards
+  have_rules = subst (λ (vs : List (ShardView ShardState Handled)). HaveRules r (map new_history vs)) (sym shards_are) (opened_rules config r now)
+
+  invented : NothingIsInvented config (plant_of course.turns course.endings).taken (plant_of course.turns course.endings).sent
+  invented =
+      nothing_invented config r course.begins.is_opened.are_rules.access course.begins.is_opened.are_rules.core_peer course.opening course.over course.last course.turns course.endings course.run course.ending
+      (ap (λ (d : Desk). d.kept) course.begins.is_opened.desk) have_rules goes.0 (rounds_are_right pppoe pppoe_laws start rounds goes.0 run_from)
+      (plant_of course.turns course.endings).taken (plant_of course.turns course.endings).sent
+      (taken_are course.opening course.over course.turns course.endings course.run) (sent_are course.turns course.endings)
+
   lines : course.last.lines ≡ map (line_after (stops_of rounds)) (map line_of config.statics)
   lines = lines_gone course.opening course.last (rounds_in course.turns course.endings) follows ∙ ap (λ (d : Desk). map (line_after (stops_of rounds)) d.lines) course.begins.is_opened.desk
 
@@ -169,6 +182,7 @@ module _ (text : List ℕ) (config : Config) (read : IsRead text config) (seed :
     balanced = balanced pppoe end goes.0 accounted;
     addressed = all_addressed (all_terms_of config rounds) sent (sends_of rounds) sends ours;
     addressed_live = live_addressed start goes.0 rounds start_opens.new goes.1;
+    invented_nothing = invented;
     stages_heard = stages_heard course.opening course.over course.turns course.endings course.run;
     stages_acknowledged = stages_acknowledged course.opening course.over course.turns course.endings course.run;
     stages_taken = stages_taken course.opening course.over course.turns course.endings course.run;

@@ -51,4 +51,8 @@ pub mod Addressing
 pub mod AddressedLive
 pub mod Traffic
 pub mod Drops
+pub mod Arising
+pub mod Passing
+pub mod PassingOn
+pub mod Invented
 pub mod Headlines

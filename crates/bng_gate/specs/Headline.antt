@@ -47,6 +47,7 @@ use Rattle.bng_gate.specs.Replied.{AreReplied}
 use Rattle.bng_gate.specs.Rounds.{rounds_of, history_of, plant_of, on_auth, on_data, on_acct, beside_control, readings_of, requests_of, records_of, is_unsent, drops_of_run}
 use Rattle.bng_gate.specs.Run.{World, outside, Prepares, Course, Runs}
 use Rattle.bng_gate.specs.Unanswered.{NamesStops}
+use Rattle.bng_gate.specs.Unchanged.{NothingIsInvented}
 
 -- the octets are an IPv4 packet of which this holds, and nothing else
 pub record IsWhole (Holds : Ipv4 → Type 0) (octets : List ℕ) : Type 0 where
@@ -192,6 +193,9 @@ pub record IsSafe (config : Config) (seed : List ℕ) (old new : World) (course 
   pub addressed : All (IsAddressed (all_terms_of config (rounds_of course.turns course.endings))) sent
   -- And that term was live when its round was opened, or began in that round: so it is of each round's sends that were sent.
   pub addressed_live : Chain AddressesLive (history_of course.opening) (rounds_of course.turns course.endings) history
+  -- No packet was invented, doubled or put into another order: for each address the packets that were sent from it and to it come of the
+  -- datagrams that were taken, each of another one and in their order, and nothing of a packet changed but what forwarding changes.
+  pub invented_nothing : NothingIsInvented config taken sent
   -- What was taken from Auth, each datagram once and in order, are the datagrams that the stages of the turns heard, and so what was taken
   -- from Acct, and what was taken from the access ports and the core, those that they took there. What was sent on all roles but
   -- Control, each datagram once and in order, is what each stage sent there for its round, then its requests, and then its

@@ -9,4 +9,5 @@ pub mod Unanswered
 pub mod Run
 pub mod Rounds
 pub mod Recorded
+pub mod Unchanged
 pub mod Headline

@@ -1,8 +1,9 @@
 -- What is sent of packets is what was taken: nothing is invented, doubled, put into another order, or changed but for what forwarding
 -- changes.
-use Rattle.std.specs.Prelude.{◌≡◌, ◌⊎◌, ℕ, Bool, false, List, [], ◌∷◌, filter, drop}
+use Rattle.std.specs.Prelude.{◌≡◌, ◌⊎◌, ◌≤◌, ℕ, false, List, [], ◌∷◌, filter, drop}
 use Rattle.std.specs.Option.{option_map_or}
 use Rattle.bng_base.specs.declared.address.Ip4.{Ip4}
+use Rattle.bng_base.specs.declared.address.Mac.{Mac}
 use Rattle.bng_base.specs.declared.address.Peer.{Peer}
 use Rattle.bng_base.specs.declared.ipv4.Ipv4.{Ipv4}
 use Rattle.bng_base.specs.declared.outside.Datagram.{Datagram}
@@ -12,7 +13,8 @@ use Rattle.bng_base.specs.FateOf.{Arrival}
 use Rattle.bng_base.specs.PppoeGrammar.{PppoeFrame}
 use Rattle.bng_config.specs.declared.config.Config.{Config}
 use Rattle.bng_engine.specs.Wire.{is_from, is_to}
-use Rattle.bng_forward.specs.Fates.{Carries, IsCorePacket, IsFrame}
+use Rattle.bng_forward.specs.Fates.{Carries, IsCorePacket, IsFrame, IsPort}
+use Rattle.bng_forward.specs.Framed.{IsFrameTo}
 use Rattle.bng_forward.specs.Packets.{IsPassedOn}
 use Rattle.bng_shard.specs.Reader.{pppoe_reader}
 
@@ -22,14 +24,14 @@ Arises R [] ys = ys ≡ []
 Arises R (x ∷ xs) [] = Unit {0}
 Arises R (x ∷ xs) (y ∷ ys) = Arises R xs (y ∷ ys) ⊎ (R x y × Arises R xs ys)
 
--- a datagram that came whole
+-- a datagram, as one that came whole
 abbrev pub arrival_from : Datagram → Arrival
 arrival_from d = record { from = d.peer; cut = false; octets = d.octets }
 
 -- The datagram that was taken is a frame of the session stage for one of these access ports, with an IPv4 packet from this address (RFC
--- 2516 section 6), and the one that was sent is that packet at the core: its TTL is one lower, its header checksum is computed again, and
--- what stood past its total length is gone (RFC 791 section 3.1).
-pub record IsPassedUp (ports : List AccessPort) (address : Ip4) (taken sent : Datagram) : Type 0 where
+-- 2516 section 6) whose TTL is 2 or more, and the one that was sent is that packet, to the core's other end: its TTL is one lower, its
+-- header checksum is computed again, and what stood past its total length is gone (RFC 791 section 3.1).
+pub record IsPassedUp (ports : List AccessPort) (core : Peer) (address : Ip4) (taken sent : Datagram) : Type 0 where
   pub port : ℕ
   pub came : taken.role ≡ Access port
   pub frame : PppoeFrame
@@ -38,19 +40,29 @@ pub record IsPassedUp (ports : List AccessPort) (address : Ip4) (taken sent : Da
   pub carries : Carries frame info
   pub header : Ipv4
   pub source : header.src ≡ address
+  pub alive : 2 ≤ header.ttl
   pub went : sent.role ≡ Core
+  pub to : sent.peer ≡ core
   pub packet : IsPassedOn header info sent.octets
 
--- The datagram that was taken is a packet of the core to this address, and the one that was sent has that packet after 22 octets, on an
--- access port: changed in the same way.
-pub record IsPassedDown (core : Peer) (address : Ip4) (taken sent : Datagram) : Type 0 where
+-- The datagram that was taken is a packet of the core to this address, whose TTL is 2 or more, and the one that was sent has that packet
+-- after 22 octets, changed in the same way: it went to the other end of an access port, and is a frame of the session stage from that port
+-- that carries the packet and nothing after it.
+pub record IsPassedDown (ports : List AccessPort) (core : Peer) (address : Ip4) (taken sent : Datagram) : Type 0 where
   pub came : taken.role ≡ Core
   pub header : Ipv4
   pub is_packet : IsCorePacket core (arrival_from taken) header
   pub destination : header.dst ≡ address
-  pub port : ℕ
-  pub went : sent.role ≡ Access port
+  pub alive : 2 ≤ header.ttl
+  pub number : ℕ
+  pub port : AccessPort
+  pub is_port : IsPort ports number port
+  pub went : sent.role ≡ Access number
+  pub to : sent.peer ≡ port.peer
   pub packet : IsPassedOn header taken.octets (drop 22 sent.octets)
+  pub mac : Mac
+  pub session : ℕ
+  pub frame : IsFrameTo port mac session (drop 22 sent.octets) sent.octets
 
 -- of what was sent, the packets to the core from an address, and those on access ports to it, as anyone reads the octets
 abbrev pub sent_from : Ip4 → List Datagram → List Datagram
@@ -62,5 +74,5 @@ sent_towards address ds = filter (λ (d : Datagram). option_map_or (is_to addres
 -- For each address, the packets that were sent from it come, each of another one and in their order, of the frames that were taken with
 -- packets from it, and those that were sent to it of the packets that were taken to it.
 pub record NothingIsInvented (config : Config) (taken sent : List Datagram) : Type 0 where
-  pub up : (address : Ip4) → Arises (IsPassedUp config.access address) taken (sent_from address sent)
-  pub down : (address : Ip4) → Arises (IsPassedDown config.core_peer address) taken (sent_towards address sent)
+  pub up : (address : Ip4) → Arises (IsPassedUp config.access config.core_peer address) taken (sent_from address sent)
+  pub down : (address : Ip4) → Arises (IsPassedDown config.access config.core_peer address) taken (sent_towards address sent)

@@ -1,0 +1,309 @@
+-- Nothing that a run sends of packets is invented: it is what was taken.
+use Rattle.std.proofs.Common.{◌≡◌, inl, inr, ℕ, ◌+◌, Bool, true, false, cond, List, [], ◌∷◌, ◌++◌, map, filter, length, Option, Some, None, refl, sym, ap, subst, ◌∙◌}
+use Rattle.std.specs.List.{All, AllByRecursion, flat_map, range_with_len}
+use Rattle.std.specs.Option.{option_map_or}
+use Rattle.std.proofs.lemmas.Bool.{false≢true}
+use Rattle.std.proofs.lemmas.List.{append-nil}
+use Rattle.std.proofs.lemmas.List.Concat.{flat_map-append}
+use Rattle.std.proofs.lemmas.List.Elements.{All-append, All-cons, All-from_recursion, All-head, All-map, All-nil, All-tail}
+use Rattle.bng_base.specs.declared.address.Ip4.{Ip4}
+use Rattle.bng_base.specs.declared.address.Peer.{Peer}
+use Rattle.bng_base.specs.declared.item.Item.{Item}
+use Rattle.bng_base.specs.declared.item.ItemKind.{ItemKind}
+use Rattle.bng_base.specs.declared.item.ItemKind.TheVariants as kind
+use Rattle.bng_base.specs.declared.item.OutRecord.{OutRecord}
+use Rattle.bng_base.specs.declared.outside.Datagram.{Datagram}
+use Rattle.bng_base.specs.declared.outside.Role.{Role}
+use Rattle.bng_base.specs.declared.outside.Role.TheVariants.{Access, Core, Tunnel, Auth, Acct, Coa, Control}
+use Rattle.bng_base.specs.declared.settings.AccessPort.{AccessPort}
+use Rattle.bng_base.specs.Chain.{Chain}
+use Rattle.bng_base.specs.FateOf.{Arrival}
+use Rattle.bng_base.specs.Roles.{is_data}
+use Rattle.bng_config.specs.declared.config.Config.{Config}
+use Rattle.bng_engine.specs.Accounted.{nothing_yet}
+use Rattle.bng_engine.specs.Histories.{History, NextInShard, ShardHistory, ShardTurn, sends_in}
+use Rattle.bng_engine.specs.Journals.{after}
+use Rattle.bng_engine.specs.Laws.{RightRound, sends_of}
+use Rattle.bng_engine.specs.Lists.{Zip3}
+use Rattle.bng_engine.specs.Views.{ShardView, turn_in}
+use Rattle.bng_engine.specs.Wire.{WirePacket, datagram_of, is_from, is_to, went}
+use Rattle.bng_engine.proofs.Rounds.{in_shards}
+use Rattle.bng_engine.proofs.Wire.{went_append}
+use Rattle.bng_shard.specs.declared.rules.Rules.{Rules}
+use Rattle.bng_shard.specs.Deed.{Deed}
+use Rattle.bng_shard.specs.Protocol.{Handled, ShardState, opened, pppoe}
+use Rattle.bng_shard.specs.Reader.{pppoe_reader}
+use Rattle.bng_shard.specs.State.{State}
+use Rattle.bng_shard.specs.Step.{Step as ShardStep}
+use Rattle.bng_verdict.specs.declared.question.QuestionNo.{QuestionNo}
+use Rattle.bng_desk.specs.Items.{DataReading, arrived, drawn_from, ends_of, kept_of, kind_of, stays, taken_items, ticks_of}
+use Rattle.bng_desk.specs.Logins.{Answered, reply_in, reply_items, silence, timeout_items, verdict_item}
+use Rattle.bng_desk.specs.Model.{Desk}
+use Rattle.bng_desk.specs.Opening.{opened_shards, statics_of}
+use Rattle.bng_desk.specs.Random.{draw}
+use Rattle.bng_desk.specs.Reading.{taken_in}
+use Rattle.bng_desk.specs.Round.{Round, views_of}
+use Rattle.bng_desk.specs.Turn.{RoundOf, Step, Turn, data_roles, ending_items, has_end, items_of, new_items}
+use Rattle.bng_desk.proofs.ItemLaws.{all_due, all_ends}
+use Rattle.bng_desk.proofs.RulesStay.{after_rules}
+use Rattle.bng_gate.specs.Rounds.{end_round_in, history_of, on_data, readings_in, readings_of, round_in, rounds_in, rounds_of, turns_of}
+use Rattle.bng_gate.specs.Serving.{EndRun, Ends, Goes, GoesEnding, Late, LateStep, Made, MadeEnd, Run, Waits}
+use Rattle.bng_gate.specs.Unchanged.{Arises, IsPassedDown, IsPassedUp, NothingIsInvented}
+use Rattle.bng_gate.proofs.Arising.{arises_append, arises_later, arises_unfiltered}
+use Rattle.bng_gate.proofs.Passing.{datagrams_as, datagrams_in, from_it, step_down, step_up, those, to_it}
+use Rattle.bng_gate.proofs.PassingOn.{round_sends, those_append}
+use Rattle.bng_gate.proofs.Verdicts.{kept_after}
+
+-- The items of a turn ---------------------------------------------------------------------------------------------------------------
+
+-- the item is no datagram of an access port or of the core
+abbrev IsSilent : Item → Type 0
+IsSilent i = datagrams_in i ≡ []
+
+none_in : (items : List Item) → All IsSilent items → flat_map datagrams_in items ≡ []
+none_in [] all = refl
+none_in (i ∷ items) all = ap (λ (ds : List Datagram). ds ++ flat_map datagrams_in items) (All-head IsSilent i items all) ∙ none_in items (All-tail IsSilent i items all)
+
+drawn_same : (seed : List ℕ) (n : ℕ) (items : List Item) → flat_map datagrams_in (drawn_from seed n items) ≡ flat_map datagrams_in items
+drawn_same seed n [] = refl
+drawn_same seed n (i ∷ items) = ap (λ (ds : List Datagram). datagrams_in i ++ ds) (drawn_same seed (n + 1) items)
+
+-- what stays of a round
+stays_silent : (k : ItemKind) (from : Peer) (octets : List ℕ) → stays k ≡ true → datagrams_as k from octets ≡ []
+stays_silent (kind.Access number) from octets h = absurd (false≢true h)
+stays_silent kind.Core from octets h = absurd (false≢true h)
+stays_silent kind.Tunnel from octets h = refl
+stays_silent kind.Verdict from octets h = refl
+stays_silent kind.Change from octets h = refl
+stays_silent kind.Tick from octets h = refl
+stays_silent kind.End from octets h = refl
+
+kept_silent : (items : List Item) → AllByRecursion IsSilent (kept_of items)
+kept_silent [] = tt
+kept_silent (i ∷ items) = by (stays i.kind) refl (kept_silent items)
+  where
+    by : (b : Bool) → stays i.kind ≡ b → AllByRecursion IsSilent (kept_of items) → AllByRecursion IsSilent (cond b (i ∷ kept_of items) (kept_of items))
+    by true is rest = (stays_silent i.kind i.from i.frame.payload is, rest)
+    by false is rest = rest
+
+all_kept_silent : (items : List Item) → All IsSilent (kept_of items)
+all_kept_silent items = All-from_recursion IsSilent (kept_of items) (kept_silent items)
+
+replies_silent : (answers : List Answered) → flat_map datagrams_in (reply_items answers) ≡ []
+replies_silent [] = refl
+replies_silent (x ∷ answers) = flat_map-append datagrams_in (reply_in x.arrival x.found) (reply_items answers) ∙ ap (λ (ds : List Datagram). ds ++ flat_map datagrams_in (reply_items answers)) (one x.found) ∙ replies_silent answers
+  where
+    one : (found : Option QuestionNo) → flat_map datagrams_in (reply_in x.arrival found) ≡ []
+    one None = refl
+    one (Some q) = refl
+
+timeouts_silent : (timed : List QuestionNo) → flat_map datagrams_in (timeout_items timed) ≡ []
+timeouts_silent timed = none_in (timeout_items timed) (All-map IsSilent (verdict_item silence) timed (λ n d lt. refl))
+
+ticks_silent : (d : Desk) (moment : ℕ) → flat_map datagrams_in (ticks_of moment d.shards) ≡ []
+ticks_silent d moment = none_in (ticks_of moment d.shards) (all_due IsSilent (λ shard. refl) moment d.shards)
+
+ends_silent : (n : ℕ) → flat_map datagrams_in (ends_of n) ≡ []
+ends_silent n = none_in (ends_of n) (all_ends IsSilent (λ shard. refl) n)
+
+-- what was taken of a role is what its items are
+abbrev IsTold : Role → Type 0
+IsTold role = (from : Peer) (octets : List ℕ) → let d : Datagram = record { role = role; peer = from; octets = octets } in datagrams_as (kind_of role) from octets ≡ d ∷ []
+
+reading_told : (role : Role) → IsTold role → (arrivals : List Arrival) → flat_map datagrams_in (map (arrived role) arrivals) ≡ taken_in role arrivals
+reading_told role told [] = refl
+reading_told role told (a ∷ arrivals) =
+    let d : Datagram = record { role = role; peer = a.from; octets = a.octets } in
+    ap (λ (ds : List Datagram). ds ++ flat_map datagrams_in (map (arrived role) arrivals)) (told a.from a.octets) ∙ ap (λ (ds : List Datagram). d ∷ ds) (reading_told role told arrivals)
+
+abbrev taken_of : List DataReading → List Datagram
+taken_of readings = flat_map (λ r. taken_in r.role r.arrivals) readings
+
+readings_told : (readings : List DataReading) → AllByRecursion IsTold (map (λ r. r.role) readings) → flat_map datagrams_in (taken_items readings) ≡ taken_of readings
+readings_told [] told = refl
+readings_told (r ∷ readings) told =
+    flat_map-append datagrams_in (map (arrived r.role) r.arrivals) (taken_items readings)
+    ∙ ap (λ (ds : List Datagram). ds ++ flat_map datagrams_in (taken_items readings)) (reading_told r.role told.0 r.arrivals)
+    ∙ ap (λ (ds : List Datagram). taken_in r.role r.arrivals ++ ds) (readings_told readings told.1)
+
+ports_told : (ports : List ℕ) → AllByRecursion IsTold (map Access ports ++ Core ∷ [])
+ports_told [] = (λ from octets. refl, tt)
+ports_told (p ∷ ports) = (λ from octets. refl, ports_told ports)
+
+-- in a turn of serving they are what was taken, and in one of the ending there are none
+items_told : (d : Desk) (t : Turn) → All IsSilent d.kept → map (λ r. r.role) t.readings ≡ data_roles d.rules → flat_map datagrams_in (items_of d t) ≡ taken_of t.readings
+items_told d t kept roles =
+    let told : AllByRecursion IsTold (map (λ r. r.role) t.readings) = subst (AllByRecursion IsTold) (sym roles) (ports_told (range_with_len 1 (length d.rules.access))) in
+    let replies = reply_items t.answers in
+    let taken = taken_items t.readings in
+    let timed = timeout_items t.timed in
+    let ticks = ticks_of t.moment d.shards in
+    flat_map-append datagrams_in d.kept (drawn_from d.seed d.drawn (new_items d t))
+    ∙ ap (λ (ds : List Datagram). ds ++ flat_map datagrams_in (drawn_from d.seed d.drawn (new_items d t))) (none_in d.kept kept)
+    ∙ drawn_same d.seed d.drawn (new_items d t)
+    ∙ flat_map-append datagrams_in (replies ++ taken ++ timed) ticks
+    ∙ ap (λ (ds : List Datagram). flat_map datagrams_in (replies ++ taken ++ timed) ++ ds) (ticks_silent d t.moment)
+    ∙ append-nil (flat_map datagrams_in (replies ++ taken ++ timed))
+    ∙ flat_map-append datagrams_in (replies ++ taken) timed
+    ∙ ap (λ (ds : List Datagram). flat_map datagrams_in (replies ++ taken) ++ ds) (timeouts_silent t.timed)
+    ∙ append-nil (flat_map datagrams_in (replies ++ taken))
+    ∙ flat_map-append datagrams_in replies taken
+    ∙ ap (λ (ds : List Datagram). ds ++ flat_map datagrams_in taken) (replies_silent t.answers)
+    ∙ readings_told t.readings told
+
+ending_told : (d : Desk) → All IsSilent d.kept → flat_map datagrams_in (ending_items d) ≡ []
+ending_told d kept = by (has_end d.kept)
+  where
+    by : (b : Bool) → flat_map datagrams_in (cond b d.kept (d.kept ++ drawn_from d.seed d.drawn (ends_of (length d.shards)))) ≡ []
+    by true = none_in d.kept kept
+    by false =
+        flat_map-append datagrams_in d.kept (drawn_from d.seed d.drawn (ends_of (length d.shards)))
+        ∙ ap (λ (ds : List Datagram). ds ++ flat_map datagrams_in (drawn_from d.seed d.drawn (ends_of (length d.shards)))) (none_in d.kept kept)
+        ∙ drawn_same d.seed d.drawn (ends_of (length d.shards))
+        ∙ ends_silent (length d.shards)
+
+-- nothing that stays is such a datagram
+step_keeps : (d d' : Desk) (t : Option Turn) → Step d t d' → All IsSilent d.kept → All IsSilent d'.kept
+step_keeps d d' None step kept = subst (All IsSilent) (sym (ap (λ (x : Desk). x.kept) step)) kept
+step_keeps d d' (Some t) step kept =
+    subst (All IsSilent) (sym (ap (λ (x : Desk). x.kept) step.4)) (kept_after IsSilent d (items_of d t) t.round (all_kept_silent (items_of d t)))
+
+end_keeps : (d d' : Desk) (t : Late) → LateStep d t d' → All IsSilent d.kept → All IsSilent d'.kept
+end_keeps d d' (Ends None) step kept = subst (All IsSilent) (sym (ap (λ (x : Desk). x.kept) step)) kept
+end_keeps d d' (Waits t) step kept = subst (All IsSilent) (sym (ap (λ (x : Desk). x.kept) step.after)) kept
+end_keeps d d' (Ends (Some t)) step kept =
+    subst (All IsSilent) (sym (ap (λ (x : Desk). x.kept) step.4)) (kept_after IsSilent d (ending_items d) t.round (all_kept_silent (ending_items d)))
+
+-- Rounds -------------------------------------------------------------------------------------------------------------------------------
+
+-- the shards work by these rules
+abbrev pub HaveRules : Rules → List (ShardHistory ShardState) → Type 0
+HaveRules r hs = AllByRecursion (λ (h : ShardHistory ShardState). h.state.rules ≡ r) hs
+
+next_work : (r : Rules) (hs : List (ShardHistory ShardState)) (ts : List (ShardTurn Handled)) (hs' : List (ShardHistory ShardState)) → Zip3 (NextInShard pppoe) hs ts hs' → HaveRules r hs → HaveRules r hs'
+next_work r [] [] [] next rules = tt
+next_work r (h ∷ hs) (t ∷ ts) (h' ∷ hs') next rules =
+    let n = next.0 in (
+      ap (λ (s : ShardState). s.rules) n.settlement.state ∙ ap (λ (s : ShardState). s.rules) n.round.state ∙ after_rules h.state t.round.journal ∙ rules.0,
+      next_work r hs ts hs' next.1 rules.1,
+    )
+next_work r hs ts hs' next rules = absurd next
+
+-- so it is at the opening
+opened_with : (config : Config) (r : Rules) (now : ℕ) (ns : List ℕ) → HaveRules r (map nothing_yet (views_of (map (λ (n : ℕ). opened n r (statics_of config n) now) ns)))
+opened_with config r now [] = tt
+opened_with config r now (n ∷ ns) = (refl, opened_with config r now ns)
+
+pub opened_rules : (config : Config) (r : Rules) (now : ℕ) → HaveRules r (map nothing_yet (views_of (opened_shards config r now)))
+opened_rules config r now = opened_with config r now (range_with_len 0 config.shards)
+
+all_sent : (vs : List (ShardView ShardState Handled)) → sends_in (map turn_in vs) ≡ flat_map (λ v. v.sends) vs
+all_sent [] = refl
+all_sent (v ∷ vs) = ap (λ (os : List OutRecord). v.sends ++ os) (all_sent vs)
+
+module _ (a : Ip4) (test : WirePacket → Bool) (its : (w : WirePacket) → test w ≡ true → w.address ≡ a) (r : Rules) (R : Datagram → Datagram → Type 0)
+    (steps : (s : State) (limited : Bool) (d : Deed) → ShardStep r s limited d → Arises R (datagrams_in d.entry.item) (those test (map datagram_of d.outs))) where
+  -- what some rounds sent of the address
+  abbrev sent_in : List (Option Round) → List Datagram
+  sent_in rounds = those test (went (sends_of (flat_map turns_of rounds)))
+
+  one_round : (d : Desk) (moment : ℕ) (items : List Item) (round : Round) (h h' : History ShardState) → RoundOf d moment items (Some round) → RightRound pppoe h (map turn_in round.shards) h' → HaveRules r h.shards
+      → Arises R (flat_map datagrams_in items) (those test (went (sends_in (map turn_in round.shards))))
+  one_round d moment items round h h' is right rules =
+      subst (λ (os : List OutRecord). Arises R (flat_map datagrams_in items) (those test (went os))) (sym (all_sent round.shards))
+      (round_sends a test its r R steps items round.whose 0 moment h.shards round.shards h'.shards (in_shards pppoe h h' (map turn_in round.shards) right.round) rules is.dealt.parts (right.exclusive a.0))
+
+  -- a round, and those after it
+  round_then : (d : Desk) (moment : ℕ) (items : List Item) (round : Option Round) → RoundOf d moment items round → (xs : List Datagram) → flat_map datagrams_in items ≡ xs
+      → (h last : History ShardState) → HaveRules r h.shards → (later : List (Option Round)) (ds : List Datagram) → Chain (RightRound pppoe) h (flat_map turns_of (round ∷ later)) last
+      → ((mid : History ShardState) → HaveRules r mid.shards → Chain (RightRound pppoe) mid (flat_map turns_of later) last → Arises R ds (sent_in later)) → Arises R (xs ++ ds) (sent_in (round ∷ later))
+  round_then d moment items None is xs are h last rules later ds run rest = arises_later R xs ds (sent_in later) (rest h rules run)
+  round_then d moment items (Some round) is xs are h last rules later ds run rest =
+      let here = sends_in (map turn_in round.shards) in
+      let others = sends_of (flat_map turns_of later) in
+      let split : those test (went (here ++ others)) ≡ those test (went here) ++ those test (went others) = ap (those test) (went_append here others) ∙ those_append test (went here) (went others) in
+      subst (Arises R (xs ++ ds)) (sym split)
+      (arises_append R xs ds (those test (went here)) (those test (went others))
+      (subst (λ (us : List Datagram). Arises R us (those test (went here))) are (one_round d moment items round h run.0 is run.1 rules))
+      (rest run.0 (next_work r h.shards (map turn_in round.shards) run.0.shards (in_shards pppoe h run.0 (map turn_in round.shards) run.1.round) rules) run.2))
+
+  -- Turns
+  turn_then : (d d' : Desk) (t : Option Turn) → Step d t d' → All IsSilent d.kept
+      → (h last : History ShardState) → HaveRules r h.shards → (later : List (Option Round)) (ds : List Datagram) → Chain (RightRound pppoe) h (flat_map turns_of (round_in t ∷ later)) last
+      → ((mid : History ShardState) → HaveRules r mid.shards → Chain (RightRound pppoe) mid (flat_map turns_of later) last → Arises R ds (sent_in later)) → Arises R (taken_of (readings_in t) ++ ds) (sent_in (round_in t ∷ later))
+  turn_then d d' None step kept h last rules later ds run rest = rest h rules run
+  turn_then d d' (Some t) step kept h last rules later ds run rest =
+      round_then d t.moment (items_of d t) t.round step.1 (taken_of t.readings) (items_told d t kept step.0.roles) h last rules later ds run rest
+
+  end_then : (d d' : Desk) (t : Late) → LateStep d t d' → All IsSilent d.kept
+      → (h last : History ShardState) → HaveRules r h.shards → (later : List (Option Round)) → Chain (RightRound pppoe) h (flat_map turns_of (end_round_in t ∷ later)) last
+      → ((mid : History ShardState) → HaveRules r mid.shards → Chain (RightRound pppoe) mid (flat_map turns_of later) last → Arises R [] (sent_in later)) → Arises R [] (sent_in (end_round_in t ∷ later))
+  end_then d d' (Ends None) step kept h last rules later run rest = rest h rules run
+  end_then d d' (Waits t) step kept h last rules later run rest = rest h rules run
+  end_then d d' (Ends (Some t)) step kept h last rules later run rest =
+      round_then d t.moment (ending_items d) t.round step.1 [] (ending_told d kept) h last rules later [] run rest
+
+  endings_send : (d d' : Desk) (endings : List MadeEnd) → EndRun d endings d' → All IsSilent d.kept → (h last : History ShardState) → HaveRules r h.shards
+      → Chain (RightRound pppoe) h (flat_map turns_of (map (λ m. end_round_in m.turn) endings)) last → Arises R [] (sent_in (map (λ m. end_round_in m.turn) endings))
+  endings_send d d' [] goes kept h last rules run = refl
+  endings_send d d' (m ∷ endings) goes kept h last rules run =
+      end_then d goes.0 m.turn goes.1.1 kept h last rules (map (λ (x : MadeEnd). end_round_in x.turn) endings) run
+      (λ mid work more. endings_send goes.0 d' endings goes.2 (end_keeps d goes.0 m.turn goes.1.1 kept) mid last work more)
+
+  module _ (over end : Desk) (endings : List MadeEnd) (ending : EndRun over endings end) where
+    turns_send : (d : Desk) (turns : List Made) → Run d turns over → All IsSilent d.kept → (h last : History ShardState) → HaveRules r h.shards
+        → Chain (RightRound pppoe) h (rounds_of turns endings) last → Arises R (taken_of (readings_of turns)) (sent_in (rounds_in turns endings))
+    turns_send d [] goes kept h last rules run = endings_send over end endings ending (subst (λ (x : Desk). All IsSilent x.kept) (sym goes) kept) h last rules run
+    turns_send d (m ∷ turns) goes kept h last rules run =
+        let taken = taken_of (readings_of turns) in
+        subst (λ (ds : List Datagram). Arises R ds (sent_in (rounds_in (m ∷ turns) endings))) (sym (flat_map-append (λ r. taken_in r.role r.arrivals) (readings_in m.turn) (readings_of turns)))
+        (turn_then d goes.0 m.turn goes.1.1 kept h last rules (rounds_in turns endings) taken run
+        (λ mid work more. turns_send goes.0 turns goes.2 (step_keeps d goes.0 m.turn goes.1.1 kept) mid last work more))
+
+-- Runs ---------------------------------------------------------------------------------------------------------------------------------
+
+-- what is read as a packet is of the access ports or of the core
+no_packet : (role : Role) (octets : List ℕ) → is_data role ≡ false → pppoe_reader role octets ≡ None
+no_packet (Access port) octets e = absurd (false≢true (sym e))
+no_packet Core octets e = absurd (false≢true (sym e))
+no_packet Tunnel octets e = refl
+no_packet Auth octets e = refl
+no_packet Acct octets e = refl
+no_packet Coa octets e = refl
+no_packet Control octets e = refl
+
+those_on_data : (test : WirePacket → Bool) (ds : List Datagram) → those test (on_data ds) ≡ those test ds
+those_on_data test [] = refl
+those_on_data test (d ∷ ds) = by (is_data d.role) refl (those_on_data test ds)
+  where
+    by : (b : Bool) → is_data d.role ≡ b → those test (on_data ds) ≡ those test ds → those test (cond b (d ∷ on_data ds) (on_data ds)) ≡ those test (d ∷ ds)
+    by true is rest = ap (λ (us : List Datagram). cond (option_map_or test (pppoe_reader d.role d.octets) false) (d ∷ us) us) rest
+    by false is rest =
+        rest ∙ sym (ap (λ (w : Option WirePacket). cond (option_map_or test w false) (d ∷ those test ds) (those test ds)) (no_packet d.role d.octets is))
+
+module _ (config : Config) (r : Rules) (access : r.access ≡ config.access) (core : r.core_peer ≡ config.core_peer) (opening over last : Desk) (turns : List Made) (endings : List MadeEnd)
+    (run : Run opening turns over) (ending : EndRun over endings last) (none_kept : opening.kept ≡ []) (rules : HaveRules r (history_of opening).shards)
+    (history : History ShardState) (rounds : Chain (RightRound pppoe) (history_of opening) (rounds_of turns endings) history)
+    (taken sent : List Datagram) (items : on_data taken ≡ taken_of (readings_of turns)) (sends : on_data sent ≡ on_data (went (sends_of (rounds_of turns endings)))) where
+  -- in a direction
+  arises_in : (a : Ip4) (test : WirePacket → Bool) (its : (w : WirePacket) → test w ≡ true → w.address ≡ a) (R : Datagram → Datagram → Type 0)
+      → ((s : State) (limited : Bool) (d : Deed) → ShardStep r s limited d → Arises R (datagrams_in d.entry.item) (those test (map datagram_of d.outs))) → Arises R taken (those test sent)
+  arises_in a test its R steps =
+      let went_out = went (sends_of (rounds_of turns endings)) in
+      let same : those test went_out ≡ those test sent = sym (those_on_data test went_out) ∙ ap (those test) (sym sends) ∙ those_on_data test sent in
+      arises_unfiltered R (λ (d : Datagram). is_data d.role) taken (those test sent)
+      (subst (λ (ds : List Datagram). Arises R ds (those test sent)) (sym items)
+      (subst (Arises R (taken_of (readings_of turns))) same
+      (turns_send a test its r R steps over last endings ending opening turns run (subst (All IsSilent) (sym none_kept) (All-nil IsSilent)) (history_of opening) history rules rounds)))
+
+  pub nothing_invented : NothingIsInvented config taken sent
+  nothing_invented = record {
+    up = λ a.
+        subst (λ (ports : List AccessPort). Arises (IsPassedUp ports config.core_peer a) taken (those (is_from a) sent)) access
+        (subst (λ (peer : Peer). Arises (IsPassedUp r.access peer a) taken (those (is_from a) sent)) core
+        (arises_in a (is_from a) (λ w is. (from_it a w is).1) (IsPassedUp r.access r.core_peer a) (step_up a r)));
+    down = λ a.
+        subst (λ (ports : List AccessPort). Arises (IsPassedDown ports config.core_peer a) taken (those (is_to a) sent)) access
+        (subst (λ (peer : Peer). Arises (IsPassedDown r.access peer a) taken (those (is_to a) sent)) core
+        (arises_in a (is_to a) (λ w is. (to_it a w is).1) (IsPassedDown r.access r.core_peer a) (step_down a r)));
+  }
