@@ -23,12 +23,13 @@ use std::alloc::Global;
 use std::marker::Model;
 
 /// The records that are open and the requests that are out: the client of the requests, the spool of the records, and which
-/// requests were sent.
+/// requests were sent. A record is written into `request`.
 #[derive(Drop)]
 pub struct Billing {
     client: Client,
     spool: Spool,
     sent: [bool; 256],
+    request: Frame,
 }
 
 impl Model for Billing {
@@ -69,6 +70,7 @@ impl Billing {
                 client,
                 spool,
                 sent: [false; 256],
+                request: Frame::new(),
             }),
             Err(_) => Err(BillingError::OutOfMemory),
         }
@@ -166,10 +168,9 @@ impl Billing {
         if !self.client.room(Kind::Acct) {
             return None;
         }
-        let mut request = Frame::new();
-        let number = self.spool.next(&mut request)?;
+        let number = self.spool.next(&mut self.request)?;
         let owner = Owner::Record(Number(number.0));
-        match self.client.ask(Kind::Acct, owner, &request, now) {
+        match self.client.ask(Kind::Acct, owner, &self.request, now) {
             Asked::Sent { id, frame } => {
                 self.sent[usize::from(id)] = false;
                 Some((number, id, frame))

@@ -9,6 +9,7 @@ use bng_base::{Frame, Item, ItemKind, Peer, Received, Role};
 use bng_lane::Lane;
 use bng_plant::Plant;
 use bng_verdict::QuestionNo;
+use std::mem;
 
 /// The most verdicts of a round, and so many datagrams of Auth a turn takes.
 pub(crate) const VERDICTS_MOST: usize = 128;
@@ -35,33 +36,36 @@ pub(crate) fn verdict(
     }
 }
 
-// Adds the item of a datagram of Auth, if it is the reply to a question.
+// Adds the item of a datagram of Auth, if it is the reply to a question: the item has the frame, and an empty one takes its
+// place.
 fn add_reply(
     lane: &mut Lane,
     from: Peer,
     cut: bool,
-    frame: Frame,
+    frame: &mut Frame,
     draws: &mut Draws,
     items: &mut Vec<Item>,
 )
-    requires whole { frame.headroom ≡ 64 }
+    requires whole { frame.old.headroom ≡ 64 }
     requires room { length items.old.items < vec_capacity items.old }
     requires drawn { draws.old.drawn < 2 ^ 62 }
-    ensures adds { AddsReply (record { from = from; cut = cut; octets = frame.payload }) lane.old lane.new draws.old draws.new items.old.items items.new.items }
+    ensures adds { AddsReply (record { from = from; cut = cut; octets = frame.old.payload }) lane.old lane.new draws.old draws.new items.old.items items.new.items }
     ensures capacity { vec_capacity items.new ≡ vec_capacity items.old }
     ensures few { length items.new.items ≤ length items.old.items + 1 }
     ensures few_drawn { draws.new.drawn ≤ draws.old.drawn + 1 }
 {
     if let Some(number) = lane.take(from, frame.payload()) {
         let random = draws.sixteen();
-        items.push_reserved(verdict(number, from, cut, frame, random));
+        let whole = mem::replace(frame, Frame::new());
+        items.push_reserved(verdict(number, from, cut, whole, random));
     }
 }
 
-/// Takes datagrams of Auth until Empty, Failed or the number of a turn; each that is the reply to a question is an item. Says whether
-/// none was taken.
+/// Takes datagrams of Auth into a frame until Empty, Failed or the number of a turn; each that is the reply to a question is an item.
+/// Says whether none was taken.
 pub(crate) fn take_replies<P: Plant>(
     plant: &mut P,
+    frame: &mut Frame,
     lane: &mut Lane,
     draws: &mut Draws,
     items: &mut Vec<Item>,
@@ -73,8 +77,7 @@ pub(crate) fn take_replies<P: Plant>(
 {
     let mut quiet = true;
     for _taken in 0..VERDICTS_MOST {
-        let mut frame = Frame::new();
-        match receive(plant, Role::Auth, &mut frame) {
+        match receive(plant, Role::Auth, frame) {
             Received::Got { from, cut } => {
                 add_reply(lane, from, cut, frame, draws, items);
                 quiet = false;

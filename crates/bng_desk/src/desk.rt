@@ -1,16 +1,16 @@
-ghost use Rattle.std.specs.Prelude.{◌≡◌, ◌+◌, ◌≤◌, ◌<◌, ◌^◌, ◌++◌, ◌||◌, [], true, not, nat_le, if◌then◌else◌, length, map, vec_capacity, IfOk, OnOk, OnErr};
+ghost use Rattle.std.specs.Prelude.{◌≡◌, ◌+◌, ◌≤◌, ◌<◌, ◌^◌, ◌++◌, ◌||◌, ◌&&◌, ◌==◌, [], true, not, nat_le, if◌then◌else◌, length, map, vec_capacity, IfOk, OnOk, OnErr};
 ghost use Rattle.std.specs.List.{All};
 ghost use Rattle.bng_acct.specs.Spool.{unacked_stops};
 ghost use Rattle.bng_base.specs.declared.settings.NamedRange.{NamedRange};
 ghost use Rattle.bng_config.specs.Rules.{KeepsRules};
 ghost use Rattle.bng_pool.specs.Ranges.{ArePoolRanges, HasAddress};
 ghost use Rattle.bng_shard.specs.Protocol.{profiles_there};
-ghost use Rattle.bng_desk.specs.Model.{state_of, all_carried, live_of, plus_traffic, total_of, totals_of, traffic_by, HasOneRule, grace_most, graces_most};
+ghost use Rattle.bng_desk.specs.Model.{state_of, all_carried, live_of, plus_traffic, sessions_in, total_of, totals_of, traffic_by, HasOneRule, grace_most, graces_most};
 ghost use Rattle.bng_desk.specs.Opening.{IsOpened};
 ghost use Rattle.bng_desk.specs.Report.{by_number, report_text, stop_lines};
 
 use crate::drops::NO_DROPS;
-use crate::flags::{both, either};
+use crate::flags::either;
 use crate::lists::Lists;
 use crate::opening;
 use crate::random::Draws;
@@ -19,7 +19,7 @@ use crate::settlement::Works;
 use crate::sums::{Totals, all_carried, live, sessions_in};
 use bng_base::{Book, Item};
 use bng_config::Config;
-use bng_shard::{Rules, Traffic};
+use bng_shard::{Rules, Shard, Traffic};
 use std::alloc::Global;
 use std::marker::Model;
 
@@ -111,6 +111,14 @@ fn is_grace_over(acknowledged: bool, closing: u64, moment: u64, graces: u64) -> 
     ensures { result ≡ (acknowledged || (nat_le (closing + grace_most) moment || nat_le graces_most graces)) }
 {
     acknowledged || GRACE_MOST <= moment - closing || GRACES_MOST <= graces
+}
+
+// Whether a round of Ends was made and no session is left. The sessions are counted only where one was made.
+fn has_ended(closed: bool, shards: &[Shard]) -> bool
+    requires few { length shards.now ≤ 64 }
+    ensures { result ≡ (closed && (sessions_in shards.now == 0)) }
+{
+    closed && sessions_in(shards) == 0
 }
 
 // Where a desk stands.
@@ -210,7 +218,7 @@ impl Desk {
         ensures few_graces { self.now.graces ≤ graces_most }
     {
         let over = either(self.stopped, self.turns == self.rounds);
-        let ended = both(self.closed, sessions_in(self.works.shards.as_slice()) == 0);
+        let ended = has_ended(self.closed, self.works.shards.as_slice());
         let acknowledged = self.works.accounts.is_acknowledged();
         let done = is_grace_over(acknowledged, self.closing, self.moment, self.graces);
         stands(over, ended, done, UNOPENED_MOST <= self.unopened)

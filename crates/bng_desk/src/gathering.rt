@@ -12,7 +12,7 @@ use crate::flags::both;
 use crate::intake::take_data;
 use crate::lists::move_all;
 use crate::random::Draws;
-use bng_base::Item;
+use bng_base::{Frame, Item};
 use bng_lane::Lane;
 use bng_plant::Plant;
 use bng_shard::{Rules, Shard};
@@ -30,6 +30,7 @@ fn is_none(items: &[Item]) -> bool
 fn take_if<P: Plant>(
     reads: bool,
     plant: &mut P,
+    frame: &mut Frame,
     lane: &mut Lane,
     draws: &mut Draws,
     items: &mut Vec<Item>,
@@ -40,7 +41,7 @@ fn take_if<P: Plant>(
     ensures capacity { vec_capacity items.new ≡ vec_capacity items.old }
 {
     if reads {
-        take_replies(plant, lane, draws, items)
+        take_replies(plant, frame, lane, draws, items)
     } else {
         true
     }
@@ -50,6 +51,7 @@ fn take_if<P: Plant>(
 // taken.
 fn begin<P: Plant>(
     plant: &mut P,
+    frame: &mut Frame,
     draws: &mut Draws,
     lane: &mut Lane,
     kept: &mut Vec<Item>,
@@ -68,16 +70,18 @@ fn begin<P: Plant>(
 {
     let reads = is_none(kept.as_slice());
     move_all(kept, items);
-    take_if(reads, plant, lane, draws, items)
+    take_if(reads, plant, frame, lane, draws, items)
 }
 
 /// Puts the items that stay of the round before on the list. Where there is none it takes what came from the RADIUS server. Then it
 /// takes what came on the access ports and from the core, gives up the questions whose server was silent, as long as there are fewer
-/// than 128 verdicts, and adds a Tick for each shard that has a due deadline. Says whether nothing was taken.
+/// than 128 verdicts, and adds a Tick for each shard that has a due deadline. It receives into the frame. Says whether nothing was
+/// taken.
 pub(crate) fn gather<P: Plant>(
     rules: &Rules,
     shards: &[Shard],
     plant: &mut P,
+    frame: &mut Frame,
     now: u64,
     draws: &mut Draws,
     lane: &mut Lane,
@@ -101,9 +105,9 @@ pub(crate) fn gather<P: Plant>(
     ensures none_kept { kept.new.items ≡ [] }
     ensures kept_room { vec_capacity kept.new ≡ vec_capacity kept.old }
 {
-    let silent = begin(plant, draws, lane, kept, items);
+    let silent = begin(plant, frame, draws, lane, kept, items);
     let verdicts = items.len();
-    let quiet = take_data(rules, plant, draws, items);
+    let quiet = take_data(rules, plant, frame, draws, items);
     add_timeouts(lane, now, VERDICTS_MOST - verdicts, draws, items);
     add_ticks(shards, now, draws, items);
     both(silent, quiet)

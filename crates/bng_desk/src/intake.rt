@@ -10,6 +10,7 @@ use crate::random::Draws;
 use bng_base::{Frame, Item, ItemKind, Received, Role};
 use bng_plant::Plant;
 use bng_shard::Rules;
+use std::mem;
 
 /// How many datagrams of the access ports a turn takes, all together.
 const PORTS_MOST: usize = 224;
@@ -17,9 +18,11 @@ const PORTS_MOST: usize = 224;
 /// How many datagrams of the core a turn takes.
 const CORE_MOST: usize = 224;
 
-// Takes datagrams of a role until Empty, Failed or this number; each is an item. Says whether nothing was taken.
+// Takes datagrams of a role into a frame until Empty, Failed or this number; each is an item, which has the frame, and an
+// empty one takes its place. Says whether nothing was taken.
 fn take_role<P: Plant>(
     plant: &mut P,
+    frame: &mut Frame,
     role: Role,
     kind: ItemKind,
     most: usize,
@@ -35,14 +38,13 @@ fn take_role<P: Plant>(
 {
     let mut quiet = true;
     for _taken in 0..most {
-        let mut frame = Frame::new();
-        match receive(plant, role, &mut frame) {
+        match receive(plant, role, frame) {
             Received::Got { from, cut } => {
                 let random = draws.sixteen();
                 items.push_reserved(Item {
                     kind,
                     from,
-                    frame,
+                    frame: mem::replace(frame, Frame::new()),
                     cut,
                     random,
                     target: 0,
@@ -60,6 +62,7 @@ fn take_role<P: Plant>(
 fn take_ports<P: Plant>(
     rules: &Rules,
     plant: &mut P,
+    frame: &mut Frame,
     draws: &mut Draws,
     items: &mut Vec<Item>,
 ) -> bool
@@ -77,6 +80,7 @@ fn take_ports<P: Plant>(
         let number = place as u8 + 1;
         let read = take_role(
             plant,
+            frame,
             Role::Access(number),
             ItemKind::Access(number),
             most,
@@ -88,10 +92,11 @@ fn take_ports<P: Plant>(
     quiet
 }
 
-/// Takes from the access ports and then from the core, and says whether nothing was taken.
+/// Takes from the access ports and then from the core, into a frame, and says whether nothing was taken.
 pub(crate) fn take_data<P: Plant>(
     rules: &Rules,
     plant: &mut P,
+    frame: &mut Frame,
     draws: &mut Draws,
     items: &mut Vec<Item>,
 ) -> bool
@@ -104,7 +109,15 @@ pub(crate) fn take_data<P: Plant>(
     ensures few_drawn { draws.new.drawn ≤ draws.old.drawn + 448 }
     ensures capacity { vec_capacity items.new ≡ vec_capacity items.old }
 {
-    let ports = take_ports(rules, plant, draws, items);
-    let core = take_role(plant, Role::Core, ItemKind::Core, CORE_MOST, draws, items);
+    let ports = take_ports(rules, plant, frame, draws, items);
+    let core = take_role(
+        plant,
+        frame,
+        Role::Core,
+        ItemKind::Core,
+        CORE_MOST,
+        draws,
+        items,
+    );
     both(ports, core)
 }

@@ -92,6 +92,7 @@ impl Desk {
             &self.rules,
             self.works.shards.as_slice(),
             plant,
+            &mut frame,
             now,
             &mut self.works.draws,
             &mut self.works.lane,
