@@ -60,7 +60,7 @@ use Rattle.bng_gate.proofs.Recording.{recorded_of}
 use Rattle.bng_gate.proofs.Replying.{replies_of}
 use Rattle.bng_gate.proofs.OnAcct.{all_else}
 use Rattle.bng_gate.proofs.Staging.{stages_acknowledged, stages_heard, stages_taken, stages_sent}
-use Rattle.bng_gate.proofs.Stopping.{run_causes, run_stays, run_terms}
+use Rattle.bng_gate.proofs.Stopping.{run_causes, run_causes_known, run_stays, run_terms}
 use Rattle.bng_gate.proofs.Telling.{sent_are, taken_are, unsent_failed}
 use Rattle.bng_gate.proofs.Traffic.{stops_account, total_same, totals_same, traffic_same}
 
@@ -165,6 +165,7 @@ module _ (text : List ℕ) (config : Config) (read : IsRead text config) (seed :
     rounds = rounds_are_right pppoe pppoe_laws start rounds goes.0 run_from;
     terms = terms;
     causes = run_causes config rules r now start shards_are goes.0 rounds goes.1;
+    causes_known = run_causes_known config rules r now start shards_are goes.0 rounds goes.1;
     conserved = run_conserves_at pppoe pppoe_laws start rounds goes.0 run_from;
     balanced = balanced pppoe end goes.0 accounted;
     addressed = all_addressed (all_terms_of config rounds) sent (sends_of rounds) sends ours;
