@@ -27,11 +27,12 @@ pub(crate) fn sessions_in(shards: &[Shard]) -> u64
     sessions
 }
 
-/// What all terms carried, in octets: those that have a Stop, and those that have none yet.
+/// What all terms carried, as the report tells it: what the Stops say that were formed so far, and what the terms carried that have no
+/// Stop yet.
 #[derive(Clone, Copy)]
-pub(crate) struct Totals {
-    pub(crate) stopped: Traffic,
-    pub(crate) live: Traffic,
+pub struct Totals {
+    pub stopped: Traffic,
+    pub live: Traffic,
 }
 
 // What the term with an address carried; nothing where the shard has no such term.

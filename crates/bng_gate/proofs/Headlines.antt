@@ -31,7 +31,7 @@ use Rattle.bng_desk.specs.declared.desk.DeskState.TheVariants.{Ended}
 use Rattle.bng_desk.specs.declared.drops.Drops.{Drops}
 use Rattle.bng_desk.specs.declared.line.Line.{Line}
 use Rattle.bng_desk.specs.declared.sums.Totals.{Totals}
-use Rattle.bng_desk.specs.Model.{Desk, all_stopped, carried_on, all_carried, line_after, no_traffic, plus_traffic, state_of, total_of, totals_of, traffic_by}
+use Rattle.bng_desk.specs.Model.{Desk, all_stopped as all_say, carried_on, all_carried, line_after, no_traffic, plus_traffic, state_of, total_of, totals_of, traffic_by}
 use Rattle.bng_desk.specs.Opening.{billing_rules, line_of, opened_shards}
 use Rattle.bng_desk.specs.Report.{report_text, by_number}
 use Rattle.bng_desk.specs.Round.{view_of, views_of}
@@ -53,7 +53,7 @@ use Rattle.bng_gate.proofs.Follows.{Follows, run_follows}
 use Rattle.bng_gate.proofs.Going.{Leads, stands_itself, rounds_lead}
 use Rattle.bng_gate.proofs.Invented.{nothing_invented, opened_rules, HaveRules}
 use Rattle.bng_gate.proofs.Keys.{IsOurs}
-use Rattle.bng_gate.proofs.Leaving.{HasNoRows, HasNoTerms, IsEmpty, all_stopped, ended_empty, rows_gone, rows_say_none, terms_gone}
+use Rattle.bng_gate.proofs.Leaving.{HasNoRows, HasNoTerms, IsEmpty, all_stopped, ended_empty, rows_gone, rows_say_none, shards_say_none, terms_gone}
 use Rattle.bng_gate.proofs.Lines.{lines_gone, one_worker, report_told, stopped_gone, tallies_gone}
 use Rattle.bng_gate.proofs.LoginsGranted.{logins_granted}
 use Rattle.bng_gate.proofs.Openings.{opens}
@@ -62,7 +62,7 @@ use Rattle.bng_gate.proofs.Recording.{recorded_of}
 use Rattle.bng_gate.proofs.Replying.{replies_of}
 use Rattle.bng_gate.proofs.OnAcct.{all_else}
 use Rattle.bng_gate.proofs.Staging.{stages_acknowledged, stages_heard, stages_taken, stages_sent}
-use Rattle.bng_gate.proofs.Stopping.{run_causes, run_stays, run_terms}
+use Rattle.bng_gate.proofs.Stopping.{run_causes, run_causes_known, run_stays, run_terms}
 use Rattle.bng_gate.proofs.Telling.{sent_are, taken_are, unsent_failed}
 use Rattle.bng_gate.proofs.Traffic.{stops_account, total_same, totals_same, traffic_same}
 
@@ -178,6 +178,7 @@ module _ (text : List ℕ) (config : Config) (read : IsRead text config) (seed :
     rounds = rounds_are_right pppoe pppoe_laws start rounds goes.0 run_from;
     terms = terms;
     causes = run_causes config rules r now start shards_are goes.0 rounds goes.1;
+    causes_known = run_causes_known config rules r now start shards_are goes.0 rounds goes.1;
     conserved = run_conserves_at pppoe pppoe_laws start rounds goes.0 run_from;
     balanced = balanced pppoe end goes.0 accounted;
     addressed = all_addressed (all_terms_of config rounds) sent (sends_of rounds) sends ours;
@@ -219,12 +220,12 @@ module _ (text : List ℕ) (config : Config) (read : IsRead text config) (seed :
     total : total_of course.last.tallies ≡ total_in sent
     total = total_same sent rounds exact start end goes.0 goes.1 (balanced pppoe end goes.0 accounted) rows_none
 
-    stopped_all_say : course.last.stopped_traffic ≡ plus_traffic no_traffic (all_stopped (stops_of rounds))
+    stopped_all_say : course.last.stopped_traffic ≡ plus_traffic no_traffic (all_say (stops_of rounds))
     stopped_all_say =
-        stopped_gone course.opening course.last (rounds_in course.turns course.endings) follows ∙ ap (λ (d : Desk). plus_traffic d.stopped_traffic (all_stopped (stops_of rounds))) course.begins.is_opened.desk
+        stopped_gone course.opening course.last (rounds_in course.turns course.endings) follows ∙ ap (λ (d : Desk). plus_traffic d.stopped_traffic (all_say (stops_of rounds))) course.begins.is_opened.desk
 
     totals : totals_of course.last ≡ totals_in sent
-    totals = totals_same sent (stops_of rounds) exact course.last stopped_all_say (λ input. rows_say_none Octets is_any input course.last.shards no_rows)
+    totals = totals_same sent (stops_of rounds) exact course.last stopped_all_say (λ input. shards_say_none Octets is_any input course.last.shards no_rows)
 
     workers : map traffic_by course.last.tallies ≡ total_in sent ∷ []
     workers =

@@ -71,6 +71,12 @@ rows_gone [] hs tells none = tt
 rows_gone (v ∷ vs) [] tells none = absurd tells
 rows_gone (v ∷ vs) (h ∷ hs) tells none = (no_rows v.rows (tells.0.fit (λ _. 1) ∙ ap (λ (ts : List Term). sum_by (λ (_ : Key). 1) (keys ts)) none.0), rows_gone vs hs tells.1 none.1)
 
+pub shards_say_none : (q : Quantity) (pick : Key → Bool) (input : Bool) (vs : List (ShardView ShardState Entry)) → AllByRecursion HasNoRows vs → sum_by (λ x. rows_where q pick input x.rows) vs ≡ 0
+shards_say_none q pick input [] none = refl
+shards_say_none q pick input (v ∷ vs) none =
+    omega (arith, sum_by-cons (λ (x : ShardView ShardState Entry). rows_where q pick input x.rows) v vs, ap (rows_where q pick input) none.0, shards_say_none q pick input vs none.1)
+
+-- and as the engine sees them
 pub rows_say_none : (q : Quantity) (pick : Key → Bool) (input : Bool) (vs : List (ShardView ShardState Entry)) → AllByRecursion HasNoRows vs → sum_by (λ x. rows_where q pick input x.rows) (views_of vs) ≡ 0
 rows_say_none q pick input [] none = refl
 rows_say_none q pick input (v ∷ vs) none =

@@ -96,7 +96,7 @@ stopped_gone d d' (Some round ∷ rounds) run =
 pub tallies_gone : (d d' : Desk) (rounds : List (Option Round)) → Chain Follows d rounds d' → length d'.tallies ≡ length d.tallies
 tallies_gone d d' [] run = ap (λ (x : Desk). length x.tallies) run
 tallies_gone d d' (None ∷ rounds) run = tallies_gone run.0 d' rounds run.2 ∙ ap (λ (bs : List Book). length bs) run.1.tallies
-tallies_gone d d' (Some round ∷ rounds) run = tallies_gone run.0 d' rounds run.2 ∙ ap (λ (bs : List Book). length bs) run.1.tallies ∙ run.1.is_round.2.2.turn.tallies.count
+tallies_gone d d' (Some round ∷ rounds) run = tallies_gone run.0 d' rounds run.2 ∙ ap (λ (bs : List Book). length bs) run.1.tallies ∙ run.1.is_round.2.turn.tallies.count
 
 -- one worker has passed what all have
 pub one_worker : (bs : List Book) → length bs ≡ 1 → map traffic_by bs ≡ total_of bs ∷ []

@@ -1,6 +1,6 @@
--- What lasts in each shard of a run: no term outlasts its session, each is of one of the shard's sessions, and those of circuits end by the
--- gateway's own stop.
-use Rattle.std.proofs.Common.{◌≡◌, ◌≢◌, ◌⊎◌, inl, inr, ℕ, ◌+◌, ◌/◌, ◌<◌, ◌≤◌, Bool, true, false, not, cond, List, [], ◌∷◌, ◌++◌, map, filter, length, Option, Some, None, is_some, refl, sym, ap, subst, ◌∙◌, arith}
+-- What lasts in each shard of a run: no term outlasts its session, each is of one of the shard's sessions and ends by one of the causes that
+-- there are, and those of circuits end by the gateway's own stop.
+use Rattle.std.proofs.Common.{◌≡◌, ◌≢◌, ◌⊎◌, inl, inr, ℕ, ◌+◌, ◌/◌, ◌<◌, ◌≤◌, Bool, true, false, not, cond, List, [], ◌∷◌, ◌++◌, map, filter, length, Option, Some, None, IfSome, is_some, refl, sym, ap, subst, ◌∙◌, arith}
 use Rattle.std.specs.List.{All, AllByRecursion, AllPairs, AllZip}
 use Rattle.std.proofs.lemmas.Bool.{false≢true}
 use Rattle.std.proofs.lemmas.List.Elements.{recursion_from_All}
@@ -14,7 +14,7 @@ use Rattle.bng_shard.specs.declared.rules.Rules.{Rules}
 use Rattle.bng_shard.specs.declared.session.Session.{Session}
 use Rattle.bng_shard.specs.Deed.{Deed}
 use Rattle.bng_shard.specs.Granting.{IsSound}
-use Rattle.bng_shard.specs.Lasting.{AreHoused, CircuitsLast, IsHousedIn}
+use Rattle.bng_shard.specs.Lasting.{AreHoused, CircuitsLast, IsCause, IsHousedIn}
 use Rattle.bng_shard.specs.Link.{nas_request}
 use Rattle.bng_shard.specs.Opening.{in_order, opened_slots, tenures_after}
 use Rattle.bng_shard.specs.Protocol.{ShardState, Handled, cause_in, pppoe, sessions_of, term_in, terms_of}
@@ -37,8 +37,8 @@ use Rattle.bng_gate.proofs.Openings.{IsLive}
 abbrev pub IsOfShard : ℕ → Tenure → Type 0
 IsOfShard n t = t.term.session.0 / 1024 ≡ n
 
--- The state of the shard with this number, which has so many circuits: it is sound, no term outlasts its session, those of the circuits end
--- by the gateway's own stop, and each is of a session of the shard.
+-- The state of the shard with this number, which has so many circuits: it is sound, no term outlasts its session, each ends by one of the
+-- causes that there are, those of the circuits end by the gateway's own stop, and each is of a session of the shard.
 pub record Keeps (n circuits : ℕ) (s : State) : Type 0 where
   pub sound : IsSound s
   pub housed : AreHoused s
@@ -117,29 +117,39 @@ opened_keeps n cs now low own apart = record {
 
 -- Terms that have ended ------------------------------------------------------------------------------------------------------
 
--- it is of the shard, and if it is a circuit's, the gateway's own stop ended it
+-- it is of the shard, one of the causes that there are ended it, and if it is a circuit's, the gateway's own stop did
 pub record EndsWell (n circuits : ℕ) (t : Term) : Type 0 where
   pub session : t.key.term.session.0 / 1024 ≡ n
+  pub known : IsCause t.cause
   pub cause : t.key.term.serial ≤ circuits → t.cause ≡ nas_request
 
 its_cause : (o : Option ℕ) → is_some o ≡ true → (o ≡ None) ⊎ (o ≡ Some nas_request) → cause_in o ≡ nas_request
 its_cause o over (inl e) = absurd (false≢true (sym (ap (λ (x : Option ℕ). is_some x) e) ∙ over))
 its_cause o over (inr e) = ap cause_in e
 
+its_known : (o : Option ℕ) → is_some o ≡ true → IfSome o IsCause → IsCause (cause_in o)
+its_known None over known = absurd (false≢true over)
+its_known (Some cause) over known = known
+
+abbrev IsKnown : Tenure → Type 0
+IsKnown t = IfSome t.cause IsCause
+
 module _ (n circuits : ℕ) where
   abbrev IsCircuitLasting : Tenure → Type 0
   IsCircuitLasting t = t.term.serial ≤ circuits → (t.cause ≡ None) ⊎ (t.cause ≡ Some nas_request)
 
-  over_well : (t : Tenure) (b : Bool) (us : List Term) → is_over t ≡ b → IsOfShard n t → IsCircuitLasting t → AllByRecursion (EndsWell n circuits) us → AllByRecursion (EndsWell n circuits) (cond b (term_in t ∷ us) us)
-  over_well t true us over own lasting rest = (record { session = own; cause = λ few. its_cause t.cause over (lasting few) }, rest)
-  over_well t false us over own lasting rest = rest
+  over_well : (t : Tenure) (b : Bool) (us : List Term) → is_over t ≡ b → IsOfShard n t → IsKnown t → IsCircuitLasting t → AllByRecursion (EndsWell n circuits) us → AllByRecursion (EndsWell n circuits) (cond b (term_in t ∷ us) us)
+  over_well t true us over own known lasting rest = (record { session = own; known = its_known t.cause over known; cause = λ few. its_cause t.cause over (lasting few) }, rest)
+  over_well t false us over own known lasting rest = rest
 
-  all_over_well : (ts : List Tenure) → AllByRecursion (IsOfShard n) ts → AllByRecursion IsCircuitLasting ts → AllByRecursion (EndsWell n circuits) (filter is_ended (map term_in ts))
-  all_over_well [] own lasting = tt
-  all_over_well (t ∷ ts) own lasting = over_well t (is_over t) (filter is_ended (map term_in ts)) refl own.0 lasting.0 (all_over_well ts own.1 lasting.1)
+  all_over_well : (ts : List Tenure) → AllByRecursion (IsOfShard n) ts → AllByRecursion IsKnown ts → AllByRecursion IsCircuitLasting ts → AllByRecursion (EndsWell n circuits) (filter is_ended (map term_in ts))
+  all_over_well [] own known lasting = tt
+  all_over_well (t ∷ ts) own known lasting = over_well t (is_over t) (filter is_ended (map term_in ts)) refl own.0 known.0 lasting.0 (all_over_well ts own.1 known.1 lasting.1)
 
   pub end_well : (s : ShardState) → Keeps n circuits s.slots → AllByRecursion (EndsWell n circuits) (filter is_ended (terms_of s))
-  end_well s h = all_over_well s.slots.terms h.own (recursion_from_All IsCircuitLasting s.slots.terms h.lasting.causes)
+  end_well s h =
+      let ts = s.slots.terms in
+      all_over_well ts h.own (recursion_from_All IsKnown ts h.lasting.known) (recursion_from_All IsCircuitLasting ts h.lasting.causes)
 
 -- Where no session is left ---------------------------------------------------------------------------------------------------
 

@@ -1,5 +1,4 @@
--- The terms of a run: those of the circuits and those of the Starts, each of which has its Stop or is live. And why the terms of circuits
--- ended.
+-- The terms of a run: those of the circuits and those of the Starts, each of which has its Stop or is live. And why they ended.
 use Rattle.std.proofs.Common.{◌≡◌, inl, inr, ℕ, zero, suc, ◌+◌, ◌/◌, ◌<◌, ◌≤◌, Bool, true, false, not, ◌&&◌, cond, List, [], ◌∷◌, ◌++◌, map, filter, length, Option, Some, eqb, refl, sym, ap, subst, ◌∙◌, arith, append-nil, zero-add}
 use Rattle.std.specs.Prelude.{slice_get}
 use Rattle.std.specs.List.{All, AllByRecursion, AllZip, Contains, sum_by, count_by, range_with_len}
@@ -28,7 +27,7 @@ use Rattle.bng_engine.proofs.Everywhere.{all_append, all_weaker, any_all}
 use Rattle.bng_engine.proofs.Rounds.{in_shards}
 use Rattle.bng_slots.specs.Sessions.{IsNumberOf}
 use Rattle.bng_shard.specs.declared.rules.Rules.{Rules}
-use Rattle.bng_shard.specs.Lasting.{AreHoused}
+use Rattle.bng_shard.specs.Lasting.{AreHoused, IsCause}
 use Rattle.bng_shard.specs.Link.{nas_request}
 use Rattle.bng_shard.specs.Opening.{in_order, tenures_after}
 use Rattle.bng_shard.specs.Protocol.{ShardState, Handled, opened, pppoe, term_in, terms_of}
@@ -196,7 +195,7 @@ module _ (config : Config) (rules : KeepsRules config) where
   found_numbered k (n ∷ ns) (inr h) = found_numbered k ns h
 
   -- a Stop of a circuit's term says that the gateway stopped
-  abbrev pub StopsByUs : Stop → Type 0
+  abbrev StopsByUs : Stop → Type 0
   StopsByUs s = IsOfCircuit config s.key → s.cause ≡ nas_request
 
   by_us : (n : ℕ) (s : Stop) (t : Term) → IsStopOf s.key s.cause t → EndsWell n (circuits_in config n) t → StopsByUs s
@@ -205,6 +204,18 @@ module _ (config : Config) (rules : KeepsRules config) where
       let here : its.0 ≡ n = sym its.1.session ∙ ap (λ (k : Key). k.term.session.0 / 1024) (sym of.0) ∙ well.session in
       let few : s.key.term.serial ≤ circuits_in config n = subst (λ (m : ℕ). s.key.term.serial ≤ circuits_in config m) here its.1.few in
       sym of.1 ∙ well.cause (subst (λ (k : Key). k.term.serial ≤ circuits_in config n) (sym of.0) few)
+
+  -- it has one of the causes that there are
+  abbrev IsKnownStop : Stop → Type 0
+  IsKnownStop s = IsCause s.cause
+
+  -- A Stop says why its term ended.
+  record StopsWell (s : Stop) : Type 0 where
+    known : IsKnownStop s
+    ours : StopsByUs s
+
+  stops_well : (n : ℕ) (s : Stop) (t : Term) → IsStopOf s.key s.cause t → EndsWell n (circuits_in config n) t → StopsWell s
+  stops_well n s t of well = record { known = subst IsCause of.1 well.known; ours = by_us n s t of well }
 
   -- Shards ---------------------------------------------------------------------------------------------------------------------
 
@@ -228,11 +239,11 @@ module _ (config : Config) (rules : KeepsRules config) where
       keeps = subst (λ (s : ShardState). Keeps n (circuits_in config n) s.slots) (sym next.settlement.state) (settled_keeps n (circuits_in config n) next.mid.slots mid_keeps);
     }
 
-    stops_by_us : AllByRecursion StopsByUs t.settlement.stops
-    stops_by_us =
+    all_stop_well : AllByRecursion StopsWell t.settlement.stops
+    all_stop_well =
         let ended = filter is_ended (terms_of next.mid) in
-        all_weaker (λ s. AnyOf (IsStopOf s.key s.cause) ended) StopsByUs
-        (λ s any. any_all (IsStopOf s.key s.cause) (EndsWell n (circuits_in config n)) (StopsByUs s) (by_us n s) ended any (end_well n (circuits_in config n) next.mid mid_keeps))
+        all_weaker (λ s. AnyOf (IsStopOf s.key s.cause) ended) StopsWell
+        (λ s any. any_all (IsStopOf s.key s.cause) (EndsWell n (circuits_in config n)) (StopsWell s) (stops_well n s) ended any (end_well n (circuits_in config n) next.mid mid_keeps))
         t.settlement.stops (stops_of_terms t.settlement.stops (terms_of next.mid) next.settlement.stops.each)
 
   -- Rounds ---------------------------------------------------------------------------------------------------------------------
@@ -242,22 +253,22 @@ module _ (config : Config) (rules : KeepsRules config) where
       let here = came n h h' ts next x' at in
       kept_next n here.before here.goes.turn x' here.goes.next (kept n here.before here.at)
 
-  round_stops : (h h' : History ShardState) (ts : List (ShardTurn Handled)) → NextRound pppoe h ts h' → AreKept h → AllByRecursion StopsByUs (stops_in ts)
+  round_stops : (h h' : History ShardState) (ts : List (ShardTurn Handled)) → NextRound pppoe h ts h' → AreKept h → AllByRecursion StopsWell (stops_in ts)
   round_stops h h' ts next kept =
-      all_flat StopsByUs (λ (t : ShardTurn Handled). t.settlement.stops) ts (λ n t at.
+      all_flat StopsWell (λ (t : ShardTurn Handled). t.settlement.stops) ts (λ n t at.
       let here = at_second (NextInShard pppoe) h.shards ts h'.shards (in_shards pppoe h h' ts next) n t at in
       let same : here.y ≡ t = same_Some here.y t (sym here.at_y ∙ at) in
-      subst (λ (u : ShardTurn Handled). AllByRecursion StopsByUs u.settlement.stops) same (stops_by_us n here.x here.y here.z here.so (kept n here.x here.at_x)))
+      subst (λ (u : ShardTurn Handled). AllByRecursion StopsWell u.settlement.stops) same (all_stop_well n here.x here.y here.z here.so (kept n here.x here.at_x)))
 
   rounds_kept : (h h' : History ShardState) (rounds : List (List (ShardTurn Handled))) → Run pppoe h rounds h' → AreKept h → AreKept h'
   rounds_kept h h' [] run kept = subst AreKept (sym run) kept
   rounds_kept h h' (ts ∷ rounds) run kept = rounds_kept run.0 h' rounds run.2 (round_kept h run.0 ts run.1 kept)
 
-  rounds_stops : (h h' : History ShardState) (rounds : List (List (ShardTurn Handled))) → Run pppoe h rounds h' → AreKept h → AllByRecursion StopsByUs (stops_of rounds)
+  rounds_stops : (h h' : History ShardState) (rounds : List (List (ShardTurn Handled))) → Run pppoe h rounds h' → AreKept h → AllByRecursion StopsWell (stops_of rounds)
   rounds_stops h h' [] run kept = tt
   rounds_stops h h' (ts ∷ rounds) run kept =
-      subst (AllByRecursion StopsByUs) (sym (flat_map-cons (λ (us : List (ShardTurn Handled)). stops_in us) ts rounds))
-      (all_append StopsByUs (stops_in ts) (stops_of rounds) (round_stops h run.0 ts run.1 kept) (rounds_stops run.0 h' rounds run.2 (round_kept h run.0 ts run.1 kept)))
+      subst (AllByRecursion StopsWell) (sym (flat_map-cons (λ (us : List (ShardTurn Handled)). stops_in us) ts rounds))
+      (all_append StopsWell (stops_in ts) (stops_of rounds) (round_stops h run.0 ts run.1 kept) (rounds_stops run.0 h' rounds run.2 (round_kept h run.0 ts run.1 kept)))
 
   -- The opening ----------------------------------------------------------------------------------------------------------------
 
@@ -325,7 +336,10 @@ module _ (config : Config) (rules : KeepsRules config) where
             (λ n x at. subst (λ (m : ℕ). HaveTerms x (keys_at config m ++ starts_at m rounds)) (sym (zero-add n)) (have_at n x at))
 
         pub run_causes : All (λ s. IsOfCircuit config s.key → s.cause ≡ nas_request) (stops_of rounds)
-        run_causes = All-from_recursion StopsByUs (stops_of rounds) (rounds_stops (opening v) h rounds run all_before)
+        run_causes = All-from_recursion StopsByUs (stops_of rounds) (all_weaker StopsWell StopsByUs (λ s well. well.ours) (stops_of rounds) (rounds_stops (opening v) h rounds run all_before))
+
+        pub run_causes_known : All (λ s. IsCause s.cause) (stops_of rounds)
+        run_causes_known = All-from_recursion IsKnownStop (stops_of rounds) (all_weaker StopsWell IsKnownStop (λ s well. well.known) (stops_of rounds) (rounds_stops (opening v) h rounds run all_before))
 
         -- in each shard all terms are live, and none outlasts its session
         pub run_stays : AllByRecursion IsHoused h.shards
