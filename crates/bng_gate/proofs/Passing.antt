@@ -166,20 +166,24 @@ module _ (r : Rules) (s : State) (e : Entry) (d : Deed) (on : d.fate ≡ Forward
         outs_are = ap (λ (x : Deed). map datagram_of x.outs) h.done;
         gone = inl (record {
           header = h.header;
-          kind_is = (number, is_kind, record {
-            port = number;
-            came = refl;
-            frame = p;
-            is_frame = (port, is_port, record { whole = refl; sender = came.sender; frame = came.frame; few = came.few; destination = came.destination });
-            info = info;
-            carries = carries;
-            header = h.header;
-            source = refl;
-            alive = alive_up (found_up s number p) info fate h.header decides forwards h.passed.was;
-            went = refl;
-            to = refl;
-            packet = h.passed;
-          });
+          kind_is = (
+            number,
+            is_kind,
+            record {
+              port = number;
+              came = refl;
+              frame = p;
+              is_frame = (port, is_port, record { whole = refl; sender = came.sender; frame = came.frame; few = came.few; destination = came.destination });
+              info = info;
+              carries = carries;
+              header = h.header;
+              source = refl;
+              alive = alive_up (found_up s number p) info fate h.header decides forwards h.passed.was;
+              went = refl;
+              to = refl;
+              packet = h.passed;
+            },
+          );
           reads = record { packet = _; reads = whole; direction = refl; its_address = sym h.source };
         });
       }
