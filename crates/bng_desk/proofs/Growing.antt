@@ -1,20 +1,19 @@
 -- What a journal adds to the terms of a shard.
 use Rattle.std.proofs.Common.{◌≡◌, ℕ, ◌+◌, ◌<◌, ◌≤◌, Bool, true, false, cond, List, [], ◌∷◌, ◌++◌, map, length, refl, sym, ap, subst, ◌∙◌, arith, append-nil, append_assoc, length-append}
-use Rattle.std.specs.List.{All, AllByRecursion, AllZip, range_with_len}
+use Rattle.std.specs.List.{AllByRecursion, AllZip, range_with_len}
 use Rattle.std.proofs.lemmas.List.{length-map, map-append}
 use Rattle.bng_base.specs.declared.item.Entry.{Entry}
 use Rattle.bng_base.specs.declared.item.Item.{Item}
 use Rattle.bng_base.specs.declared.item.OutRecord.{OutRecord}
 use Rattle.bng_engine.specs.Journals.{after, AreLimited, AreSteps, claims_of}
 use Rattle.bng_engine.specs.Lists.{Zip3}
-use Rattle.bng_engine.specs.Terms.{Key, Term, keys}
-use Rattle.bng_engine.specs.Views.{ShardView}
+use Rattle.bng_engine.specs.Terms.{Key, keys}
 use Rattle.bng_engine.proofs.Everywhere.{all_append, all_mapped, all_weaker}
 use Rattle.bng_engine.proofs.Journals.{run_few}
 use Rattle.bng_shard.specs.declared.whose.Whose.{Whose}
 use Rattle.bng_shard.specs.Granting.{IsSound}
 use Rattle.bng_shard.specs.Lasting.{AreTenures}
-use Rattle.bng_shard.specs.Protocol.{ShardState, Handled, claimed_by, entry_of, key_in, pppoe, term_in, terms_of}
+use Rattle.bng_shard.specs.Protocol.{ShardState, Handled, entry_of, key_in, pppoe, term_in, terms_of}
 use Rattle.bng_shard.specs.State.{State}
 use Rattle.bng_shard.specs.Tenures.{Tenure}
 use Rattle.bng_shard.proofs.ClaimedTerms.{step_by_claims}

@@ -1,5 +1,5 @@
 -- Accounting knows of no term that did not begin.
-use Rattle.std.proofs.Common.{◌≡◌, inl, inr, ℕ, ◌/◌, ◌<◌, ◌≤◌, ◌||◌, Bool, true, false, cond, List, [], ◌∷◌, ◌++◌, Option, Some, None, map, length, get_or, refl, sym, ap, subst, ◌∙◌, arith}
+use Rattle.std.proofs.Common.{◌≡◌, inl, inr, ℕ, ◌/◌, ◌<◌, ◌≤◌, ◌||◌, Bool, true, false, cond, List, [], ◌∷◌, Option, Some, None, length, get_or, refl, sym, ap, subst, ◌∙◌, arith}
 use Rattle.std.specs.Prelude.{MatchBool, is_some, option_and_then}
 use Rattle.std.specs.List.{All, AllByRecursion, AllZip}
 use Rattle.std.proofs.lemmas.Bool.{cases_Bool, false≢true}
@@ -12,26 +12,23 @@ use Rattle.bng_acct.specs.declared.held.Held.{Held}
 use Rattle.bng_acct.specs.declared.sheet.Sheet.{Sheet}
 use Rattle.bng_acct.specs.Queue.{sheet_at}
 use Rattle.bng_acct.specs.Roster.{Puts, Removes, of_term, same}
-use Rattle.bng_acct.specs.Spool.{Agree, Leaves, Releases, ReleasesIfAny, is_kept, is_live, is_stop_sheet, number_of, only_stop, open_of, with_number}
+use Rattle.bng_acct.specs.Spool.{Agree, ReleasesIfAny, is_kept, is_live, is_stop_sheet, number_of, only_stop, open_of, with_number}
 use Rattle.bng_acct.proofs.Marks.{term-with, term_of}
 use Rattle.bng_acct.proofs.Rosters.{same_is}
 use Rattle.bng_base.specs.declared.circuit.TermId.{TermId}
-use Rattle.bng_base.specs.declared.item.Entry.{Entry}
-use Rattle.bng_base.specs.Chain.{Chain}
 use Rattle.bng_base.proofs.ChainLaws.{chain_keeps}
 use Rattle.bng_billing.specs.Replies.{Takes}
 use Rattle.bng_billing.specs.State.{BillingState}
 use Rattle.bng_billing.specs.Stopping.{StopsOnly}
 use Rattle.bng_engine.specs.Lists.{AnyOf}
 use Rattle.bng_engine.specs.Terms.{Key, Stop}
-use Rattle.bng_engine.specs.Views.{ShardView}
 use Rattle.bng_engine.proofs.Everywhere.{all_append, any_all}
 use Rattle.bng_lane.specs.Sends.{LaneSend}
 use Rattle.bng_shard.specs.Lasting.{AreTenures, IsTenureOf}
-use Rattle.bng_shard.specs.Protocol.{SaysOf, ShardState, key_in}
+use Rattle.bng_shard.specs.Protocol.{SaysOf}
 use Rattle.bng_shard.specs.Tenures.{Tenure}
 use Rattle.bng_shard.proofs.Numbered.{tenures_later}
-use Rattle.bng_desk.specs.Accounting.{Acknowledged, AreFactsOf, FormedRecord, Forms, Gives, HasBegun, HearsRecords, IsStartOf, IsStopOf, KnowsBegun, RecordRequests, RecordSend, Resends, SettlesRecords}
+use Rattle.bng_desk.specs.Accounting.{Acknowledged, FormedRecord, Forms, Gives, HasBegun, HearsRecords, IsStartOf, IsStopOf, KnowsBegun, RecordRequests, RecordSend, Resends, SettlesRecords}
 use Rattle.bng_desk.specs.Round.{news_in, terms_in}
 use Rattle.bng_desk.specs.Taking.{Accounts, AreInOrder, BooksStarts, BooksStops, KeepsTerms, Shown, states_of}
 use Rattle.bng_desk.specs.Turn.{Closes}

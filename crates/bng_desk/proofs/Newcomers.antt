@@ -1,29 +1,27 @@
 -- The terms of the shards once all entries of a round were handled: those that were there are live in accounting, and of those that began
 -- it knows nothing.
-use Rattle.std.proofs.Common.{◌≡◌, ◌⊎◌, inl, inr, ℕ, zero, suc, ◌+◌, ◌/◌, ◌<◌, ◌≤◌, Bool, true, false, List, [], ◌∷◌, ◌++◌, Option, None, Some, map, length, get_or, refl, sym, ap, subst, ◌∙◌, arith, length-append}
-use Rattle.std.specs.Prelude.{count_by, is_some, not, option_and_then}
+use Rattle.std.proofs.Common.{◌≡◌, ◌⊎◌, inl, inr, ℕ, suc, ◌+◌, ◌/◌, ◌<◌, ◌≤◌, Bool, true, false, List, [], ◌∷◌, ◌++◌, Option, None, Some, map, length, get_or, refl, sym, ap, subst, ◌∙◌, arith, length-append}
+use Rattle.std.specs.Prelude.{is_some, not, option_and_then}
 use Rattle.std.specs.List.{All, AllByRecursion, AllPairs, AllZip, Contains, flat_map, sum_by}
 use Rattle.std.proofs.lemmas.Bool.{false≢true}
 use Rattle.std.proofs.lemmas.List.{length-map, map-append}
-use Rattle.std.proofs.lemmas.List.Elements.{All-cons, All-head, All-map, All-nil, All-tail, All-weaker, AllZip-get_or, All-contains_itself, All-from_recursion, Contains-append_left, Contains-append_right, length_all_zip, recursion_from_All}
+use Rattle.std.proofs.lemmas.List.Elements.{All-map, All-weaker, AllZip-get_or, All-contains_itself, All-from_recursion, Contains-append_left, Contains-append_right, length_all_zip, recursion_from_All}
 use Rattle.std.proofs.lemmas.List.Kept.{AllPairs-cons}
 use Rattle.std.proofs.lemmas.List.Sums.{count_by-le-length, sum_by-cons}
 use Rattle.bng_acct.specs.declared.facts.StatusType.TheVariants.{Start}
 use Rattle.bng_acct.specs.declared.held.Held.{Held}
 use Rattle.bng_acct.specs.Roster.{of_term, same}
-use Rattle.bng_acct.specs.Spool.{is_live, number_of, open_of}
+use Rattle.bng_acct.specs.Spool.{is_live, number_of}
 use Rattle.bng_acct.proofs.Rosters.{same_is}
 use Rattle.bng_base.specs.declared.circuit.TermId.{TermId}
-use Rattle.bng_base.specs.declared.item.Entry.{Entry}
 use Rattle.bng_billing.specs.State.{BillingState}
 use Rattle.bng_engine.specs.Terms.{Key, keys}
-use Rattle.bng_engine.specs.Views.{ShardView}
-use Rattle.bng_engine.proofs.Everywhere.{all_append, all_mapped, all_weaker}
-use Rattle.bng_shard.specs.Lasting.{AreTenures, IsTenureOf, Precedes}
-use Rattle.bng_shard.specs.Protocol.{ShardState, key_in, terms_of}
+use Rattle.bng_engine.proofs.Everywhere.{all_append, all_weaker}
+use Rattle.bng_shard.specs.Lasting.{IsTenureOf, Precedes}
+use Rattle.bng_shard.specs.Protocol.{key_in, terms_of}
 use Rattle.bng_shard.specs.State.{State}
 use Rattle.bng_shard.specs.Tenures.{Tenure}
-use Rattle.bng_desk.specs.Accounting.{AreBilled, AreSettling, HasBegun, KnowsBegun, is_unknown}
+use Rattle.bng_desk.specs.Accounting.{AreBilled, AreSettling, KnowsBegun, is_unknown}
 use Rattle.bng_desk.specs.Model.{keys_in}
 use Rattle.bng_desk.specs.Round.{news_in}
 use Rattle.bng_desk.specs.Taking.{AreInOrder, Shown, states_of}
