@@ -1,11 +1,11 @@
 -- Nothing that a run sends of packets is invented: it is what was taken.
-use Rattle.std.proofs.Common.{◌≡◌, inl, inr, ℕ, ◌+◌, Bool, true, false, cond, List, [], ◌∷◌, ◌++◌, map, filter, length, Option, Some, None, refl, sym, ap, subst, ◌∙◌}
+use Rattle.std.proofs.Common.{◌≡◌, ℕ, ◌+◌, Bool, true, false, cond, List, [], ◌∷◌, ◌++◌, map, length, Option, Some, None, refl, sym, ap, subst, ◌∙◌}
 use Rattle.std.specs.List.{All, AllByRecursion, flat_map, range_with_len}
 use Rattle.std.specs.Option.{option_map_or}
 use Rattle.std.proofs.lemmas.Bool.{false≢true}
 use Rattle.std.proofs.lemmas.List.{append-nil}
 use Rattle.std.proofs.lemmas.List.Concat.{flat_map-append}
-use Rattle.std.proofs.lemmas.List.Elements.{All-append, All-cons, All-from_recursion, All-head, All-map, All-nil, All-tail}
+use Rattle.std.proofs.lemmas.List.Elements.{All-from_recursion, All-head, All-map, All-nil, All-tail}
 use Rattle.bng_base.specs.declared.address.Ip4.{Ip4}
 use Rattle.bng_base.specs.declared.address.Peer.{Peer}
 use Rattle.bng_base.specs.declared.item.Item.{Item}
@@ -22,7 +22,6 @@ use Rattle.bng_base.specs.Roles.{is_data}
 use Rattle.bng_config.specs.declared.config.Config.{Config}
 use Rattle.bng_engine.specs.Accounted.{nothing_yet}
 use Rattle.bng_engine.specs.Histories.{History, NextInShard, ShardHistory, ShardTurn, sends_in}
-use Rattle.bng_engine.specs.Journals.{after}
 use Rattle.bng_engine.specs.Laws.{RightRound, sends_of}
 use Rattle.bng_engine.specs.Lists.{Zip3}
 use Rattle.bng_engine.specs.Views.{ShardView, turn_in}
@@ -40,15 +39,14 @@ use Rattle.bng_desk.specs.Items.{DataReading, arrived, drawn_from, ends_of, kept
 use Rattle.bng_desk.specs.Logins.{Answered, reply_in, reply_items, silence, timeout_items, verdict_item}
 use Rattle.bng_desk.specs.Model.{Desk}
 use Rattle.bng_desk.specs.Opening.{opened_shards, statics_of}
-use Rattle.bng_desk.specs.Random.{draw}
 use Rattle.bng_desk.specs.Reading.{taken_in}
 use Rattle.bng_desk.specs.Round.{Round, views_of}
 use Rattle.bng_desk.specs.Turn.{RoundOf, Step, Turn, data_roles, ending_items, has_end, items_of, new_items}
 use Rattle.bng_desk.proofs.ItemLaws.{all_due, all_ends}
 use Rattle.bng_desk.proofs.RulesStay.{after_rules}
 use Rattle.bng_gate.specs.Granted.{Stage, end_stage_in, sent_by, stage_in, stages_of}
-use Rattle.bng_gate.specs.Rounds.{end_round_in, history_of, on_data, readings_in, readings_of, round_in, rounds_in, rounds_of, turns_of}
-use Rattle.bng_gate.specs.Serving.{EndRun, Ends, Goes, GoesEnding, Late, LateStep, Made, MadeEnd, Run, Waits}
+use Rattle.bng_gate.specs.Rounds.{end_round_in, history_of, on_data, round_in, rounds_in, rounds_of, turns_of}
+use Rattle.bng_gate.specs.Serving.{EndRun, Ends, Late, LateStep, Made, MadeEnd, Run, Waits}
 use Rattle.bng_gate.specs.Unchanged.{Arises, IsPassedDown, IsPassedUp, NothingIsInvented}
 use Rattle.bng_gate.proofs.Arising.{arises_append, arises_none, arises_unfiltered}
 use Rattle.bng_gate.proofs.Passing.{datagrams_as, datagrams_in, from_it, step_down, step_up, those, to_it}
