@@ -202,12 +202,7 @@ fn records(rt: &impl Abort, alloc: Global, ended: &Ended, wanted: &[&str]) -> Re
 }
 
 /// What a run sent to the host and to the core: until the packets went both ways, then this last PPP frame, and a PADT at the stop.
-fn sends_of_visit(
-    rt: &impl Abort,
-    alloc: Global,
-    ended: &Ended,
-    last: &[u8],
-) -> Result<(), Fail> {
+fn sends_of_visit(rt: &impl Abort, alloc: Global, ended: &Ended, last: &[u8]) -> Result<(), Fail> {
     let passed = framed(alloc, &TO_HOST, PASSED)?;
     let own = framed(alloc, &TO_HOST, OWN_ADDRESS)?;
     let to_be = framed(alloc, &TO_HOST, TO_BE)?;
