@@ -1,5 +1,5 @@
 -- Lists of which each element of the one comes of another element of the other, in their order.
-use Rattle.std.proofs.Common.{◌≡◌, ◌⊎◌, inl, inr, Bool, true, false, cond, List, [], ◌∷◌, ◌++◌, map, filter, refl, sym, ap, subst, ◌∙◌}
+use Rattle.std.proofs.Common.{◌≡◌, inl, inr, Bool, true, false, cond, List, [], ◌∷◌, ◌++◌, filter, refl, sym, subst}
 use Rattle.bng_gate.specs.Unchanged.{Arises}
 
 module _ {X Y : Type 0} where

@@ -14,7 +14,7 @@ use Rattle.bng_config.specs.Rules.{KeepsRules}
 use Rattle.bng_config.proofs.Kept.{read_keeps}
 use Rattle.bng_engine.specs.Accounted.{Accounted, nothing_yet as new_history, opening as nothing_yet}
 use Rattle.bng_engine.specs.Histories.{History, ShardTurn, Run as Rounds}
-use Rattle.bng_engine.specs.Laws.{Opens, RunFrom, RowsAccountOnWire, sends_of, stops_of}
+use Rattle.bng_engine.specs.Laws.{Opens, RightRound, RunFrom, RowsAccountOnWire, sends_of, stops_of}
 use Rattle.bng_engine.specs.Quantities.{Quantity, Octets, empty_book}
 use Rattle.bng_engine.specs.Sums.{is_any}
 use Rattle.bng_engine.specs.Terms.{Key}
@@ -37,7 +37,7 @@ use Rattle.bng_desk.specs.Report.{report_text, by_number}
 use Rattle.bng_desk.specs.Round.{view_of, views_of}
 use Rattle.bng_gate.specs.declared.texts.Refusal.{Refusal}
 use Rattle.bng_gate.specs.declared.texts.Refusal.TheVariants.{Usage, Refused, CannotOpen, OutOfMemory, TraceFailed, OutputFailed}
-use Rattle.bng_gate.specs.Granted.{Granted}
+use Rattle.bng_gate.specs.Granted.{Granted, stages_of}
 use Rattle.bng_gate.specs.Recorded.{Recorded}
 use Rattle.bng_gate.specs.Replied.{AreReplied}
 use Rattle.bng_gate.specs.Unanswered.{unanswered_of, NamesStops}
@@ -51,7 +51,7 @@ use Rattle.bng_gate.proofs.Agreed.{agreed}
 use Rattle.bng_gate.proofs.Drops.{all_dropped}
 use Rattle.bng_gate.proofs.Follows.{Follows, run_follows}
 use Rattle.bng_gate.proofs.Going.{Leads, stands_itself, rounds_lead}
-use Rattle.bng_gate.proofs.Invented.{nothing_invented, opened_rules, HaveRules}
+use Rattle.bng_gate.proofs.Invented.{HaveRules, nothing_invented, opened_rules, stages_invent_nothing}
 use Rattle.bng_gate.proofs.Keys.{IsOurs}
 use Rattle.bng_gate.proofs.Leaving.{HasNoRows, HasNoTerms, IsEmpty, all_stopped, ended_empty, rows_gone, rows_say_none, shards_say_none, terms_gone}
 use Rattle.bng_gate.proofs.Lines.{lines_gone, one_worker, report_told, stopped_gone, tallies_gone}
@@ -128,12 +128,22 @@ module _ (text : List ℕ) (config : Config) (read : IsRead text config) (seed :
   have_rules : HaveRules r (nothing_yet start).shards
   have_rules = subst (λ (vs : List (ShardView ShardState Handled)). HaveRules r (map new_history vs)) (sym shards_are) (opened_rules config r now)
 
+  right : Chain (RightRound pppoe) (nothing_yet start) rounds goes.0
+  right = rounds_are_right pppoe pppoe_laws start rounds goes.0 run_from
+
+  none_kept : course.opening.kept ≡ []
+  none_kept = ap (λ (d : Desk). d.kept) course.begins.is_opened.desk
+
+  invented_in_stages : All (λ s. NothingIsInvented config s.taken s.sent) (stages_of course.turns course.endings)
+  invented_in_stages =
+      stages_invent_nothing config r course.begins.is_opened.are_rules.access course.begins.is_opened.are_rules.core_peer course.opening course.over course.last course.turns course.endings course.run course.ending
+      none_kept have_rules goes.0 right
+
   invented : NothingIsInvented config (plant_of course.turns course.endings).taken (plant_of course.turns course.endings).sent
   invented =
       nothing_invented config r course.begins.is_opened.are_rules.access course.begins.is_opened.are_rules.core_peer course.opening course.over course.last course.turns course.endings course.run course.ending
-      (ap (λ (d : Desk). d.kept) course.begins.is_opened.desk) have_rules goes.0 (rounds_are_right pppoe pppoe_laws start rounds goes.0 run_from)
-      (plant_of course.turns course.endings).taken (plant_of course.turns course.endings).sent
-      (taken_are course.opening course.over course.turns course.endings course.run) (sent_are course.turns course.endings)
+      none_kept have_rules goes.0 right (plant_of course.turns course.endings).taken (plant_of course.turns course.endings).sent
+      (stages_taken course.opening course.over course.turns course.endings course.run) (sent_are course.turns course.endings)
 
   lines : course.last.lines ≡ map (line_after (stops_of rounds)) (map line_of config.statics)
   lines = lines_gone course.opening course.last (rounds_in course.turns course.endings) follows ∙ ap (λ (d : Desk). map (line_after (stops_of rounds)) d.lines) course.begins.is_opened.desk
@@ -175,7 +185,7 @@ module _ (text : List ℕ) (config : Config) (read : IsRead text config) (seed :
     items = taken_are course.opening course.over course.turns course.endings course.run;
     sends = sends;
     history = goes.0;
-    rounds = rounds_are_right pppoe pppoe_laws start rounds goes.0 run_from;
+    rounds = right;
     terms = terms;
     causes = run_causes config rules r now start shards_are goes.0 rounds goes.1;
     causes_known = run_causes_known config rules r now start shards_are goes.0 rounds goes.1;
@@ -184,6 +194,7 @@ module _ (text : List ℕ) (config : Config) (read : IsRead text config) (seed :
     addressed = all_addressed (all_terms_of config rounds) sent (sends_of rounds) sends ours;
     addressed_live = live_addressed start goes.0 rounds start_opens.new goes.1;
     invented_nothing = invented;
+    stages_invented_nothing = invented_in_stages;
     stages_heard = stages_heard course.opening course.over course.turns course.endings course.run;
     stages_acknowledged = stages_acknowledged course.opening course.over course.turns course.endings course.run;
     stages_taken = stages_taken course.opening course.over course.turns course.endings course.run;

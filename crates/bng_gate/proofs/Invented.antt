@@ -1,11 +1,11 @@
 -- Nothing that a run sends of packets is invented: it is what was taken.
-use Rattle.std.proofs.Common.{◌≡◌, inl, inr, ℕ, ◌+◌, Bool, true, false, cond, List, [], ◌∷◌, ◌++◌, map, filter, length, Option, Some, None, refl, sym, ap, subst, ◌∙◌}
+use Rattle.std.proofs.Common.{◌≡◌, ℕ, ◌+◌, Bool, true, false, cond, List, [], ◌∷◌, ◌++◌, map, length, Option, Some, None, refl, sym, ap, subst, ◌∙◌}
 use Rattle.std.specs.List.{All, AllByRecursion, flat_map, range_with_len}
 use Rattle.std.specs.Option.{option_map_or}
 use Rattle.std.proofs.lemmas.Bool.{false≢true}
 use Rattle.std.proofs.lemmas.List.{append-nil}
 use Rattle.std.proofs.lemmas.List.Concat.{flat_map-append}
-use Rattle.std.proofs.lemmas.List.Elements.{All-append, All-cons, All-from_recursion, All-head, All-map, All-nil, All-tail}
+use Rattle.std.proofs.lemmas.List.Elements.{All-from_recursion, All-head, All-map, All-nil, All-tail}
 use Rattle.bng_base.specs.declared.address.Ip4.{Ip4}
 use Rattle.bng_base.specs.declared.address.Peer.{Peer}
 use Rattle.bng_base.specs.declared.item.Item.{Item}
@@ -22,7 +22,6 @@ use Rattle.bng_base.specs.Roles.{is_data}
 use Rattle.bng_config.specs.declared.config.Config.{Config}
 use Rattle.bng_engine.specs.Accounted.{nothing_yet}
 use Rattle.bng_engine.specs.Histories.{History, NextInShard, ShardHistory, ShardTurn, sends_in}
-use Rattle.bng_engine.specs.Journals.{after}
 use Rattle.bng_engine.specs.Laws.{RightRound, sends_of}
 use Rattle.bng_engine.specs.Lists.{Zip3}
 use Rattle.bng_engine.specs.Views.{ShardView, turn_in}
@@ -40,16 +39,16 @@ use Rattle.bng_desk.specs.Items.{DataReading, arrived, drawn_from, ends_of, kept
 use Rattle.bng_desk.specs.Logins.{Answered, reply_in, reply_items, silence, timeout_items, verdict_item}
 use Rattle.bng_desk.specs.Model.{Desk}
 use Rattle.bng_desk.specs.Opening.{opened_shards, statics_of}
-use Rattle.bng_desk.specs.Random.{draw}
 use Rattle.bng_desk.specs.Reading.{taken_in}
 use Rattle.bng_desk.specs.Round.{Round, views_of}
 use Rattle.bng_desk.specs.Turn.{RoundOf, Step, Turn, data_roles, ending_items, has_end, items_of, new_items}
 use Rattle.bng_desk.proofs.ItemLaws.{all_due, all_ends}
 use Rattle.bng_desk.proofs.RulesStay.{after_rules}
-use Rattle.bng_gate.specs.Rounds.{end_round_in, history_of, on_data, readings_in, readings_of, round_in, rounds_in, rounds_of, turns_of}
-use Rattle.bng_gate.specs.Serving.{EndRun, Ends, Goes, GoesEnding, Late, LateStep, Made, MadeEnd, Run, Waits}
+use Rattle.bng_gate.specs.Granted.{Stage, end_stage_in, sent_by, stage_in, stages_of}
+use Rattle.bng_gate.specs.Rounds.{end_round_in, history_of, on_data, round_in, rounds_in, rounds_of, turns_of}
+use Rattle.bng_gate.specs.Serving.{EndRun, Ends, Late, LateStep, Made, MadeEnd, Run, Waits}
 use Rattle.bng_gate.specs.Unchanged.{Arises, IsPassedDown, IsPassedUp, NothingIsInvented}
-use Rattle.bng_gate.proofs.Arising.{arises_append, arises_later, arises_unfiltered}
+use Rattle.bng_gate.proofs.Arising.{arises_append, arises_none, arises_unfiltered}
 use Rattle.bng_gate.proofs.Passing.{datagrams_as, datagrams_in, from_it, step_down, step_up, those, to_it}
 use Rattle.bng_gate.proofs.PassingOn.{round_sends, those_append}
 use Rattle.bng_gate.proofs.Verdicts.{kept_after}
@@ -203,62 +202,97 @@ all_sent (v ∷ vs) = ap (λ (os : List OutRecord). v.sends ++ os) (all_sent vs)
 
 module _ (a : Ip4) (test : WirePacket → Bool) (its : (w : WirePacket) → test w ≡ true → w.address ≡ a) (r : Rules) (R : Datagram → Datagram → Type 0)
     (steps : (s : State) (limited : Bool) (d : Deed) → ShardStep r s limited d → Arises R (datagrams_in d.entry.item) (those test (map datagram_of d.outs))) where
-  -- what some rounds sent of the address
-  abbrev sent_in : List (Option Round) → List Datagram
-  sent_in rounds = those test (went (sends_of (flat_map turns_of rounds)))
+  -- what is left of a run of rounds
+  record Rest (later : List (Option Round)) (last : History ShardState) : Type 0 where
+    mid : History ShardState
+    rules : HaveRules r mid.shards
+    run : Chain (RightRound pppoe) mid (flat_map turns_of later) last
 
-  one_round : (d : Desk) (moment : ℕ) (items : List Item) (round : Round) (h h' : History ShardState) → RoundOf d moment items (Some round) → RightRound pppoe h (map turn_in round.shards) h' → HaveRules r h.shards
-      → Arises R (flat_map datagrams_in items) (those test (went (sends_in (map turn_in round.shards))))
-  one_round d moment items round h h' is right rules =
-      subst (λ (os : List OutRecord). Arises R (flat_map datagrams_in items) (those test (went os))) (sym (all_sent round.shards))
-      (round_sends a test its r R steps items round.whose 0 moment h.shards round.shards h'.shards (in_shards pppoe h h' (map turn_in round.shards) right.round) rules is.dealt.parts (right.exclusive a.0))
+  -- what a round sends comes of its items
+  round_stands : (d : Desk) (moment : ℕ) (items : List Item) (round : Option Round) → RoundOf d moment items round → (xs : List Datagram) → flat_map datagrams_in items ≡ xs
+      → (later : List (Option Round)) (last : History ShardState) → Rest (round ∷ later) last → Arises R xs (those test (sent_by round)) × Rest later last
+  round_stands d moment items None is xs are later last rest = (arises_none R xs, record { mid = rest.mid; rules = rest.rules; run = rest.run })
+  round_stands d moment items (Some round) is xs are later last rest =
+      let ts = map turn_in round.shards in
+      let right = rest.run.1 in
+      let next = in_shards pppoe rest.mid rest.run.0 ts right.round in (
+        subst (λ (us : List Datagram). Arises R us (those test (sent_by (Some round)))) are
+            (round_sends a test its r R steps items round.whose 0 moment rest.mid.shards round.shards rest.run.0.shards next rest.rules is.dealt.parts (right.exclusive a.0)),
+        record { mid = rest.run.0; rules = next_work r rest.mid.shards ts rest.run.0.shards next rest.rules; run = rest.run.2 },
+      )
 
-  -- a round, and those after it
-  round_then : (d : Desk) (moment : ℕ) (items : List Item) (round : Option Round) → RoundOf d moment items round → (xs : List Datagram) → flat_map datagrams_in items ≡ xs
-      → (h last : History ShardState) → HaveRules r h.shards → (later : List (Option Round)) (ds : List Datagram) → Chain (RightRound pppoe) h (flat_map turns_of (round ∷ later)) last
-      → ((mid : History ShardState) → HaveRules r mid.shards → Chain (RightRound pppoe) mid (flat_map turns_of later) last → Arises R ds (sent_in later)) → Arises R (xs ++ ds) (sent_in (round ∷ later))
-  round_then d moment items None is xs are h last rules later ds run rest = arises_later R xs ds (sent_in later) (rest h rules run)
-  round_then d moment items (Some round) is xs are h last rules later ds run rest =
-      let here = sends_in (map turn_in round.shards) in
-      let others = sends_of (flat_map turns_of later) in
-      let split : those test (went (here ++ others)) ≡ those test (went here) ++ those test (went others) = ap (those test) (went_append here others) ∙ those_append test (went here) (went others) in
-      subst (Arises R (xs ++ ds)) (sym split)
-      (arises_append R xs ds (those test (went here)) (those test (went others))
-      (subst (λ (us : List Datagram). Arises R us (those test (went here))) are (one_round d moment items round h run.0 is run.1 rules))
-      (rest run.0 (next_work r h.shards (map turn_in round.shards) run.0.shards (in_shards pppoe h run.0 (map turn_in round.shards) run.1.round) rules) run.2))
+  -- what a turn sends comes of what it took
+  abbrev Stands : Stage → Type 0
+  Stands s = Arises R s.taken (those test s.sent)
 
-  -- Turns
-  turn_then : (d d' : Desk) (t : Option Turn) → Step d t d' → All IsSilent d.kept
-      → (h last : History ShardState) → HaveRules r h.shards → (later : List (Option Round)) (ds : List Datagram) → Chain (RightRound pppoe) h (flat_map turns_of (round_in t ∷ later)) last
-      → ((mid : History ShardState) → HaveRules r mid.shards → Chain (RightRound pppoe) mid (flat_map turns_of later) last → Arises R ds (sent_in later)) → Arises R (taken_of (readings_in t) ++ ds) (sent_in (round_in t ∷ later))
-  turn_then d d' None step kept h last rules later ds run rest = rest h rules run
-  turn_then d d' (Some t) step kept h last rules later ds run rest =
-      round_then d t.moment (items_of d t) t.round step.1 (taken_of t.readings) (items_told d t kept step.0.roles) h last rules later ds run rest
+  turn_stands : (d d' e : Desk) (t : Option Turn) → Step d t d' → All IsSilent d.kept → (later : List (Option Round)) (last : History ShardState) → Rest (round_in t ∷ later) last → Stands (stage_in e t) × Rest later last
+  turn_stands d d' e None step kept later last rest = (refl, record { mid = rest.mid; rules = rest.rules; run = rest.run })
+  turn_stands d d' e (Some t) step kept later last rest = round_stands d t.moment (items_of d t) t.round step.1 (taken_of t.readings) (items_told d t kept step.0.roles) later last rest
 
-  end_then : (d d' : Desk) (t : Late) → LateStep d t d' → All IsSilent d.kept
-      → (h last : History ShardState) → HaveRules r h.shards → (later : List (Option Round)) → Chain (RightRound pppoe) h (flat_map turns_of (end_round_in t ∷ later)) last
-      → ((mid : History ShardState) → HaveRules r mid.shards → Chain (RightRound pppoe) mid (flat_map turns_of later) last → Arises R [] (sent_in later)) → Arises R [] (sent_in (end_round_in t ∷ later))
-  end_then d d' (Ends None) step kept h last rules later run rest = rest h rules run
-  end_then d d' (Waits t) step kept h last rules later run rest = rest h rules run
-  end_then d d' (Ends (Some t)) step kept h last rules later run rest =
-      round_then d t.moment (ending_items d) t.round step.1 [] (ending_told d kept) h last rules later [] run rest
+  end_stands : (d d' e : Desk) (t : Late) → LateStep d t d' → All IsSilent d.kept → (later : List (Option Round)) (last : History ShardState) → Rest (end_round_in t ∷ later) last → Stands (end_stage_in e t) × Rest later last
+  end_stands d d' e (Ends None) step kept later last rest = (refl, record { mid = rest.mid; rules = rest.rules; run = rest.run })
+  end_stands d d' e (Waits t) step kept later last rest = (refl, record { mid = rest.mid; rules = rest.rules; run = rest.run })
+  end_stands d d' e (Ends (Some t)) step kept later last rest = round_stands d t.moment (ending_items d) t.round step.1 [] (ending_told d kept) later last rest
 
-  endings_send : (d d' : Desk) (endings : List MadeEnd) → EndRun d endings d' → All IsSilent d.kept → (h last : History ShardState) → HaveRules r h.shards
-      → Chain (RightRound pppoe) h (flat_map turns_of (map (λ m. end_round_in m.turn) endings)) last → Arises R [] (sent_in (map (λ m. end_round_in m.turn) endings))
-  endings_send d d' [] goes kept h last rules run = refl
-  endings_send d d' (m ∷ endings) goes kept h last rules run =
-      end_then d goes.0 m.turn goes.1.1 kept h last rules (map (λ (x : MadeEnd). end_round_in x.turn) endings) run
-      (λ mid work more. endings_send goes.0 d' endings goes.2 (end_keeps d goes.0 m.turn goes.1.1 kept) mid last work more)
+  endings_stand : (d d' : Desk) (endings : List MadeEnd) → EndRun d endings d' → All IsSilent d.kept → (last : History ShardState) → Rest (map (λ m. end_round_in m.turn) endings) last
+      → AllByRecursion Stands (map (λ m. end_stage_in m.desk m.turn) endings)
+  endings_stand d d' [] goes kept last rest = tt
+  endings_stand d d' (m ∷ endings) goes kept last rest =
+      let here = end_stands d goes.0 m.desk m.turn goes.1.1 kept (map (λ (x : MadeEnd). end_round_in x.turn) endings) last rest in
+      (here.0, endings_stand goes.0 d' endings goes.2 (end_keeps d goes.0 m.turn goes.1.1 kept) last here.1)
 
   module _ (over end : Desk) (endings : List MadeEnd) (ending : EndRun over endings end) where
-    turns_send : (d : Desk) (turns : List Made) → Run d turns over → All IsSilent d.kept → (h last : History ShardState) → HaveRules r h.shards
-        → Chain (RightRound pppoe) h (rounds_of turns endings) last → Arises R (taken_of (readings_of turns)) (sent_in (rounds_in turns endings))
-    turns_send d [] goes kept h last rules run = endings_send over end endings ending (subst (λ (x : Desk). All IsSilent x.kept) (sym goes) kept) h last rules run
-    turns_send d (m ∷ turns) goes kept h last rules run =
-        let taken = taken_of (readings_of turns) in
-        subst (λ (ds : List Datagram). Arises R ds (sent_in (rounds_in (m ∷ turns) endings))) (sym (flat_map-append (λ r. taken_in r.role r.arrivals) (readings_in m.turn) (readings_of turns)))
-        (turn_then d goes.0 m.turn goes.1.1 kept h last rules (rounds_in turns endings) taken run
-        (λ mid work more. turns_send goes.0 turns goes.2 (step_keeps d goes.0 m.turn goes.1.1 kept) mid last work more))
+    stages_stand : (d : Desk) (turns : List Made) → Run d turns over → All IsSilent d.kept → (last : History ShardState) → Rest (rounds_in turns endings) last → AllByRecursion Stands (stages_of turns endings)
+    stages_stand d [] goes kept last rest = endings_stand over end endings ending (subst (λ (x : Desk). All IsSilent x.kept) (sym goes) kept) last rest
+    stages_stand d (m ∷ turns) goes kept last rest =
+        let here = turn_stands d goes.0 m.desk m.turn goes.1.1 kept (rounds_in turns endings) last rest in
+        (here.0, stages_stand goes.0 turns goes.2 (step_keeps d goes.0 m.turn goes.1.1 kept) last here.1)
+
+-- where what each turn sent comes of what it took, what all of them sent comes of what all took
+all_stand : (R : Datagram → Datagram → Type 0) (test : WirePacket → Bool) (stages : List Stage) → AllByRecursion (λ s. Arises R s.taken (those test s.sent)) stages
+    → Arises R (flat_map (λ s. s.taken) stages) (those test (flat_map (λ s. s.sent) stages))
+all_stand R test [] all = refl
+all_stand R test (s ∷ stages) all =
+    let later = flat_map (λ (x : Stage). x.sent) stages in
+    subst (Arises R (s.taken ++ flat_map (λ (x : Stage). x.taken) stages)) (sym (those_append test s.sent later))
+    (arises_append R s.taken (flat_map (λ (x : Stage). x.taken) stages) (those test s.sent) (those test later) all.0 (all_stand R test stages all.1))
+
+-- what the rounds sent is what the stages sent
+round_went : (round : Option Round) → went (sends_of (turns_of round)) ≡ sent_by round
+round_went None = refl
+round_went (Some round) = ap went (append-nil (sends_in (map turn_in round.shards)) ∙ all_sent round.shards)
+
+sends_append : (xs ys : List (List (ShardTurn Handled))) → sends_of (xs ++ ys) ≡ sends_of xs ++ sends_of ys
+sends_append xs ys = flat_map-append sends_in xs ys
+
+went_then : (round : Option Round) (later : List (Option Round)) (ds : List Datagram) → went (sends_of (flat_map turns_of later)) ≡ ds → went (sends_of (flat_map turns_of (round ∷ later))) ≡ sent_by round ++ ds
+went_then round later ds rest =
+    let others = flat_map turns_of later in
+    ap went (sends_append (turns_of round) others)
+    ∙ went_append (sends_of (turns_of round)) (sends_of others)
+    ∙ ap (λ (us : List Datagram). us ++ went (sends_of others)) (round_went round)
+    ∙ ap (λ (us : List Datagram). sent_by round ++ us) rest
+
+turn_went : (d : Desk) (t : Option Turn) → sent_by (round_in t) ≡ (stage_in d t).sent
+turn_went d None = refl
+turn_went d (Some t) = refl
+
+end_went : (d : Desk) (t : Late) → sent_by (end_round_in t) ≡ (end_stage_in d t).sent
+end_went d (Ends None) = refl
+end_went d (Ends (Some t)) = refl
+end_went d (Waits t) = refl
+
+endings_went : (endings : List MadeEnd) → went (sends_of (flat_map turns_of (map (λ m. end_round_in m.turn) endings))) ≡ flat_map (λ s. s.sent) (map (λ m. end_stage_in m.desk m.turn) endings)
+endings_went [] = refl
+endings_went (m ∷ endings) =
+    let later = flat_map (λ (s : Stage). s.sent) (map (λ (x : MadeEnd). end_stage_in x.desk x.turn) endings) in
+    went_then (end_round_in m.turn) (map (λ (x : MadeEnd). end_round_in x.turn) endings) later (endings_went endings) ∙ ap (λ (ds : List Datagram). ds ++ later) (end_went m.desk m.turn)
+
+stages_went : (turns : List Made) (endings : List MadeEnd) → went (sends_of (rounds_of turns endings)) ≡ flat_map (λ s. s.sent) (stages_of turns endings)
+stages_went [] endings = endings_went endings
+stages_went (m ∷ turns) endings =
+    let later = flat_map (λ (s : Stage). s.sent) (stages_of turns endings) in
+    went_then (round_in m.turn) (rounds_in turns endings) later (stages_went turns endings) ∙ ap (λ (ds : List Datagram). ds ++ later) (turn_went m.desk m.turn)
 
 -- Runs ---------------------------------------------------------------------------------------------------------------------------------
 
@@ -283,27 +317,53 @@ those_on_data test (d ∷ ds) = by (is_data d.role) refl (those_on_data test ds)
 
 module _ (config : Config) (r : Rules) (access : r.access ≡ config.access) (core : r.core_peer ≡ config.core_peer) (opening over last : Desk) (turns : List Made) (endings : List MadeEnd)
     (run : Run opening turns over) (ending : EndRun over endings last) (none_kept : opening.kept ≡ []) (rules : HaveRules r (history_of opening).shards)
-    (history : History ShardState) (rounds : Chain (RightRound pppoe) (history_of opening) (rounds_of turns endings) history)
-    (taken sent : List Datagram) (items : on_data taken ≡ taken_of (readings_of turns)) (sends : on_data sent ≡ on_data (went (sends_of (rounds_of turns endings)))) where
+    (history : History ShardState) (rounds : Chain (RightRound pppoe) (history_of opening) (rounds_of turns endings) history) where
   -- in a direction
-  arises_in : (a : Ip4) (test : WirePacket → Bool) (its : (w : WirePacket) → test w ≡ true → w.address ≡ a) (R : Datagram → Datagram → Type 0)
-      → ((s : State) (limited : Bool) (d : Deed) → ShardStep r s limited d → Arises R (datagrams_in d.entry.item) (those test (map datagram_of d.outs))) → Arises R taken (those test sent)
-  arises_in a test its R steps =
-      let went_out = went (sends_of (rounds_of turns endings)) in
-      let same : those test went_out ≡ those test sent = sym (those_on_data test went_out) ∙ ap (those test) (sym sends) ∙ those_on_data test sent in
-      arises_unfiltered R (λ (d : Datagram). is_data d.role) taken (those test sent)
-      (subst (λ (ds : List Datagram). Arises R ds (those test sent)) (sym items)
-      (subst (Arises R (taken_of (readings_of turns))) same
-      (turns_send a test its r R steps over last endings ending opening turns run (subst (All IsSilent) (sym none_kept) (All-nil IsSilent)) (history_of opening) history rules rounds)))
+  stands_in : (a : Ip4) (test : WirePacket → Bool) (its : (w : WirePacket) → test w ≡ true → w.address ≡ a) (R : Datagram → Datagram → Type 0)
+      → ((s : State) (limited : Bool) (d : Deed) → ShardStep r s limited d → Arises R (datagrams_in d.entry.item) (those test (map datagram_of d.outs))) → AllByRecursion (λ s. Arises R s.taken (those test s.sent)) (stages_of turns endings)
+  stands_in a test its R steps =
+      stages_stand a test its r R steps over last endings ending opening turns run (subst (All IsSilent) (sym none_kept) (All-nil IsSilent)) history (record { mid = history_of opening; rules = rules; run = rounds })
 
-  pub nothing_invented : NothingIsInvented config taken sent
-  nothing_invented = record {
-    up = λ a.
-        subst (λ (ports : List AccessPort). Arises (IsPassedUp ports config.core_peer a) taken (those (is_from a) sent)) access
-        (subst (λ (peer : Peer). Arises (IsPassedUp r.access peer a) taken (those (is_from a) sent)) core
-        (arises_in a (is_from a) (λ w is. (from_it a w is).1) (IsPassedUp r.access r.core_peer a) (step_up a r)));
-    down = λ a.
-        subst (λ (ports : List AccessPort). Arises (IsPassedDown ports config.core_peer a) taken (those (is_to a) sent)) access
-        (subst (λ (peer : Peer). Arises (IsPassedDown r.access peer a) taken (those (is_to a) sent)) core
-        (arises_in a (is_to a) (λ w is. (to_it a w is).1) (IsPassedDown r.access r.core_peer a) (step_down a r)));
+  abbrev Up : Ip4 → Datagram → Datagram → Type 0
+  Up a = IsPassedUp config.access config.core_peer a
+
+  abbrev Down : Ip4 → Datagram → Datagram → Type 0
+  Down a = IsPassedDown config.access config.core_peer a
+
+  up_steps : (a : Ip4) (s : State) (limited : Bool) (d : Deed) → ShardStep r s limited d → Arises (Up a) (datagrams_in d.entry.item) (those (is_from a) (map datagram_of d.outs))
+  up_steps a s limited d is =
+      subst (λ (ports : List AccessPort). Arises (IsPassedUp ports config.core_peer a) (datagrams_in d.entry.item) (those (is_from a) (map datagram_of d.outs))) access
+      (subst (λ (peer : Peer). Arises (IsPassedUp r.access peer a) (datagrams_in d.entry.item) (those (is_from a) (map datagram_of d.outs))) core (step_up a r s limited d is))
+
+  down_steps : (a : Ip4) (s : State) (limited : Bool) (d : Deed) → ShardStep r s limited d → Arises (Down a) (datagrams_in d.entry.item) (those (is_to a) (map datagram_of d.outs))
+  down_steps a s limited d is =
+      subst (λ (ports : List AccessPort). Arises (IsPassedDown ports config.core_peer a) (datagrams_in d.entry.item) (those (is_to a) (map datagram_of d.outs))) access
+      (subst (λ (peer : Peer). Arises (IsPassedDown r.access peer a) (datagrams_in d.entry.item) (those (is_to a) (map datagram_of d.outs))) core (step_down a r s limited d is))
+
+  up_stages : (a : Ip4) → AllByRecursion (λ s. Arises (Up a) s.taken (those (is_from a) s.sent)) (stages_of turns endings)
+  up_stages a = stands_in a (is_from a) (λ w is. (from_it a w is).1) (Up a) (up_steps a)
+
+  down_stages : (a : Ip4) → AllByRecursion (λ s. Arises (Down a) s.taken (those (is_to a) s.sent)) (stages_of turns endings)
+  down_stages a = stands_in a (is_to a) (λ w is. (to_it a w is).1) (Down a) (down_steps a)
+
+  -- what each turn sent of packets comes of what it took
+  pub stages_invent_nothing : All (λ s. NothingIsInvented config s.taken s.sent) (stages_of turns endings)
+  stages_invent_nothing k d lt = record {
+    up = λ a. All-from_recursion (λ s. Arises (Up a) s.taken (those (is_from a) s.sent)) (stages_of turns endings) (up_stages a) k d lt;
+    down = λ a. All-from_recursion (λ s. Arises (Down a) s.taken (those (is_to a) s.sent)) (stages_of turns endings) (down_stages a) k d lt;
   }
+
+  -- and what a run sent
+  module _ (taken sent : List Datagram) (items : on_data taken ≡ flat_map (λ s. s.taken) (stages_of turns endings)) (sends : on_data sent ≡ on_data (went (sends_of (rounds_of turns endings)))) where
+    arises_in : (test : WirePacket → Bool) (R : Datagram → Datagram → Type 0) → AllByRecursion (λ s. Arises R s.taken (those test s.sent)) (stages_of turns endings) → Arises R taken (those test sent)
+    arises_in test R all =
+        let out = went (sends_of (rounds_of turns endings)) in
+        let stages = stages_of turns endings in
+        let same : those test (flat_map (λ (s : Stage). s.sent) stages) ≡ those test sent =
+        ap (those test) (sym (stages_went turns endings)) ∙ sym (those_on_data test out) ∙ ap (those test) (sym sends) ∙ those_on_data test sent in
+        arises_unfiltered R (λ (d : Datagram). is_data d.role) taken (those test sent)
+        (subst (λ (ds : List Datagram). Arises R ds (those test sent)) (sym items)
+        (subst (Arises R (flat_map (λ (s : Stage). s.taken) stages)) same (all_stand R test stages all)))
+
+    pub nothing_invented : NothingIsInvented config taken sent
+    nothing_invented = record { up = λ a. arises_in (is_from a) (Up a) (up_stages a); down = λ a. arises_in (is_to a) (Down a) (down_stages a) }

@@ -1,7 +1,6 @@
 -- What a shard sends of packets for an entry is the packet of the entry's datagram.
-use Rattle.std.proofs.Common.{◌≡◌, ◌≢◌, ◌⊎◌, inl, inr, ℕ, zero, suc, ◌-◌, ◌≤◌, Bool, true, false, cond, not, ◌&&◌, List, [], ◌∷◌, map, filter, length, take, drop, slice_get, slice_range, Option, Some, None, refl, sym, ap, subst, ◌∙◌, arith, length-take, length-drop}
+use Rattle.std.proofs.Common.{◌≡◌, ◌⊎◌, inl, inr, ℕ, ◌-◌, ◌≤◌, Bool, true, false, cond, not, ◌&&◌, List, [], ◌∷◌, map, filter, length, take, drop, slice_get, slice_range, Option, Some, None, refl, sym, ap, subst, ◌∙◌, arith, length-take, length-drop}
 use Rattle.std.specs.Prelude.{◌==◌}
-use Rattle.std.specs.List.{AllByRecursion}
 use Rattle.std.specs.Option.{option_map_or}
 use Rattle.std.proofs.lemmas.Bool.{eqb-true, false≢true}
 use Rattle.std.proofs.lemmas.Bool.Decides.{nat_tests}
@@ -9,7 +8,7 @@ use Rattle.bng_base.specs.declared.address.Ip4.{Ip4}
 use Rattle.bng_base.specs.declared.address.Mac.{Mac}
 use Rattle.bng_base.specs.declared.address.Peer.{Peer}
 use Rattle.bng_base.specs.declared.fate.Fate.{Fate}
-use Rattle.bng_base.specs.declared.fate.Fate.TheVariants.{Forwarded, Consumed, Dropped}
+use Rattle.bng_base.specs.declared.fate.Fate.TheVariants.{Forwarded}
 use Rattle.bng_base.specs.declared.ipv4.Ipv4.{Ipv4}
 use Rattle.bng_base.specs.declared.item.Entry.{Entry}
 use Rattle.bng_base.specs.declared.item.Item.{Item}
@@ -17,7 +16,6 @@ use Rattle.bng_base.specs.declared.item.ItemKind.{ItemKind}
 use Rattle.bng_base.specs.declared.item.ItemKind.TheVariants as kind
 use Rattle.bng_base.specs.declared.item.OutRecord.{OutRecord}
 use Rattle.bng_base.specs.declared.outside.Datagram.{Datagram}
-use Rattle.bng_base.specs.declared.outside.Role.{Role}
 use Rattle.bng_base.specs.declared.outside.Role.TheVariants.{Access, Core}
 use Rattle.bng_base.specs.declared.settings.AccessPort.{AccessPort}
 use Rattle.bng_base.specs.Ipv4Grammar.{IsIpv4}
@@ -26,10 +24,9 @@ use Rattle.bng_discovery.specs.declared.answers.Answer.{Answer}
 use Rattle.bng_discovery.specs.declared.answers.Answer.TheVariants.{Offer, Make, Again, Refuse, Ended, NoSession, Ignore}
 use Rattle.bng_discovery.specs.declared.port.PortRules.{PortRules}
 use Rattle.bng_engine.specs.Wire.{WirePacket, datagram_of, is_from, is_to}
-use Rattle.bng_forward.specs.Cases.{FirstOf}
-use Rattle.bng_forward.specs.Fates.{Carries, CameTo, Found, Holders, IsCorePacket, IsFrame, IsPort, UpFate, DownFate}
+use Rattle.bng_forward.specs.Fates.{Carries, Found, Holders, IsCorePacket, IsFrame, IsPort, UpFate, DownFate}
 use Rattle.bng_forward.specs.Framed.{IsFrameTo, circuit_frame, session_frame}
-use Rattle.bng_forward.specs.Packets.{HasPacket, IsPassedOn}
+use Rattle.bng_forward.specs.Packets.{IsPassedOn}
 use Rattle.bng_pppoe_wire.proofs.Spelled.{six}
 use Rattle.bng_shard.specs.Made.{Made}
 use Rattle.bng_shard.specs.declared.rules.Rules.{Rules}
@@ -39,14 +36,14 @@ use Rattle.bng_shard.specs.declared.session.Session.{Session}
 use Rattle.bng_shard.specs.Deed.{Deed, arrival_in}
 use Rattle.bng_shard.specs.Discovery.{Answers, Discovers}
 use Rattle.bng_shard.specs.Frames.{GoesDown, GoesUp, HearsAccess, HearsControl, HearsCore, HearsData, HearsFrame, HearsIn, HearsPpp, charge_of, found_down, found_up}
-use Rattle.bng_shard.specs.Reader.{pppoe_reader, tells_pppoe}
+use Rattle.bng_shard.specs.Reader.{pppoe_reader}
 use Rattle.bng_shard.specs.State.{State, port_at, session_of}
 use Rattle.bng_shard.specs.Step.{Hears, Step}
 use Rattle.bng_shard.specs.Timers.{HearsEnd, HearsTick}
 use Rattle.bng_shard.specs.Verdicts.{HearsVerdict}
 use Rattle.bng_shard.proofs.Packets.{spelled_down, spelled_up}
 use Rattle.bng_shard.proofs.Reading.{whole_read_as}
-use Rattle.bng_shard.proofs.Sends.{SendsNone, step_sends}
+use Rattle.bng_shard.proofs.Sends.{step_sends}
 use Rattle.bng_shard.proofs.Spelling.{AreControl}
 use Rattle.bng_gate.specs.Unchanged.{Arises, IsPassedDown, IsPassedUp}
 use Rattle.bng_gate.proofs.Arising.{arises_none}

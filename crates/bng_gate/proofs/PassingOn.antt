@@ -1,8 +1,8 @@
 -- What the shards send of packets of an address in a round comes of the items of its list.
-use Rattle.std.proofs.Common.{◌≡◌, ⊎_elim, inl, inr, ℕ, ◌+◌, ◌<◌, ◌≤◌, ◌==◌, Bool, true, false, cond, List, [], ◌∷◌, ◌++◌, map, filter, Option, Some, None, IfSome, refl, sym, ap, subst, ◌∙◌, arith, eqb}
+use Rattle.std.proofs.Common.{◌≡◌, ⊎_elim, inl, inr, ℕ, ◌+◌, ◌<◌, ◌≤◌, Bool, true, false, cond, List, [], ◌∷◌, ◌++◌, map, filter, Option, Some, None, IfSome, refl, sym, ap, subst, ◌∙◌, arith, eqb}
 use Rattle.std.specs.List.{AllByRecursion, flat_map}
 use Rattle.std.specs.Option.{option_map, option_map_or}
-use Rattle.std.proofs.lemmas.Bool.{eq-eqb, false≢true, true≢false, cases_lt}
+use Rattle.std.proofs.lemmas.Bool.{eq-eqb, cases_lt}
 use Rattle.std.proofs.lemmas.List.{map-append, append-nil}
 use Rattle.std.proofs.lemmas.List.Elements.{filter-append, recursion_from_All}
 use Rattle.std.proofs.lemmas.List.Sums.{sum_by-append, sum_by-cons}
@@ -14,12 +14,12 @@ use Rattle.bng_base.specs.declared.item.OutRecord.{OutRecord}
 use Rattle.bng_base.specs.declared.outside.Datagram.{Datagram}
 use Rattle.bng_engine.specs.Claims.{claimed_at, times_in}
 use Rattle.bng_engine.specs.Exact.{holders}
-use Rattle.bng_engine.specs.Histories.{NextInShard, ShardHistory, ShardTurn, rounds_of}
+use Rattle.bng_engine.specs.Histories.{NextInShard, ShardHistory, rounds_of}
 use Rattle.bng_engine.specs.Journals.{AreSteps, after, claims_of, outs_of, unsent}
 use Rattle.bng_engine.specs.Lists.{AnyOf, Zip3, one_if}
 use Rattle.bng_engine.specs.Protocol.{HasKey, IsOwned, as_told}
 use Rattle.bng_engine.specs.Rounds.{journals_of}
-use Rattle.bng_engine.specs.Terms.{Key, key_in, keys, leases_at}
+use Rattle.bng_engine.specs.Terms.{Key, keys, leases_at}
 use Rattle.bng_engine.specs.Views.{ShardView, turn_in}
 use Rattle.bng_engine.specs.Wire.{WirePacket, datagram_of, went}
 use Rattle.bng_engine.proofs.Adding.{sum_map}

@@ -196,6 +196,8 @@ pub record IsSafe (config : Config) (seed : List ℕ) (old new : World) (course 
   -- No packet was invented, doubled or put into another order: for each address the packets that were sent from it and to it come of the
   -- datagrams that were taken, each of another one and in their order, and nothing of a packet changed but what forwarding changes.
   pub invented_nothing : NothingIsInvented config taken sent
+  -- And so it is of each turn by itself: what its round sent comes of what the same turn took, and of nothing that was taken later.
+  pub stages_invented_nothing : All (λ s. NothingIsInvented config s.taken s.sent) (stages_of course.turns course.endings)
   -- What was taken from Auth, each datagram once and in order, are the datagrams that the stages of the turns heard, and so what was taken
   -- from Acct, and what was taken from the access ports and the core, those that they took there. What was sent on all roles but
   -- Control, each datagram once and in order, is what each stage sent there for its round, then its requests, and then its
