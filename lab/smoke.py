@@ -11,7 +11,8 @@ from logins import authenticates, gives_up_on_a_silent_server
 from leases import leases_addresses
 from records import records_a_circuit, tells_a_stop_that_nobody_acknowledges
 from sessions import serves_sessions
-from terms import ends_a_thousand_terms, ends_by_timeouts, keeps_records_while_nobody_takes_them, shares_three_addresses_among_five
+from terms import counts_past_sixteen_bits, ends_a_thousand_terms, ends_by_timeouts, keeps_records_while_nobody_takes_them
+from terms import refuses_where_terms_are_used_up, shares_three_addresses_among_five
 
 PACKET = packet()
 LOWERED = bytes.fromhex("45000054 00010000 3f01afa5 0a000002 c0000201") + PACKET[20:]
@@ -201,6 +202,8 @@ def try_all(checks):
         leases_addresses(checks, built, 10)
         ends_by_timeouts(checks, built, 10)
         shares_three_addresses_among_five(checks, built, 10)
+        counts_past_sixteen_bits(checks, built, 10)
+        refuses_where_terms_are_used_up(checks, built, 10)
         keeps_records_while_nobody_takes_them(checks, built, 10)
         ends_a_thousand_terms(checks, built, 10)
         records_a_circuit(checks, built, 10)

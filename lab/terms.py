@@ -1,5 +1,5 @@
 """Terms of scripted subscribers that end by themselves, that want more addresses than there are, that nobody takes the records of, and
-that are a thousand at the stop.
+that are a thousand at the stop; and sums past sixteen bits.
 
 What is wanted is what RFC 2865 and RFC 2866 ask, and what docs/ says where they leave a choice."""
 
@@ -11,7 +11,7 @@ import pppoe
 import radius
 from crowd import open_sessions
 from gateway import Lab, frame, packet
-from leases import log_in, next_record, open_ipcp
+from leases import log_in, next_record, open_ipcp, refuses
 from logins import pap
 from pppoe import LCP
 from records import NAS_REQUEST, START, STOP, acknowledge, hear_record, number, value
@@ -93,6 +93,55 @@ def shares_three_addresses_among_five(checks, command, patience):
         stops = collections.Counter(address_in(next_record(lab)) for _ in range(4))
         checks.same("each address has its Stop at the stop", sorted(stops.items()), [(address, 1) for address in ["10.0.0.2", *wanted]])
         checks.same("the status is 0 after a full pool", lab.end()[0], 0)
+
+
+def counts_past_sixteen_bits(checks, command, patience):
+    """A subscriber sends and gets more than 65,536 octets, and its Stop says how many."""
+    with Lab(acknowledges=False) as lab:
+        lab.start(command(lab.configuration), patience)
+        next_record(lab)
+        host = log_in(lab, Line(lab), "020000000002")
+        host.hear_packet()
+        next_record(lab)
+        open_ipcp(checks, host, "10.0.0.3")
+        up, down = packet("10.0.0.3", length=1400), packet("192.0.2.1", "10.0.0.3", length=1400)
+        for _ in range(50):
+            lab.send(frame(up, subscriber=host.mac.hex(), session=host.session))
+            lab.receive(lab.core)
+        for _ in range(60):
+            lab.send(down, lab.core, "core")
+            host.hear()
+        host.say_lcp(pppoe.TERMINATE_REQUEST, 9)
+        stop = next_record(lab)
+        said = [value(stop, kind) for kind in (radius.ACCT_INPUT_OCTETS, radius.ACCT_OUTPUT_OCTETS, radius.ACCT_INPUT_PACKETS, radius.ACCT_OUTPUT_PACKETS)]
+        checks.same("a Stop says 70,000 octets in and 84,000 out", said, [70_000, 84_000, 50, 60])
+        lab.stop()
+        next_record(lab)
+        status, out, _ = lab.end()
+        checks.same("the report says so too", (status, out.splitlines()[0]), (0, "stopped in=70000 out=84000"))
+
+
+def refuses_where_terms_are_used_up(checks, command, patience):
+    """There may be one term beside the circuit's, in the first of two shards. A second subscriber there gets a Nak, until the first one's
+    Stop was acknowledged."""
+    with Lab("shards = 2\nterms = 2\n", acknowledges=False) as lab:
+        lab.start(command(lab.configuration), patience)
+        next_record(lab)
+        line = Line(lab)
+        first = log_in(lab, line, "020000000002")
+        checks.same("a subscriber gets the last term", first.hear_packet(), pap(pppoe.AUTHENTICATE_ACK, 1))
+        next_record(lab)
+        refuses(checks, lab, line, "020000000004", b"no record")
+        first.say_lcp(pppoe.TERMINATE_REQUEST, 9)
+        next_record(lab)
+        time.sleep(0.3)
+        second = log_in(lab, line, "020000000006")
+        checks.same("once its Stop was acknowledged another one gets it", second.hear_packet(), pap(pppoe.AUTHENTICATE_ACK, 1))
+        next_record(lab)
+        lab.stop()
+        stops = [next_record(lab), next_record(lab)]
+        checks.same("each has its Stop", sorted(address_in(stop) for stop in stops), ["10.0.0.2", "10.0.0.3"])
+        checks.same("the status is 0 after terms were used up", lab.end()[0], 0)
 
 
 def keeps_records_while_nobody_takes_them(checks, command, patience):
