@@ -1,8 +1,9 @@
 """Measures what the real program forwards between a subscriber and the core, beside a plain loop in C, both over sockets of
 the loopback, in turns on the same machine. The numbers are of this machine and this moment; the ratios say more.
 
-Saturated: as many packets as come back, with 4 and with 64 shards. Paced: 2,500 packets a second, with 1 and with 64 shards,
-and with many sessions beside the one circuit, in processor time a packet."""
+Saturated: as many packets as come back, of a provisioned circuit and of a session that logged in, with 4 and with 64 shards.
+Paced: 2,500 packets a second, with 1 and with 64 shards, and with many sessions beside the one circuit, in processor time a
+packet. Memory: what the program holds with many terms live."""
 
 import collections
 import os
@@ -12,7 +13,7 @@ import subprocess
 import sys
 import tempfile
 
-from crowd import open_sessions
+from crowd import mac_of, open_sessions
 from gateway import HOME, Lab, frame, packet
 
 BUILDING = 4 * 3600
@@ -20,9 +21,11 @@ SIZES = (64, 576, 1400)
 SHARDS = (4, 64)
 PACE = 2500
 SESSIONS = 16000
+TERMS = (0, 1000, 10000)
 # Shards and sessions, which send no echoes.
 PACED = ((1, 0), (64, 0), (64, SESSIONS))
 TICKS = os.sysconf("SC_CLK_TCK")
+PAGE = os.sysconf("SC_PAGE_SIZE")
 
 
 class Spent:
@@ -40,14 +43,29 @@ class Spent:
 Run = collections.namedtuple("Run", "pace used faults came lost")
 
 
-def measure(tool, lab, way, size, seconds, rate=None):
+# Whose packets they are: the MAC, the SESSION_ID and the address.
+Subscriber = collections.namedtuple("Subscriber", "mac session address")
+
+
+def circuit(lab):
+    """The provisioned circuit."""
+    return Subscriber("020000000001", lab.session, "10.0.0.2")
+
+
+def logged_in(lab):
+    """A host that logged in."""
+    crowd, mac = open_sessions(lab, 1), mac_of(0)
+    return Subscriber(mac.hex(), crowd.sessions[mac], crowd.addresses[mac])
+
+
+def measure(tool, lab, who, way, size, seconds, rate=None):
     before = Spent(lab.program.pid)
     if way == "up":
         ends, to = (lab.access.fileno(), lab.core.fileno()), "access"
-        octets = frame(packet(length=size), session=lab.session)
+        octets = frame(packet(who.address, length=size), subscriber=who.mac, session=who.session)
     else:
         ends, to = (lab.core.fileno(), lab.access.fileno()), "core"
-        octets = packet("192.0.2.1", "10.0.0.2", length=size)
+        octets = packet("192.0.2.1", who.address, length=size)
     command = [tool, "pace" if rate else "load", *map(str, ends), str(lab.ports[to]), str(seconds)]
     if rate:
         command.append(str(rate))
@@ -68,13 +86,13 @@ def median(runs):
 
 def table(results):
     """The medians of each size."""
-    print("               packets/s                    us/packet                    page faults/packet")
-    print("way  octets      plain C        bng  ratio    plain C     bng  ratio      plain C     bng   lost")
-    for (way, size), runs in results.items():
+    print("                       packets/s                    us/packet                    page faults/packet")
+    print("of      way  octets      plain C        bng  ratio    plain C     bng  ratio      plain C     bng   lost")
+    for (kind, way, size), runs in results.items():
         plain, ours = map(median, runs)
         pace = f"{plain.pace:11,.0f} {ours.pace:10,.0f} {ours.pace / max(plain.pace, 1):6.2f}"
         used = f"{plain.used:10.2f} {ours.used:7.2f} {plain.used / max(ours.used, 0.01):6.2f}"
-        print(f"{way:4} {size:6} {pace} {used} {plain.faults:12.4f} {ours.faults:7.4f} {sum(run.lost for run in runs[1]):6}")
+        print(f"{kind:7} {way:4} {size:6} {pace} {used} {plain.faults:12.4f} {ours.faults:7.4f} {sum(run.lost for run in runs[1]):6}")
     print("A ratio is ours to plain C's: in packets for the same wall time, and for the same processor time.")
 
 
@@ -84,20 +102,21 @@ def serve(lab):
 
 def compare(tool, shards, rounds, seconds):
     """The gateway with so many shards beside the plain loop, in turns."""
-    with Lab() as plain, Lab(f"shards = {shards}\n") as ours:
+    with Lab() as plain, Lab(f"shards = {shards}\necho = 0\n") as ours:
         serve(ours)
+        subscribers = {"circuit": circuit(ours), "session": logged_in(ours)}
         peers = [plain.core.getsockname()[1], plain.access.getsockname()[1]]
         ports = [plain.ports["access"], plain.ports["core"], *peers, plain.ports["control"]]
         plain.start([tool, "loop", *map(str, ports)], roles=["access", "core", "control"])
-        results = {(way, size): ([], []) for way in ("up", "down") for size in SIZES}
+        results = {(kind, way, size): ([], []) for kind in subscribers for way in ("up", "down") for size in SIZES}
         octets = {"up": 0, "down": 0}
         lost = 0
         print(f"\n{shards} shards, saturated: {rounds} runs of {seconds} s at each size, in turns")
-        for way, size in results:
+        for kind, way, size in results:
             for turn in range(rounds + 1):
-                for lab, runs in zip((plain, ours), results[way, size]):
+                for lab, runs in zip((plain, ours), results[kind, way, size]):
                     # The first turn warms up.
-                    run = measure(tool, lab, way, size, seconds if turn else 0.2)
+                    run = measure(tool, lab, subscribers[kind], way, size, seconds if turn else 0.2)
                     if turn:
                         runs.append(run)
                     if lab is ours:
@@ -119,9 +138,22 @@ def pace(tool, shards, sessions, rounds, seconds):
         serve(lab)
         if sessions:
             open_sessions(lab, sessions)
-        runs = [measure(tool, lab, "up", 576, seconds, PACE) for _ in range(rounds)]
+        runs = [measure(tool, lab, circuit(lab), "up", 576, seconds, PACE) for _ in range(rounds)]
         middle = median(runs)
         print(f"{shards:6} {sessions:9} {middle.pace:12,.0f} {middle.used:10.2f} {middle.faults:19.4f} {sum(run.lost for run in runs):6}")
+        lab.send(b"stop", lab.control, "control")
+        return lab.end(60)[0]
+
+
+def remember(terms):
+    """The MB that the program holds with so many terms live."""
+    with Lab("shards = 16\necho = 0\nterms = 32768\n", session=1, last="10.0.255.254") as lab:
+        serve(lab)
+        if terms:
+            open_sessions(lab, terms)
+        with open(f"/proc/{lab.program.pid}/statm", encoding="ascii") as file:
+            held = int(file.read().split()[1]) * PAGE
+        print(f"{terms:6} {held / 1e6:10.1f}")
         lab.send(b"stop", lab.control, "control")
         return lab.end(60)[0]
 
@@ -139,7 +171,9 @@ def main(rounds=5, seconds=1.0):
         failed = any([compare(tool, shards, rounds, seconds) for shards in SHARDS])
         print(f"\nPaced, {PACE} packets a second of 576 octets to the core, {rounds} runs of {seconds} s")
         print("shards  sessions    packets/s  us/packet  page faults/packet   lost")
-        return int(failed or any([pace(tool, *kind, rounds, seconds) for kind in PACED]))
+        failed = any([pace(tool, *kind, rounds, seconds) for kind in PACED]) or failed
+        print("\nMemory with 16 shards\n terms         MB")
+        return int(any([remember(terms) for terms in TERMS]) or failed)
 
 
 if __name__ == "__main__":

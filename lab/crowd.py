@@ -2,12 +2,13 @@
 it is told, for measuring."""
 
 import select
+import socket
 
 import radius
 from gateway import LOOPBACK
 from pppoe import AC_COOKIE, BROADCAST, CHALLENGE, CHAP, CONFIGURE_ACK, CONFIGURE_NAK, CONFIGURE_REQUEST, DATA, DISCOVERY, IPCP, LCP, MAGIC
 from pppoe import PADI, PADO, PADR, PADS, RESPONSE, SERVICE_NAME, SESSION, SUCCESS
-from pppoe import Frame, Packet, frame_octets, options_octets, packet_octets, read_frame, read_packet, read_tags, tags_octets
+from pppoe import Frame, Packet, frame_octets, options_octets, packet_octets, read_frame, read_options, read_packet, read_tags, tags_octets
 from subscriber import PORT
 
 # So many hosts ask at once: what they are sent fits a socket's buffer.
@@ -30,11 +31,12 @@ def request(mac):
 
 
 class Crowd:
-    """The hosts, and which of them were let in."""
+    """The hosts, and which of them were let in, each with its SESSION_ID and its address."""
 
     def __init__(self, lab):
         self.lab = lab
         self.accepted = set()
+        self.sessions, self.addresses = {}, {}
 
     def send(self, frame):
         self.lab.access.sendto(frame_octets(frame), (LOOPBACK, self.lab.ports["access"]))
@@ -54,6 +56,7 @@ class Crowd:
         elif frame.code == PADS:
             if frame.session == 0:
                 raise RuntimeError(f"the host {mac.hex()} was refused")
+            self.sessions[mac] = frame.session
             self.say(mac, frame.session, request(mac))
         elif frame.code == DATA:
             self.hear_packet(mac, frame.session, read_packet(frame.payload))
@@ -71,6 +74,8 @@ class Crowd:
         elif (packet.protocol, packet.code) == (IPCP, CONFIGURE_REQUEST):
             self.say(mac, session, packet._replace(code=CONFIGURE_ACK))
             self.say(mac, session, ANY_ADDRESS)
+        elif (packet.protocol, packet.code) == (IPCP, CONFIGURE_ACK):
+            self.addresses[mac] = socket.inet_ntoa(dict(read_options(packet.data))[3])
         elif (packet.protocol, packet.code) == (IPCP, CONFIGURE_NAK):
             self.say(mac, session, packet._replace(code=CONFIGURE_REQUEST, identifier=packet.identifier + 1))
 
@@ -100,10 +105,11 @@ class Crowd:
 
 
 def open_sessions(lab, count, first=0):
-    """Lets so many hosts on the lab's access port log in, from this number on."""
+    """Lets so many hosts on the lab's access port log in, from this number on, and gives them."""
     crowd = Crowd(lab)
     macs = [mac_of(number) for number in range(first, first + count)]
     for at in range(0, count, AT_ONCE):
         crowd.open(macs[at:at + AT_ONCE])
     while crowd.take(0.2):
         pass
+    return crowd
