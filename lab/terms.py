@@ -122,25 +122,19 @@ def counts_past_sixteen_bits(checks, command, patience):
 
 
 def refuses_where_terms_are_used_up(checks, command, patience):
-    """There may be one term beside the circuit's, in the first of two shards. A second subscriber there gets a Nak, until the first one's
-    Stop was acknowledged."""
-    with Lab("shards = 2\nterms = 2\n", acknowledges=False) as lab:
+    """There may be 64 terms, the circuit's and those of 63 subscribers. The next one gets a Nak, until a term has ended and its Stop was
+    acknowledged."""
+    with Lab("shards = 1\nterms = 64\n", session=1) as lab:
         lab.start(command(lab.configuration), patience)
-        next_record(lab)
+        crowd = open_sessions(lab, 63)
         line = Line(lab)
-        first = log_in(lab, line, "020000000002")
-        checks.same("a subscriber gets the last term", first.hear_packet(), pap(pppoe.AUTHENTICATE_ACK, 1))
-        next_record(lab)
-        refuses(checks, lab, line, "020000000004", b"no record")
-        first.say_lcp(pppoe.TERMINATE_REQUEST, 9)
-        next_record(lab)
+        refuses(checks, lab, line, "020000000002", b"no record")
+        mac, session = next(iter(crowd.sessions.items()))
+        crowd.say(mac, session, pppoe.Packet(LCP, pppoe.TERMINATE_REQUEST, 9, b""))
         time.sleep(0.3)
-        second = log_in(lab, line, "020000000006")
-        checks.same("once its Stop was acknowledged another one gets it", second.hear_packet(), pap(pppoe.AUTHENTICATE_ACK, 1))
-        next_record(lab)
+        host = log_in(lab, line, "020000000004")
+        checks.same("once a Stop was acknowledged another subscriber is let in", host.hear_packet(), pap(pppoe.AUTHENTICATE_ACK, 1))
         lab.stop()
-        stops = [next_record(lab), next_record(lab)]
-        checks.same("each has its Stop", sorted(address_in(stop) for stop in stops), ["10.0.0.2", "10.0.0.3"])
         checks.same("the status is 0 after terms were used up", lab.end()[0], 0)
 
 
