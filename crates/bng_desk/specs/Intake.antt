@@ -3,6 +3,7 @@ use Rattle.std.specs.Prelude.{◌≡◌, ◌⊎◌, ℕ, ◌+◌, ◌-◌, ◌/�
 use Rattle.std.specs.List.{range_with_len}
 use Rattle.bng_base.specs.declared.item.Item.{Item}
 use Rattle.bng_base.specs.declared.outside.Role.{Role}
+use Rattle.bng_base.specs.declared.outside.Role.TheVariants.{Auth}
 use Rattle.bng_base.specs.Chain.{Chain}
 use Rattle.bng_base.specs.FateOf.{Arrival}
 use Rattle.bng_base.specs.Told.{PlantTold}
@@ -10,19 +11,21 @@ use Rattle.bng_base.specs.Stretch.{ExtendsPlant, plant_joined}
 use Rattle.bng_billing.specs.Due.{NoneToResend}
 use Rattle.bng_billing.specs.Sending.{NoneToSend}
 use Rattle.bng_billing.specs.State.{BillingState}
+use Rattle.bng_lane.specs.Asking.{IsAskedBy}
 use Rattle.bng_lane.specs.Replies.{Takes as IsTaken}
 use Rattle.bng_lane.specs.Sends.{LaneSend, LaneAsk, AllResent, Asks}
-use Rattle.bng_lane.specs.State.{LaneState}
+use Rattle.bng_lane.specs.State.{LaneState, noted}
 use Rattle.bng_rad_client.specs.Table.{taken}
 use Rattle.bng_shard.specs.declared.rules.Rules.{Rules}
 use Rattle.bng_shard.specs.Questions.{asking_from, waiting, handed_after}
 use Rattle.bng_shard.specs.State.{State}
+use Rattle.bng_verdict.specs.declared.question.AuthAsk.{AuthAsk}
 use Rattle.bng_verdict.specs.declared.question.QuestionNo.{QuestionNo}
 use Rattle.bng_desk.specs.declared.reading.Ended.{Ended}
 use Rattle.bng_desk.specs.Accounting.{Acknowledged, Gives, HearsRecords, RecordRequests, RecordSend, Resends, SettlesRecords, acct_reading, acknowledged_most, record_stretch, records_stretch}
 use Rattle.bng_desk.specs.Items.{DataReading, taken_items, ticks_of, drawn_from}
 use Rattle.bng_desk.specs.Random.{Drawn, draw}
-use Rattle.bng_desk.specs.Reading.{EndsRight, is_empty}
+use Rattle.bng_desk.specs.Reading.{EndsRight, is_empty, sending}
 use Rattle.bng_desk.specs.Logins.{Answered, Requests, Hears, TimesOut, SettlesLane, reply_in, reply_items, timeout_items, auth_reading, lane_stretch, requests_stretch, verdicts_most}
 use Rattle.bng_desk.specs.Turn.{data_stretch, auth_stretch, reading_stretch, arrivals_in, data_roles, most_of, ReadsWhere}
 use Rattle.bng_desk.specs.Taking.{Shown}
@@ -128,6 +131,15 @@ pub record AsksSome (now shard : ℕ) (slots : State) (old new : PlantTold) (lan
   pub draws_are : draws' ≡ record draws { drawn = draws.drawn + length asked }
   pub counted : taken lane'.client.auth.places ≡ taken lane.client.auth.places + length asked
   pub few : (asked ≡ []) ⊎ (taken lane'.client.auth.places ≤ 256)
+
+-- A question was asked: its request has the next sixteen random octets as its authenticator.
+pub record AsksOne (now : ℕ) (ask : AuthAsk) (old new : PlantTold) (lane lane' : LaneState) (draws draws' : Drawn) : Type 0 where
+  pub send : LaneSend
+  pub made : LaneState
+  pub asked : IsAskedBy lane now ask (draw draws.seed draws.drawn) send.id send.octets made
+  pub noted_is : lane' ≡ noted send.id send.sent made
+  pub told : ExtendsPlant old new (sending Auth made.client.auth_server send.octets send.sent)
+  pub draws_are : draws' ≡ record draws { drawn = draws.drawn + 1 }
 
 -- and all of them were, or the lane has no identifier left
 abbrev pub AsksAll : (now shard : ℕ) → State → PlantTold → PlantTold → LaneState → LaneState → List ℕ → List ℕ → Drawn → Drawn → Type 0

@@ -2,7 +2,8 @@
 ghost use Rattle.std.specs.Prelude.{◌≡◌, ◌+◌, ◌≤◌, ◌<◌, ◌^◌, length};
 ghost use Rattle.bng_base.specs.Stretch.{ExtendsPlant};
 ghost use Rattle.bng_lane.specs.State.{noted};
-ghost use Rattle.bng_desk.specs.Intake.{SendsAgain, AsksAll, SendsRequests};
+ghost use Rattle.bng_rad_client.specs.Table.{taken};
+ghost use Rattle.bng_desk.specs.Intake.{SendsAgain, AsksOne, AsksAll, SendsRequests};
 ghost use Rattle.bng_desk.specs.Reading.{sending};
 ghost use Rattle.bng_desk.specs.Taking.{AreInOrder};
 
@@ -12,6 +13,7 @@ use bng_base::{Frame, Role};
 use bng_lane::Lane;
 use bng_plant::Plant;
 use bng_shard::{Handed, Shard};
+use bng_verdict::AuthAsk;
 
 // Sends a request, and notes and answers whether the outside did.
 fn send_one<P: Plant>(plant: &mut P, lane: &mut Lane, id: u8, request: &Frame) -> bool
@@ -33,6 +35,17 @@ fn send_again<P: Plant>(plant: &mut P, lane: &mut Lane, now: u64)
     }
 }
 
+// Asks a question. Its request stands in this call's frame alone: a call without a question keeps no memory for one.
+fn ask_one<P: Plant>(plant: &mut P, lane: &mut Lane, ask: &AuthAsk, draws: &mut Draws, now: u64)
+    requires room { taken lane.old.client.auth.places < 256 }
+    requires drawn { draws.old.drawn < 2 ^ 62 }
+    ensures { AsksOne now ask.now (P.told plant.old) (P.told plant.new) lane.old lane.new draws.old draws.new }
+{
+    let authenticator = draws.sixteen();
+    let (id, request) = lane.ask(ask, &authenticator, now);
+    let _sent = send_one(plant, lane, id, &request);
+}
+
 // Asks the questions that wait in a shard, as long as there is an identifier.
 fn ask_all<P: Plant>(
     plant: &mut P,
@@ -49,9 +62,7 @@ fn ask_all<P: Plant>(
         let Some(ask) = shard.asked(handed) else {
             return;
         };
-        let authenticator = draws.sixteen();
-        let (id, request) = lane.ask(&ask, &authenticator, now);
-        let _sent = send_one(plant, lane, id, &request);
+        ask_one(plant, lane, &ask, draws, now);
     }
 }
 

@@ -2,6 +2,7 @@ use Rattle.std.proofs.Common.{refl, sym}
 use Rattle.bng_base.proofs.StretchLaws.{plant_stays}
 use Rattle.bng_lane.specs.Sends.{LaneAsk}
 use Rattle.bng_shard.specs.Questions.{asking_from, waiting}
+use Rattle.bng_desk.specs.Random.{draw}
 use Rattle.bng_desk.proofs.RequestLaws.{asked_more, asked_none, waits_first}
 use Rattle.bng_desk.proofs.requests.ask_all.Goals as goal
 
@@ -12,8 +13,9 @@ pub loop-handed-preserved : goal.loop-handed-preserved
 loop-handed-preserved g c =
     let told = g.P.Plant.told in
     let slots = c.args.shard.now.state.slots in
-    let a : LaneAsk = record { ask = c.in-Some.ask; authenticator = c.sixteen-authenticator.result; send = record { id = c.ask-id.result.0; octets = c.ask-id.result.1.payload; sent = c.send_one-sent.result } } in
+    let one = c.ask_one.ensures in
+    let a : LaneAsk = record { ask = c.in-Some.ask; authenticator = draw c.loop-handed.draws.seed c.loop-handed.draws.drawn; send = one.send } in
     let first = waits_first (waiting slots c.loop-handed.handed) (waiting slots c.asked.new.handed) (asking_from c.in-Some.ask) (sym c.in-Some.ensures.first) c.in-Some.ensures.rest in
-    asked_more c.args.now c.args.shard.now.number slots (told c.args.plant.now) (told c.loop-handed.plant) (told c.send_one-sent.new.plant) c.args.lane.now c.loop-handed.lane c.ask-id.new.self c.send_one-sent.new.lane
-    c.args.handed.now c.loop-handed.handed c.asked.new.handed c.args.draws.now c.loop-handed.draws c.sixteen-authenticator.new.self a c.loop-handed.invariant c.ask-id.ensures.asked c.send_one-sent.ensures.noted (c.loop-handed-test.ensures.0 refl)
-    first c.in-Some.ensures.handed c.in-Some.ensures.own c.sixteen-authenticator.ensures.octets c.sixteen-authenticator.ensures.counted c.send_one-sent.ensures.told
+    asked_more c.args.now c.args.shard.now.number slots (told c.args.plant.now) (told c.loop-handed.plant) (told c.ask_one.new.plant) c.args.lane.now c.loop-handed.lane one.made c.ask_one.new.lane
+    c.args.handed.now c.loop-handed.handed c.asked.new.handed c.args.draws.now c.loop-handed.draws c.ask_one.new.draws a c.loop-handed.invariant one.asked one.noted_is (c.loop-handed-test.ensures.0 refl)
+    first c.in-Some.ensures.handed c.in-Some.ensures.own refl one.draws_are one.told
