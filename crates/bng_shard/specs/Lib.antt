@@ -37,3 +37,5 @@ pub mod Making
 pub mod Granting
 pub mod Claiming
 pub mod Live
+pub mod Interims
+pub mod Surveying

@@ -12,6 +12,7 @@ ghost use Rattle.bng_shard.specs.declared.rules.Rules.{Rules};
 ghost use Rattle.bng_shard.specs.Deed.{Deed, is_forwarded};
 ghost use Rattle.bng_shard.specs.Protocol.{ShardState, Handled, opened, pppoe, packet_octets, sessions_of};
 ghost use Rattle.bng_shard.specs.Claiming.{IsAskedBy};
+ghost use Rattle.bng_shard.specs.Interims.{AwaitsInterims, Reports};
 ghost use Rattle.bng_shard.specs.Lasting.{AreHoused, AreTenures, BeginsByClaims, CircuitsLast};
 ghost use Rattle.bng_shard.specs.Granting.{BeginsByYes, IsGranted, IsGrantedOn, IsSound, IsYesOn, accepted_ask_at};
 ghost use Rattle.bng_shard.specs.Opening.{opened_slots};
@@ -76,6 +77,16 @@ pub fn terms_are_housed()
     ensures kept { (r : Rules) (s : State) (limited : Bool) (d : Deed) → Step r s limited d → IsSound s → AreHoused s → AreHoused d.next }
     ensures settled { (s : State) → AreHoused s → AreHoused (settled s) }
     ensures none { (s : State) → AreHoused (settled s) → count_in (settled s) ≡ 0 → (settled s).terms ≡ [] }
+{}
+
+/// No Interim falls due sooner than a minute after a term's lease, since an Acct-Interim-Interval is at least that (RFC 2869 section 5.16),
+/// and no step brings one forward. So where none was due before a moment that is at most a minute away, none is due before it after a
+/// step, or once a round was settled; and at the opening none ever is.
+pub fn interims_are_awaited()
+    ensures opened { (number : ℕ) (circuits : List Static) (now : ℕ) (t : Reports) → number < 64 → All (λ c. IsNumberOf number c.session.0) circuits → AllPairs (λ a b. a.session ≢ b.session) circuits
+        → AwaitsInterims (opened_slots number circuits now) t }
+    ensures kept { (r : Rules) (s : State) (limited : Bool) (d : Deed) (t : Reports) → Step r s limited d → t.next ≤ d.entry.moment + 60000 → AwaitsInterims s t → AwaitsInterims d.next t }
+    ensures settled { (s : State) (t : Reports) → AwaitsInterims s t → AwaitsInterims (settled s) t }
 {}
 
 /// A peer is told that it is accepted, by Success of CHAP (RFC 1994 section 4.2) or Authenticate-Ack of PAP (RFC 1334 section 2.2.2),

@@ -13,6 +13,7 @@ mod drive;
 mod frames;
 mod hear;
 mod host_uniq;
+mod interims;
 mod laws;
 mod leaving;
 mod limited;
@@ -34,14 +35,16 @@ mod whose;
 mod wish;
 mod young;
 
+pub use crate::interims::Reports;
 pub use crate::laws::{
-    questions_are_heard, steps_meet_laws, terms_of_circuits_are_apart, yeses_are_granted,
+    interims_are_awaited, questions_are_heard, steps_meet_laws, terms_of_circuits_are_apart,
+    yeses_are_granted,
 };
 pub use crate::questions::Handed;
 pub use crate::rules::Rules;
 pub use crate::shard::{Shard, ShardError};
 pub use crate::sums::{Charged, Traffic};
-pub use crate::term::{EndedTerm, LiveTerm};
+pub use crate::term::{EndedTerm, LiveTerm, ReportedTerm};
 pub use crate::whose::{Whose, whose_is};
 
 #[cfg(test)]

@@ -1,10 +1,12 @@
 //! The sessions of a shard.
 ghost use Rattle.std.specs.Prelude.{◌≡◌, ◌≢◌, ◌+◌, ◌<◌, ◌≤◌, ◌^◌, ◌∷◌, [], ℕ, IsSome, Some, None as Nothing, true, IfOk, IfSome, IfNone, option_map};
 ghost use Rattle.std.specs.List.{AllPairs, All};
-ghost use Rattle.std.specs.Option.{option_copied};
+ghost use Rattle.std.specs.Option.{option_and_then, option_copied};
 ghost use Rattle.bng_slots.specs.Sessions.{value_at, without, IsNumberOf};
 ghost use Rattle.bng_shard.specs.Discovery.{IsVacancy, repeated};
 ghost use Rattle.bng_shard.specs.Due.{due_of};
+ghost use Rattle.bng_shard.specs.Interims.{interim_at};
+ghost use Rattle.bng_shard.specs.Surveying.{IsSurveyed};
 ghost use Rattle.bng_shard.specs.Opening.{circuit_at, opened_slots, provisioned as provisioned_at};
 ghost use Rattle.std.specs.Prelude.{drop, slice_get};
 ghost use Rattle.bng_shard.specs.Questions.{asking_from, handed_after, open_ask_at, place_of, waiting};
@@ -15,6 +17,7 @@ ghost use Rattle.bng_shard.specs.Serving.{AreOwn, KeepsLease};
 ghost use Rattle.bng_shard.specs.State.{count_in, holder_of, reaped, session_of, with_session};
 ghost use Rattle.bng_shard.specs.Timers.{IsFirstDue, IsLowest, NoneIsDue, NoneStays, stays_at};
 
+use crate::interims::{LEAST, Reports, interim_at};
 use crate::leaving::list_leaving;
 use crate::limited::NO_LIMITS;
 use crate::questions::{Handed, copied, list, lowest_waiting, unlist};
@@ -69,6 +72,13 @@ pub(crate) fn circuit_with(circuits: &[Static], session: SessionNo) -> Option<&S
     ensures none { IfNone result (circuit_at circuits.now session.0 ≡ []) }
 {
     circuits.iter().find(|c| c.session.0 == session.0)
+}
+
+/// Whether an Interim is due: of the session with this number first, or of none before that moment, in milliseconds.
+#[derive(Clone, Copy)]
+pub(crate) enum Survey {
+    Owes(SessionNo),
+    None { until: u64 },
 }
 
 // The session of a provisioned circuit, whose term has this number.
@@ -294,6 +304,33 @@ impl Served {
             }
         }
         None
+    }
+
+    /// Looks for an Interim that is due at this moment, in milliseconds: of those sessions that owe one it is that of the lowest number. It
+    /// looks at all sessions.
+    pub(crate) fn survey(&self, reports: &Reports, now: u64) -> Survey
+        requires moment { now < 2 ^ 60 }
+        ensures { IsSurveyed self.now reports.now.last now result }
+    {
+        let first = self.sessions.shard() * 1024 + 1;
+        let mut until = now + LEAST;
+        for n in first..first + NUMBERS {
+            let number = SessionNo(n);
+            if let Some(at) = self.interim_at(number, reports) {
+                if at <= now {
+                    return Survey::Owes(number);
+                }
+                until = until.min(at);
+            }
+        }
+        Survey::None { until }
+    }
+
+    // The moment from which on an Interim of the session with this number is due.
+    fn interim_at(&self, number: SessionNo, reports: &Reports) -> Option<u64>
+        ensures { result ≡ option_and_then (interim_at reports.now.last) (value_at self.now.sessions number.0) }
+    {
+        interim_at(self.sessions.get(number)?, reports)
     }
 
     /// Takes a session out that has not ended. No other has its address.

@@ -1,5 +1,5 @@
 //! One shard.
-ghost use Rattle.std.specs.Prelude.{ℕ, Some, drop, slice_get, IfSome, IfNone, ◌≡◌, ◌≢◌, ◌≤◌, ◌<◌, ◌+◌, ◌*◌, ◌^◌, [], true, IfOk, OnOk, length, option_map, vec_capacity};
+ghost use Rattle.std.specs.Prelude.{ℕ, Some, IsSome, ◌⊎◌, drop, slice_get, IfSome, IfNone, ◌≡◌, ◌≢◌, ◌≤◌, ◌<◌, ◌+◌, ◌*◌, ◌^◌, [], true, IfOk, OnOk, length, option_map, vec_capacity};
 ghost use Rattle.bng_engine.specs.Books.{book_at};
 ghost use Rattle.bng_engine.specs.Calls.{Kept, IsReady};
 ghost use Rattle.bng_engine.specs.Protocol.{IsOwned};
@@ -9,7 +9,9 @@ ghost use Rattle.bng_engine.specs.Views.{row_keys};
 ghost use Rattle.bng_shard.specs.Protocol.{AreHeld, Handles, HasPools, Leaves, SaysOf, TellsNew, deadline_of, ended_terms, entry_of, key_of, opened, pppoe, profiles_there, row_at, sessions_of, stop_of, terms_of};
 ghost use Rattle.bng_shard.specs.Questions.{asking_from, handed_after, waiting};
 ghost use Rattle.bng_shard.specs.Room.{Admits};
-ghost use Rattle.bng_slots.specs.Sessions.{IsNumberOf};
+ghost use Rattle.bng_shard.specs.declared.session.Session.{Session};
+ghost use Rattle.bng_shard.specs.Interims.{AwaitsInterims, owed, row_in, row_told, with_report};
+ghost use Rattle.bng_slots.specs.Sessions.{IsNumberOf, value_at};
 ghost use Rattle.std.specs.List.{All, AllPairs};
 ghost use Rattle.bng_engine.specs.Lists.{AnyOf};
 ghost use Rattle.bng_pool.specs.Tables.{TableFrees};
@@ -20,16 +22,17 @@ ghost use Rattle.bng_shard.specs.Sums.{charged_as, traffic_in, AreCovered, AreLo
 
 use crate::claim::{ask, left_after};
 use crate::hear::hear;
+use crate::interims::Reports;
 use crate::questions::Handed;
 use crate::rules::Rules;
 use crate::sending::At;
-use crate::served::Served;
+use crate::served::{Served, Survey};
 use crate::sums::{Charged, Traffic, book, charged_as, tally};
-use crate::term::{EndedTerm, LiveTerm};
+use crate::term::{EndedTerm, LiveTerm, ReportedTerm};
 use crate::term_rows::stop_from;
 use crate::terms::Terms;
 use crate::wish::wish_for;
-use bng_base::{Book, Entry, Fate, Ip4, Item, LONGEST, OutRecord, Static};
+use bng_base::{Book, Entry, Fate, Ip4, Item, LONGEST, OutRecord, SessionNo, Static};
 use bng_pool::PlainPool;
 use bng_verdict::AuthAsk;
 use std::alloc::{AllocError, Global};
@@ -302,6 +305,55 @@ impl Shard {
     {
         let row = self.terms.take_first_new()?;
         Some(row.shown())
+    }
+
+    /// Hands out the live term of the lowest session number whose Interim (RFC 2869 section 5.16) is due at this moment, in milliseconds, and
+    /// takes that Interim: the next one counts from this moment. None exactly where none is due. Which were taken is kept in `reports`, which
+    /// is this shard's alone. Until one may be due it looks at no session. It is called once the Stops of a round were formed.
+    pub fn interim(&self, reports: &mut Reports, now: u64) -> Option<ReportedTerm>
+        requires moment { now < 2 ^ 60 }
+        requires awaits { AwaitsInterims self.now.state.slots reports.old }
+        ensures first { option_map row_told result ≡ slice_get (owed self.now reports.old.last now) 0 }
+        ensures rest { owed self.now reports.new.last now ≡ drop 1 (owed self.now reports.old.last now) }
+        ensures taken { IfSome result (λ t. reports.new.last ≡ with_report reports.old.last now t.term.term.session) }
+        ensures kept { IfNone result (reports.new.last ≡ reports.old.last) }
+        ensures says { IfSome result (λ t. AnyOf (SaysOf t.term.user.items t.term.class.items t.term.began (key_of t.term)) self.now.state.slots.terms) }
+        ensures awaits { AwaitsInterims self.now.state.slots reports.new }
+        ensures soon { (reports.new.next ≡ reports.old.next) ⊎ (reports.new.next ≤ now + 60000) }
+    {
+        if !reports.may_be_due(now) {
+            return None;
+        }
+        match self.served.survey(reports, now) {
+            Survey::Owes(number) => {
+                let told = self.told_of(number);
+                reports.note(number, now);
+                Some(told)
+            }
+            Survey::None { until } => {
+                reports.wait_until(until);
+                None
+            }
+        }
+    }
+
+    // The live term of the session with this number, which has one, and what it carried so far.
+    fn told_of(&self, number: SessionNo) -> ReportedTerm
+        requires { (x : Session) × (value_at self.now.state.slots.sessions number.0 ≡ Some x) × IsSome x.lease }
+        ensures row { (x : Session) → value_at self.now.state.slots.sessions number.0 ≡ Some x → row_in self.now.rows x ≡ Some (row_told result) }
+        ensures session { result.term.term.session ≡ number }
+        ensures says { AnyOf (SaysOf result.term.user.items result.term.class.items result.term.began (key_of result.term)) self.now.state.slots.terms }
+    {
+        let Some(session) = self.served.get(number) else {
+            unreachable!();
+        };
+        let Some(lease) = session.lease() else {
+            unreachable!();
+        };
+        let Some(told) = self.terms.told_of(lease.serial) else {
+            unreachable!();
+        };
+        told
     }
 
     /// Keeps an empty list for the journals of the rounds to come, as one that `drain` handed out: its room serves again. No round

@@ -14,6 +14,13 @@ pub struct LiveTerm {
     pub began: u64,
 }
 
+/// A live term of which an Interim is due: what `LiveTerm` says, and the octets and packets that it carried so far.
+#[derive(Clone, Debug, Drop)]
+pub struct ReportedTerm {
+    pub term: LiveTerm,
+    pub carried: Book,
+}
+
 /// A term that ended, of which a Stop is formed: what `LiveTerm` says, and the cause of its end (Acct-Terminate-Cause, RFC 2866 section
 /// 5.10), and the octets and packets that it carried.
 #[derive(Clone, Debug, Drop)]

@@ -1,18 +1,19 @@
 //! The rows of a shard's terms.
-ghost use Rattle.std.specs.Prelude.{◌≡◌, ◌+◌, ◌^◌, ◌<◌, ◌≤◌, ◌++◌, ◌∷◌, [], ℕ, Some, None as Nothing, true, cond, count_by, is_none, map, option_map, slice_get, length, vec_capacity, IfSome, IfNone};
+ghost use Rattle.std.specs.Prelude.{◌≡◌, ◌+◌, ◌^◌, ◌<◌, ◌≤◌, ◌++◌, ◌∷◌, ◌==◌, [], ℕ, Some, None as Nothing, true, cond, count_by, find, is_none, map, option_map, slice_get, length, vec_capacity, IfSome, IfNone};
 ghost use Rattle.std.specs.List.{list_any};
 ghost use Rattle.bng_base.specs.declared.item.OutRecord.{OutRecord as Out};
 ghost use Rattle.bng_engine.specs.Calls.{SayMore};
 ghost use Rattle.bng_engine.specs.Lists.{AnyOf};
 ghost use Rattle.bng_engine.specs.Protocol.{HasKey};
 ghost use Rattle.bng_engine.specs.Views.{row_keys};
+ghost use Rattle.bng_shard.specs.Interims.{row_told};
 ghost use Rattle.bng_shard.specs.Protocol.{key_of, row_at, stop_of, SaysOf};
 ghost use Rattle.bng_shard.specs.Running.{ended_by, has_ended, is_meant, key_from, row_over_by, rows_in, tenure_in, tenures_in, AreRising, HasSerial, IsFirstOf, IsPlaceOf, NoneIsMeant, TakesFirst};
 ghost use Rattle.bng_shard.specs.Sums.{traffic_in, IsLow, IsMore, RowsAreLow};
 ghost use Rattle.bng_shard.specs.Tenures.{has_kept};
 
 use crate::sums::{Traffic, enter};
-use crate::term::{EndedTerm, LiveTerm};
+use crate::term::{EndedTerm, LiveTerm, ReportedTerm};
 use crate::terms::Running;
 use arrayvec::ArrayVec;
 use bng_base::{Book, Charge, Ip4};
@@ -85,6 +86,19 @@ pub(crate) fn term_at(rows: &[Running], place: usize) -> Option<LiveTerm>
     ensures says { IfSome result (λ t. AnyOf (SaysOf t.user.items t.class.items t.began (key_of t)) (tenures_in rows.now)) }
 {
     Some(rows.get(place)?.shown())
+}
+
+/// The term with this number, and what it carried; none exactly where no row has it.
+pub(crate) fn told_of(rows: &[Running], serial: u64) -> Option<ReportedTerm>
+    requires rising { AreRising rows.now }
+    ensures row { option_map row_told result ≡ find (λ r. r.key.term.serial == serial) (rows_in rows.now) }
+    ensures says { IfSome result (λ t. AnyOf (SaysOf t.term.user.items t.term.class.items t.term.began (key_of t.term)) (tenures_in rows.now)) }
+{
+    let row = &rows[place_of(rows, serial)?];
+    Some(ReportedTerm {
+        term: row.shown(),
+        carried: row.carried,
+    })
 }
 
 /// What the term with this address carried.

@@ -1,5 +1,5 @@
 //! The terms of a shard, with their sums.
-ghost use Rattle.std.specs.Prelude.{◌≡◌, ◌≢◌, ◌+◌, ◌^◌, ◌<◌, ◌++◌, ◌∷◌, [], None as Nothing, true, false, filter, map, option_map, slice_get, IfNone, IfOk, IfSome};
+ghost use Rattle.std.specs.Prelude.{◌≡◌, ◌≢◌, ◌+◌, ◌^◌, ◌<◌, ◌++◌, ◌∷◌, ◌==◌, [], None as Nothing, true, false, filter, find, map, option_map, slice_get, IfNone, IfOk, IfSome};
 ghost use Rattle.std.specs.List.{list_any, All, AllPairs};
 ghost use Rattle.bng_engine.specs.Books.{BooksFall};
 ghost use Rattle.bng_engine.specs.Calls.{SayMore};
@@ -8,6 +8,7 @@ ghost use Rattle.bng_engine.specs.Protocol.{IsOwned};
 ghost use Rattle.bng_engine.specs.Terms.{keys};
 ghost use Rattle.bng_engine.specs.Views.{new_row, row_keys};
 ghost use Rattle.bng_engine.specs.Quantities.{empty_book};
+ghost use Rattle.bng_shard.specs.Interims.{row_told};
 ghost use Rattle.bng_shard.specs.Live.{live_in};
 ghost use Rattle.bng_shard.specs.Opening.{in_order, tenure_from, tenures_after};
 ghost use Rattle.bng_shard.specs.Protocol.{key_of, row_at, term_in, SaysOf};
@@ -19,8 +20,10 @@ use crate::live::live;
 use crate::served::circuit_with;
 use crate::session::Lease;
 use crate::sums::{Traffic, take_off};
-use crate::term::LiveTerm;
-use crate::term_rows::{carried_by, carry, close, copied, copy_of, keep, take_first, term_at};
+use crate::term::{LiveTerm, ReportedTerm};
+use crate::term_rows::{
+    carried_by, carry, close, copied, copy_of, keep, take_first, term_at, told_of,
+};
 use arrayvec::ArrayVec;
 use bng_base::{Book, Circuit, Ip4, OutRecord, SessionNo, Static, TermId};
 use std::alloc::{AllocError, Global};
@@ -225,6 +228,14 @@ impl Terms {
         ensures says { IfSome result (λ t. AnyOf (SaysOf t.user.items t.class.items t.began (key_of t)) (tenures_in self.now.rows)) }
     {
         term_at(&self.rows, place)
+    }
+
+    /// The term with this number, and what it carried; none exactly where no row has it.
+    pub(crate) fn told_of(&self, serial: u64) -> Option<ReportedTerm>
+        ensures row { option_map row_told result ≡ find (λ r. r.key.term.serial == serial) (rows_in self.now.rows) }
+        ensures says { IfSome result (λ t. AnyOf (SaysOf t.term.user.items t.term.class.items t.term.began (key_of t.term)) (tenures_in self.now.rows)) }
+    {
+        told_of(&self.rows, serial)
     }
 
     /// What the term with this address carried.
