@@ -10,6 +10,7 @@ use Rattle.bng_shard.specs.Protocol.{ShardState, AreHeld, HasPools, terms_of}
 use Rattle.bng_shard.specs.Sums.{AreLow, RowsAreLow}
 use Rattle.bng_desk.specs.Accounting.{AreBilled, KnowsBegun}
 use Rattle.bng_desk.specs.Counting.{Within}
+use Rattle.bng_desk.specs.Interims.{AreAwaited}
 use Rattle.bng_desk.specs.Items.{ends_of}
 use Rattle.bng_desk.specs.Logins.{verdicts_most}
 use Rattle.bng_desk.specs.Model.{Desk, HasOneRule, keys_in, is_over, graces_most, rounds_left, unopened_most}
@@ -63,7 +64,7 @@ pub record Stays (shards : ℕ) (items : List Item) : Type 0 where
 -- turns so far could add, and none wraps before the last; what was carried with a circuit's address, by Stops and by rows, stands in the
 -- seat's tally, and what all Stops and all rows say is exactly that tally. What stays of a round that was not opened are verdicts, and Ends in the ending alone. Of each shard there is a list of the
 -- questions that it handed out. Each term that is there is live in accounting, no two terms are one, and accounting knows of no term that
--- did not begin.
+-- did not begin. No Interim is due before the moment that is kept for that of its shard.
 pub record IsKept (d : Desk) : Type 0 where
   pub some_port : 1 ≤ length d.rules.access
   pub few_ports : length d.rules.access ≤ 16
@@ -101,3 +102,4 @@ pub record IsKept (d : Desk) : Type 0 where
   pub graces : d.graces ≤ graces_most
   pub billed : AreBilled (keys_in d.shards) d.billing
   pub knows : KnowsBegun d.shards d.billing
+  pub awaited : AreAwaited d.moment d.shards d.reports

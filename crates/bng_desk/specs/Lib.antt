@@ -6,6 +6,7 @@ pub mod Model
 pub mod Items
 pub mod Logins
 pub mod Accounting
+pub mod Interims
 pub mod Round
 pub mod Allowing
 pub mod Settlement

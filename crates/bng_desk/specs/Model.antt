@@ -15,6 +15,7 @@ use Rattle.bng_lane.specs.State.{LaneState}
 use Rattle.bng_pool.specs.Plain.{PlainView}
 use Rattle.bng_shard.specs.declared.rules.Rules.{Rules}
 use Rattle.bng_shard.specs.declared.sums.Traffic.{Traffic}
+use Rattle.bng_shard.specs.Interims.{Reports}
 use Rattle.bng_shard.specs.Live.{octets_in_rows}
 use Rattle.bng_shard.specs.Protocol.{ShardState, row_at, sessions_of, terms_of}
 use Rattle.bng_shard.specs.Sums.{traffic_in}
@@ -29,7 +30,7 @@ use Rattle.bng_desk.specs.Reading.{is_empty}
 -- after how many turns it ends serving by itself, how many it made, whether it was told to stop, the shards in the order of their numbers, who holds an address, what each seat passed, the
 -- seed and how many times sixteen octets were drawn from it, the drops, the last moment that it was given, and the number of the last
 -- round that the trace took, 0 before the first. The lane of the questions that are out at the server, and of each shard which of its
--- questions were handed out. The records that are open at the server of accounting. Of the ending: how
+-- questions were handed out. The records that are open at the server of accounting. Of each shard which Interims were taken. Of the ending: how
 -- many of its turns were made, how many in a row opened no round, whether one opened a round, and the moment of the last that did, which
 -- is that of the opening before the first. How many turns of the grace were made. The items that stay of the last round, where it was not
 -- opened.
@@ -51,6 +52,7 @@ pub record Desk : Type 0 where
   pub lane : LaneState
   pub handed : List (List ℕ)
   pub billing : BillingState
+  pub reports : List Reports
   pub endings : ℕ
   pub unopened : ℕ
   pub closed : Bool

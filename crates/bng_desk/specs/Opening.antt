@@ -23,6 +23,7 @@ use Rattle.bng_lane.specs.State.{LaneState, IsNewLane}
 use Rattle.bng_pool.specs.Plain.{PlainView}
 use Rattle.bng_pool.specs.Tables.{entry}
 use Rattle.bng_shard.specs.declared.rules.Rules.{Rules}
+use Rattle.bng_shard.specs.Interims.{Reports, no_reports}
 use Rattle.bng_shard.specs.Protocol.{ShardState, opened, profiles_there}
 use Rattle.bng_shard.specs.Questions.{none_handed}
 use Rattle.bng_slots.specs.Sessions.{IsNumberOf}
@@ -119,10 +120,10 @@ billing_rules config wall = record {
 
 -- Accounting was opened by these rules over these lines, and of each of the terms of these shards a Start was formed, at this moment, in
 -- their order; each of them is live in accounting from then on, and it knows of no other.
-pub record OpensAccounts (rules : BillingRules) (lines : List Line) (shards : List (ShardView ShardState Entry)) (now : ℕ) (a : Accounts) : Type 0 where
+pub record OpensAccounts (rules : BillingRules) (lines : List Line) (reports : List Reports) (shards : List (ShardView ShardState Entry)) (now : ℕ) (a : Accounts) : Type 0 where
   pub new_billing : BillingState
   pub is_new : IsNewBilling rules new_billing
-  pub booked : BooksStarts (terms_in (states_of shards)) now rules.acct.wall (keys_in shards) (record { lines = lines; stopped = no_traffic; billing = new_billing }) a
+  pub booked : BooksStarts (terms_in (states_of shards)) now rules.acct.wall (keys_in shards) (record { lines = lines; stopped = no_traffic; billing = new_billing; reports = reports }) a
   pub billed : AreBilled (keys_in shards) a.billing
   pub known : (t : TermId) (h : Held) → of_term t a.billing.spool.held ≡ Some h → AnyOf (λ (k : Key). k.term ≡ t) (keys_in shards)
 
@@ -160,6 +161,7 @@ pub record IsOpened (config : Config) (rounds : ℕ) (seed : List ℕ) (now wall
     lane = lane;
     handed = map (λ n. none_handed) (range_with_len 0 config.shards);
     billing = billing;
+    reports = map (λ n. no_reports) (range_with_len 0 config.shards);
     endings = 0;
     unopened = 0;
     closed = false;

@@ -16,6 +16,7 @@ use Rattle.bng_desk.specs.declared.settlement.Works.{Works}
 use Rattle.bng_desk.specs.Accounting.{AreBilled, KnowsBegun}
 use Rattle.bng_desk.specs.Counting.{Within}
 use Rattle.bng_desk.specs.Intake.{SendsRequests, SendsRecords}
+use Rattle.bng_desk.specs.Interims.{AreAwaited}
 use Rattle.bng_desk.specs.Items.{kept_of}
 use Rattle.bng_desk.specs.Kept.{octets_most, drops_most}
 use Rattle.bng_desk.specs.Model.{keys_in}
@@ -55,6 +56,7 @@ pub record IsReady (r : Rules) (named : Named) (lists : Lists) (w : Works) : Typ
   pub adds_up : AddsUp w.tally w.shards.items w.accounts.stopped
   pub billed : AreBilled (keys_in w.shards.items) w.accounts.billing
   pub knows : KnowsBegun w.shards.items w.accounts.billing
+  pub awaited : AreAwaited named.moment w.shards.items w.accounts.reports
   pub moment : named.moment < 2 ^ 60
   pub counts : Within (2 ^ 61) w.drops
   pub drawn : w.draws.drawn < 2 ^ 60
@@ -101,3 +103,4 @@ pub record KeepsWorks (moment : ℕ) (w w' : Works) : Type 0 where
   pub ranges : w'.pool.ranges ≡ w.pool.ranges
   pub terms : All (KeepsTerms moment) w'.shards.items
   pub knows : KnowsBegun w'.shards.items w'.accounts.billing
+  pub awaited : AreAwaited moment w'.shards.items w'.accounts.reports

@@ -1,7 +1,11 @@
 -- A round in the desk: its items are dealt to the shards, and the shards are settled.
-use Rattle.std.specs.Prelude.{◌≡◌, ◌⊎◌, ℕ, ◌+◌, ◌*◌, ◌^◌, ◌≤◌, ◌<◌, Bool, true, false, cond, List, [], ◌∷◌, ◌++◌, All, length, map, sum_by, count_by, ◌||◌, filter, not, slice_index_or, slice_set, Some}
+use Rattle.std.specs.Prelude.{◌≡◌, ◌⊎◌, ℕ, ◌+◌, ◌*◌, ◌^◌, ◌≤◌, ◌<◌, Bool, true, false, cond, List, [], ◌∷◌, ◌++◌, All, length, map, sum_by, count_by, ◌||◌, filter, not, slice_index_or, slice_set, Some, IsSome}
 use Rattle.std.specs.List.{AllByRecursion, AllZip, AllPairs, flat_map}
+use Rattle.bng_acct.specs.declared.held.Held.{Held}
+use Rattle.bng_acct.specs.Roster.{of_term}
+use Rattle.bng_acct.specs.Spool.{is_live}
 use Rattle.bng_base.specs.declared.book.Book.{Book}
+use Rattle.bng_base.specs.declared.circuit.TermId.{TermId}
 use Rattle.bng_base.specs.declared.fate.Fate.{Fate}
 use Rattle.bng_base.specs.declared.item.Charge.{Charge as Of}
 use Rattle.bng_base.specs.declared.item.Entry.{Entry}
@@ -32,6 +36,7 @@ use Rattle.bng_shard.specs.declared.whose.Whose.{Whose}
 use Rattle.bng_shard.specs.declared.whose.Whose.TheVariants.{Loose as IsLoose, Stands}
 use Rattle.bng_shard.specs.Hearing.{outs_most}
 use Rattle.bng_shard.specs.Granting.{IsSound}
+use Rattle.bng_shard.specs.Interims.{Reports, owed}
 use Rattle.bng_shard.specs.Live.{octets_in_rows}
 use Rattle.bng_shard.specs.Lasting.{AreTenures}
 use Rattle.bng_shard.specs.Protocol.{ShardState, Handled, key_in, pppoe, sessions_of, terms_of, entry_of, Handles}
@@ -46,6 +51,7 @@ use Rattle.bng_desk.specs.declared.holding.Named.{Named}
 use Rattle.bng_desk.specs.declared.line.Line.{Line}
 use Rattle.bng_desk.specs.Accounting.{FormedRecord, Forms, IsStartOf, IsStopOf}
 use Rattle.bng_desk.specs.Counting.{drops_of, plus}
+use Rattle.bng_desk.specs.Interims.{FormsInterims, TakesInterims, owed_by}
 use Rattle.bng_desk.specs.Items.{entries_in, kept_of, loose_item, loose_in, without_claim}
 use Rattle.bng_desk.specs.Allowing.{Allows}
 use Rattle.bng_desk.specs.Model.{all_stopped, line_after, plus_traffic}
@@ -263,11 +269,13 @@ pub record BegunTo (v v' : Shown) (starts : List Key) : Type 0 where
   pub each : Same starts (map key_in v.state.slots.news)
   pub after : v' ≡ record v { state = record v.state { slots = record v.state.slots { news = [] } } }
 
--- what a settlement writes to beside the shards: the lines of the circuits, and the records of terms
+-- what a settlement writes to beside the shards: the lines of the circuits, what all Stops say, the records of terms, and of each shard
+-- which Interims were taken
 pub record Accounts : Type 0 where
   pub lines : List Line
   pub stopped : Traffic
   pub billing : BillingState
+  pub reports : List Reports
 
 -- Of each of these Stops a record was formed, in their order, at this moment and this second on the wall, and what it says was added to
 -- the line with its address and to what all Stops say. They are of these terms.
@@ -277,6 +285,7 @@ pub record BooksStops (terms : List Tenure) (moment wall : ℕ) (stops : List St
   pub are_stops : AllZip (IsStopOf terms moment wall) stops formed
   pub lines_are : a'.lines ≡ map (line_after stops) a.lines
   pub stopped_is : a'.stopped ≡ plus_traffic a.stopped (all_stopped stops)
+  pub reports_are : a'.reports ≡ a.reports
 
 -- Of each of the terms with these keys a Start was formed, in their order, at this moment and this second on the wall. They are of these
 -- terms.
@@ -284,6 +293,26 @@ pub record BooksStarts (terms : List Tenure) (moment wall : ℕ) (keys : List Ke
   pub formed : List FormedRecord
   pub forms : Forms a.billing formed a'.billing
   pub are_starts : AllZip (IsStartOf terms moment wall) keys formed
+  pub lines_are : a'.lines ≡ a.lines
+  pub stopped_is : a'.stopped ≡ a.stopped
+  pub reports_are : a'.reports ≡ a.reports
+
+-- accounting knows of the terms of before and of no others, and each that was live is live
+pub record KeepsHeld (b b' : BillingState) : Type 0 where
+  pub live : (t : TermId) → is_live (of_term t b.spool.held) ≡ true → is_live (of_term t b'.spool.held) ≡ true
+  pub known : (t : TermId) (h : Held) → of_term t b'.spool.held ≡ Some h → IsSome (of_term t b.spool.held)
+
+-- The Interims of a shard that are due were taken, and a record of each was formed whose last one is not open.
+pub record ReportsShard (moment wall : ℕ) (v : Shown) (r r' : Reports) (b b' : BillingState) : Type 0 where
+  pub formed : List FormedRecord
+  pub forms : FormsInterims v.state.slots.terms moment wall b (owed v r.last moment) formed b'
+  pub taken : TakesInterims moment v r r'
+
+-- so of all shards, in their order
+pub record ReportsAll {E : Type 0} (moment wall : ℕ) (vs : List (ShardView ShardState E)) (a a' : Accounts) : Type 0 where
+  pub formed : List FormedRecord
+  pub forms : FormsInterims (terms_in (map (λ v. v.state) vs)) moment wall a.billing (owed_by moment vs a.reports) formed a'.billing
+  pub taken : Zip3 (TakesInterims moment) vs a.reports a'.reports
   pub lines_are : a'.lines ≡ a.lines
   pub stopped_is : a'.stopped ≡ a.stopped
 
@@ -384,7 +413,9 @@ pub record RoundHeld (r : Rules) (pool pool' : PlainView) (accounts accounts' : 
   pub pool_is : round.pool ≡ pool'
   pub mid : Accounts
   pub ends : BooksStops (terms_in (handled_states shards round.shards)) named.moment named.wall (stops_of round) accounts mid
-  pub begins : BooksStarts (news_in (handled_states shards round.shards)) named.moment named.wall (starts_of round) mid accounts'
+  pub started : Accounts
+  pub begins : BooksStarts (news_in (handled_states shards round.shards)) named.moment named.wall (starts_of round) mid started
+  pub reports : ReportsAll named.moment named.wall round.shards started accounts'
   pub allowed : map (λ v. v.allowance) round.shards ≡ map (λ v. v.allowance) shards
   pub tallies_are : round.tallies ≡ tally' ∷ []
   pub drops_are : drops' ≡ plus drops (drops_in (items ∷ []) round)

@@ -12,9 +12,11 @@ use Rattle.bng_base.specs.declared.round.RoundRecord.{RoundRecord}
 use Rattle.bng_base.specs.FateOf.{Arrival}
 use Rattle.bng_base.specs.Stretch.{Outside, PlantStretch, plant_none, plant_joined, Stretch, Extends, no_stretch}
 use Rattle.bng_engine.specs.Calls.{all_sends}
+use Rattle.bng_engine.specs.Lists.{Zip3}
 use Rattle.bng_engine.specs.Views.{ShardView}
 use Rattle.bng_ppp.specs.LinkRelation.{earliest}
 use Rattle.bng_shard.specs.declared.rules.Rules.{Rules}
+use Rattle.bng_shard.specs.Interims.{Reports}
 use Rattle.bng_shard.specs.Protocol.{ShardState, deadline_of}
 use Rattle.bng_shard.specs.Room.{is_end}
 use Rattle.bng_desk.specs.declared.desk.Turned.{Turned}
@@ -26,6 +28,7 @@ use Rattle.bng_desk.specs.Counting.{plus}
 use Rattle.bng_billing.specs.State.{BillingState, places_of}
 use Rattle.bng_billing.specs.Stopping.{StopsOnly}
 use Rattle.bng_desk.specs.Allowing.{Allows}
+use Rattle.bng_desk.specs.Interims.{FormsInterims, TakesInterims, owed_by}
 use Rattle.bng_lane.specs.State.{LaneState}
 use Rattle.bng_rad_client.specs.DueRequests.{IsDeadline}
 use Rattle.bng_verdict.specs.declared.question.QuestionNo.{QuestionNo}
@@ -57,7 +60,7 @@ most_of r Control = 0
 -- where it could not be opened for want of memory; the requests that were sent; whether the trace took the round. Of the lane: how it
 -- stood once it had heard Auth, once the questions were given up, and in the end, with its first deadline, and which questions were
 -- handed out then. Of accounting: the records that were formed, the requests that were sent, and how it stood in the end, with its first
--- deadline.
+-- deadline, and of each shard which Interims were taken then.
 pub record Turn : Type 0 where
   pub moment : ℕ
   pub wall : ℕ
@@ -81,6 +84,7 @@ pub record Turn : Type 0 where
   pub records : RecordRequests
   pub billing : BillingState
   pub record_deadline : Option ℕ
+  pub reports : List Reports
 
 -- Auth is read at most 128 times; it is not read where verdicts of a round that was not opened stand first.
 abbrev pub ReadsWhere : Bool → List Answered → Option Ended → Type 0
@@ -156,6 +160,7 @@ after d t = record (after_round d (items_of d t) t.round) {
   lane = t.lane;
   handed = t.handed;
   billing = t.billing;
+  reports = t.reports;
 }
 
 -- The lane in a turn while serving: it hears Auth, gives up the questions that are due, and in the settlement sends what is due again
@@ -167,18 +172,24 @@ pub record LaneTurn (d : Desk) (t : Turn) : Type 0 where
   pub due : IsDeadline t.lane.client.auth.places t.deadline
 
 -- The records of a round: a Stop of each of its Stops, and then a Start of each of its Starts, each of one of the terms that the shards had
--- once all entries were handled.
-pub record AreOfRound (shards : List (ShardView ShardState Entry)) (moment wall : ℕ) (round : Round) (formed : List FormedRecord) : Type 0 where
+-- once all entries were handled. And then an Interim of each live term that owes one, unless its last one is open still; it is taken all
+-- the same.
+pub record AreOfRound (shards : List (ShardView ShardState Entry)) (moment wall : ℕ) (round : Round) (reports reports' : List Reports) (b : BillingState) (formed : List FormedRecord) (b' : BillingState) : Type 0 where
   pub stops : List FormedRecord
   pub starts : List FormedRecord
-  pub are : formed ≡ stops ++ starts
+  pub interims : List FormedRecord
+  pub are : formed ≡ stops ++ (starts ++ interims)
   pub are_stops : AllZip (IsStopOf (terms_in (handled_states shards round.shards)) moment wall) (stops_of round) stops
   pub are_starts : AllZip (IsStartOf (news_in (handled_states shards round.shards)) moment wall) (starts_of round) starts
+  pub started : BillingState
+  pub forms : Forms b (stops ++ starts) started
+  pub reported : FormsInterims (terms_in (map (λ v. v.state) round.shards)) moment wall started (owed_by moment round.shards reports) interims b'
+  pub taken : Zip3 (TakesInterims moment) round.shards reports reports'
 
--- no record is formed where it was not opened
-abbrev pub FormsRecords : List (ShardView ShardState Entry) → ℕ → ℕ → Option Round → List FormedRecord → Type 0
-FormsRecords shards moment wall None formed = formed ≡ []
-FormsRecords shards moment wall (Some round) formed = AreOfRound shards moment wall round formed
+-- no record is formed and no Interim is taken where it was not opened
+abbrev pub FormsRecords : List (ShardView ShardState Entry) → ℕ → ℕ → Option Round → List Reports → List Reports → BillingState → List FormedRecord → BillingState → Type 0
+FormsRecords shards moment wall None reports reports' b formed b' = (formed ≡ []) × (reports' ≡ reports) × (b' ≡ b)
+FormsRecords shards moment wall (Some round) reports reports' b formed b' = AreOfRound shards moment wall round reports reports' b formed b'
 
 -- Accounting in a turn while serving: it hears Acct; what it has room for then is what the shards are allowed of new terms; in the
 -- settlement the records of the round are formed, and then it sends what is due again and the records that wait.
@@ -188,7 +199,7 @@ pub record BillingTurn (d : Desk) (t : Turn) : Type 0 where
   pub allows : Allows heard d.shards t.round
   pub booked : BillingState
   pub forms : Forms heard t.formed booked
-  pub of_round : FormsRecords d.shards t.moment t.wall t.round t.formed
+  pub of_round : FormsRecords d.shards t.moment t.wall t.round d.reports t.reports heard t.formed booked
   pub settles : SettlesRecords t.moment booked t.records t.billing
   pub due : IsDeadline (places_of t.billing) t.record_deadline
 
@@ -291,7 +302,8 @@ pub record MakesTurn (d d' : Desk) (o o' : Outside) (result : Turned) : Type 0 w
 -- Ending ----------------------------------------------------------------------------------------------------------------
 
 -- a turn of the ending: its moments, its round of Ends, the requests that were sent, whether the trace took the round, and how the lane
--- stands then, with the questions that were handed out; the records that were formed, their requests, and how accounting stands then
+-- stands then, with the questions that were handed out; the records that were formed, their requests, and how accounting stands then, with the Interims
+-- that were taken
 pub record EndTurn : Type 0 where
   pub moment : ℕ
   pub wall : ℕ
@@ -303,6 +315,7 @@ pub record EndTurn : Type 0 where
   pub formed : List FormedRecord
   pub records : RecordRequests
   pub billing : BillingState
+  pub reports : List Reports
 
 -- whether a round was opened
 abbrev pub is_opened : Option Round → Bool
@@ -317,6 +330,7 @@ after_end d t = record (after_round d (ending_items d) t.round) {
   lane = t.lane;
   handed = t.handed;
   billing = t.billing;
+  reports = t.reports;
   endings = d.endings + 1;
   unopened = (if is_opened t.round then 0 else d.unopened + 1);
   closed = d.closed || is_opened t.round;
@@ -337,7 +351,7 @@ pub record BillingEnd (d : Desk) (t : EndTurn) : Type 0 where
   pub allows : Allows d.billing d.shards t.round
   pub booked : BillingState
   pub forms : Forms d.billing t.formed booked
-  pub of_round : FormsRecords d.shards t.moment t.wall t.round t.formed
+  pub of_round : FormsRecords d.shards t.moment t.wall t.round d.reports t.reports d.billing t.formed booked
   pub settled : BillingState
   pub settles : SettlesRecords t.moment booked t.records settled
   pub closes : Closes (has_ended (after_end d t)) settled t.billing

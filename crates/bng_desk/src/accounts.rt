@@ -10,17 +10,20 @@ ghost use Rattle.bng_engine.specs.Lists.{AnyOf};
 ghost use Rattle.bng_engine.specs.Quantities.{empty_book};
 ghost use Rattle.bng_rad_client.specs.DueRequests.{IsDeadline};
 ghost use Rattle.bng_radius_wire.specs.Attributes.{Field};
+ghost use Rattle.bng_shard.specs.Lasting.{AreTenures};
 ghost use Rattle.bng_shard.specs.Protocol.{key_of, stop_of, SaysOf};
 ghost use Rattle.bng_shard.specs.Tenures.{Tenure};
-ghost use Rattle.bng_desk.specs.Accounting.{IsStartOf, IsStopOf};
+ghost use Rattle.bng_desk.specs.Accounting.{AreBilled, IsStartOf, IsStopOf};
 ghost use Rattle.bng_desk.specs.Intake.{SendsRecords, TakesAcknowledgements};
-ghost use Rattle.bng_desk.specs.Model.{all_stopped, line_after, plus_traffic};
+ghost use Rattle.bng_desk.specs.Interims.{AreAwaited};
+ghost use Rattle.bng_desk.specs.Model.{all_stopped, keys_in, line_after, plus_traffic};
 ghost use Rattle.bng_desk.specs.Reading.{is_empty};
 ghost use Rattle.bng_desk.specs.Report.{stop_lines};
-ghost use Rattle.bng_desk.specs.Taking.{BooksStarts, BooksStops, HasRoomFor, TakesIn};
+ghost use Rattle.bng_desk.specs.Taking.{BooksStarts, BooksStops, HasRoomFor, KeepsHeld, ReportsAll, TakesIn};
 ghost use Rattle.bng_desk.specs.Turn.{Closes};
 
 use crate::acknowledgements::take_acknowledgements;
+use crate::interims::report;
 use crate::line::Line;
 use crate::records::send_records;
 use crate::unanswered::unanswered;
@@ -28,16 +31,18 @@ use bng_acct::{Moment, TermFacts};
 use bng_base::{Book, Frame};
 use bng_billing::Billing;
 use bng_plant::Plant;
-use bng_shard::{EndedTerm, LiveTerm, Traffic};
+use bng_shard::{EndedTerm, LiveTerm, Reports, Shard, Traffic};
 use std::alloc::{AllocError, Global};
 use std::marker::Model;
 
-/// The lines of the circuits, what the Stops of all terms say that were formed so far, and the records of terms.
+/// The lines of the circuits, what the Stops of all terms say that were formed so far, the records of terms, and of each shard which
+/// Interims were taken.
 #[derive(Drop)]
 pub(crate) struct Accounts {
     pub(crate) lines: Vec<Line>,
     pub(crate) stopped: Traffic,
     pub(crate) billing: Billing,
+    pub(crate) reports: Vec<Reports>,
 }
 
 impl Model for Accounts {
@@ -45,7 +50,7 @@ impl Model for Accounts {
 
     ghost Value = { Seen };
 
-    ghost view = { λ a. record { lines = a.lines.items; stopped = a.stopped; billing = a.billing } };
+    ghost view = { λ a. record { lines = a.lines.items; stopped = a.stopped; billing = a.billing; reports = a.reports.items } };
 }
 
 // Adds what a term that ended carried to a line, if it had the line's address.
@@ -136,6 +141,29 @@ impl Accounts {
             carried: ended.carried,
         };
         let _number = self.billing.stop(&facts, at);
+    }
+
+    /// Takes the Interims of live terms that are due at this moment, in milliseconds, of the shards in their order, and forms a record of
+    /// each whose last one is not open, at this second on the wall. It is called once the Stops and the Starts of a round were formed.
+    pub(crate) fn report_all(&mut self, shards: &[Shard], moment: u64, wall: u64)
+        requires moment { moment < 2 ^ 60 }
+        requires terms { All (λ v. AreTenures moment v.state.slots) shards.now }
+        requires billed { AreBilled (keys_in shards.now) self.old.billing }
+        requires awaited { AreAwaited moment shards.now self.old.reports }
+        ensures reports { ReportsAll moment wall shards.now self.old self.new }
+        ensures billed { AreBilled (keys_in shards.now) self.new.billing }
+        ensures held { KeepsHeld self.old.billing self.new.billing }
+        ensures awaited { AreAwaited moment shards.now self.new.reports }
+    {
+        for (place, shard) in shards.iter().enumerate() {
+            report(
+                shard,
+                &mut self.reports[place],
+                &mut self.billing,
+                moment,
+                wall,
+            );
+        }
     }
 
     /// For how many terms there is room beside those that are live or have an open record. What it knows of terms agrees with the records

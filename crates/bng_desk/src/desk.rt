@@ -90,9 +90,9 @@ impl Model for Desk {
 
     ghost coded = { Prim.hlevel (codes, state_code) };
 
-    ghost view = { λ d. record { rules = d.rules; lines = d.works.accounts.lines; stopped_traffic = d.works.accounts.stopped; rounds = d.rounds; turns = d.turns; stopped = d.stopped; shards = map rested d.works.shards.items; pool = d.works.pool; tallies = d.works.tally ∷ []; seed = d.works.draws.seed; drawn = d.works.draws.drawn; drops = d.works.drops; moment = d.moment; told = d.told; lane = d.works.lane; handed = d.works.handed.items; billing = d.works.accounts.billing; endings = d.endings; unopened = d.unopened; closed = d.closed; closing = d.closing; graces = d.graces; kept = d.works.kept.items } };
+    ghost view = { λ d. record { rules = d.rules; lines = d.works.accounts.lines; stopped_traffic = d.works.accounts.stopped; rounds = d.rounds; turns = d.turns; stopped = d.stopped; shards = map rested d.works.shards.items; pool = d.works.pool; tallies = d.works.tally ∷ []; seed = d.works.draws.seed; drawn = d.works.draws.drawn; drops = d.works.drops; moment = d.moment; told = d.told; lane = d.works.lane; handed = d.works.handed.items; billing = d.works.accounts.billing; reports = d.works.accounts.reports.items; endings = d.endings; unopened = d.unopened; closed = d.closed; closing = d.closing; graces = d.graces; kept = d.works.kept.items } };
 
-    ghost invariant = { λ d. IsKept (record { rules = d.rules; lines = d.works.accounts.lines; stopped_traffic = d.works.accounts.stopped; rounds = d.rounds; turns = d.turns; stopped = d.stopped; shards = d.works.shards.items; pool = d.works.pool; tallies = d.works.tally ∷ []; seed = d.works.draws.seed; drawn = d.works.draws.drawn; drops = d.works.drops; moment = d.moment; told = d.told; lane = d.works.lane; handed = d.works.handed.items; billing = d.works.accounts.billing; endings = d.endings; unopened = d.unopened; closed = d.closed; closing = d.closing; graces = d.graces; kept = d.works.kept.items }) × (192 ≤ vec_capacity d.works.kept) };
+    ghost invariant = { λ d. IsKept (record { rules = d.rules; lines = d.works.accounts.lines; stopped_traffic = d.works.accounts.stopped; rounds = d.rounds; turns = d.turns; stopped = d.stopped; shards = d.works.shards.items; pool = d.works.pool; tallies = d.works.tally ∷ []; seed = d.works.draws.seed; drawn = d.works.draws.drawn; drops = d.works.drops; moment = d.moment; told = d.told; lane = d.works.lane; handed = d.works.handed.items; billing = d.works.accounts.billing; reports = d.works.accounts.reports.items; endings = d.endings; unopened = d.unopened; closed = d.closed; closing = d.closing; graces = d.graces; kept = d.works.kept.items }) × (192 ≤ vec_capacity d.works.kept) };
 }
 
 // An empty list with room for all items that may stay of a round.
@@ -176,11 +176,11 @@ impl Desk {
         let billing = opening::billing_rules(&config, wall);
         let lane = opening::lane(alloc, &config)?;
         let pool = opening::pool(alloc, &config)?;
-        let handed = opening::handed(alloc, config.shards)?;
+        let (handed, reports) = opening::notes(alloc, config.shards)?;
         let kept = room_to_keep(alloc)?;
         let rules = opening::rules(alloc, &config, offers)?;
         let opens = opening::shards(alloc, &rules, config.statics.into_vec(), now)?;
-        let accounts = opening::accounts(alloc, billing, lines, opens.as_slice(), now)?;
+        let accounts = opening::accounts(alloc, billing, lines, reports, opens.as_slice(), now)?;
         Ok(Desk {
             rules,
             rounds,

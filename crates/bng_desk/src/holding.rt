@@ -8,6 +8,7 @@ ghost use Rattle.bng_shard.specs.Protocol.{AreHeld, HasPools, terms_of};
 ghost use Rattle.bng_shard.specs.Sums.{IsLow, AreLow, RowsAreLow};
 ghost use Rattle.bng_desk.specs.Accounting.{AreBilled, KnowsBegun};
 ghost use Rattle.bng_desk.specs.Counting.{Within};
+ghost use Rattle.bng_desk.specs.Interims.{AreAwaited};
 ghost use Rattle.bng_desk.specs.Items.{stays, kept_of, is_from_outside};
 ghost use Rattle.bng_desk.specs.Kept.{octets_most, drops_most};
 ghost use Rattle.bng_desk.specs.Model.{keys_in};
@@ -94,6 +95,7 @@ pub(crate) fn opened<P: Plant>(
     requires adds_up { AddsUp tally.old shards.old accounts.old.stopped }
     requires billed { AreBilled (keys_in shards.old) accounts.old.billing }
     requires knows { KnowsBegun shards.old accounts.old.billing }
+    requires awaited { AreAwaited named.moment shards.old accounts.old.reports }
     requires free { length accounts.old.billing.spool.held + sum_by (λ v. v.allowance) shards.old ≤ accounts.old.billing.spool.rules.terms }
     requires few_outs { outs_of_items lists.items.items ≤ 5760 + 320 * length shards.old }
     requires loose { (lists.loose.items ≡ []) × (1024 ≤ vec_capacity lists.loose) }
@@ -113,6 +115,7 @@ pub(crate) fn opened<P: Plant>(
     ensures adds_up { AddsUp tally.new shards.new accounts.new.stopped }
     ensures billed { AreBilled (keys_in shards.new) accounts.new.billing }
     ensures knows { KnowsBegun shards.new accounts.new.billing }
+    ensures awaited { AreAwaited named.moment shards.new accounts.new.reports }
     ensures terms { All (KeepsTerms named.moment) shards.new }
     ensures held { All (λ v. AreHeld v.number (terms_of v.state) pool.new.table) shards.new }
     ensures places { pool.new.shards ≡ pool.old.shards }
@@ -140,6 +143,7 @@ pub(crate) fn opened<P: Plant>(
     send_all(shards, plant, &mut outs, &mut journals, drops, tally);
     reap_all(shards, pool, accounts, named.moment, named.wall);
     begin_all(shards, accounts, named.moment, named.wall);
+    accounts.report_all(shards, named.moment, named.wall);
     note_allowances(shards, &mut allowances);
     recorded(named, allowances, journals, loose, outs, refused)
 }
@@ -277,6 +281,7 @@ pub(crate) fn hold<P: Plant>(
     requires adds_up { AddsUp tally.old shards.old accounts.old.stopped }
     requires billed { AreBilled (keys_in shards.old) accounts.old.billing }
     requires knows { KnowsBegun shards.old accounts.old.billing }
+    requires awaited { AreAwaited named.moment shards.old accounts.old.reports }
     requires few_outs { outs_of_items lists.items.items ≤ 5760 + 320 * length shards.old }
     requires loose { (lists.loose.items ≡ []) × (1024 ≤ vec_capacity lists.loose) }
     requires journals { (lists.journals.items ≡ []) × (length shards.old ≤ vec_capacity lists.journals) }
@@ -298,6 +303,7 @@ pub(crate) fn hold<P: Plant>(
     ensures adds_up { AddsUp tally.new shards.new accounts.new.stopped }
     ensures billed { AreBilled (keys_in shards.new) accounts.new.billing }
     ensures knows { KnowsBegun shards.new accounts.new.billing }
+    ensures awaited { AreAwaited named.moment shards.new accounts.new.reports }
     ensures terms { All (KeepsTerms named.moment) shards.new }
     ensures held { All (λ v. AreHeld v.number (terms_of v.state) pool.new.table) shards.new }
     ensures places { pool.new.shards ≡ pool.old.shards }

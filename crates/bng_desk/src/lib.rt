@@ -20,6 +20,7 @@ mod flags;
 mod gathering;
 mod holding;
 mod intake;
+mod interims;
 mod line;
 mod lists;
 mod opening;

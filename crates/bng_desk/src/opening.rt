@@ -5,6 +5,7 @@ ghost use Rattle.bng_acct.specs.Roster.{same};
 ghost use Rattle.bng_base.specs.declared.settings.NamedRange.{NamedRange};
 ghost use Rattle.bng_pool.specs.Ranges.{ArePoolRanges, HasAddress};
 ghost use Rattle.bng_pool.specs.Tables.{entry};
+ghost use Rattle.bng_shard.specs.Interims.{no_reports};
 ghost use Rattle.bng_shard.specs.Lasting.{AreTenures};
 ghost use Rattle.bng_shard.specs.Protocol.{opened};
 ghost use Rattle.bng_lane.specs.State.{IsNewLane};
@@ -29,7 +30,7 @@ use bng_discovery::PortRules;
 use bng_lane::{Lane, LaneRules};
 use bng_pool::PlainPool;
 use bng_ppp::LinkRules;
-use bng_shard::{Handed, Rules, Shard};
+use bng_shard::{Handed, Reports, Rules, Shard};
 use std::alloc::Global;
 
 // The DNS servers that a subscriber is told.
@@ -137,6 +138,7 @@ pub(crate) fn accounts(
     alloc: Global,
     rules: BillingRules,
     lines: Vec<Line>,
+    reports: Vec<Reports>,
     shards: &[Shard],
     now: u64,
 ) -> Result<Accounts, DeskError>
@@ -145,7 +147,7 @@ pub(crate) fn accounts(
     requires apart { AllPairs (λ j k. same j.term k.term ≡ false) (keys_in shards.now) }
     requires rows { All HasRows shards.now }
     requires terms { All (λ v. AreTenures now v.state.slots) shards.now }
-    ensures { IfOk result (λ a. OpensAccounts rules lines.items shards.now now a) }
+    ensures { IfOk result (λ a. OpensAccounts rules lines.items reports.items shards.now now a) }
 {
     let wall = rules.acct.wall;
     let Ok(billing) = Billing::open(alloc, rules) else {
@@ -155,6 +157,7 @@ pub(crate) fn accounts(
         lines,
         stopped: NO_TRAFFIC,
         billing,
+        reports,
     };
     for shard in shards {
         start_all(shard, &mut accounts, now, wall);
@@ -162,20 +165,26 @@ pub(crate) fn accounts(
     Ok(accounts)
 }
 
-/// Of each shard a list of the questions that it handed out, with none.
-pub(crate) fn handed(alloc: Global, shards: u16) -> Result<Vec<Handed>, DeskError>
-    ensures { IfOk result (λ lists. lists.items ≡ map (λ n. none_handed) (range_with_len 0 shards)) }
+/// Of each shard which questions it handed out, and which Interims were taken of it: none.
+pub(crate) fn notes(alloc: Global, shards: u16) -> Result<(Vec<Handed>, Vec<Reports>), DeskError>
+    ensures handed { IfOk result (λ lists. lists.0.items ≡ map (λ n. none_handed) (range_with_len 0 shards)) }
+    ensures reports { IfOk result (λ lists. lists.1.items ≡ map (λ n. no_reports) (range_with_len 0 shards)) }
 {
-    let Ok(mut lists) = Vec::with_capacity(alloc, usize::from(shards)) else {
+    let count = usize::from(shards);
+    let (Ok(mut handed), Ok(mut reports)) = (
+        Vec::with_capacity(alloc, count),
+        Vec::with_capacity(alloc, count),
+    ) else {
         return Err(DeskError::OutOfMemory);
     };
     for _shard in 0..shards {
-        let Ok(list) = Handed::open(alloc) else {
+        let (Ok(questions), Ok(interims)) = (Handed::open(alloc), Reports::open(alloc)) else {
             return Err(DeskError::OutOfMemory);
         };
-        lists.push_reserved(list);
+        handed.push_reserved(questions);
+        reports.push_reserved(interims);
     }
-    Ok(lists)
+    Ok((handed, reports))
 }
 
 /// How the report names the circuits.

@@ -1,5 +1,5 @@
 -- Interims (RFC 2869 section 5.16): which live terms owe one, and which were taken.
-use Rattle.std.specs.Prelude.{ℕ, ◌≡◌, ◌+◌, ◌≤◌, ◌==◌, max, Bool, false, nat_le, List, Option, Some, None, IfSome, filter, filter_map, find, replicate, slice_index_or, slice_set}
+use Rattle.std.specs.Prelude.{ℕ, ◌≡◌, ◌≤◌, ◌==◌, max, Bool, false, nat_le, List, Option, Some, None, IfSome, filter, filter_map, find, replicate, slice_index_or, slice_set}
 use Rattle.std.specs.Option.{option_map_or, option_and_then}
 use Rattle.bng_base.specs.declared.address.SessionNo.{SessionNo}
 use Rattle.bng_engine.specs.Views.{Row, ShardView}
@@ -19,9 +19,9 @@ pub record Reports : Type 0 where
   pub last : List ℕ
   pub next : ℕ
 
--- none was taken, and none is due in the first minute
-abbrev pub no_reports : ℕ → Reports
-no_reports now = record { last = replicate 1024 0; next = now + 60000 }
+-- none was taken, and one may be due at any moment
+abbrev pub no_reports : Reports
+no_reports = record { last = replicate 1024 0; next = 0 }
 
 -- the moment at which the last Interim of the session with this number was taken
 abbrev pub reported_at : List ℕ → SessionNo → ℕ

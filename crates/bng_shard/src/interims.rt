@@ -1,5 +1,5 @@
 //! Interims (RFC 2869 section 5.16): which live terms owe one, and which were taken.
-ghost use Rattle.std.specs.Prelude.{◌≡◌, ◌+◌, ◌<◌, ◌≤◌, ◌^◌, nat_le, IfOk};
+ghost use Rattle.std.specs.Prelude.{◌≡◌, ◌<◌, ◌^◌, nat_le, IfOk};
 ghost use Rattle.bng_shard.specs.Interims.{interim_at, interim_in, no_reports, reported_at, with_report};
 
 use crate::session::{Lease, Session};
@@ -35,16 +35,12 @@ impl Model for Reports {
 }
 
 impl Reports {
-    /// None was taken, at the opening, whose moment this is, below 2^60.
-    pub fn open(alloc: Global, now: u64) -> Result<Reports, ShardError>
-        requires { now < 2 ^ 60 }
-        ensures { IfOk result (λ r. r ≡ no_reports now) }
+    /// None was taken, and one may be due at any moment.
+    pub fn open(alloc: Global) -> Result<Reports, ShardError>
+        ensures { IfOk result (λ r. r ≡ no_reports) }
     {
         match Vec::from_elem(alloc, 0, usize::from(SPAN)) {
-            Ok(last) => Ok(Reports {
-                last,
-                next: now + LEAST,
-            }),
+            Ok(last) => Ok(Reports { last, next: 0 }),
             Err(_) => Err(ShardError::OutOfMemory),
         }
     }

@@ -81,10 +81,8 @@ pub fn terms_are_housed()
 
 /// No Interim falls due sooner than a minute after a term's lease, since an Acct-Interim-Interval is at least that (RFC 2869 section 5.16),
 /// and no step brings one forward. So where none was due before a moment that is at most a minute away, none is due before it after a
-/// step, or once a round was settled; and at the opening none ever is.
+/// step, or once a round was settled.
 pub fn interims_are_awaited()
-    ensures opened { (number : ℕ) (circuits : List Static) (now : ℕ) (t : Reports) → number < 64 → All (λ c. IsNumberOf number c.session.0) circuits → AllPairs (λ a b. a.session ≢ b.session) circuits
-        → AwaitsInterims (opened_slots number circuits now) t }
     ensures kept { (r : Rules) (s : State) (limited : Bool) (d : Deed) (t : Reports) → Step r s limited d → t.next ≤ d.entry.moment + 60000 → AwaitsInterims s t → AwaitsInterims d.next t }
     ensures settled { (s : State) (t : Reports) → AwaitsInterims s t → AwaitsInterims (settled s) t }
 {}
