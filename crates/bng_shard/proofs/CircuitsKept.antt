@@ -1,12 +1,10 @@
 -- The terms of provisioned circuits end by the gateway's own stop alone, and each term by one of the causes that there are: what each entry
 -- keeps of it.
-use Rattle.std.proofs.Common.{◌≡◌, ◌≢◌, ◌⊎◌, ⊎_elim, inl, inr, ℕ, zero, suc, ◌+◌, ◌<◌, ◌≤◌, Bool, true, false, not, ◌&&◌, List, [], ◌∷◌, length, cond, map, Option, Some, None, IfSome, refl, sym, ap, subst, ◌∙◌, arith}
+use Rattle.std.proofs.Common.{◌≡◌, ◌≢◌, ◌⊎◌, inl, inr, ℕ, zero, suc, ◌+◌, ◌<◌, ◌≤◌, Bool, true, false, not, ◌&&◌, List, [], ◌∷◌, length, cond, map, Option, Some, None, IfSome, refl, sym, ap, subst, ◌∙◌, arith}
 use Rattle.std.specs.List.{All, AllByRecursion, AllPairs, Contains}
 use Rattle.std.proofs.lemmas.Bool.{cases_eq, ne_eqb}
 use Rattle.std.proofs.lemmas.List.Elements.{All-filter, All-from_recursion, recursion_from_All, All-push}
 use Rattle.bng_base.specs.declared.address.Ip4.{Ip4}
-use Rattle.bng_base.specs.declared.item.ItemKind.{ItemKind}
-use Rattle.bng_base.specs.declared.item.ItemKind.TheVariants.{End, Verdict}
 use Rattle.bng_base.specs.declared.item.OutRecord.{OutRecord}
 use Rattle.bng_base.specs.declared.settings.Static.{Static}
 use Rattle.bng_ppp.specs.declared.whole_input.WholeInput.TheVariants.{Close, Start, Timer}
@@ -18,22 +16,21 @@ use Rattle.bng_shard.specs.declared.sending.At.{At}
 use Rattle.bng_shard.specs.declared.session.Lease.{Lease}
 use Rattle.bng_shard.specs.declared.session.Service.TheVariants.{Provisioned}
 use Rattle.bng_shard.specs.declared.session.Session.{Session}
-use Rattle.bng_shard.specs.Deed.{Deed, at_of, handled, ignored}
+use Rattle.bng_shard.specs.Deed.{Deed, at_of}
 use Rattle.bng_shard.specs.Discovery.{new_session}
 use Rattle.bng_shard.specs.Lasting.{CircuitsLast, IsCause}
 use Rattle.bng_shard.specs.Link.{Drives, LinkStep, Told, ended, hears, nas_request, settles, told, user_request}
 use Rattle.bng_shard.specs.Opening.{in_order, numbered_after, opened_slots, tenures_after}
 use Rattle.bng_shard.specs.Passing.{lapsed, looked, passed_at}
 use Rattle.bng_shard.specs.State.{State, leaves, made_one, settled, with_driven, with_ended, with_session}
-use Rattle.bng_shard.specs.Step.{Hears, Step}
+use Rattle.bng_shard.specs.Step.{Step}
 use Rattle.bng_shard.specs.Tenures.{Tenure, closed, is_over, kept_lease, over_by}
-use Rattle.bng_shard.specs.Verdicts.{HearsVerdict, Judges, next_lease, next_term, settled_by, with_term}
+use Rattle.bng_shard.specs.Verdicts.{Judges, next_lease, next_term, settled_by, with_term}
 use Rattle.bng_shard.proofs.InOrder.{apart_of, opened_entries}
 use Rattle.bng_shard.proofs.KnownCauses.{heard_known, lapsed_known, told_known}
 use Rattle.bng_shard.proofs.SeenLeases.{looked_was}
-use Rattle.bng_shard.proofs.Naming.{next_of}
 use Rattle.bng_shard.proofs.Values.{kept_from, none_some, same_some, stands}
-use Rattle.bng_shard.proofs.Walking.{Stops, WalksBy, end_walks_by, hears_walks_by}
+use Rattle.bng_shard.proofs.Walking.{Stops, WalksBy, step_walks_by}
 
 pub lease_was : (cause : Option ℕ) (lease : Option Lease) (l : Lease) → kept_lease cause lease ≡ Some l → lease ≡ Some l
 lease_was None lease l e = e
@@ -190,22 +187,8 @@ module _ (circuits : ℕ) where
         keeps_with s d.entry.item.target None None h.after h.asked tt (λ k l made leased. absurd (none_some l (sym h.no_term ∙ after l leased))) (λ k l c leased. absurd (none_some l leased))
     judged_keeps t h (Some a) = begun_keeps s d.entry.item.target h.after h.asked (next_lease s t.limits d.entry.moment a) (next_term s h.x h.question t.class d.entry.moment a) refl refl
 
-    verdict_keeps : HearsVerdict r s d.entry limited d → Keeps s d.next
-    verdict_keeps (inl (asks, t, decides, h)) =
-        subst (Keeps s) (sym (next_of d (handled s d.entry h.outs (settled_by s d.entry.item.target h.x h.question t d.entry.moment h.after h.asked t.lease)) h.done)) (judged_keeps t h t.lease)
-    verdict_keeps (inr (inl (asks, decides, h))) = (keeps_walk r).same s d.next (next_of d (ignored s d.entry) h)
-    verdict_keeps (inr (inr (other, none, h))) = (keeps_walk r).same s d.next (next_of d (ignored s d.entry) h)
-
     pub circuits_kept : Step r s limited d → CircuitsLast circuits s → CircuitsLast circuits d.next
-    circuits_kept h =
-        let heard_as : (kind : ItemKind) → d.entry.item.kind ≡ kind → Hears kind r s limited d.entry d = λ kind is. subst (λ (k : ItemKind). Hears k r s limited d.entry d) is h.hears in
-        ⊎_elim
-        (λ (is : d.entry.item.kind ≡ Verdict). verdict_keeps (heard_as Verdict is))
-        (λ (rest : (d.entry.item.kind ≡ End) ⊎ Keeps s d.next). ⊎_elim
-        (λ (is : d.entry.item.kind ≡ End). end_walks_by r Keeps (keeps_walk r) s limited d.entry d keeps_stops (heard_as End is))
-        (λ (keeps : Keeps s d.next). keeps)
-        rest)
-        (hears_walks_by r Keeps (keeps_walk r) s limited d.entry d d.entry.item.kind h.hears)
+    circuits_kept = step_walks_by r Keeps (keeps_walk r) keeps_stops s limited d (λ t decides h. judged_keeps t h t.lease)
 
   pub circuits_settled : (s : State) → CircuitsLast circuits s → CircuitsLast circuits (settled s)
   circuits_settled s h = record {

@@ -7,8 +7,6 @@ use Rattle.std.proofs.lemmas.List.Elements.{All-from_recursion, recursion_from_A
 use Rattle.bng_base.specs.declared.address.Ip4.{Ip4}
 use Rattle.bng_base.specs.declared.item.Claim.{Claim}
 use Rattle.bng_base.specs.declared.item.Claim.TheVariants.{NoClaim, Claimed, Held, Exhausted}
-use Rattle.bng_base.specs.declared.item.ItemKind.{ItemKind}
-use Rattle.bng_base.specs.declared.item.ItemKind.TheVariants.{End, Verdict}
 use Rattle.bng_base.specs.declared.item.OutRecord.{OutRecord}
 use Rattle.bng_base.specs.declared.settings.NamedRange.{NamedRange}
 use Rattle.bng_grant.specs.Grants.{Gift}
@@ -32,7 +30,7 @@ use Rattle.bng_shard.specs.declared.session.Lease.{Lease}
 use Rattle.bng_shard.specs.declared.session.Service.{Service}
 use Rattle.bng_shard.specs.declared.session.Service.TheVariants.{Provisioned, Discovered}
 use Rattle.bng_shard.specs.declared.session.Session.{Session}
-use Rattle.bng_shard.specs.Deed.{Deed, at_of, handled, ignored}
+use Rattle.bng_shard.specs.Deed.{Deed, at_of}
 use Rattle.bng_shard.specs.Discovery.{IsNewLink, new_session}
 use Rattle.bng_shard.specs.Granting.{IsSound}
 use Rattle.bng_shard.specs.Lasting.{AreHoused, HasPhases, IsHousedIn, KeepsTerm}
@@ -41,17 +39,16 @@ use Rattle.bng_shard.specs.Made.{Made}
 use Rattle.bng_shard.specs.Passing.{lapsed, looked, looked_on}
 use Rattle.bng_shard.specs.Questions.{open_in}
 use Rattle.bng_shard.specs.State.{State, with_driven, with_ended, with_session}
-use Rattle.bng_shard.specs.Step.{Hears, Step}
+use Rattle.bng_shard.specs.Step.{Step}
 use Rattle.bng_shard.specs.Tenures.{Tenure, closed, is_over, kept_lease, over_by}
-use Rattle.bng_shard.specs.Verdicts.{HearsVerdict, Judges, next_lease, next_term, settled_by, with_term}
+use Rattle.bng_shard.specs.Verdicts.{Judges, next_lease, next_term, settled_by, with_term}
 use Rattle.bng_shard.specs.Wishes.{Decides, pool_for, refused_with, told_at, told_by, told_of}
 use Rattle.bng_shard.proofs.CircuitsKept.{lease_was}
 use Rattle.bng_shard.proofs.LinkSteps.{frame_steps, verdict_steps}
 use Rattle.bng_shard.proofs.SeenLeases.{looked_was, seen_at}
-use Rattle.bng_shard.proofs.Naming.{next_of}
 use Rattle.bng_shard.proofs.TermBegins.{asks_open}
 use Rattle.bng_shard.proofs.Values.{none_some, same_some}
-use Rattle.bng_shard.proofs.Walking.{Stops, WalksBy, end_walks_by, hears_walks_by}
+use Rattle.bng_shard.proofs.Walking.{Stops, WalksBy, step_walks_by}
 
 not_both : {X : Type 0} (b : Bool) → b ≡ true → b ≡ false → X
 not_both b e f = absurd cc
@@ -242,7 +239,7 @@ abbrev Keeps : State → State → Type 0
 Keeps s s' = AreHoused s → AreHoused s'
 
 -- what holds of each session holds once one of this number is another one
-with_kept : (P : Session → Type 0) (s : State) (n : ℕ) (y : Session) → P y → ((m : ℕ) (x : Session) → value_at s.sessions m ≡ Some x → P x) → (m : ℕ) (x : Session) → value_at (with_value s.sessions n y) m ≡ Some x → P x
+pub with_kept : (P : Session → Type 0) (s : State) (n : ℕ) (y : Session) → P y → ((m : ℕ) (x : Session) → value_at s.sessions m ≡ Some x → P x) → (m : ℕ) (x : Session) → value_at (with_value s.sessions n y) m ≡ Some x → P x
 with_kept P s n y new old m x at =
     elim (cases_eq m n) [
       | inl e ↦
@@ -397,22 +394,9 @@ module _ (r : Rules) (s : State) (limited : Bool) (d : Deed) (t : Told) (h : Jud
   judged_keeps None sound accepted e = none_begins
   judged_keeps (Some a) sound accepted e = one_begins a sound (accepted a e) e
 
-verdict_keeps : (r : Rules) (s : State) (limited : Bool) (d : Deed) → IsSound s → HearsVerdict r s d.entry limited d → Keeps s d.next
-verdict_keeps r s limited d sound (inl (asks, t, decides, h)) =
-    subst (Keeps s) (sym (next_of d (handled s d.entry h.outs (settled_by s d.entry.item.target h.x h.question t d.entry.moment h.after h.asked t.lease)) h.done))
-    (judged_keeps r s limited d t h t.lease sound (λ a. decides_yes r.pools limited d.entry.item.frame.payload d.entry.claim t a decides) refl)
-verdict_keeps r s limited d sound (inr (inl (asks, decides, h))) = (keeps_walk r).same s d.next (next_of d (ignored s d.entry) h)
-verdict_keeps r s limited d sound (inr (inr (other, none, h))) = (keeps_walk r).same s d.next (next_of d (ignored s d.entry) h)
-
 -- Steps ------------------------------------------------------------------------------------------------------------------
 
 pub housed_kept : (r : Rules) (s : State) (limited : Bool) (d : Deed) → Step r s limited d → IsSound s → AreHoused s → AreHoused d.next
 housed_kept r s limited d h sound =
-    let heard_as : (kind : ItemKind) → d.entry.item.kind ≡ kind → Hears kind r s limited d.entry d = λ kind is. subst (λ (k : ItemKind). Hears k r s limited d.entry d) is h.hears in
-    ⊎_elim
-    (λ (is : d.entry.item.kind ≡ Verdict). verdict_keeps r s limited d sound (heard_as Verdict is))
-    (λ (rest : (d.entry.item.kind ≡ End) ⊎ Keeps s d.next). ⊎_elim
-    (λ (is : d.entry.item.kind ≡ End). end_walks_by r Keeps (keeps_walk r) s limited d.entry d keeps_stops (heard_as End is))
-    (λ (keeps : Keeps s d.next). keeps)
-    rest)
-    (hears_walks_by r Keeps (keeps_walk r) s limited d.entry d d.entry.item.kind h.hears)
+    step_walks_by r Keeps (keeps_walk r) keeps_stops s limited d
+    (λ t decides j. judged_keeps r s limited d t j t.lease sound (λ a. decides_yes r.pools limited d.entry.item.frame.payload d.entry.claim t a decides) refl) h

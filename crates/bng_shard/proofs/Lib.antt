@@ -18,6 +18,7 @@ pub mod KnownCauses
 pub mod CircuitsKept
 pub mod Housing
 pub mod HousedSettled
+pub mod Awaiting
 pub mod Reading
 pub mod Spelling
 pub mod Naming

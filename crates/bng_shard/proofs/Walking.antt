@@ -1,5 +1,5 @@
--- What holds of each change that an entry makes to a shard's state holds of the step, a verdict aside.
-use Rattle.std.proofs.Common.{◌≡◌, ◌⊎◌, inl, inr, ℕ, zero, suc, Bool, List, Option, Some, None, refl, sym, subst, ◌∙◌}
+-- What holds of each change that an entry makes to a shard's state holds of the step.
+use Rattle.std.proofs.Common.{◌≡◌, ◌⊎◌, ⊎_elim, inl, inr, ℕ, zero, suc, Bool, List, Option, Some, None, refl, sym, subst, ◌∙◌}
 use Rattle.bng_base.specs.declared.address.Mac.{Mac}
 use Rattle.bng_base.specs.declared.address.SessionNo.{SessionNo}
 use Rattle.bng_base.specs.declared.item.Entry.{Entry}
@@ -24,10 +24,12 @@ use Rattle.bng_shard.specs.State.{State, session_of, with_session, with_driven, 
 use Rattle.bng_shard.specs.Deed.{Deed, at_of}
 use Rattle.bng_shard.specs.Discovery.{Answers, Discovers, IsNewLink, host_uniq_of, new_session}
 use Rattle.bng_shard.specs.Frames.{HearsData, HearsPpp, HearsControl, HearsIn, HearsFrame, HearsAccess, HearsCore}
-use Rattle.bng_shard.specs.Link.{LinkStep, Drives, ended, hears, nas_request, told, user_request}
+use Rattle.bng_shard.specs.Link.{LinkStep, Drives, Told, ended, hears, nas_request, told, user_request}
 use Rattle.bng_shard.specs.Passing.{cause_at, lapsed, looked, passed_at, with_passed}
-use Rattle.bng_shard.specs.Step.{Hears}
+use Rattle.bng_shard.specs.Step.{Hears, Step}
 use Rattle.bng_shard.specs.Timers.{IsTimed, LooksAt, Ticks, Ends, HearsTick, HearsEnd, at_once}
+use Rattle.bng_shard.specs.Verdicts.{HearsVerdict, Judges, settled_by}
+use Rattle.bng_shard.specs.Wishes.{Decides}
 use Rattle.bng_shard.proofs.Naming.{at_number, next_of}
 
 -- A relation of states that holds where nothing changes, and of two changes one after the other. It holds of a step of the link of a
@@ -65,7 +67,7 @@ pub record WalksBy (r : Rules) (R : State → State → Type 0) : Type 0 where
       → cause_at (passed_at s.passed x.number) x.lease e.moment ≡ Some cause → Drives r (at_of s e) s.asked (lapsed x) (told r e Close) outs none x' asked'
       → R s (with_driven s n x.lease (Some cause) x' asked')
 
-walks_by : (r : Rules) (R : State → State → Type 0) → Walks r R → WalksBy r R
+pub walks_by : (r : Rules) (R : State → State → Type 0) → Walks r R → WalksBy r R
 walks_by r R w = record {
   same = w.same;
   then = w.then;
@@ -183,3 +185,23 @@ module _ (r : Rules) (R : State → State → Type 0) (w : Walks r R) (s : State
 
   pub hears_walks : (kind : ItemKind) → Hears kind r s limited e d → (kind ≡ Verdict) ⊎ ((kind ≡ End) ⊎ R s d.next)
   hears_walks kind h = hears_walks_by r R (walks_by r R w) s limited e d kind h
+
+-- The step makes such changes, or a verdict tells the link of a session something: where the relation holds of that too, it holds of the
+-- step.
+module _ (r : Rules) (R : State → State → Type 0) (w : WalksBy r R) (stops : Stops R) (s : State) (limited : Bool) (d : Deed)
+    (judged : (t : Told) → Decides r.pools limited d.entry.item.frame.payload d.entry.claim (Some t) → (h : Judges r s d.entry t d) → R s (settled_by s d.entry.item.target h.x h.question t d.entry.moment h.after h.asked t.lease)) where
+  verdict_walks_by : HearsVerdict r s d.entry limited d → R s d.next
+  verdict_walks_by (inl (asks, t, decides, h)) = subst (R s) (sym (next_of d _ h.done)) (judged t decides h)
+  verdict_walks_by (inr (inl (asks, decides, h))) = w.same s d.next (next_of d _ h)
+  verdict_walks_by (inr (inr (other, none, h))) = w.same s d.next (next_of d _ h)
+
+  pub step_walks_by : Step r s limited d → R s d.next
+  step_walks_by h =
+      let heard_as : (kind : ItemKind) → d.entry.item.kind ≡ kind → Hears kind r s limited d.entry d = λ kind is. subst (λ (k : ItemKind). Hears k r s limited d.entry d) is h.hears in
+      ⊎_elim
+      (λ (is : d.entry.item.kind ≡ Verdict). verdict_walks_by (heard_as Verdict is))
+      (λ (rest : (d.entry.item.kind ≡ End) ⊎ R s d.next). ⊎_elim
+      (λ (is : d.entry.item.kind ≡ End). end_walks_by r R w s limited d.entry d stops (heard_as End is))
+      (λ (walks : R s d.next). walks)
+      rest)
+      (hears_walks_by r R w s limited d.entry d d.entry.item.kind h.hears)

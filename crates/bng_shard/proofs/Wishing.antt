@@ -1,7 +1,7 @@
 -- What the octets of a reply ask of the pools of addresses, and what they come to.
-use Rattle.std.proofs.Common.{◌≡◌, ◌≤◌, ℕ, max, Bool, true, false, not, List, Option, Some, None, option_map, inl, inr, refl, sym, ap, subst, ◌∙◌, arith}
+use Rattle.std.proofs.Common.{◌≡◌, ◌≤◌, ℕ, max, Bool, true, false, not, List, [], ◌∷◌, Option, Some, None, option_map, inl, inr, refl, sym, ap, subst, ◌∙◌, arith}
 use Rattle.bng_base.specs.declared.item.Claim.{Claim}
-use Rattle.bng_base.specs.declared.item.Claim.TheVariants.{NoClaim}
+use Rattle.bng_base.specs.declared.item.Claim.TheVariants.{NoClaim, Claimed, Held, Exhausted}
 use Rattle.bng_base.specs.declared.settings.NamedRange.{NamedRange}
 use Rattle.bng_grant.specs.Grants.{Gift, IsGrant}
 use Rattle.bng_grant.specs.Grants.IsGrant.{Replied as Given, NoReply as NotGiven}
@@ -12,8 +12,9 @@ use Rattle.bng_verdict.specs.Verdicts.IsVerdict.{Silent, Replied, NoReply}
 use Rattle.bng_verdict.proofs.One.{one_verdict}
 use Rattle.bng_shard.specs.declared.wish.Wish.{Wish}
 use Rattle.bng_shard.specs.declared.wish.Wish.TheVariants.{Nothing}
-use Rattle.bng_shard.specs.Limited.{limits_of}
-use Rattle.bng_shard.specs.Wishes.{Decides, IsAnswerTo, Wishes, refused_with, told_of, wish_of}
+use Rattle.bng_shard.specs.Limited.{limits_of, no_limits}
+use Rattle.bng_shard.specs.Link.{Told}
+use Rattle.bng_shard.specs.Wishes.{Decides, IsAnswerTo, Wishes, pool_for, refused_with, told_at, told_by, told_of, wish_of}
 
 same : {A : Type 0} (a b : A) → Some a ≡ Some b → a ≡ b
 same a b e = cc
@@ -49,6 +50,33 @@ at_least (Some n) v e =
 pub allowed : (octets : List ℕ) (g : Gift) → IsGrant octets (Some g) → HasAllowedInterval (limits_of g)
 allowed octets g (Given p reply h gives is) seconds e = at_least _ seconds (sym gives.interim ∙ ap (λ (k : Gift). k.interim) (sym (same g h is)) ∙ e)
 allowed octets g (NotGiven other none) seconds e = absurd (never g (sym none))
+
+none_allowed : HasAllowedInterval no_limits
+none_allowed seconds e = absurd (never seconds e)
+
+module _ (text : List ℕ) (g : Gift) (minute : HasAllowedInterval (limits_of g)) where
+  by_allowed : (claim : Claim) → HasAllowedInterval (told_by claim text g).limits
+  by_allowed NoClaim = none_allowed
+  by_allowed (Claimed a) = minute
+  by_allowed (Held a) = none_allowed
+  by_allowed (Exhausted k) = none_allowed
+
+  at_allowed : (limited : Bool) (o : Option ℕ) (claim : Claim) → HasAllowedInterval (told_at limited o claim text g).limits
+  at_allowed true None claim = none_allowed
+  at_allowed false None claim = none_allowed
+  at_allowed true (Some k) claim = none_allowed
+  at_allowed false (Some k) claim = by_allowed claim
+
+  of_allowed : (pools : List NamedRange) (limited : Bool) (claim : Claim) → HasAllowedInterval (told_of pools limited claim text g).limits
+  of_allowed [] limited claim = minute
+  of_allowed (p ∷ ps) limited claim = at_allowed limited (pool_for (p ∷ ps) g.pool) claim
+
+-- so does what a reply comes to
+pub decides_allowed : (pools : List NamedRange) (limited : Bool) (octets : List ℕ) (claim : Claim) (t : Told) → Decides pools limited octets claim (Some t) → HasAllowedInterval t.limits
+decides_allowed pools limited octets claim t (inl (silent, none, e)) = absurd (never t (sym e))
+decides_allowed pools limited octets claim t (inr (inl (v, says, refused, none, e))) = subst (λ (u : Told). HasAllowedInterval u.limits) (sym (same t (refused_with v.text) e)) none_allowed
+decides_allowed pools limited octets claim t (inr (inr (v, says, accepted, g, grants, answers, e))) =
+    subst (λ (u : Told). HasAllowedInterval u.limits) (sym (same t (told_of pools limited claim v.text g) e)) (of_allowed v.text g (allowed octets g grants) pools limited claim)
 
 -- what was asked was answered by this claim
 abbrev pub Answered : List NamedRange → Bool → List ℕ → Claim → Type 0

@@ -1,0 +1,96 @@
+-- No Interim falls due before a moment that is at most a minute away: what each entry keeps of it.
+use Rattle.std.proofs.Common.{◌≡◌, ℕ, ◌+◌, ◌≤◌, max, Bool, not, List, Option, Some, None, IfSome, option_map, refl, sym, subst, arith}
+use Rattle.bng_base.specs.declared.address.Ip4.{Ip4}
+use Rattle.bng_base.specs.declared.item.OutRecord.{OutRecord}
+use Rattle.bng_ppp.specs.declared.whole_input.WholeInput.TheVariants.{Close}
+use Rattle.bng_term.specs.declared.limits.Limits.{Limits}
+use Rattle.bng_term.specs.Lifetimes.{HasAllowedInterval, seconds_after}
+use Rattle.bng_shard.specs.declared.rules.Rules.{Rules}
+use Rattle.bng_shard.specs.declared.sending.At.{At}
+use Rattle.bng_shard.specs.declared.session.Lease.{Lease}
+use Rattle.bng_shard.specs.declared.session.Session.{Session}
+use Rattle.bng_shard.specs.Deed.{Deed, at_of}
+use Rattle.bng_shard.specs.Interims.{AwaitsInterims, Reports, interim_in, reported_at}
+use Rattle.bng_shard.specs.Link.{Drives, LinkStep, Told, ended, settles, told}
+use Rattle.bng_shard.specs.Passing.{lapsed, looked, looked_on}
+use Rattle.bng_shard.specs.State.{State, leaves, settled}
+use Rattle.bng_shard.specs.Step.{Step}
+use Rattle.bng_shard.specs.Tenures.{kept_lease}
+use Rattle.bng_shard.specs.Verdicts.{Judges, next_lease, settled_by}
+use Rattle.bng_shard.proofs.Housing.{with_kept}
+use Rattle.bng_shard.proofs.Values.{kept_from}
+use Rattle.bng_shard.proofs.Walking.{Stops, Walks, step_walks_by, walks_by}
+use Rattle.bng_shard.proofs.Wishing.{decides_allowed}
+
+module _ (t : Reports) where
+  -- Leases -----------------------------------------------------------------------------------------------------------------
+
+  -- no Interim is due before that moment by this lease, where the last one of its session was at this moment
+  abbrev LeaseAwaits : ℕ → Option Lease → Type 0
+  LeaseAwaits at lease = IfSome (interim_in at lease) (λ due. t.next ≤ due)
+
+  kept_awaits : (at : ℕ) (cause : Option ℕ) (lease : Option Lease) → LeaseAwaits at lease → LeaseAwaits at (kept_lease cause lease)
+  kept_awaits at None lease h = h
+  kept_awaits at (Some cause) lease h = tt
+
+  looked_awaits : (at passed : ℕ) (lease : Option Lease) → LeaseAwaits at lease → LeaseAwaits at (looked_on passed lease)
+  looked_awaits at passed None h = h
+  looked_awaits at passed (Some l) h = h
+
+  -- an interval that has its minute, from this moment on
+  minute_awaits : (at moment : ℕ) (o : Option ℕ) → ((seconds : ℕ) → o ≡ Some seconds → 60 ≤ seconds) → t.next ≤ moment + 60000
+      → IfSome (option_map (λ seconds. seconds_after seconds (max moment at)) o) (λ due. t.next ≤ due)
+  minute_awaits at moment None long near = tt
+  minute_awaits at moment (Some seconds) long near = omega (arith, long seconds refl, near)
+
+  begun_awaits : (at : ℕ) (s : State) (limits : Limits) (moment : ℕ) (a : Ip4) → HasAllowedInterval limits → t.next ≤ moment + 60000 → LeaseAwaits at (Some (next_lease s limits moment a))
+  begun_awaits at s limits moment a long near = minute_awaits at moment limits.interim long near
+
+  -- Sessions ---------------------------------------------------------------------------------------------------------------
+
+  abbrev Awaits : Session → Type 0
+  Awaits x = LeaseAwaits (reported_at t.last x.number) x.lease
+
+  driven_awaits : (r : Rules) (a : At) (asked : ℕ) (x x' : Session) (outs : List OutRecord) (cause : Option ℕ) (asked' : ℕ) (Steps : LinkStep) → Drives r a asked x Steps outs cause x' asked' → Awaits x → Awaits x'
+  driven_awaits r a asked x x' outs cause asked' Steps d h = subst Awaits (sym d.session) (kept_awaits (reported_at t.last x.number) d.says.term_ended x.lease h)
+
+  none_awaits : (x : Session) → x.lease ≡ None → Awaits x
+  none_awaits x none = subst (LeaseAwaits (reported_at t.last x.number)) (sym none) tt
+
+  -- Steps ------------------------------------------------------------------------------------------------------------------
+
+  abbrev Keeps : State → State → Type 0
+  Keeps s s' = AwaitsInterims s t → AwaitsInterims s' t
+
+  keeps_walk : (r : Rules) → Walks r Keeps
+  keeps_walk r = record {
+    same = λ s s' e h. subst (λ (u : State). AwaitsInterims u t) (sym e) h;
+    then = λ s s' s'' f g h. g (f h);
+    driven = λ Steps e s n x x' outs cause asked' at d h. with_kept Awaits s n x' (driven_awaits r (at_of s e) s.asked x x' outs cause asked' Steps d (h n x at)) h;
+    made = λ Steps e s n x x' outs cause asked' none d h. with_kept Awaits s n x' (driven_awaits r (at_of s e) s.asked x x' outs cause asked' Steps d (none_awaits x none)) h;
+    padt = λ s n x m at is h. with_kept Awaits s n (ended x) tt h;
+    passes = λ s n moment h. h;
+    looks = λ s n at x found h. with_kept Awaits s n (looked at x) (looked_awaits (reported_at t.last x.number) at x.lease (h n x found)) h;
+    lapses = λ e s n x x' outs cause none asked' at over d h.
+        with_kept Awaits s n x' (driven_awaits r (at_of s e) s.asked (lapsed x) x' outs none asked' (told r e Close) d tt) h;
+  }
+
+  keeps_stops : Stops Keeps
+  keeps_stops s n x at h = with_kept Awaits s n (ended x) tt h
+
+  module _ (r : Rules) (s : State) (limited : Bool) (d : Deed) (near : t.next ≤ d.entry.moment + 60000) where
+    judged_keeps : (u : Told) (j : Judges r s d.entry u d) → HasAllowedInterval u.limits → (lease : Option Ip4)
+        → Keeps s (settled_by s d.entry.item.target j.x j.question u d.entry.moment j.after j.asked lease)
+    judged_keeps u j long None h =
+        with_kept Awaits s d.entry.item.target j.after (driven_awaits r (at_of s d.entry) s.asked j.x j.after j.outs j.cause j.asked (settles r d.entry u) j.drives (none_awaits j.x j.no_term)) h
+    judged_keeps u j long (Some a) h =
+        let lease = next_lease s u.limits d.entry.moment a in
+        with_kept Awaits s d.entry.item.target (record j.after { lease = Some lease }) (begun_awaits (reported_at t.last j.after.number) s u.limits d.entry.moment a long near) h
+
+    pub awaits_kept : Step r s limited d → AwaitsInterims s t → AwaitsInterims d.next t
+    awaits_kept =
+        step_walks_by r Keeps (walks_by r Keeps (keeps_walk r)) keeps_stops s limited d
+        (λ u decides j. judged_keeps u j (decides_allowed r.pools limited d.entry.item.frame.payload d.entry.claim u decides) u.lease)
+
+  pub awaits_settled : (s : State) → AwaitsInterims s t → AwaitsInterims (settled s) t
+  awaits_settled s h n x at = h n x (kept_from (λ (y : Session). not (leaves y)) s.sessions n x at).0
