@@ -1,13 +1,11 @@
 -- Each session's lease stays that of a live term over a step, as no two terms have one number.
-use Rattle.std.proofs.Common.{◌≡◌, ◌≢◌, ◌⊎◌, ⊎_elim, inl, inr, ℕ, ◌+◌, ◌<◌, ◌≤◌, Bool, true, false, cond, not, ◌&&◌, ◌==◌, List, [], ◌∷◌, ◌++◌, Option, Some, None, map, refl, sym, ap, subst, ◌∙◌, arith}
+use Rattle.std.proofs.Common.{◌≡◌, ◌≢◌, inl, inr, ℕ, ◌+◌, ◌<◌, ◌≤◌, Bool, true, false, cond, not, ◌&&◌, ◌==◌, List, [], ◌∷◌, ◌++◌, Option, Some, None, map, refl, sym, ap, subst, ◌∙◌, arith}
 use Rattle.std.specs.List.{AllByRecursion}
 use Rattle.std.proofs.lemmas.Bool.{cases_eq}
 use Rattle.bng_base.specs.declared.address.Ip4.{Ip4}
 use Rattle.bng_base.specs.declared.address.SessionNo.{SessionNo}
 use Rattle.bng_base.specs.declared.circuit.Circuit.TheVariants.{Pppoe}
 use Rattle.bng_base.specs.declared.circuit.TermId.{TermId}
-use Rattle.bng_base.specs.declared.item.ItemKind.{ItemKind}
-use Rattle.bng_base.specs.declared.item.ItemKind.TheVariants.{Verdict, End}
 use Rattle.bng_base.specs.declared.item.OutRecord.{OutRecord}
 use Rattle.bng_engine.specs.Lists.{AnyOf}
 use Rattle.bng_slots.specs.Sessions.{value_at, with_value}
@@ -21,19 +19,18 @@ use Rattle.bng_shard.specs.declared.rules.Rules.{Rules}
 use Rattle.bng_shard.specs.declared.session.Lease.{Lease}
 use Rattle.bng_shard.specs.declared.session.Session.{Session}
 use Rattle.bng_shard.specs.State.{State, IsTermOf, with_session, with_driven, with_ended}
-use Rattle.bng_shard.specs.Deed.{Deed, at_of, ignored}
+use Rattle.bng_shard.specs.Deed.{Deed, at_of}
 use Rattle.bng_shard.specs.Link.{Drives, LinkStep, Told, ended, nas_request, user_request}
 use Rattle.bng_shard.specs.Running.{AreTied}
-use Rattle.bng_shard.specs.Step.{Hears, Step}
+use Rattle.bng_shard.specs.Step.{Step}
 use Rattle.bng_shard.specs.Tenures.{Tenure, closed, is_over, kept_lease, over_by}
-use Rattle.bng_shard.specs.Verdicts.{HearsVerdict, Judges, next_lease, next_term, settled_by, with_term}
+use Rattle.bng_shard.specs.Verdicts.{Judges, next_lease, next_term, settled_by, with_term}
 use Rattle.bng_shard.proofs.Beginning.{any_closed}
 use Rattle.bng_shard.proofs.ListParts.{any_last, any_more}
 use Rattle.bng_shard.proofs.SeenLeases.{looked_was, seen_at}
-use Rattle.bng_shard.proofs.Naming.{next_of}
 use Rattle.bng_shard.proofs.Serves.{none_kept}
 use Rattle.bng_shard.proofs.Values.{none_some, same_some}
-use Rattle.bng_shard.proofs.Walking.{Walks, end_walks, hears_walks}
+use Rattle.bng_shard.proofs.Walking.{Walks, step_walks_by, walks_by}
 
 -- no two terms have one number
 abbrev pub HaveOwn : List Tenure → Type 0
@@ -267,32 +264,17 @@ ties_walk r = record {
       holds_with s h n x x.lease (λ k is. (at, is)) (Some cause) x' asked' (λ l its. absurd (none_some l (sym bare ∙ its)));
 }
 
-module _ (r : Rules) (s : State) (limited : Bool) (d : Deed) (own : AreOwn s.sessions) (h : Holds s) where
-  judged_ties : (t : Told) → Judges r s d.entry t d → Holds d.next
-  judged_ties t j =
-      let n = d.entry.item.target in
-      let x' = j.after in
-      let session = j.drives.session in
+module _ (r : Rules) (s : State) (limited : Bool) (d : Deed) (own : AreOwn s.sessions) where
+  settled_ties : (t : Told) (j : Judges r s d.entry t d) → (lease : Option Ip4) → Ties s (settled_by s d.entry.item.target j.x j.question t d.entry.moment j.after j.asked lease)
+  settled_ties t j None h =
       let says = j.drives.says in
-      let bare : x'.lease ≡ None = ap (λ (y : Session). y.lease) session ∙ ap (kept_lease says.term_ended) j.no_term ∙ none_kept says.term_ended in
-      let settled : (lease : Option Ip4) → Holds (settled_by s n j.x j.question t d.entry.moment x' j.asked lease) = λ lease. settles_ties t j bare lease in
-      subst Holds (sym (ap (λ (f : Deed). f.next) j.done)) (settled t.lease)
-    where
-      settles_ties : (t : Told) (j : Judges r s d.entry t d) → j.after.lease ≡ None → (lease : Option Ip4) → Holds (settled_by s d.entry.item.target j.x j.question t d.entry.moment j.after j.asked lease)
-      settles_ties t j bare None = bare_ties s h d.entry.item.target j.x j.after None j.asked bare
-      settles_ties t j bare (Some a) =
-          let session = j.drives.session in
-          term_ties s h d.entry.item.target j.x j.after j.asked t.limits a j.question t.class d.entry.moment (own d.entry.item.target j.x j.found) (ap (λ (y : Session). y.number) session) (ap (λ (y : Session). y.port) session) (ap (λ (y : Session). y.mac) session)
-
-  verdict_ties : HearsVerdict r s d.entry limited d → Holds d.next
-  verdict_ties (inl (asks, t, decides, judges)) = judged_ties t judges
-  verdict_ties (inr (inl (asks, decides, e))) = subst Holds (sym (next_of d (ignored s d.entry) e)) h
-  verdict_ties (inr (inr (other, none, e))) = subst Holds (sym (next_of d (ignored s d.entry) e)) h
+      let bare : j.after.lease ≡ None = ap (λ (y : Session). y.lease) j.drives.session ∙ ap (kept_lease says.term_ended) j.no_term ∙ none_kept says.term_ended in
+      bare_ties s h d.entry.item.target j.x j.after None j.asked bare
+  settled_ties t j (Some a) h =
+      let session = j.drives.session in
+      term_ties s h d.entry.item.target j.x j.after j.asked t.limits a j.question t.class d.entry.moment (own d.entry.item.target j.x j.found) (ap (λ (y : Session). y.number) session) (ap (λ (y : Session). y.port) session) (ap (λ (y : Session). y.mac) session)
 
   -- so it is after a step
-  pub step_ties : Step r s limited d → Holds d.next
-  step_ties step =
-      let judge : d.entry.item.kind ≡ Verdict → Holds d.next = λ is. verdict_ties (subst (λ (kind : ItemKind). Hears kind r s limited d.entry d) is step.hears) in
-      let stop : d.entry.item.kind ≡ End → Holds d.next = λ is.
-      end_walks r Ties (ties_walk r) s limited d.entry d (λ s' n x at k. ended_ties s' k n x nas_request at) (subst (λ (kind : ItemKind). Hears kind r s limited d.entry d) is step.hears) h in
-      ⊎_elim judge (λ (rest : (d.entry.item.kind ≡ End) ⊎ Ties s d.next). ⊎_elim stop (λ (k : Ties s d.next). k h) rest) (hears_walks r Ties (ties_walk r) s limited d.entry d d.entry.item.kind step.hears)
+  pub step_ties : Holds s → Step r s limited d → Holds d.next
+  step_ties h step =
+      step_walks_by r Ties (walks_by r Ties (ties_walk r)) (λ s' n x at k. ended_ties s' k n x nas_request at) s limited d (λ t decides j. settled_ties t j t.lease) step h
