@@ -19,6 +19,8 @@ pub mod CircuitsKept
 pub mod Housing
 pub mod HousedSettled
 pub mod Awaiting
+pub mod RowsByNumber
+pub mod Owing
 pub mod Reading
 pub mod Spelling
 pub mod Naming

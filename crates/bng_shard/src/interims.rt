@@ -1,6 +1,7 @@
 //! Interims (RFC 2869 section 5.16): which live terms owe one, and which were taken.
 ghost use Rattle.std.specs.Prelude.{◌≡◌, ◌<◌, ◌^◌, nat_le, IfOk};
 ghost use Rattle.bng_shard.specs.Interims.{interim_at, interim_in, no_reports, reported_at, with_report};
+ghost use Rattle.bng_shard.specs.Surveying.{AreSpaced};
 
 use crate::session::{Lease, Session};
 use crate::shard::ShardError;
@@ -71,7 +72,8 @@ impl Reports {
     /// One of the session with this number is taken at this moment.
     pub(crate) fn note(&mut self, number: SessionNo, now: u64)
         requires { now < 2 ^ 60 }
-        ensures { self.new ≡ record self.old { last = with_report self.old.last now number } }
+        ensures after { self.new ≡ record self.old { last = with_report self.old.last now number } }
+        ensures noted { reported_at self.new.last number ≡ now }
     {
         self.last[usize::from(number.0 % SPAN)] = now;
     }
@@ -80,7 +82,8 @@ impl Reports {
 // The moment from which on an Interim of a live term is due, where the last one of its session was at this moment.
 fn interim_in(at: u64, lease: Option<Lease>) -> Option<u64>
     requires { at < 2 ^ 60 }
-    ensures { result ≡ interim_in at lease }
+    ensures moment { result ≡ interim_in at lease }
+    ensures spaced { AreSpaced lease }
 {
     let mut life = lease?.life;
     life.report(life.began().max(at));
@@ -89,7 +92,8 @@ fn interim_in(at: u64, lease: Option<Lease>) -> Option<u64>
 
 /// The same for a session: none exactly where it has no live term, or one without Interims.
 pub(crate) fn interim_at(session: &Session, reports: &Reports) -> Option<u64>
-    ensures { result ≡ interim_at reports.now.last session.now }
+    ensures moment { result ≡ interim_at reports.now.last session.now }
+    ensures spaced { AreSpaced session.now.lease }
 {
     interim_in(reports.reported_at(session.number), session.lease())
 }

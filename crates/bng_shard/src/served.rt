@@ -6,7 +6,8 @@ ghost use Rattle.bng_slots.specs.Sessions.{value_at, without, IsNumberOf};
 ghost use Rattle.bng_shard.specs.Discovery.{IsVacancy, repeated};
 ghost use Rattle.bng_shard.specs.Due.{due_of};
 ghost use Rattle.bng_shard.specs.Interims.{interim_at};
-ghost use Rattle.bng_shard.specs.Surveying.{IsSurveyed};
+ghost use Rattle.bng_shard.specs.declared.session.Session.{Session as Seen};
+ghost use Rattle.bng_shard.specs.Surveying.{AreSpaced, IsSurveyed};
 ghost use Rattle.bng_shard.specs.Opening.{circuit_at, opened_slots, provisioned as provisioned_at};
 ghost use Rattle.std.specs.Prelude.{drop, slice_get};
 ghost use Rattle.bng_shard.specs.Questions.{asking_from, handed_after, open_ask_at, place_of, waiting};
@@ -328,7 +329,8 @@ impl Served {
 
     // The moment from which on an Interim of the session with this number is due.
     fn interim_at(&self, number: SessionNo, reports: &Reports) -> Option<u64>
-        ensures { result ≡ option_and_then (interim_at reports.now.last) (value_at self.now.sessions number.0) }
+        ensures moment { result ≡ option_and_then (interim_at reports.now.last) (value_at self.now.sessions number.0) }
+        ensures spaced { (x : Seen) → value_at self.now.sessions number.0 ≡ Some x → AreSpaced x.lease }
     {
         interim_at(self.sessions.get(number)?, reports)
     }

@@ -339,7 +339,7 @@ impl Shard {
 
     // The live term of the session with this number, which has one, and what it carried so far.
     fn told_of(&self, number: SessionNo) -> ReportedTerm
-        requires { (x : Session) × (value_at self.now.state.slots.sessions number.0 ≡ Some x) × IsSome x.lease }
+        requires { (x : Session) × (value_at self.now.state.slots.sessions number.0 ≡ Some x) × (x.number ≡ number) × IsSome x.lease }
         ensures row { (x : Session) → value_at self.now.state.slots.sessions number.0 ≡ Some x → row_in self.now.rows x ≡ Some (row_told result) }
         ensures session { result.term.term.session ≡ number }
         ensures says { AnyOf (SaysOf result.term.user.items result.term.class.items result.term.began (key_of result.term)) self.now.state.slots.terms }
@@ -350,6 +350,7 @@ impl Shard {
         let Some(lease) = session.lease() else {
             unreachable!();
         };
+        self.terms.are_rising();
         let Some(told) = self.terms.told_of(lease.serial) else {
             unreachable!();
         };

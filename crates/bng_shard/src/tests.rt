@@ -17,6 +17,7 @@ use std::process::Abort;
 use std::test::Fail;
 
 mod discovery;
+mod interims;
 mod logins;
 mod terms;
 mod verdicts;

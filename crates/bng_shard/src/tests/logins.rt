@@ -56,7 +56,7 @@ fn accepted(
 }
 
 // The same with this reply.
-fn accepted_by(
+pub(super) fn accepted_by(
     rt: &impl Abort,
     alloc: Global,
     bench: &mut Bench,
