@@ -1,5 +1,5 @@
 -- What a run says in the subject's own words.
-use Rattle.std.specs.Prelude.{◌≡◌, ℕ, ◌+◌, ◌++◌, true, false, List, [], ◌∷◌, Option, None, Some, filter, length, map, take, drop, slice_get, count_by}
+use Rattle.std.specs.Prelude.{◌≡◌, ℕ, ◌+◌, ◌++◌, true, false, List, [], ◌∷◌, Option, None, Some, filter, length, map, take, drop, slice_get, count_by, zip}
 use Rattle.std.specs.List.{All, AllZip, Contains, flat_map, range_with_len}
 use Rattle.byteorder.specs.Endian.{big_from}
 use Rattle.bng_base.specs.declared.address.Ip4.{Ip4}
@@ -44,6 +44,7 @@ use Rattle.bng_desk.specs.Round.{not_sent, view_of}
 use Rattle.bng_gate.specs.Granted.{Granted, stages_of}
 use Rattle.bng_gate.specs.Recorded.{Recorded, calls_of}
 use Rattle.bng_gate.specs.Replied.{AreReplied}
+use Rattle.bng_gate.specs.Reported.{ReportsLive}
 use Rattle.bng_gate.specs.Rounds.{rounds_of, history_of, plant_of, on_auth, on_data, on_acct, beside_control, readings_of, requests_of, records_of, is_unsent, drops_of_run}
 use Rattle.bng_gate.specs.Run.{World, outside, Prepares, Course, Runs}
 use Rattle.bng_gate.specs.Unanswered.{NamesStops}
@@ -216,9 +217,12 @@ pub record IsSafe (config : Config) (seed : List ℕ) (old new : World) (course 
   -- logins, and no two logins of different questions have requests with the same draw as their authenticator.
   pub granted : Granted config seed course.turns course.endings
   -- The records of accounting that the turns formed are those of the rounds, one for each Stop, which says what its term carried, and one
-  -- for each Start, in their order. What was sent on Acct are their Accounting-Requests, to the configured server. What acknowledged a
+  -- for each Start, in their order, and the Interims. What was sent on Acct are their Accounting-Requests, to the configured server. What acknowledged a
   -- record came from that server, signed for the very request of the record, which was formed and sent before.
   pub recorded : Recorded config course.begins.bound.wall course.begins.is_opened.starts course.turns course.endings course.last taken sent
+  -- Each Interim that a round formed is that of a term that the round left live, and its octets and packets are those of exactly what had
+  -- been sent for that term by then.
+  pub interims : Chain ReportsLive (history_of course.opening) (zip (rounds_of course.turns course.endings) recorded.interims) history
   -- Of what the rounds had to send, the requests of the turns and their Accounting-Requests, no more was not sent than the plant's count
   -- rose, unless that stands at its end.
   pub unsent : HasCauses old.plant.faults new.plant.faults (count_by not_sent (sends_of (rounds_of course.turns course.endings)) + count_by is_unsent (requests_of course.turns course.endings) + count_by is_unsent (records_of course.turns course.endings))

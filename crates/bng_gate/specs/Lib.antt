@@ -5,6 +5,7 @@ pub mod Taken
 pub mod Serving
 pub mod Granted
 pub mod Replied
+pub mod Reported
 pub mod Unanswered
 pub mod Run
 pub mod Rounds

@@ -54,18 +54,20 @@ pub record SaysStart (k : Key) (f : FormedRecord) : Type 0 where
   pub address : f.facts.address ≡ k.lease
   pub carried : f.facts.carried ≡ empty_book
 
--- what is formed of a round: a Stop of each of its Stops, in their order, and then a Start of each of its Starts
-pub record SaysRound (ts : List (ShardTurn Handled)) (formed : List FormedRecord) : Type 0 where
+-- what is formed of a round: a Stop of each of its Stops, in their order, and then a Start of each of its Starts, and then these Interims
+pub record SaysRound (ts : List (ShardTurn Handled)) (interims formed : List FormedRecord) : Type 0 where
   pub stops : List FormedRecord
   pub starts : List FormedRecord
-  pub are : formed ≡ stops ++ starts
+  pub are : formed ≡ stops ++ (starts ++ interims)
   pub are_stops : AllZip SaysStop (stops_in ts) stops
   pub are_starts : AllZip SaysStart (flat_map (λ (t : ShardTurn Handled). t.settlement.starts) ts) starts
 
--- round after round
-abbrev pub SayRounds : List (List (ShardTurn Handled)) → List FormedRecord → Type 0
-SayRounds [] formed = formed ≡ []
-SayRounds (ts ∷ rounds) formed = (first : List FormedRecord) × (rest : List FormedRecord) × (formed ≡ first ++ rest) × SaysRound ts first × SayRounds rounds rest
+-- round after round, with the Interims of each
+abbrev pub SayRounds : List (List (ShardTurn Handled)) → List (List FormedRecord) → List FormedRecord → Type 0
+SayRounds [] [] formed = formed ≡ []
+SayRounds [] (is ∷ interims) formed = ⊥
+SayRounds (ts ∷ rounds) [] formed = ⊥
+SayRounds (ts ∷ rounds) (is ∷ interims) formed = (first : List FormedRecord) × (rest : List FormedRecord) × (formed ≡ first ++ rest) × SaysRound ts is first × SayRounds rounds interims rest
 
 -- The calls of accounting ---------------------------------------------------------------------------------------------------------
 
@@ -144,7 +146,7 @@ taken_for Stopped = []
 
 -- Accounting was opened for the configured server and secret, at this second of the wall. The Starts of the opening and what the turns
 -- did lead from there to how it stands in the end (`calls`). The records that the turns formed are those of the rounds, in their order: a Stop
--- for each Stop, with its octets and packets, and then a Start for each Start (`formed`). What was sent on Acct, each datagram once and in order, are the
+-- for each Stop, with its octets and packets, and then a Start for each Start, and then the round's Interims (`formed`). What was sent on Acct, each datagram once and in order, are the
 -- Accounting-Requests that were given out and sent, to the configured server (`requests`), and what was taken from Acct, so too, is what
 -- was heard (`heard`). Each datagram that acknowledges a record comes from the configured server, and is one
 -- Accounting-Response, signed for the Accounting-Request of that record, which was formed before and was given out and sent since
@@ -153,7 +155,8 @@ pub record Recorded (config : Config) (wall : ℕ) (starts : List FormedRecord) 
   pub opened : BillingState
   pub is_new : IsNewBilling (billing_rules config wall) opened
   pub calls : Chain Does opened (calls_of starts turns endings) last.billing
-  pub formed : SayRounds (rounds_of turns endings) (formed_of turns endings)
+  pub interims : List (List FormedRecord)
+  pub formed : SayRounds (rounds_of turns endings) interims (formed_of turns endings)
   pub requests : on_acct sent ≡ sent_by_calls config.acct_server (calls_of starts turns endings)
   pub heard : on_acct taken ≡ flat_map taken_for (calls_of starts turns endings)
   pub answered : AreAnswered (billing_rules config wall) (calls_of starts turns endings)
