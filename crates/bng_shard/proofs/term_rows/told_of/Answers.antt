@@ -1,6 +1,5 @@
-use Rattle.std.proofs.Common.{option_map, None, Some, ap, sym, subst, ◌∙◌}
+use Rattle.std.proofs.Common.{option_map, Some, ap, sym, subst, ◌∙◌}
 use Rattle.bng_engine.specs.Terms.{Key}
-use Rattle.bng_engine.specs.Views.{Row}
 use Rattle.bng_shard.specs.declared.terms.Running.{Running}
 use Rattle.bng_shard.specs.Interims.{row_told}
 use Rattle.bng_shard.specs.Protocol.{key_of, SaysOf}

@@ -1,9 +1,9 @@
-use Rattle.std.proofs.Common.{◌≡◌, ◌∷◌, [], List, Some, ℕ, ap, sym, subst, ◌∙◌}
+use Rattle.std.proofs.Common.{List, ap, sym, ◌∙◌}
 use Rattle.std.specs.Prelude.{drop, slice_get}
 use Rattle.bng_base.specs.declared.item.Entry.{Entry}
 use Rattle.bng_engine.specs.Views.{Row, ShardView}
 use Rattle.bng_slots.specs.Sessions.{value_at}
-use Rattle.bng_shard.specs.Interims.{Reports, owed, reported_at, row_in, row_told, with_report}
+use Rattle.bng_shard.specs.Interims.{Reports, owed, reported_at, row_in, row_told}
 use Rattle.bng_shard.specs.Protocol.{ShardState}
 use Rattle.bng_shard.specs.Running.{rows_in}
 use Rattle.bng_shard.proofs.Owing.{first_owing, first_part, none_owing, not_come, once_due}

@@ -1,4 +1,4 @@
-use Rattle.std.proofs.Common.{◌≡◌, None, Some, option_map, ap, sym, ◌∙◌}
+use Rattle.std.proofs.Common.{◌≡◌, option_map, ap, sym, ◌∙◌}
 use Rattle.bng_base.specs.declared.item.Entry.{Entry}
 use Rattle.bng_engine.specs.Views.{Row, ShardView}
 use Rattle.bng_slots.specs.Sessions.{value_at}
