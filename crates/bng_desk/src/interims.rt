@@ -1,5 +1,5 @@
 //! The Interims of a settlement (RFC 2869 section 5.16).
-ghost use Rattle.std.specs.Prelude.{◌≡◌, ◌<◌, ◌^◌, true, List};
+ghost use Rattle.std.specs.Prelude.{◌≡◌, ◌<◌, ◌≤◌, ◌^◌, true, List};
 ghost use Rattle.std.specs.List.{All};
 ghost use Rattle.bng_acct.specs.Request.{AreClasses};
 ghost use Rattle.bng_acct.specs.Roster.{of_term};
