@@ -10,7 +10,7 @@ from gateway import LOOPBACK, Lab, frame, packet, report
 from radius import ACCOUNTING_REQUEST, FRAMED, SECRET
 from sessions import is_three_seconds
 
-START, STOP, NAS_REQUEST = 1, 2, 10
+START, STOP, INTERIM, NAS_REQUEST = 1, 2, 3, 10
 
 
 def number(value):

@@ -1,5 +1,6 @@
 """Runs the real program over real sockets of the loopback, with good and bad input, and compares what it says."""
 
+import concurrent.futures
 import os
 import resource
 import subprocess
@@ -12,7 +13,7 @@ from leases import leases_addresses
 from records import records_a_circuit, tells_a_stop_that_nobody_acknowledges
 from sessions import serves_sessions
 from terms import counts_past_sixteen_bits, ends_a_thousand_terms, ends_by_timeouts, keeps_records_while_nobody_takes_them
-from terms import refuses_where_terms_are_used_up, shares_three_addresses_among_five
+from terms import refuses_where_terms_are_used_up, reports_after_a_minute, shares_three_addresses_among_five
 
 PACKET = packet()
 LOWERED = bytes.fromhex("45000054 00010000 3f01afa5 0a000002 c0000201") + PACKET[20:]
@@ -204,7 +205,11 @@ def try_all(checks):
         shares_three_addresses_among_five(checks, built, 10)
         counts_past_sixteen_bits(checks, built, 10)
         refuses_where_terms_are_used_up(checks, built, 10)
-        keeps_records_while_nobody_takes_them(checks, built, 10)
+        # Each takes a minute of the clock.
+        with concurrent.futures.ThreadPoolExecutor() as together:
+            minutes = [together.submit(each, checks, built, 10) for each in (keeps_records_while_nobody_takes_them, reports_after_a_minute)]
+        for minute in minutes:
+            minute.result()
         ends_a_thousand_terms(checks, built, 10)
         records_a_circuit(checks, built, 10)
         tells_a_stop_that_nobody_acknowledges(checks, built, 10)

@@ -1,7 +1,7 @@
-"""Terms of scripted subscribers that end by themselves, that want more addresses than there are, that nobody takes the records of, and
-that are a thousand at the stop; and sums past sixteen bits.
+"""Terms of scripted subscribers that end by themselves, that want more addresses than there are, that nobody takes the records of, that
+are reported on, and that are a thousand at the stop; and sums past sixteen bits.
 
-What is wanted is what RFC 2865 and RFC 2866 ask, and what docs/ says where they leave a choice."""
+What is wanted is what RFC 2865, RFC 2866 and RFC 2869 ask, and what docs/ says where they leave a choice."""
 
 import collections
 import socket
@@ -14,7 +14,7 @@ from gateway import Lab, frame, packet
 from leases import log_in, next_record, open_ipcp, refuses
 from logins import pap
 from pppoe import LCP
-from records import NAS_REQUEST, START, STOP, acknowledge, hear_record, number, value
+from records import INTERIM, NAS_REQUEST, START, STOP, acknowledge, hear_record, number, value
 from sessions import padt
 from subscriber import Line
 
@@ -168,6 +168,40 @@ def keeps_records_while_nobody_takes_them(checks, command, patience):
         stop = next_record(lab)
         checks.same("the circuit's Stop is the last record", says(stop)[1], NAS_REQUEST)
         checks.same("the status is 0 once accounting is up", lab.end()[0], 0)
+
+
+def carried(record):
+    """What a record says of a term: for how many seconds, with how many octets and packets each way, and why it ended, if it did."""
+    kinds = ("SESSION_TIME", "INPUT_OCTETS", "OUTPUT_OCTETS", "INPUT_PACKETS", "OUTPUT_PACKETS", "INPUT_GIGAWORDS", "OUTPUT_GIGAWORDS")
+    return [value(record, getattr(radius, f"ACCT_{kind}")) for kind in kinds], radius.ACCT_TERMINATE_CAUSE in dict(record.attributes)
+
+
+def reports_after_a_minute(checks, command, patience):
+    """An Access-Accept asks for an Interim each 30 s, which counts as 60: one comes a minute after the lease, and says what was carried
+    by then. Of the circuit none comes."""
+    with Lab("echo = 0\n", acknowledges=False) as lab:
+        lab.start(command(lab.configuration), patience)
+        next_record(lab)
+        host = log_in(lab, Line(lab), "020000000002", (radius.ACCT_INTERIM_INTERVAL, number(30)))
+        host.hear_packet()
+        began = time.monotonic()
+        identity = dict(next_record(lab).attributes)[radius.ACCT_SESSION_ID]
+        open_ipcp(checks, host, "10.0.0.3")
+        send = lambda length: lab.send(frame(packet("10.0.0.3", length=length), subscriber=host.mac.hex(), session=host.session))
+        send(100)
+        send(200)
+        lab.accounting.settimeout(70)
+        interim = next_record(lab)
+        checks.same("an Interim comes a minute after the lease", (value(interim, radius.ACCT_STATUS_TYPE), round(time.monotonic() - began)), (INTERIM, 60))
+        checks.same("it says what was carried so far", carried(interim), ([60, 300, 0, 2, 0, 0, 0], False))
+        send(84)
+        host.say_lcp(pppoe.TERMINATE_REQUEST, 9)
+        stop = next_record(lab)
+        checks.same("the Stop says what was carried in all", carried(stop), ([60, 384, 0, 3, 0, 0, 0], True))
+        checks.same("all are records of one term", {dict(record.attributes)[radius.ACCT_SESSION_ID] for record in (interim, stop)}, {identity})
+        lab.stop()
+        checks.same("of the circuit there is no Interim", says(next_record(lab))[1], NAS_REQUEST)
+        checks.same("the status is 0 after an Interim", lab.end()[0], 0)
 
 
 def ends_a_thousand_terms(checks, command, patience):
