@@ -6,6 +6,7 @@ Paced: 2,500 packets a second, with 1 and with 64 shards, and with many sessions
 packet. Memory: what the program holds with many terms live."""
 
 import collections
+import contextlib
 import os
 import shutil
 import statistics
@@ -158,15 +159,21 @@ def remember(terms):
         return lab.end(60)[0]
 
 
-def main(rounds=5, seconds=1.0):
+@contextlib.contextmanager
+def built_tool():
+    """The built bench.c, as long as it is wanted."""
     compiler = shutil.which("cc") or shutil.which("gcc") or shutil.which("clang")
     if compiler is None:
-        print("bench: it measures beside a loop in C, and there is no C compiler here", file=sys.stderr)
-        return 1
+        raise RuntimeError("it sends by a loop in C, and there is no C compiler here")
     with tempfile.TemporaryDirectory(prefix="bng-bench-") as folder:
         tool = os.path.join(folder, "bench")
         source = os.path.join(os.path.dirname(os.path.abspath(__file__)), "bench.c")
         subprocess.run([compiler, "-O2", "-Wall", "-o", tool, source], check=True)
+        yield tool
+
+
+def main(rounds=5, seconds=1.0):
+    with built_tool() as tool:
         print(f"{os.cpu_count()} processors, load {os.getloadavg()[0]:.1f}")
         failed = any([compare(tool, shards, rounds, seconds) for shards in SHARDS])
         print(f"\nPaced, {PACE} packets a second of 576 octets to the core, {rounds} runs of {seconds} s")
