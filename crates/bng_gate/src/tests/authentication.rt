@@ -4,7 +4,7 @@
 use super::host::{
     ACK, ACKED, ASKED, PADS, PADT, REQUEST, SESSIONS, TO_HOST, framed, from_host, session,
 };
-use super::{Ended, SERVE, loopback, run_at, run_over, seed, sends, sends_from};
+use super::{Ended, SERVE, accounts, loopback, run_at, run_over, seed, sends, sends_from};
 use bng_base::Role;
 use bng_plant::{Arrival, MemoryClock, MemoryPlant, NoTrace};
 use std::alloc::{AllocError, Global};
@@ -339,6 +339,15 @@ fn a_host_leaves_in_the_round_of_its_verdict(rt: HostRuntime) -> Result<(), Fail
         (port, 9011, &PADT),
     ];
     sends_after(&rt, alloc, &ended, 6, &rest)?;
+    // The term began and ended in one round: behind the four sends of the first turn and the three of that round stand its Stop, with
+    // the cause User Request, and its Start.
+    accounts(
+        &rt,
+        &ended,
+        7,
+        &[b"\x28\x06\x00\x00\x00\x02", b"\x31\x06\x00\x00\x00\x01"],
+    );
+    accounts(&rt, &ended, 8, &[b"\x28\x06\x00\x00\x00\x01"]);
     // That of no reply, 6,000 ms after the request, stands behind it.
     let mut script = begun(alloc)?;
     script.push(from_host(alloc, LEAVES)?.after(5))?;

@@ -5,7 +5,7 @@ use super::authentication::{
     stop,
 };
 use super::host::{ACKED, PADT, REQUEST, TO_HOST, framed, from_host, request};
-use super::{Ended, SERVE, has, loopback, run_at, seed};
+use super::{Ended, SERVE, has, loopback, run_at, seed, sends_from};
 use bng_base::Role;
 use bng_plant::{Arrival, MemoryClock, MemoryPlant, NoTrace};
 use std::alloc::{AllocError, Global};
@@ -135,6 +135,21 @@ const OTHER_ACCEPT: &str = "0201001481aa3cdac8efeaf82f7ab62e2fa328f8";
 
 const NO_ADDRESS: &[u8] = b"\xc0\x23\x03\x07\x00\x0f\x0ano address";
 
+/// Where both hosts ask in one turn: the other one's Configure-Ack, with the magic number that is drawn for the fifth item; both
+/// Access-Requests, and an Access-Accept to each that names 10.0.0.2.
+const BOTH_ACK: &[u8] =
+    b"\xc0\x21\x02\x01\x00\x12\x01\x04\x05\xd4\x03\x04\xc0\x23\x05\x06\x0c\x10\x93\xed";
+
+const BOTH_REQUESTS: [&str; 2] = [
+    "0100008bf8f3ff4f61b9b2321cdac35dd668dfe401066e656d6f0212e3e8e04d19d6e2916677a2f015ff323e0406c0a80110050600000c010606000000020706000000011f1330323a30303a30303a30303a30303a30312006626e67313d0600000005501241383299587ce3d629e5d00fd44ac417571670312f3032303030303030303030312f33303733",
+    "0101008bb577567057ec574de3d2c9eec0372c4c01066e656d6f021232d225c86a33312d21f826a32a1297b00406c0a80110050600000c020606000000020706000000011f1330323a30303a30303a30303a30303a30352006626e67313d060000000550123a856c06934e8c2c604b51eaac1b74e4571670312f3032303030303030303030352f33303734",
+];
+
+const BOTH_ACCEPTS: [&str; 2] = [
+    "0200001abf6ff22eb21166b2718624e211e5700f08060a000002",
+    "0201001a8f7a15995d07b6b9ebd7a54d71103b4008060a000002",
+];
+
 /// A run over this configuration, at moments that are so many milliseconds apart.
 fn run_in<R: Threads + Wait + Sync>(
     rt: &R,
@@ -253,17 +268,22 @@ fn a_subscriber_who_is_silent_is_logged_out(rt: HostRuntime) -> Result<(), Fail>
     records(&rt, alloc, &ended, &[START, IDLE_STOP])
 }
 
-/// The first host gets its Access-Accept in the second turn, in which the other one asks for a session and sends the same password. That
-/// one's comes in the third.
-fn two_hosts(alloc: Global) -> Result<Vec<Arrival>, Fail> {
+/// The other host asks for a session, brings LCP to Opened by this Configure-Ack and sends the same password.
+fn other_begins(alloc: Global, script: &mut Vec<Arrival>, ack: &[u8]) -> Result<(), AllocError> {
     let port = Role::Access(1);
-    let mut script = begun(alloc)?;
-    script.push(reply(alloc, 1812, ACCEPT)?)?;
     script.push(Arrival::new(port, loopback(9011), &request(&OTHER)))?;
-    for heard in [REQUEST.as_slice(), OTHER_ACK, PASSWORD] {
+    for heard in [REQUEST.as_slice(), ack, PASSWORD] {
         let frame = framed(alloc, &FROM_OTHER, heard)?;
         script.push(Arrival::new(port, loopback(9011), frame.as_slice()))?;
     }
+    Ok(())
+}
+
+/// The first host gets its Access-Accept in the second turn, in which the other one begins. That one's comes in the third.
+fn two_hosts(alloc: Global) -> Result<Vec<Arrival>, Fail> {
+    let mut script = begun(alloc)?;
+    script.push(reply(alloc, 1812, ACCEPT)?)?;
+    other_begins(alloc, &mut script, OTHER_ACK)?;
     script.push(reply(alloc, 1812, OTHER_ACCEPT)?)?;
     script.push(stop(0))?;
     Ok(script)
@@ -294,13 +314,54 @@ fn where_the_pool_is_used_up_an_accept_is_no_login(rt: HostRuntime) -> Result<()
         (port, 9011, &PADT),
         (port, 9011, &OTHER_PADT),
     ];
-    // The server says nothing to the records of the first host. Each record is of that one: its NAS-Port is the session 3073, and its
-    // Framed-IP-Address 10.0.0.2.
+    // The server says nothing to the records.
     sends_after(&rt, alloc, &ended, 6, &rest)?;
+    records_are_of_the_first_host(&rt, &ended);
+    Ok(())
+}
+
+/// Each record of a run is of the first host: its NAS-Port is the session 3073, and its Framed-IP-Address 10.0.0.2.
+fn records_are_of_the_first_host(rt: &impl Abort, ended: &Ended) {
     let sent = ended.plant.sent().iter();
     for record in sent.filter(|datagram| datagram.role == Role::Acct) {
         assert!(rt; has(record.octets.as_slice(), b"\x05\x06\x00\x00\x0c\x01"));
         assert!(rt; has(record.octets.as_slice(), b"\x08\x06\x0a\x00\x00\x02"));
     }
+}
+
+#[test]
+fn of_two_accepts_for_one_address_in_one_round_the_first_counts(
+    rt: HostRuntime,
+) -> Result<(), Fail> {
+    let alloc = rt.alloc();
+    let mut script = begun(alloc)?;
+    other_begins(alloc, &mut script, BOTH_ACK)?;
+    for accept in BOTH_ACCEPTS {
+        script.push(reply(alloc, 1812, accept)?)?;
+    }
+    script.push(stop(0))?;
+    let ended = run_in(&rt, alloc, ONE_ADDRESS, script, 10)?;
+    let first = hex::decode(alloc, BOTH_REQUESTS[0])?;
+    let second = hex::decode(alloc, BOTH_REQUESTS[1])?;
+    let passed = framed(alloc, &TO_HOST, PASSED)?;
+    let own = framed(alloc, &TO_HOST, OWN_ADDRESS)?;
+    let refused = framed(alloc, &TO_OTHER, NO_ADDRESS)?;
+    let closed = framed(alloc, &TO_OTHER, TERMINATE)?;
+    let port = Role::Access(1);
+    // Before them stand the PADS and two packets of LCP to each host.
+    let rest: [(Role, u16, &[u8]); 9] = [
+        (Role::Auth, 1812, first.as_slice()),
+        (Role::Auth, 1812, second.as_slice()),
+        (port, 9011, passed.as_slice()),
+        (port, 9011, own.as_slice()),
+        (port, 9011, refused.as_slice()),
+        (port, 9011, closed.as_slice()),
+        (Role::Control, 5, b"stopping\n"),
+        (port, 9011, &PADT),
+        (port, 9011, &OTHER_PADT),
+    ];
+    assert_eq!(rt; ended.status, 6);
+    sends_from(&rt, &ended, 6, &rest);
+    records_are_of_the_first_host(&rt, &ended);
     Ok(())
 }
