@@ -30,8 +30,10 @@ pub mod Dealt
 pub mod RefusedLaws
 pub mod Staying
 pub mod Outfit
+pub mod Owed
 pub mod Joining
 pub mod Overs
+pub mod Awaited
 pub mod Tallied
 pub mod SameTerms
 pub mod Knowing
