@@ -22,6 +22,7 @@ pub mod TermsLeft
 pub mod Beginning
 pub mod ShardKeys
 pub mod Reaping
+pub mod Reporting
 pub mod Admitting
 pub mod Dealing
 pub mod Asking
