@@ -54,7 +54,7 @@ leaver_says ts ts' t user class began k l says =
     let P = SaysOf user class began k in
     subst (λ (us : List Tenure). AnyOf P us) (sym l.were) (any_right P l.before (t ∷ l.after) (inl says))
 
-facts_wider : (ts us : List Tenure) (k : Key) (book : Book) (f : TermFacts) → AreAmong ts us → AreFactsOf ts k book f → AreFactsOf us k book f
+pub facts_wider : (ts us : List Tenure) (k : Key) (book : Book) (f : TermFacts) → AreAmong ts us → AreFactsOf ts k book f → AreFactsOf us k book f
 facts_wider ts us k book f among are = record {
   term = are.term;
   circuit = are.circuit;
@@ -72,16 +72,17 @@ start_wider ts us moment wall among k f is = record { status = is.status; facts 
 -- Stops -------------------------------------------------------------------------------------------------------------------
 
 pub books_none : (terms : List Tenure) (moment wall : ℕ) (a : Accounts) → BooksStops terms moment wall [] a a
-books_none terms moment wall a = record { formed = []; forms = refl; are_stops = tt; lines_are = lines_none a.lines; stopped_is = stopped_none a.stopped }
+books_none terms moment wall a = record { formed = []; forms = refl; are_stops = tt; lines_are = lines_none a.lines; stopped_is = stopped_none a.stopped; reports_are = refl }
 
 pub books_one : (terms : List Tenure) (moment wall n : ℕ) (s : Stop) (facts : TermFacts) (at : Moment) (a a' : Accounts) → AreFactsOf terms s.key s.carried facts → at ≡ record { now = moment; wall = wall; cause = s.cause }
-    → IsFormedBy a.billing OfStop facts at n a'.billing → a'.lines ≡ map (line_after (s ∷ [])) a.lines → a'.stopped ≡ plus_traffic a.stopped (all_stopped (s ∷ [])) → BooksStops terms moment wall (s ∷ []) a a'
-books_one terms moment wall n s facts at a a' are when formed lines stopped = record {
+    → IsFormedBy a.billing OfStop facts at n a'.billing → a'.lines ≡ map (line_after (s ∷ [])) a.lines → a'.stopped ≡ plus_traffic a.stopped (all_stopped (s ∷ [])) → a'.reports ≡ a.reports → BooksStops terms moment wall (s ∷ []) a a'
+books_one terms moment wall n s facts at a a' are when formed lines stopped reports = record {
   formed = record { status = OfStop; facts = facts; moment = at; number = n } ∷ [];
   forms = (a'.billing, formed, refl);
   are_stops = (record { status = refl; facts = are; at = when }, tt);
   lines_are = lines;
   stopped_is = stopped;
+  reports_are = reports;
 }
 
 -- of more terms
@@ -92,6 +93,7 @@ books_wider ts us moment wall ss a a' among b = record {
   are_stops = zip_weaker (IsStopOf ts moment wall) (IsStopOf us moment wall) (stop_wider ts us moment wall among) ss b.formed b.are_stops;
   lines_are = b.lines_are;
   stopped_is = b.stopped_is;
+  reports_are = b.reports_are;
 }
 
 -- some, and then more
@@ -102,21 +104,23 @@ books_more terms moment wall ss ts a b c x y = record {
   are_stops = zip_append (IsStopOf terms moment wall) ss ts x.formed y.formed x.are_stops y.are_stops;
   lines_are = y.lines_are ∙ ap (map (line_after ts)) x.lines_are ∙ sym (lines_more ss ts a.lines);
   stopped_is = y.stopped_is ∙ ap (λ (t : Traffic). plus_traffic t (all_stopped ts)) x.stopped_is ∙ sym (stopped_more ss ts a.stopped);
+  reports_are = y.reports_are ∙ x.reports_are;
 }
 
 -- Starts ------------------------------------------------------------------------------------------------------------------
 
 pub starts_none : (terms : List Tenure) (moment wall : ℕ) (a : Accounts) → BooksStarts terms moment wall [] a a
-starts_none terms moment wall a = record { formed = []; forms = refl; are_starts = tt; lines_are = refl; stopped_is = refl }
+starts_none terms moment wall a = record { formed = []; forms = refl; are_starts = tt; lines_are = refl; stopped_is = refl; reports_are = refl }
 
 pub starts_one : (terms : List Tenure) (moment wall n : ℕ) (k : Key) (facts : TermFacts) (at : Moment) (a a' : Accounts) → AreFactsOf terms k empty_book facts → at ≡ record { now = moment; wall = wall; cause = 0 }
-    → IsFormedBy a.billing Start facts at n a'.billing → a'.lines ≡ a.lines → a'.stopped ≡ a.stopped → BooksStarts terms moment wall (k ∷ []) a a'
-starts_one terms moment wall n k facts at a a' are when formed lines stopped = record {
+    → IsFormedBy a.billing Start facts at n a'.billing → a'.lines ≡ a.lines → a'.stopped ≡ a.stopped → a'.reports ≡ a.reports → BooksStarts terms moment wall (k ∷ []) a a'
+starts_one terms moment wall n k facts at a a' are when formed lines stopped reports = record {
   formed = record { status = Start; facts = facts; moment = at; number = n } ∷ [];
   forms = (a'.billing, formed, refl);
   are_starts = (record { status = refl; facts = are; at = when }, tt);
   lines_are = lines;
   stopped_is = stopped;
+  reports_are = reports;
 }
 
 pub starts_wider : (ts us : List Tenure) (moment wall : ℕ) (ks : List Key) (a a' : Accounts) → AreAmong ts us → BooksStarts ts moment wall ks a a' → BooksStarts us moment wall ks a a'
@@ -126,6 +130,7 @@ starts_wider ts us moment wall ks a a' among b = record {
   are_starts = zip_weaker (IsStartOf ts moment wall) (IsStartOf us moment wall) (start_wider ts us moment wall among) ks b.formed b.are_starts;
   lines_are = b.lines_are;
   stopped_is = b.stopped_is;
+  reports_are = b.reports_are;
 }
 
 pub starts_more : (terms : List Tenure) (moment wall : ℕ) (js ks : List Key) (a b c : Accounts) → BooksStarts terms moment wall js a b → BooksStarts terms moment wall ks b c → BooksStarts terms moment wall (js ++ ks) a c
@@ -135,4 +140,5 @@ starts_more terms moment wall js ks a b c x y = record {
   are_starts = zip_append (IsStartOf terms moment wall) js ks x.formed y.formed x.are_starts y.are_starts;
   lines_are = y.lines_are ∙ x.lines_are;
   stopped_is = y.stopped_is ∙ x.stopped_is;
+  reports_are = y.reports_are ∙ x.reports_are;
 }

@@ -13,10 +13,12 @@ use Rattle.bng_base.proofs.StretchLaws.{plant_assoc, plant_more, plant_stays}
 use Rattle.bng_billing.specs.Records.{IsFormedBy}
 use Rattle.bng_billing.specs.State.{BillingState}
 use Rattle.bng_engine.specs.Journals.{after as after_journal}
+use Rattle.bng_engine.specs.Lists.{Zip3}
 use Rattle.bng_engine.specs.Views.{ShardView}
 use Rattle.bng_ppp.specs.LinkRelation.{earliest}
 use Rattle.bng_pool.specs.Plain.{PlainView}
 use Rattle.bng_shard.specs.declared.sums.Traffic.{Traffic}
+use Rattle.bng_shard.specs.Interims.{Reports}
 use Rattle.bng_shard.specs.Protocol.{Handled, ShardState, pppoe}
 use Rattle.bng_desk.specs.declared.drops.Drops.{Drops}
 use Rattle.bng_desk.specs.declared.holding.Named.{Named}
@@ -24,12 +26,14 @@ use Rattle.bng_desk.specs.declared.line.Line.{Line}
 use Rattle.bng_desk.specs.Accounting.{FormedRecord, Forms, IsStartOf, IsStopOf, acct_reading, records_stretch}
 use Rattle.bng_desk.specs.Allowing.{Allows, allowance_of, free_in}
 use Rattle.bng_desk.specs.Control.{control_stretch}
+use Rattle.bng_desk.specs.Interims.{FormsInterims, TakesInterims, owed_by}
 use Rattle.bng_desk.specs.Kept.{rested}
 use Rattle.bng_desk.specs.Logins.{requests_stretch}
 use Rattle.bng_desk.specs.Model.{Desk}
 use Rattle.bng_desk.specs.Round.{Round, IsRound, handled_states, news_in, record_of, refused_record, starts_of, stops_of, terms_in}
 use Rattle.bng_desk.specs.Taking.{Accounts, Holds}
 use Rattle.bng_desk.specs.Turn.{Turn, FormsRecords, RoundOf, after_round, is_opened, round_stretch, round_told, after, auth_stretch, plant_stretch, data_stretch, reading_stretch, waiting_stretch, is_idle, wait_for, deadline_in}
+use Rattle.bng_desk.proofs.Awaited.{interims_form}
 use Rattle.bng_desk.proofs.Resting.{kept_rested, left_rested, round_rested}
 
 abbrev Shards : Type 0
@@ -46,7 +50,7 @@ pub record RoundDone (d : Desk) (heard : BillingState) (moment wall : ℕ) (item
   pub allows : Allows heard d.shards round
   pub formed : List FormedRecord
   pub forms : Forms heard formed accounts.billing
-  pub of_round : FormsRecords d.shards moment wall round formed
+  pub of_round : FormsRecords d.shards moment wall round d.reports accounts.reports heard formed accounts.billing
   pub drops_are : drops ≡ (after_round d items round).drops
   pub tallies_are : tally ∷ [] ≡ (after_round d items round).tallies
   pub told : ExtendsPlant old new (round_stretch round)
@@ -55,7 +59,7 @@ pub record RoundDone (d : Desk) (heard : BillingState) (moment wall : ℕ) (item
   pub kept_is : kept ≡ (after_round d items round).kept
 
 abbrev accounts_of : Desk → BillingState → Accounts
-accounts_of d heard = record { lines = d.lines; stopped = d.stopped_traffic; billing = heard }
+accounts_of d heard = record { lines = d.lines; stopped = d.stopped_traffic; billing = heard; reports = d.reports }
 
 -- a round over shards is one over these shards at rest
 states_rested : (vs : Shards) (xs : List (ShardView ShardState Handled)) → handled_states (map rested vs) xs ≡ handled_states vs xs
@@ -72,6 +76,9 @@ allows_rested b vs round shards same allows =
     subst (λ (xs : Shards). Allows b xs (Some round)) (sym same)
     (allows ∙ sym (allowances_rested (free_in b) (length vs) vs) ∙ ap (λ (n : ℕ). map (allowance_of (free_in b) n) (map rested vs)) (sym (length-map vs rested)))
 
+forms_more : (a b c : BillingState) (fs gs : List FormedRecord) → Forms a fs b → Forms b gs c → Forms a (fs ++ gs) c
+forms_more a b c fs gs = chain_append (λ x (f : FormedRecord) y. IsFormedBy x f.status f.facts f.moment f.number y) a b c fs gs
+
 pub round_done : (d : Desk) (heard : BillingState) (named : Named) (items : List Item) (p p' : PlantTold) (vs ws : Shards) (pool' : PlainView) (accounts' : Accounts) (drops' : Drops) (tally tally' : Book) (told_is : RoundRecord) (opened : Bool) (kept : List Item) → Holds d.rules d.pool pool' (accounts_of d heard) accounts' named items p p' vs ws d.drops drops' tally tally' told_is opened kept
     → d.shards ≡ map rested vs → d.tallies ≡ tally ∷ [] → named.number ≡ d.told + 1 → RoundDone d heard named.moment named.wall items p p' (map rested ws) pool' accounts' drops' tally' told_is opened kept
 round_done d heard named items p p' vs ws pool' accounts' drops' tally tally' told_is opened kept (inl (opened_is, kept_is, h)) shards tallies number =
@@ -79,23 +86,32 @@ round_done d heard named items p p' vs ws pool' accounts' drops' tally tally' to
     let lists : List (List Item) = items ∷ [] in
     let states : handled_states h.ready h.held.round.shards ≡ handled_states d.shards h.held.round.shards =
     sym (states_rested h.ready h.held.round.shards) ∙ ap (λ (xs : Shards). handled_states xs h.held.round.shards) same in
+    let live : List ShardState = map (λ (x : ShardView ShardState Handled). x.state) h.held.round.shards in
+    let same_reports : h.held.started.reports ≡ d.reports = h.held.begins.reports_are ∙ h.held.ends.reports_are in
     record {
       round = Some h.held.round;
       is = subst (λ (bs : List Book). IsRound d.rules d.shards d.pool bs named.moment lists h.held.round) (sym tallies)
           (subst (λ (xs : Shards). IsRound d.rules xs d.pool (tally ∷ []) named.moment lists h.held.round) same (round_rested d.rules h.ready d.pool (tally ∷ []) named.moment lists h.held.round h.held.is));
       shards_are = left_rested ws h.held.round.shards h.held.shards_are;
       pool_is = sym h.held.pool_is;
-      lines_are = h.held.begins.lines_are ∙ h.held.ends.lines_are;
-      stopped_is = h.held.begins.stopped_is ∙ h.held.ends.stopped_is;
+      lines_are = h.held.reports.lines_are ∙ h.held.begins.lines_are ∙ h.held.ends.lines_are;
+      stopped_is = h.held.reports.stopped_is ∙ h.held.begins.stopped_is ∙ h.held.ends.stopped_is;
       allows = allows_rested heard vs h.held.round d.shards shards h.allows;
-      formed = h.held.ends.formed ++ h.held.begins.formed;
-      forms = chain_append (λ b (f : FormedRecord) b'. IsFormedBy b f.status f.facts f.moment f.number b') heard h.held.mid.billing accounts'.billing h.held.ends.formed h.held.begins.formed h.held.ends.forms h.held.begins.forms;
+      formed = h.held.ends.formed ++ (h.held.begins.formed ++ h.held.reports.formed);
+      forms = forms_more heard h.held.mid.billing accounts'.billing h.held.ends.formed (h.held.begins.formed ++ h.held.reports.formed) h.held.ends.forms
+          (forms_more h.held.mid.billing h.held.started.billing accounts'.billing h.held.begins.formed h.held.reports.formed h.held.begins.forms
+          (interims_form (terms_in live) named.moment named.wall h.held.started.billing (owed_by named.moment h.held.round.shards h.held.started.reports) h.held.reports.formed accounts'.billing h.held.reports.forms));
       of_round = record {
         stops = h.held.ends.formed;
         starts = h.held.begins.formed;
+        interims = h.held.reports.formed;
         are = refl;
         are_stops = subst (λ (ss : List ShardState). AllZip (IsStopOf (terms_in ss) named.moment named.wall) (stops_of h.held.round) h.held.ends.formed) states h.held.ends.are_stops;
         are_starts = subst (λ (ss : List ShardState). AllZip (IsStartOf (news_in ss) named.moment named.wall) (starts_of h.held.round) h.held.begins.formed) states h.held.begins.are_starts;
+        started = h.held.started.billing;
+        forms = forms_more heard h.held.mid.billing h.held.started.billing h.held.ends.formed h.held.begins.formed h.held.ends.forms h.held.begins.forms;
+        reported = subst (λ (rs : List Reports). FormsInterims (terms_in live) named.moment named.wall h.held.started.billing (owed_by named.moment h.held.round.shards rs) h.held.reports.formed accounts'.billing) same_reports h.held.reports.forms;
+        taken = subst (λ (rs : List Reports). Zip3 (TakesInterims named.moment) h.held.round.shards rs accounts'.reports) same_reports h.held.reports.taken;
       };
       drops_are = h.held.drops_are;
       tallies_are = sym h.held.tallies_are;
@@ -116,7 +132,7 @@ round_done d heard named items p p' vs ws pool' accounts' drops' tally tally' to
       allows = tt;
       formed = [];
       forms = ap (λ (a : Accounts). a.billing) h.accounts_are;
-      of_round = refl;
+      of_round = (refl, ap (λ (a : Accounts). a.reports) h.accounts_are, ap (λ (a : Accounts). a.billing) h.accounts_are);
       drops_are = h.drops_are;
       tallies_are = ap (λ (b : Book). let bs : List Book = b ∷ [] in bs) h.tally_is ∙ sym tallies;
       told = subst (λ (q : PlantTold). ExtendsPlant p q plant_none) (sym h.told) (plant_stays p);

@@ -53,6 +53,7 @@ module _ (d : Desk) (w w' : Works) (draws : Drawn) (none : Vec Item Global) (lis
           formed = done.formed;
           records = done.records;
           billing = billing;
+          reports = w'.accounts.reports;
         });
         answer = result_is;
         step = (

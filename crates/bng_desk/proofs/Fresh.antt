@@ -1,5 +1,6 @@
 -- The shards of a desk that was just opened.
-use Rattle.std.proofs.Common.{◌≡◌, ℕ, ◌*◌, ◌<◌, ◌≤◌, ◌^◌, Bool, true, false, cond, List, [], ◌∷◌, map, length, get_or, refl, sym, ap, subst, ◌∙◌, arith}
+use Rattle.std.proofs.Common.{◌≡◌, ℕ, ◌*◌, ◌<◌, ◌≤◌, ◌^◌, Bool, true, false, cond, List, [], ◌∷◌, Option, None, Some, map, length, get_or, refl, sym, ap, subst, ◌∙◌, arith}
+use Rattle.std.specs.Option.{IfSome}
 use Rattle.std.specs.List.{All, range_with_len, sum_by}
 use Rattle.std.proofs.lemmas.List.Elements.{All-map}
 use Rattle.std.proofs.lemmas.List.Sums.{sum_by-cons}
@@ -12,6 +13,7 @@ use Rattle.bng_engine.specs.Quantities.{Quantity, Octets, Packets, in_book, empt
 use Rattle.bng_engine.specs.Sums.{has_lease, is_any}
 use Rattle.bng_engine.specs.Views.{ShardView, Row, new_row, rows_where}
 use Rattle.bng_engine.specs.Terms.{Key, keys}
+use Rattle.bng_shard.specs.Interims.{Reports, interim_at, no_reports}
 use Rattle.bng_shard.specs.Protocol.{HasPools, ShardState, opened, terms_of}
 use Rattle.bng_shard.specs.Questions.{none_handed}
 use Rattle.bng_shard.specs.Sums.{IsLow, AreLow, RowsAreLow}
@@ -22,6 +24,7 @@ use Rattle.bng_desk.specs.declared.drops.Drops.{Drops}
 use Rattle.bng_desk.specs.declared.line.Line.{Line}
 use Rattle.bng_desk.specs.Accounting.{AreBilled, KnowsBegun}
 use Rattle.bng_desk.specs.Counting.{Within, no_drops}
+use Rattle.bng_desk.specs.Interims.{AreAwaited, AwaitsAt}
 use Rattle.bng_desk.specs.Kept.{IsKept, IsUnended, is_verdict, all_turns, rested, octets_most, drops_most}
 use Rattle.bng_desk.specs.Model.{Desk, keys_in, no_traffic}
 use Rattle.bng_desk.specs.Opening.{line_of}
@@ -92,6 +95,18 @@ module _ (rules : Rules) (statics : ℕ → List Static) (now : ℕ) where
   live_none input [] = refl
   live_none input (n ∷ ns) = omega (arith, sum_by-cons (live_by input) (fresh n) (map fresh ns), none_carried Octets is_any input (keys (terms_of (fresh n).state)), live_none input ns)
 
+-- an Interim may be due at any moment
+any_moment : (o : Option ℕ) → IfSome o (λ at. 0 ≤ at)
+any_moment None = tt
+any_moment (Some at) = omega arith
+
+any_awaits : (moment : ℕ) (v : ShardView ShardState Entry) → AwaitsAt moment v no_reports
+any_awaits moment v = record { awaits = λ n x is. any_moment (interim_at no_reports.last x); soon = omega arith }
+
+fresh_awaited : (moment : ℕ) (f : ℕ → ShardView ShardState Entry) (ns : List ℕ) → AreAwaited moment (map f ns) (map (λ (n : ℕ). no_reports) ns)
+fresh_awaited moment f [] = tt
+fresh_awaited moment f (n ∷ ns) = (any_awaits moment (f n), fresh_awaited moment f ns)
+
 none_stopped : (input : Bool) (c : Static) → stopped_in input (line_of c) ≡ 0
 none_stopped true c = refl
 none_stopped false c = refl
@@ -110,8 +125,8 @@ fresh_sum rules statics now ns input = omega (arith, nothing_of input, live_none
 
 -- a desk with such shards, in which nothing has happened
 pub kept_fresh : (d : Desk) (statics : ℕ → List Static) (now : ℕ) (cs : List Static) → d.shards ≡ map (λ n. opened n d.rules (statics n) now) (range_with_len 0 d.rules.shards) → All HasFewSessions d.shards → d.lines ≡ map line_of cs → d.stopped_traffic ≡ no_traffic → 1 ≤ length d.rules.access → length d.rules.access ≤ 16 → 1 ≤ d.rules.shards → d.rules.shards ≤ 64
-    → HasPools d.rules.pools d.pool.ranges → d.pool.shards ≡ d.rules.shards → All (HoldsOwn d.pool.table) d.shards → All (KeepsTerms d.moment) d.shards → d.rounds ≤ 2 ^ 40 → d.turns ≡ 0 → d.endings ≡ 0 → d.unopened ≡ 0 → d.closed ≡ false → d.told ≡ 0 → d.drawn ≡ 1 → d.drops ≡ no_drops → d.tallies ≡ empty_book ∷ [] → d.kept ≡ [] → d.handed ≡ map (λ n. none_handed) (range_with_len 0 d.rules.shards) → d.closing ≡ d.moment → d.graces ≡ 0 → AreBilled (keys_in d.shards) d.billing → KnowsBegun d.shards d.billing → IsKept d
-kept_fresh d statics now cs shards few lines stopped some_port few_ports some_shard few_shards pools places held terms most turns endings unopened closed told drawn drops tallies kept handed closing graces billed knows =
+    → HasPools d.rules.pools d.pool.ranges → d.pool.shards ≡ d.rules.shards → All (HoldsOwn d.pool.table) d.shards → All (KeepsTerms d.moment) d.shards → d.rounds ≤ 2 ^ 40 → d.turns ≡ 0 → d.endings ≡ 0 → d.unopened ≡ 0 → d.closed ≡ false → d.told ≡ 0 → d.drawn ≡ 1 → d.drops ≡ no_drops → d.tallies ≡ empty_book ∷ [] → d.kept ≡ [] → d.handed ≡ map (λ n. none_handed) (range_with_len 0 d.rules.shards) → d.reports ≡ map (λ n. no_reports) (range_with_len 0 d.rules.shards) → d.closing ≡ d.moment → d.graces ≡ 0 → AreBilled (keys_in d.shards) d.billing → KnowsBegun d.shards d.billing → IsKept d
+kept_fresh d statics now cs shards few lines stopped some_port few_ports some_shard few_shards pools places held terms most turns endings unopened closed told drawn drops tallies kept handed reports closing graces billed knows =
     let staying = subst (λ (is : List Item). AreKept d is) (sym kept) (none_kept d) in
     let unended : IsUnended d = record { endings = endings; unopened = unopened; closed = closed; graces = graces } in
     let count = ap (λ (xs : List (ShardView ShardState Entry)). length xs) shards ∙ length-map-range_with_len (λ (n : ℕ). opened n d.rules (statics n) now) 0 d.rules.shards in
@@ -155,4 +170,7 @@ kept_fresh d statics now cs shards few lines stopped some_port few_ports some_sh
       graces = omega (arith, graces);
       billed = billed;
       knows = knows;
+      awaited = subst (λ (rs : List Reports). AreAwaited d.moment d.shards rs) (sym reports)
+          (subst (λ (xs : List (ShardView ShardState Entry)). AreAwaited d.moment xs (map (λ n. no_reports) (range_with_len 0 d.rules.shards))) (sym shards)
+          (fresh_awaited d.moment (λ n. opened n d.rules (statics n) now) (range_with_len 0 d.rules.shards)));
     }

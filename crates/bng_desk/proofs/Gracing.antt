@@ -19,6 +19,7 @@ use Rattle.bng_desk.specs.Kept.{IsKept}
 use Rattle.bng_desk.specs.Model.{Desk, grace_most, keys_in}
 use Rattle.bng_desk.specs.Reading.{is_empty}
 use Rattle.bng_desk.specs.Turn.{Closes, MakesGrace, reading_stretch, wait_for, waiting_stretch}
+use Rattle.bng_desk.proofs.Awaited.{awaited_later}
 use Rattle.bng_desk.proofs.Billed.{billed_kept, closed_billed, heard_keeps, settled_keeps}
 use Rattle.bng_desk.proofs.Keeping.{Graces, IsLeft}
 use Rattle.bng_desk.proofs.Knowing.{closed_forgets, heard_forgets, knows_less, settled_forgets, terms_later}
@@ -46,6 +47,7 @@ left_closed d moment w ended billing agree closes l = record {
   handed_is = l.handed_is;
   billed = closed_billed (keys_in w.shards.items) ended w.accounts.billing billing closes l.billed;
   knows = knows_less w.shards.items w.accounts.billing billing (closed_forgets ended w.accounts.billing billing agree closes) l.knows;
+  awaited = l.awaited;
 }
 
 -- the moment of the last round of Ends is no later than that of the turn
@@ -98,6 +100,7 @@ module _ (d : Desk) (w : Works) (heard billing : BillingState) (moment : ℕ) (q
         (billed_kept (keys_in w.shards.items) w.accounts.billing heard (heard_keeps w.accounts.billing heard takes.acknowledged takes.hears) k.billed);
     knows = knows_less w.shards.items heard billing (settled_forgets moment heard billing sends.requests sends.settles)
         (knows_less w.shards.items w.accounts.billing heard (heard_forgets w.accounts.billing heard takes.acknowledged takes.hears) k.knows);
+    awaited = awaited_later d.moment moment w.shards.items w.accounts.reports later k.awaited;
   }
 
   pub graced : d.moment ≤ moment → (due : Option ℕ) → IsDeadline (places_of billing) due → (wait : ℕ) → wait ≡ wait_for (earliest due (Some (d.closing + grace_most))) moment → (p₃ : PlantTold) → ExtendsPlant p₂ p₃ (waiting_stretch quiet wait)

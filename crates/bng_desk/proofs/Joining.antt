@@ -40,10 +40,11 @@ use Rattle.bng_desk.specs.declared.holding.Named.{Named}
 use Rattle.bng_desk.specs.Counting.{plus, drops_of}
 use Rattle.bng_desk.specs.Items.{entries_in, loose_in, all_loose, stands_in, without_claim}
 use Rattle.bng_desk.specs.Round.{Round, AreClaimed, AreParts, StandsWithin, views_of, IsReturned, held_by, entries_of, of_seat, is_failed, with_failed, fates_in, handled_states, news_in, sends_stretch, starts_of, stops_of, terms_in}
-use Rattle.bng_desk.specs.Taking.{Accounts, BeginsAll, BegunTo, BooksStarts, BooksStops, HasAllowance, HasFewSessions, AreDealt, Deals, Falls, IsTurning, AllTurn, OwesNone, ReapedTo, SendsAll, SentTo, ReapsAll, RoundHeld, Shown, Sight, states_of}
+use Rattle.bng_desk.specs.Taking.{Accounts, BeginsAll, BegunTo, BooksStarts, BooksStops, HasAllowance, HasFewSessions, AreDealt, Deals, Falls, IsTurning, AllTurn, OwesNone, ReapedTo, ReportsAll, SendsAll, SentTo, ReapsAll, RoundHeld, Shown, Sight, states_of}
 use Rattle.bng_desk.proofs.Dealing.{Seens}
 use Rattle.bng_desk.proofs.DropLaws.{same}
 use Rattle.bng_desk.proofs.Growing.{states_handled}
+use Rattle.bng_desk.proofs.Owed.{reports_left}
 use Rattle.bng_desk.proofs.Readying.{Shards, all_onward}
 use Rattle.bng_desk.proofs.Settles.{as_seen}
 use Rattle.bng_desk.proofs.Returning.{gives_back}
@@ -291,8 +292,8 @@ module _ (r : Rules) (pool mid pool' : PlainView) (a b c : Accounts) (named : Na
       ∙ same_allowances (λ x z. z.allowance ≡ x.allowance) (λ x z e. e) ws us (zip3_left SentTo (λ x z. z.allowance ≡ x.allowance) (λ x z ks h. h.allowance) ws us s.sends s.each)
       ∙ same_allowances HasAllowance (λ x z e. e) vs ws deals.allowances
 
-  pub round_held : (told : RoundRecord) → told ≡ told_of named (allowances_in zs) journals loose outs → RoundHeld r pool pool' a c named items p p' vs zs d d'' t t'' told
-  round_held told is =
+  pub round_held : (e : Accounts) → ReportsAll named.moment named.wall zs c e → (told : RoundRecord) → told ≡ told_of named (allowances_in zs) journals loose outs → RoundHeld r pool pool' a e named items p p' vs zs d d'' t t'' told
+  round_held e reported told is =
       let settled = as_seen ws (views_of vs) deals.seen us s.sends left y.stops zs n.starts turned s.each y.each n.each (views_owe vs none) in
       let xs = settled.settled in
       let seen = settled.is in
@@ -330,9 +331,11 @@ module _ (r : Rules) (pool mid pool' : PlainView) (a b c : Accounts) (named : Na
         mid = b;
         ends = subst (λ (ss : List ShardState). BooksStops (terms_in ss) named.moment named.wall (stops_of round) a b) (sym states)
             (subst (λ (ss : List Stop). BooksStops (terms_in (states_of us)) named.moment named.wall ss a b) seen.stops y.booked);
+        started = c;
         begins = subst (λ (ss : List ShardState). BooksStarts (news_in ss) named.moment named.wall (starts_of round) b c) (sym states)
             (subst (λ (ts : List Tenure). BooksStarts ts named.moment named.wall (starts_of round) b c) (reaped_news us left y.stops y.each)
             (subst (λ (ks : List Key). BooksStarts (news_in (states_of left)) named.moment named.wall ks b c) seen.starts n.booked));
+        reports = reports_left named.moment named.wall zs xs c e seen.left reported;
         allowed = allowed;
         tallies_are = refl;
         drops_are = s.drops_are

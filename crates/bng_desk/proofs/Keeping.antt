@@ -23,6 +23,7 @@ use Rattle.bng_verdict.specs.declared.question.QuestionNo.{QuestionNo}
 use Rattle.bng_desk.specs.declared.reading.Ended.{Ended as Reading}
 use Rattle.bng_desk.specs.declared.reading.Ended.TheVariants.{Full, Dry, Broken}
 use Rattle.bng_desk.specs.Intake.{Gathers}
+use Rattle.bng_desk.specs.Interims.{AreAwaited}
 use Rattle.bng_desk.specs.Kept.{IsKept, IsUnended, Stays, is_verdict, all_turns, octets_most, drops_most}
 use Rattle.bng_desk.specs.Logins.{Answered, reply_in, reply_items}
 use Rattle.bng_desk.specs.Model.{Desk, keys_in, is_over, grace_is_over, graces_most, grace_most, has_ended, has_starved, left_of, rounds_left, sessions_in, state_of, unopened_most}
@@ -170,6 +171,7 @@ pub record IsLeft (d : Desk) (moment : ℕ) (w : Works) : Type 0 where
   pub handed_is : length w.handed.items ≡ length d.handed
   pub billed : AreBilled (keys_in w.shards.items) w.accounts.billing
   pub knows : KnowsBegun w.shards.items w.accounts.billing
+  pub awaited : AreAwaited moment w.shards.items w.accounts.reports
 
 -- what stays of the round
 pub record AreKept (d : Desk) (kept : List Item) : Type 0 where
@@ -223,6 +225,7 @@ kept_served d w stopped moment told k serves turns later l up staying verdicts =
       graces = k.graces;
       billed = l.billed;
       knows = l.knows;
+      awaited = l.awaited;
     }
 
 -- what a turn of the ending leaves of those that there may be
@@ -285,6 +288,7 @@ kept_ended d w unopened closed closing moment told k over near later before l up
   graces = k.graces;
   billed = l.billed;
   knows = l.knows;
+  awaited = l.awaited;
 }
 
 -- the number of the last round that the trace took rises by one at most

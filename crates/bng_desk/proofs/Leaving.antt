@@ -16,6 +16,7 @@ use Rattle.bng_desk.specs.Model.{Desk, keys_in, sessions_in}
 use Rattle.bng_desk.specs.Random.{Drawn}
 use Rattle.bng_desk.specs.Settlement.{AreBlank, IsReady, KeepsWorks, Settles}
 use Rattle.bng_desk.specs.Taking.{Accounts, AreItems, Holds, outs_of_items}
+use Rattle.bng_desk.proofs.Awaited.{awaited_later}
 use Rattle.bng_desk.proofs.DropLaws.{within_wider}
 use Rattle.bng_desk.proofs.Dwindling.{Nears, all_work, nears}
 use Rattle.bng_desk.proofs.Joining.{low_wider, books_wider}
@@ -50,6 +51,7 @@ module _ (d : Desk) (w : Works) (heard : BillingState) (lane : LaneState) (draws
         adds_up = k.adds_up;
         billed = billed;
         knows = knows;
+        awaited = awaited_later d.moment named.moment w.shards.items w.accounts.reports later k.awaited;
         moment = early;
         counts = within_wider (drops_most * turns) (2 ^ 61) w.drops (omega (arith, k.made, k.most, k.endings)) k.counts;
         drawn = omega (arith, few, k.drawn, k.made, k.most, k.endings);
@@ -105,4 +107,5 @@ module _ (d : Desk) (w w' : Works) (heard : BillingState) (lane : LaneState) (dr
     handed_is = keeps.handed;
     billed = keeps.billed;
     knows = keeps.knows;
+    awaited = keeps.awaited;
   }

@@ -22,6 +22,7 @@ pub mod TermsLeft
 pub mod Beginning
 pub mod ShardKeys
 pub mod Reaping
+pub mod Reporting
 pub mod Admitting
 pub mod Dealing
 pub mod Asking
@@ -30,8 +31,10 @@ pub mod Dealt
 pub mod RefusedLaws
 pub mod Staying
 pub mod Outfit
+pub mod Owed
 pub mod Joining
 pub mod Overs
+pub mod Awaited
 pub mod Tallied
 pub mod SameTerms
 pub mod Knowing

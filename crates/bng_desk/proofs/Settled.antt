@@ -35,7 +35,7 @@ pub record SettlementDone (d : Desk) (heard : BillingState) (lane : LaneState) (
   pub formed : List FormedRecord
   pub booked : BillingState
   pub forms : Forms heard formed booked
-  pub of_round : FormsRecords d.shards named.moment named.wall round formed
+  pub of_round : FormsRecords d.shards named.moment named.wall round d.reports w'.accounts.reports heard formed booked
   pub requests : Requests
   pub asks : SettlesLane named.moment lane (after_round d items round).shards d.handed d.seed drawn requests w'.lane w'.handed.items
   pub records : RecordRequests
@@ -43,7 +43,7 @@ pub record SettlementDone (d : Desk) (heard : BillingState) (lane : LaneState) (
   pub told : ExtendsPlant p p' (plant_joined (round_stretch round) (plant_joined (requests_stretch lane.client.auth_server requests) (records_stretch heard.client.acct_server records)))
   pub opened_is : s.is_opened ≡ is_opened round
   pub rounds : Grows t.rounds t'.rounds (told_if s.noted (round_told d named.moment named.wall items round))
-  pub after : seen_with d w' ≡ record (after_round d items round) { drawn = drawn + length requests.asked; lane = w'.lane; handed = w'.handed.items; billing = w'.accounts.billing }
+  pub after : seen_with d w' ≡ record (after_round d items round) { drawn = drawn + length requests.asked; lane = w'.lane; handed = w'.handed.items; billing = w'.accounts.billing; reports = w'.accounts.reports }
 
 module _ (d : Desk) (w w' : Works) (heard : BillingState) (lane : LaneState) (draws : Drawn) (none : Vec Item Global) (lists : Lists) (named : Named) (items : List Item) (p p' : PlantTold) (t t' : TraceTold) (settled : Settled) where
   pub settlement_done : named.number ≡ d.told + 1 → Settles d.rules named items (gathered w heard lane draws none lists) w' p p' t t' settled → (all : List Item) → items ≡ all → (drawn : ℕ) → draws ≡ record { seed = w.draws.seed; drawn = drawn }
@@ -61,7 +61,7 @@ module _ (d : Desk) (w w' : Works) (heard : BillingState) (lane : LaneState) (dr
       let billed = subst (λ (to : Peer). ExtendsPlant s.asked p' (records_stretch to s.bills.requests)) (forms_server done.formed heard s.booked done.forms) s.bills.told in
       let drew_all : w'.draws ≡ record { seed = w.draws.seed; drawn = drawn + length q.asked } = s.asks.draws_are ∙ ap (λ (x : Drawn). let y : Drawn = record x { drawn = x.drawn + length q.asked } in y) drew in
       let with_draws = λ (x : Drawn). let y : Desk = record (seen_with d w') { seed = x.seed; drawn = x.drawn } in y in
-      let settled_as = λ (x : Desk). let y : Desk = record x { drawn = drawn + length q.asked; lane = w'.lane; handed = w'.handed.items; billing = w'.accounts.billing } in y in
+      let settled_as = λ (x : Desk). let y : Desk = record x { drawn = drawn + length q.asked; lane = w'.lane; handed = w'.handed.items; billing = w'.accounts.billing; reports = w'.accounts.reports } in y in
       record {
         round = done.round;
         is = done.is;

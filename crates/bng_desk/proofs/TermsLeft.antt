@@ -1,9 +1,11 @@
 -- The terms of a shard once one of them has left, or is told to have begun.
-use Rattle.std.proofs.Common.{◌≡◌, ℕ, Bool, true, false, not, cond, List, [], ◌∷◌, ◌++◌, map, filter, refl, sym, ap, subst, ◌∙◌, append_assoc}
+use Rattle.std.proofs.Common.{◌≡◌, ◌≤◌, ℕ, Bool, true, false, not, cond, List, [], ◌∷◌, ◌++◌, map, filter, refl, sym, ap, subst, ◌∙◌, append_assoc, arith}
 use Rattle.std.specs.List.{All, AllPairs}
-use Rattle.std.proofs.lemmas.List.Elements.{All-head, All-tail}
+use Rattle.std.proofs.lemmas.List.Elements.{All-head, All-tail, recursion_from_All}
 use Rattle.bng_acct.specs.Request.{AreClasses}
+use Rattle.bng_engine.specs.Lists.{AnyOf}
 use Rattle.bng_engine.specs.Terms.{Key, Term, is_ended, keys}
+use Rattle.bng_engine.proofs.Everywhere.{any_all}
 use Rattle.bng_radius_wire.specs.Attributes.{Field}
 use Rattle.bng_shard.specs.Lasting.{AreTenures, IsTenureOf, Precedes}
 use Rattle.bng_shard.specs.Protocol.{SaysOf, TellsNew, key_in, term_in}
@@ -66,6 +68,18 @@ it_was P ts ts' t l all = one_of P l.before l.after t (subst (λ (us : List Tenu
 pub its_classes : (shard begun moment : ℕ) (t : Tenure) (user class : List ℕ) (began : ℕ) (k : Key) → IsTenureOf shard begun moment t → SaysOf user class began k t → (classes : List Field) × AreClasses classes class
 its_classes shard begun moment t user class began k is says =
     (is.classes, subst (λ (os : List ℕ). AreClasses is.classes os) says.class_is (record { whole = is.class.whole; classes_all = is.class.classes_all; few = is.class.few }))
+
+-- what a term says that is there is whole, and it began by now
+module _ (moment : ℕ) (s : State) (tenures : AreTenures moment s) (user class : List ℕ) (began : ℕ) (k : Key) (any : AnyOf (SaysOf user class began k) s.terms) where
+  pub says_classes : (classes : List Field) × AreClasses classes class
+  says_classes =
+      let is = IsTenureOf s.sessions.shard s.begun moment in
+      any_all (SaysOf user class began k) is ((classes : List Field) × AreClasses classes class) (λ t says here. its_classes s.sessions.shard s.begun moment t user class began k here says) s.terms any (recursion_from_All is s.terms tenures.each)
+
+  pub says_began : began ≤ moment
+  says_began =
+      let is = IsTenureOf s.sessions.shard s.begun moment in
+      any_all (SaysOf user class began k) is (began ≤ moment) (λ t says here. omega (arith, here.began, says.began_is)) s.terms any (recursion_from_All is s.terms tenures.each)
 
 module _ (moment : ℕ) (s s' : State) (t : Tenure) where
   -- one has left by its Stop

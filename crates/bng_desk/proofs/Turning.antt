@@ -90,6 +90,7 @@ module _ (d : Desk) (w w' : Works) (heard : BillingState) (lane : LaneState) (dr
         records = done.records;
         billing = w'.accounts.billing;
         record_deadline = record_due;
+        reports = w'.accounts.reports;
       } in
       let after_as : after_turn (seen_with d w') stopped moment told' ≡ after was turn =
       ap (λ (b : Bool). after_turn (seen_with d w') b moment told') (stopped_is ∙ ap (λ (b : Bool). d.stopped || b) heeds.stop)

@@ -24,6 +24,7 @@ with_works d w shards = record d {
   lane = w.lane;
   handed = w.handed.items;
   billing = w.accounts.billing;
+  reports = w.accounts.reports;
   kept = w.kept.items;
 }
 

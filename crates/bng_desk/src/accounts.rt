@@ -23,7 +23,7 @@ ghost use Rattle.bng_desk.specs.Taking.{BooksStarts, BooksStops, HasRoomFor, Kee
 ghost use Rattle.bng_desk.specs.Turn.{Closes};
 
 use crate::acknowledgements::take_acknowledgements;
-use crate::interims::report;
+use crate::interims::report_each;
 use crate::line::Line;
 use crate::records::send_records;
 use crate::unanswered::unanswered;
@@ -155,15 +155,8 @@ impl Accounts {
         ensures held { KeepsHeld self.old.billing self.new.billing }
         ensures awaited { AreAwaited moment shards.now self.new.reports }
     {
-        for (place, shard) in shards.iter().enumerate() {
-            report(
-                shard,
-                &mut self.reports[place],
-                &mut self.billing,
-                moment,
-                wall,
-            );
-        }
+        let reports = self.reports.as_mut_slice();
+        report_each(shards, reports, &mut self.billing, moment, wall);
     }
 
     /// For how many terms there is room beside those that are live or have an open record. What it knows of terms agrees with the records

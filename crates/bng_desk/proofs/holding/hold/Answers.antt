@@ -12,6 +12,7 @@ use Rattle.bng_desk.specs.Counting.{Within}
 use Rattle.bng_desk.specs.Items.{is_from_outside}
 use Rattle.bng_desk.specs.Kept.{octets_most, drops_most}
 use Rattle.bng_desk.specs.Round.{refused_of}
+use Rattle.bng_desk.proofs.Awaited.{awaited_held}
 use Rattle.bng_desk.proofs.Joining.{sessions_kept, low_kept, low_wider, books_kept, books_wider}
 use Rattle.bng_desk.proofs.OneMore.{low_more}
 use Rattle.bng_desk.proofs.Readying.{WorksBy, all_onward, order_kept}
@@ -48,6 +49,9 @@ opened-requires-clause-terms g c = terms_held c.args.named.moment c.args.shards.
 pub opened-requires-clause-knows : goal.opened-requires-clause-knows
 opened-requires-clause-knows g c = knows_held c.args.shards.now c.prepare_all.new.shards c.args.accounts.now.billing c.prepare_all.ensures.kept c.requires.knows
 
+pub opened-requires-clause-awaited : goal.opened-requires-clause-awaited
+opened-requires-clause-awaited g c = awaited_held c.args.named.moment c.args.shards.now c.prepare_all.new.shards c.args.accounts.now.reports c.prepare_all.ensures.kept c.requires.awaited
+
 pub opened-requires-clause-ready : goal.opened-requires-clause-ready
 opened-requires-clause-ready g c =
     let shards = c.args.shards.now in
@@ -80,6 +84,9 @@ returns-clause-terms g c = terms_held c.args.named.moment c.args.shards.now c.pr
 
 pub returns-clause-knows : goal.returns-clause-knows
 returns-clause-knows g c = knows_held c.args.shards.now c.prepare_all.new.shards c.args.accounts.now.billing c.prepare_all.ensures.kept c.requires.knows
+
+pub returns-clause-awaited : goal.returns-clause-awaited
+returns-clause-awaited g c = awaited_held c.args.named.moment c.args.shards.now c.prepare_all.new.shards c.args.accounts.now.reports c.prepare_all.ensures.kept c.requires.awaited
 
 pub returns-then-prepare_all-clause-round : goal.returns-then-prepare_all-clause-round
 returns-then-prepare_all-clause-round g c =

@@ -1,20 +1,23 @@
-use Rattle.std.proofs.Common.{◌≡◌, ℕ, ◌+◌, ◌*◌, ◌^◌, Bool, List, length, map, sum_by, ap, arith, ◌∙◌}
+use Rattle.std.proofs.Common.{◌≡◌, ℕ, ◌+◌, ◌*◌, ◌^◌, Bool, List, length, map, sum_by, sym, ap, subst, arith, ◌∙◌}
 use Rattle.std.specs.List.{All, AllZip}
 use Rattle.std.proofs.lemmas.List.{length-replicate}
 use Rattle.std.proofs.lemmas.List.Elements.{recursion_from_All}
 use Rattle.bng_base.specs.declared.item.Entry.{Entry}
 use Rattle.bng_engine.specs.Quantities.{Octets, in_book}
 use Rattle.bng_engine.specs.Views.{ShardView}
+use Rattle.bng_shard.specs.Interims.{Reports}
 use Rattle.bng_shard.specs.Lasting.{AreTenures}
 use Rattle.bng_shard.specs.Protocol.{ShardState, key_in}
 use Rattle.bng_desk.specs.Accounting.{AreSettling}
+use Rattle.bng_desk.specs.Interims.{AreAwaited}
 use Rattle.bng_desk.specs.Kept.{octets_most, drops_most}
 use Rattle.bng_desk.specs.Model.{keys_in}
 use Rattle.bng_desk.specs.Round.{news_in}
 use Rattle.bng_desk.specs.Taking.{AddsUp, AllTurn, AreTallied, BegunTo, HasFewSessions, IsEmpty, KeepsTerms, OwesNone, ReapedTo, SentTo, Shown, states_of}
 use Rattle.bng_desk.proofs.Dealt.{dealt_books, dealt_count, dealt_rows}
 use Rattle.bng_desk.proofs.DropLaws.{within_wider}
-use Rattle.bng_desk.proofs.Growing.{Grown, all_grown, all_worked, moments_dealt}
+use Rattle.bng_desk.proofs.Awaited.{awaited_over, knows_as}
+use Rattle.bng_desk.proofs.Growing.{Grown, Worked, all_grown, all_worked, moments_dealt}
 use Rattle.bng_desk.proofs.Joining.{HasLow, HasLowBooks, all_turn, all_turning, allowances_in, books_wider, dealt_covered, round_held, told_as}
 use Rattle.bng_desk.proofs.Newcomers.{are_settling}
 use Rattle.bng_desk.proofs.OneMore.{low_more}
@@ -88,16 +91,19 @@ module _ (g : Over) (c : After-send_all g) where
   turning : AllTurn c.deal_all.new.shards
   turning = all_turn c.args.rules.now c.args.pool.now c.deal_all.new.pool c.args.named.moment c.args.lists.items.items c.args.shards.now c.deal_all.new.shards c.deal_all.new.loose.items c.args.drops.now c.deal_all.new.drops c.args.tally.now c.deal_all.new.tally c.deal_all.ensures.deals
 
-  -- each has grown by what its journal claimed
-  all_grow : AllZip (Grown c.args.named.moment) c.args.shards.now c.send_all.new.shards
-  all_grow =
+  -- each ran through its journal
+  all_ran : AllZip (Worked c.args.named.moment) c.args.shards.now c.send_all.new.shards
+  all_ran =
       let deals = c.deal_all.ensures.deals in
       let sent = c.send_all.ensures.sends in
       let moment = c.args.named.moment in
       let items = c.args.lists.items.items in
       let turns = all_turning c.args.rules.now c.args.pool.now c.deal_all.new.pool moment items c.args.shards.now c.deal_all.new.shards c.deal_all.new.loose.items c.args.drops.now c.deal_all.new.drops c.args.tally.now c.deal_all.new.tally deals in
-      all_grown moment c.args.shards.now c.send_all.new.shards (recursion_from_All (KeepsTerms moment) c.args.shards.now c.requires.terms)
-      (all_worked moment c.args.shards.now c.deal_all.new.shards deals.seen c.send_all.new.shards sent.sends turns sent.each deals.allowances (moments_dealt 0 moment items deals.whose deals.seen deals.dealt))
+      all_worked moment c.args.shards.now c.deal_all.new.shards deals.seen c.send_all.new.shards sent.sends turns sent.each deals.allowances (moments_dealt 0 moment items deals.whose deals.seen deals.dealt)
+
+  -- each has grown by what its journal claimed
+  all_grow : AllZip (Grown c.args.named.moment) c.args.shards.now c.send_all.new.shards
+  all_grow = all_grown c.args.named.moment c.args.shards.now c.send_all.new.shards (recursion_from_All (KeepsTerms c.args.named.moment) c.args.shards.now c.requires.terms) all_ran
 
   terms_there : All (λ (v : Shown). AreTenures c.args.named.moment v.state.slots) c.send_all.new.shards
   terms_there k d lt = (grown_tenures c.args.named.moment c.args.shards.now c.send_all.new.shards all_grow k d lt).tenures
@@ -140,6 +146,21 @@ module _ (g : Over) (c : After-begin_all g) where
   all_left : (P : Shown → Type 0) → ((w : Shown) → P w → P (started w)) → All P c.reap_all.new.shards → All P c.begin_all.new.shards
   all_left P f all = all_started c.reap_all.new.shards c.begin_all.new.shards c.begin_all.ensures.begins.starts c.begin_all.ensures.begins.each P f all
 
+pub report_all-requires-clause-terms : goal.report_all-requires-clause-terms
+report_all-requires-clause-terms g c k d lt =
+    let b = (goal.at.report_all-requires-clause-terms g c).After-send_all in
+    let reaped = c.reap_all.ensures.reaps in
+    let begun = c.begin_all.ensures.begins in
+    (terms_kept c.args.named.moment c.args.shards.now c.send_all.new.shards c.reap_all.new.shards c.begin_all.new.shards (all_grow g b) reaped.stops begun.starts reaped.each begun.each k d lt).tenures
+
+pub report_all-requires-clause-awaited : goal.report_all-requires-clause-awaited
+report_all-requires-clause-awaited g c =
+    let b = (goal.at.report_all-requires-clause-awaited g c).After-send_all in
+    let reaped = c.reap_all.ensures.reaps in
+    let begun = c.begin_all.ensures.begins in
+    subst (λ (rs : List Reports). AreAwaited c.args.named.moment c.begin_all.new.shards rs) (sym (begun.booked.reports_are ∙ reaped.booked.reports_are))
+    (awaited_over c.args.named.moment c.args.shards.now c.send_all.new.shards c.reap_all.new.shards c.begin_all.new.shards c.args.accounts.now.reports (all_ran g b) reaped.stops begun.starts reaped.each begun.each c.requires.awaited)
+
 pub note-requires : goal.note-requires
 note-requires g c = omega (arith, count_kept g (goal.at.note-requires g c).After-begin_all, ap (λ (ns : List ℕ). length ns) c.requires.allowances, length-replicate {A = ℕ} (length c.args.shards.now) 0)
 
@@ -157,7 +178,7 @@ returns-clause-round g c =
     round_held r c.args.pool.now c.deal_all.new.pool c.reap_all.new.pool c.args.accounts.now c.reap_all.new.accounts c.begin_all.new.accounts c.args.named items (told c.args.plant.now) (told c.send_all.new.plant) c.args.shards.now c.deal_all.new.shards c.send_all.new.shards c.reap_all.new.shards c.begin_all.new.shards
     c.deal_all.new.loose.items c.send_all.new.outs.items c.send_all.new.journals.items c.args.drops.now c.deal_all.new.drops c.send_all.new.drops c.args.tally.now c.deal_all.new.tally c.send_all.new.tally
     c.deal_all.ensures.deals c.send_all.ensures.sends c.reap_all.ensures.reaps c.begin_all.ensures.begins
-    (recursion_from_All OwesNone c.args.shards.now (λ k d lt. (c.requires.terms k d lt).owes_none)) c.recorded.result
+    (recursion_from_All OwesNone c.args.shards.now (λ k d lt. (c.requires.terms k d lt).owes_none)) c.report_all.new.self c.report_all.ensures.reports c.recorded.result
     (c.recorded.ensures
     ∙ told_as c.args.named c.note.new.allowances.items (allowances_in c.begin_all.new.shards) c.send_all.new.journals.items c.deal_all.new.loose.items c.send_all.new.outs.items c.args.lists.refused.items c.note.ensures c.requires.refused)
 
@@ -209,13 +230,13 @@ pub returns-clause-lines : goal.returns-clause-lines
 returns-clause-lines g c =
     let most = λ (input : Bool). in_book Octets input c.send_all.new.tally in
     let begun = c.begin_all.ensures.begins in
-    started_within most c.reap_all.new.shards c.begin_all.new.shards begun.starts c.reap_all.new.accounts.lines c.begin_all.new.accounts.lines begun.each begun.booked.lines_are
+    started_within most c.reap_all.new.shards c.begin_all.new.shards begun.starts c.reap_all.new.accounts.lines c.report_all.new.self.lines begun.each (c.report_all.ensures.reports.lines_are ∙ begun.booked.lines_are)
     (c.reap_all.ensures.within most (tallied g (goal.at.returns-clause-lines g c).After-send_all))
 
 pub returns-clause-adds_up : goal.returns-clause-adds_up
 returns-clause-adds_up g c input =
     let begun = c.begin_all.ensures.begins in
-    started_same input c.reap_all.new.shards c.begin_all.new.shards begun.starts c.reap_all.new.accounts.stopped c.begin_all.new.accounts.stopped begun.each begun.booked.stopped_is ∙ c.reap_all.ensures.same input
+    started_same input c.reap_all.new.shards c.begin_all.new.shards begun.starts c.reap_all.new.accounts.stopped c.report_all.new.self.stopped begun.each (c.report_all.ensures.reports.stopped_is ∙ begun.booked.stopped_is) ∙ c.reap_all.ensures.same input
     ∙ adds_up g (goal.at.returns-clause-adds_up g c).After-send_all input
 
 pub returns-clause-knows : goal.returns-clause-knows
@@ -223,8 +244,9 @@ returns-clause-knows g c =
     let b = (goal.at.returns-clause-knows g c).After-send_all in
     let reaped = c.reap_all.ensures.reaps in
     let begun = c.begin_all.ensures.begins in
-    round_knows c.args.named.moment c.args.named.wall c.args.shards.now c.send_all.new.shards c.reap_all.new.shards c.begin_all.new.shards c.args.accounts.now c.reap_all.new.accounts c.begin_all.new.accounts (all_grow g b) c.requires.numbers
-    reaped.stops begun.starts reaped.each begun.each reaped.booked begun.booked c.requires.knows
+    knows_as c.begin_all.new.shards c.begin_all.new.accounts.billing c.report_all.new.self.billing c.report_all.ensures.held
+    (round_knows c.args.named.moment c.args.named.wall c.args.shards.now c.send_all.new.shards c.reap_all.new.shards c.begin_all.new.shards c.args.accounts.now c.reap_all.new.accounts c.begin_all.new.accounts (all_grow g b) c.requires.numbers
+    reaped.stops begun.starts reaped.each begun.each reaped.booked begun.booked c.requires.knows)
 
 pub returns-clause-terms : goal.returns-clause-terms
 returns-clause-terms g c =

@@ -3,9 +3,11 @@ use Rattle.std.specs.List.{All}
 use Rattle.std.specs.Vec.{with_items}
 use Rattle.std.proofs.lemmas.List.{with_items_is}
 use Rattle.bng_shard.specs.declared.sums.Traffic.{Traffic}
+use Rattle.bng_shard.specs.Interims.{Reports}
 use Rattle.bng_desk.specs.declared.line.Line.{Line}
 use Rattle.bng_desk.specs.Accounting.{AreBilled, KnowsBegun}
 use Rattle.bng_desk.specs.Intake.{SendsRequests}
+use Rattle.bng_desk.specs.Interims.{AreAwaited}
 use Rattle.bng_desk.specs.Kept.{octets_most}
 use Rattle.bng_desk.specs.Model.{keys_in}
 use Rattle.bng_desk.specs.Taking.{Accounts, IsEmpty, KeepsTerms, HasFewSessions, AddsUp, AreInOrder, AreTallied, Holds, outs_of_items}
@@ -50,6 +52,9 @@ hold-record-requires-clause-terms g c = subst (λ (vs : Shards). All (KeepsTerms
 
 pub hold-record-requires-clause-knows : goal.hold-record-requires-clause-knows
 hold-record-requires-clause-knows g c = subst (λ (vs : Shards). KnowsBegun vs c.args.works.now.accounts.billing) (sym c.as_mut_slice.ensures.value) c.requires.ready.knows
+
+pub hold-record-requires-clause-awaited : goal.hold-record-requires-clause-awaited
+hold-record-requires-clause-awaited g c = subst (λ (vs : Shards). AreAwaited c.args.named.moment vs c.args.works.now.accounts.reports) (sym c.as_mut_slice.ensures.value) c.requires.ready.awaited
 
 pub hold-record-requires-clause-held : goal.hold-record-requires-clause-held
 hold-record-requires-clause-held g c = subst (λ (vs : Shards). All (HoldsOwn c.args.works.now.pool.table) vs) (sym c.as_mut_slice.ensures.value) c.requires.ready.held
@@ -136,4 +141,6 @@ returns-clause-keeps g c =
       terms = subst (λ (vs : Shards). All (KeepsTerms c.args.named.moment) vs) behind c.hold-record.ensures.terms;
       knows = subst (λ (vs : Shards). KnowsBegun vs c.send.new.self.billing) behind
           (knows_less ws booked c.send.new.self.billing (settled_forgets c.args.named.moment booked c.send.new.self.billing bills.requests bills.settles) c.hold-record.ensures.knows);
+      awaited = subst (λ (rs : List Reports). AreAwaited c.args.named.moment (with_items w.shards ws).items rs) (sym (ap (λ (a : Accounts). a.reports) c.send.ensures.others))
+          (subst (λ (vs : Shards). AreAwaited c.args.named.moment vs c.hold-record.new.accounts.reports) behind c.hold-record.ensures.awaited);
     }

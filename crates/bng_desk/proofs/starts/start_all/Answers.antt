@@ -1,43 +1,25 @@
-use Rattle.std.proofs.Common.{◌≡◌, ◌≤◌, ℕ, List, [], ◌∷◌, Option, Some, slice_get, inr, take, sym, ap, subst, ◌∙◌, arith}
+use Rattle.std.proofs.Common.{◌≡◌, ℕ, List, [], ◌∷◌, Option, Some, slice_get, inr, take, sym, ap, subst, ◌∙◌, arith}
 use Rattle.std.proofs.lemmas.List.{take_all}
-use Rattle.std.proofs.lemmas.List.Elements.{All-head, recursion_from_All}
+use Rattle.std.proofs.lemmas.List.Elements.{All-head}
 use Rattle.std.specs.Option.{option_and_then, option_map}
 use Rattle.bng_acct.specs.declared.facts.StatusType.TheVariants.{Start}
 use Rattle.bng_acct.specs.declared.held.Held.{Held}
-use Rattle.bng_acct.specs.Request.{AreClasses}
 use Rattle.bng_acct.specs.Spool.{number_of}
-use Rattle.bng_engine.specs.Lists.{AnyOf}
 use Rattle.bng_engine.specs.Terms.{Key}
-use Rattle.bng_engine.proofs.Everywhere.{any_all}
-use Rattle.bng_radius_wire.specs.Attributes.{Field}
 use Rattle.bng_shard.specs.declared.term.LiveTerm.{LiveTerm}
-use Rattle.bng_shard.specs.Lasting.{AreTenures, IsTenureOf}
-use Rattle.bng_shard.specs.Protocol.{SaysOf, key_of}
-use Rattle.bng_shard.specs.State.{State}
+use Rattle.bng_shard.specs.Protocol.{key_of}
 use Rattle.bng_desk.specs.Taking.{BooksStarts}
 use Rattle.bng_desk.proofs.Beginning.{IsNew, MayBegin, next_may}
 use Rattle.bng_desk.proofs.Booking.{starts_more, starts_none}
 use Rattle.bng_desk.proofs.Parts.{StandsAt, found_at, found_none}
 use Rattle.bng_desk.proofs.ShardKeys.{keys_of}
-use Rattle.bng_desk.proofs.TermsLeft.{its_classes}
+use Rattle.bng_desk.proofs.TermsLeft.{says_began, says_classes}
 use Rattle.bng_desk.proofs.starts.start_all.Goals as goal
 use Rattle.bng_desk.proofs.starts.start_all.Goals.{In-Some}
 
 -- the key that is found
 there : (keys : List Key) (place : ℕ) (r : Option LiveTerm) (t : LiveTerm) → option_map key_of r ≡ slice_get keys place → r ≡ Some t → StandsAt keys place (key_of t)
 there keys place r t e is = found_at keys place (key_of t) (sym e ∙ ap (option_map key_of) is)
-
--- what a term says that is there is whole, and it began by now
-module _ (moment : ℕ) (s : State) (tenures : AreTenures moment s) (user class : List ℕ) (began : ℕ) (k : Key) (any : AnyOf (SaysOf user class began k) s.terms) where
-  says_classes : (classes : List Field) × AreClasses classes class
-  says_classes =
-      let is = IsTenureOf s.sessions.shard s.begun moment in
-      any_all (SaysOf user class began k) is ((classes : List Field) × AreClasses classes class) (λ t says here. its_classes s.sessions.shard s.begun moment t user class began k here says) s.terms any (recursion_from_All is s.terms tenures.each)
-
-  says_began : began ≤ moment
-  says_began =
-      let is = IsTenureOf s.sessions.shard s.begun moment in
-      any_all (SaysOf user class began k) is (began ≤ moment) (λ t says here. omega (arith, here.began, says.began_is)) s.terms any (recursion_from_All is s.terms tenures.each)
 
 module _ (c : In-Some) where
   stands : StandsAt (keys_of c.args.shard.now) c.loop-term.place (key_of c.in-Some.term)

@@ -38,6 +38,7 @@ module _ (g : Over) (c : After-wait_if g) where
     lane = works.lane;
     handed = works.handed.items;
     billing = works.accounts.billing;
+    reports = works.accounts.reports;
     endings = c.self.inside.endings;
     unopened = c.self.inside.unopened;
     closed = c.self.inside.closed;

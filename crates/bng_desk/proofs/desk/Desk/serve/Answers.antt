@@ -53,6 +53,7 @@ module _ (g : Over) (c : After-gather-quiet g) where
     lane = works.lane;
     handed = works.handed.items;
     billing = works.accounts.billing;
+    reports = works.accounts.reports;
     endings = c.self.inside.endings;
     unopened = c.self.inside.unopened;
     closed = c.self.inside.closed;
@@ -195,6 +196,7 @@ invariant_of-self g c =
         graces = was.graces;
         billed = was.billed;
         knows = was.knows;
+        awaited = was.awaited;
       },
       c.self.invariant.1,
     )
