@@ -65,15 +65,19 @@ module _ (c : Static) where
 
   -- Its row ---------------------------------------------------------------------------------------------------------------
 
-  abbrev row : Row
+  abbrev pub row : Row
   row = new_row (key_in (tenure_from 0 c 1))
+
+  -- the rows that are made of one circuit
+  pub only_row : (shard : ℕ) → IsNumberOf shard c.session.0 → map new_row (keys (map term_in (tenures_after 0 0 (in_order shard (c ∷ []))))) ≡ row ∷ []
+  only_row shard of = ap (λ (cs : List Static). map new_row (keys (map term_in (tenures_after 0 0 cs)))) (one_in_order shard of)
 
   pub one_row : (r : Rules) (shard now : ℕ) → IsNumberOf shard c.session.0 → (opened shard r (c ∷ []) now).rows ≡ row ∷ []
   one_row r shard now of =
       ap (λ (ts : List Term). map new_row (keys ts)) (opened_terms r shard (c ∷ []) now)
-      ∙ ap (λ (cs : List Static). map new_row (keys (map term_in (tenures_after 0 0 cs)))) (one_in_order shard of)
+      ∙ only_row shard of
 
-  nothing_carried : (most : ℕ) (q : Quantity) (input : Bool) → rows_where q is_any input (row ∷ []) ≤ most
+  pub nothing_carried : (most : ℕ) (q : Quantity) (input : Bool) → rows_where q is_any input (row ∷ []) ≤ most
   nothing_carried most Octets true = omega arith
   nothing_carried most Octets false = omega arith
   nothing_carried most Packets true = omega arith
@@ -84,8 +88,9 @@ module _ (c : Static) where
   row_low r shard now most of = subst (RowsAreLow most) (sym (one_row r shard now of)) (nothing_carried most)
 
   -- a packet of its term is of that row
+  pub owned_by_row : (o : OutRecord) (input : Bool) (octets : ℕ) → o.charge ≡ Some (charge_of (provisioned c 1) (lease_from c 1) input octets) → IsOwned (row_keys (row ∷ [])) o
+  owned_by_row o input octets e = subst (λ (charge : Option Charge). IfSome charge (λ p. AnyOf (HasKey p) (row_keys (row ∷ [])))) (sym e) (inl refl)
+
   pub row_owned : (r : Rules) (shard now : ℕ) → IsNumberOf shard c.session.0 → (o : OutRecord) (input : Bool) (octets : ℕ) → o.charge ≡ Some (charge_of (provisioned c 1) (lease_from c 1) input octets)
       → IsOwned (row_keys (opened shard r (c ∷ []) now).rows) o
-  row_owned r shard now of o input octets e =
-      subst (λ (rows : List Row). IsOwned (row_keys rows) o) (sym (one_row r shard now of))
-      (subst (λ (charge : Option Charge). IfSome charge (λ p. AnyOf (HasKey p) (row_keys (row ∷ [])))) (sym e) (inl refl))
+  row_owned r shard now of o input octets e = subst (λ (rows : List Row). IsOwned (row_keys rows) o) (sym (one_row r shard now of)) (owned_by_row o input octets e)

@@ -1,11 +1,16 @@
-ghost use Rattle.std.specs.Prelude.{◌≡◌, ◌<◌, ◌^◌};
+ghost use Rattle.std.specs.Prelude.{◌≡◌, ◌<◌, ◌^◌, ℕ, Some, true};
+ghost use Rattle.bng_shard.specs.Frames.{charge_of};
 ghost use Rattle.bng_shard.specs.Interims.{AwaitsInterims};
+ghost use Rattle.bng_shard.specs.Opening.{lease_from, provisioned};
+ghost use Rattle.bng_slots.specs.Sessions.{IsNumberOf};
 
 use super::logins::accepted_by;
+use super::terms::{circuit, sent};
 use super::verdicts::ACCEPT;
 use super::{Bench, NOTHING, TWO, open_bench, rules_with};
-use crate::Reports;
-use bng_base::{Book, SessionNo, TermId};
+use crate::terms::Terms;
+use crate::{ReportedTerm, Reports};
+use bng_base::{Book, OutRecord, SessionNo, Static, TermId};
 use std::alloc::Global;
 use std::process::Abort;
 use std::test::Fail;
@@ -35,8 +40,7 @@ fn taken(bench: &Bench, reports: &mut Reports, now: u64) -> Option<(TermId, Book
 fn an_interim_is_due_each_interval_and_taken_once(rt: HostRuntime) -> Result<(), Fail> {
     let alloc = rt.alloc();
     let bench = reported(&rt, alloc)?;
-    let mut reports = Reports::open(alloc, 0)?;
-    reports.wait_until(0);
+    let mut reports = Reports::open(alloc)?;
     let second = TermId {
         session: SessionNo(2),
         serial: 2,
@@ -53,5 +57,32 @@ fn an_interim_is_due_each_interval_and_taken_once(rt: HostRuntime) -> Result<(),
         Some((second, NOTHING))
     );
     assert_eq!(rt; taken(&bench, &mut reports, 120_000), None);
+    Ok(())
+}
+
+// What is told of the first term of a shard that has one circuit, once this packet was sent.
+fn told_after(
+    alloc: Global,
+    circuit: &Static,
+    out: &OutRecord,
+) -> Result<Option<ReportedTerm>, Fail>
+    requires number { IsNumberOf 1 circuit.now.session.0 }
+    requires charged { (octets : ℕ) × (out.now.charge ≡ Some (charge_of (provisioned circuit.now 1) (lease_from circuit.now 1) true octets)) }
+    requires sent { out.now.sent ≡ true }
+{
+    let mut terms = Terms::open(alloc, 1, std::slice::from_ref(circuit), 0)?;
+    let mut book = NOTHING;
+    terms.settle(&mut book, out);
+    Ok(terms.told_of(1))
+}
+
+#[test]
+fn an_interim_says_what_its_term_carried_so_far(rt: HostRuntime) -> Result<(), Fail> {
+    let circuit = circuit();
+    let told = told_after(rt.alloc(), &circuit, &sent(&circuit, 84))?;
+    let mut carried = NOTHING;
+    carried.input = 84;
+    carried.input_packets = 1;
+    assert!(rt; told.is_some_and(|told| told.carried == carried));
     Ok(())
 }

@@ -19,7 +19,7 @@ use std::alloc::Global;
 use std::process::Abort;
 use std::test::Fail;
 
-fn circuit() -> Static
+pub(super) fn circuit() -> Static
     ensures number { IsNumberOf 1 result.session.0 }
     ensures port { result.port ≡ 1 }
     ensures profile { result.profile ≡ 0 }
@@ -50,7 +50,7 @@ fn open_with(alloc: Global, circuit: &Static) -> Result<Shard, Fail>
 }
 
 // A packet of its term of so many octets, from the subscriber, that was sent.
-fn sent(circuit: &Static, octets: u16) -> OutRecord
+pub(super) fn sent(circuit: &Static, octets: u16) -> OutRecord
     ensures charge { result.charge ≡ Some (charge_of (provisioned circuit.now 1) (lease_from circuit.now 1) true octets) }
     ensures sent { result.sent ≡ true }
 {
