@@ -209,8 +209,9 @@ impl Desk {
     /// each word from 127.0.0.0/8; each datagram of Acct that acknowledges a record ends it (RFC 2866 section 2); each reply to a
     /// question is an item of a round, and so is each datagram of a port and of the core, each question that is given up, and a Tick of
     /// each shard that has a due deadline; it hands each item to its shard, sends what they have to send, charges each packet that was
-    /// sent to its circuit, forms a Stop of each term that ended, sends the requests that are due again and those of the questions
-    /// (RFC 2865 section 2.5) and of the records that wait, and tells the trace the round; where nothing was taken it waits. Where the
+    /// sent to its term, forms a Stop of each term that ended, a Start of each that began and an Interim of each live one of which one is
+    /// due, sends the requests that are due again and those of the questions (RFC 2865 section 2.5) and of the records that wait, and
+    /// tells the trace the round; where nothing was taken it waits. Where the
     /// round could not be opened, its verdicts stand first in the next one, and Auth is not read until they were handled. While it ends:
     /// a round of what stays and of one End for each shard; once no session is left, Starts and Interims are forgotten. In its grace it
     /// reads Acct, sends the requests that are due again and those of the Stops that wait, and waits where nothing was taken. After each
