@@ -18,6 +18,7 @@ use Rattle.bng_engine.specs.Views.{ShardView}
 use Rattle.bng_discovery.specs.declared.port.PortRules.{PortRules}
 use Rattle.bng_shard.specs.declared.rules.Rules.{Rules}
 use Rattle.bng_shard.specs.declared.sums.Traffic.{Traffic}
+use Rattle.bng_shard.specs.Interims.{Reports, no_reports}
 use Rattle.bng_shard.specs.Lasting.{AreTenures}
 use Rattle.bng_shard.specs.Protocol.{HasPools, ShardState, opened, terms_of}
 use Rattle.bng_shard.proofs.RowLaws.{new_keys}
@@ -56,7 +57,7 @@ module _ (c : After-new-2) where
   shards_are : c.in_ok-opens.opens.items ≡ map (λ n. opened n made (statics n) c.args.now) (range_with_len 0 made.shards)
   shards_are = c.in_ok-opens.ensures.opened ∙ ap (λ (ss : List Static). map (λ n. opened n made (filter (λ (s : Static). shard_of s == n) ss) c.args.now) (range_with_len 0 made.shards)) circuits
 
-  opens_accounts : OpensAccounts c.billing_rules-billing.result c.in_ok-lines.lines.items c.as_slice-2.result.now c.args.now c.in_ok-accounts.accounts
+  opens_accounts : OpensAccounts c.billing_rules-billing.result c.in_ok-lines.lines.items c.in_ok-handed.reports.items c.as_slice-2.result.now c.args.now c.in_ok-accounts.accounts
   opens_accounts = c.in_ok-accounts.ensures
 
   circuits_named : c.in_ok-lines.lines.items ≡ map line_of c.args.config.statics
@@ -81,7 +82,13 @@ module _ (c : After-new-2) where
   tallies_are = ap (λ (b : Book). let bs : List Book = b ∷ [] in bs) c.empty.ensures
 
   handed_are : c.in_ok-handed.handed.items ≡ map (λ n. none_handed) (range_with_len 0 made.shards)
-  handed_are = c.in_ok-handed.ensures ∙ ap (λ (n : ℕ). map (λ k. none_handed) (range_with_len 0 n)) (sym (ap (λ (r : Rules). r.shards) made_as))
+  handed_are = c.in_ok-handed.ensures.handed ∙ ap (λ (n : ℕ). map (λ k. none_handed) (range_with_len 0 n)) (sym (ap (λ (r : Rules). r.shards) made_as))
+
+  reports_are : c.in_ok-accounts.accounts.reports ≡ map (λ n. no_reports) (range_with_len 0 c.args.config.shards)
+  reports_are = opens_accounts.booked.reports_are ∙ c.in_ok-handed.ensures.reports
+
+  none_reported : c.in_ok-accounts.accounts.reports ≡ map (λ n. no_reports) (range_with_len 0 made.shards)
+  none_reported = reports_are ∙ ap (λ (n : ℕ). map (λ k. no_reports) (range_with_len 0 n)) (sym (ap (λ (r : Rules). r.shards) made_as))
 
   key_is : c.sixteen-key.result ≡ draw c.args.seed 0
   key_is = c.sixteen-key.ensures.octets ∙ ap (λ (x : Drawn). draw x.seed x.drawn) c.of-draws.ensures
@@ -135,7 +142,7 @@ invariant_of-result c =
           (omega (arith, c.requires.rules.some_port, ap (λ (ps : List AccessPort). length ps) rules.access)) (omega (arith, c.requires.rules.few_ports, ap (λ (ps : List AccessPort). length ps) rules.access))
           (omega (arith, c.requires.rules.some_shard, rules.shards)) (omega (arith, c.requires.rules.few_shards, rules.shards))
           (pools c) ((is_pool c).shards ∙ sym rules.shards) (held c) (terms c)
-          c.requires.most refl refl refl refl refl (ap (λ (x : Drawn). x.drawn) (draws_are c)) refl (tallies_are c) c.in_ok-kept.ensures.0 (handed_are c) refl refl
+          c.requires.most refl refl refl refl refl (ap (λ (x : Drawn). x.drawn) (draws_are c)) refl (tallies_are c) c.in_ok-kept.ensures.0 (handed_are c) (none_reported c) refl refl
           (subst (λ (ks : List Key). AreBilled ks c.in_ok-accounts.accounts.billing) (keys_are c) (opens_accounts c).billed) (knows c),
       c.in_ok-kept.ensures.1,
     )
@@ -145,7 +152,7 @@ returns c =
     let b = (goal.at.returns c).After-new-2 in
     let config = c.args.config in
     let r = made b in
-    let desk = λ (tallies : List Book) (lines : List Line) (stopped : Traffic) (shards : List (ShardView ShardState Entry)) (draws : Drawn) (handed : List (List ℕ)) (kept : List Item). let x : Desk = record {
+    let desk = λ (tallies : List Book) (lines : List Line) (stopped : Traffic) (shards : List (ShardView ShardState Entry)) (draws : Drawn) (handed : List (List ℕ)) (reports : List Reports) (kept : List Item). let x : Desk = record {
       rules = r;
       lines = lines;
       stopped_traffic = stopped;
@@ -163,6 +170,7 @@ returns c =
       lane = c.in_ok-lane.lane;
       handed = handed;
       billing = c.in_ok-accounts.accounts.billing;
+      reports = reports;
       endings = 0;
       unopened = 0;
       closed = false;
@@ -191,13 +199,14 @@ returns c =
       billing = c.in_ok-accounts.accounts.billing;
       forms = accounts.booked.forms;
       desk =
-          ap (λ (bs : List Book). desk bs c.in_ok-accounts.accounts.lines c.in_ok-accounts.accounts.stopped (map rested c.in_ok-opens.opens.items) c.sixteen-key.new.self c.in_ok-handed.handed.items c.in_ok-kept.kept.items) (tallies_are b)
-          ∙ ap (λ (ls : List Line). desk (empty_book ∷ []) ls c.in_ok-accounts.accounts.stopped (map rested c.in_ok-opens.opens.items) c.sixteen-key.new.self c.in_ok-handed.handed.items c.in_ok-kept.kept.items) (lines_are b)
-          ∙ ap (λ (t : Traffic). desk (empty_book ∷ []) (map line_of config.statics) t (map rested c.in_ok-opens.opens.items) c.sixteen-key.new.self c.in_ok-handed.handed.items c.in_ok-kept.kept.items) (stopped_is b)
-          ∙ ap (λ (xs : List (ShardView ShardState Entry)). desk (empty_book ∷ []) (map line_of config.statics) no_traffic xs c.sixteen-key.new.self c.in_ok-handed.handed.items c.in_ok-kept.kept.items) shards
-          ∙ ap (λ (x : Drawn). desk (empty_book ∷ []) (map line_of config.statics) no_traffic opens x c.in_ok-handed.handed.items c.in_ok-kept.kept.items) (draws_are b)
-          ∙ ap (λ (ls : List (List ℕ)). desk (empty_book ∷ []) (map line_of config.statics) no_traffic opens first ls c.in_ok-kept.kept.items) c.in_ok-handed.ensures
-          ∙ ap (λ (is : List Item). desk (empty_book ∷ []) (map line_of config.statics) no_traffic opens first (map (λ n. none_handed) (range_with_len 0 config.shards)) is) c.in_ok-kept.ensures.0;
+          ap (λ (bs : List Book). desk bs c.in_ok-accounts.accounts.lines c.in_ok-accounts.accounts.stopped (map rested c.in_ok-opens.opens.items) c.sixteen-key.new.self c.in_ok-handed.handed.items c.in_ok-accounts.accounts.reports c.in_ok-kept.kept.items) (tallies_are b)
+          ∙ ap (λ (ls : List Line). desk (empty_book ∷ []) ls c.in_ok-accounts.accounts.stopped (map rested c.in_ok-opens.opens.items) c.sixteen-key.new.self c.in_ok-handed.handed.items c.in_ok-accounts.accounts.reports c.in_ok-kept.kept.items) (lines_are b)
+          ∙ ap (λ (t : Traffic). desk (empty_book ∷ []) (map line_of config.statics) t (map rested c.in_ok-opens.opens.items) c.sixteen-key.new.self c.in_ok-handed.handed.items c.in_ok-accounts.accounts.reports c.in_ok-kept.kept.items) (stopped_is b)
+          ∙ ap (λ (xs : List (ShardView ShardState Entry)). desk (empty_book ∷ []) (map line_of config.statics) no_traffic xs c.sixteen-key.new.self c.in_ok-handed.handed.items c.in_ok-accounts.accounts.reports c.in_ok-kept.kept.items) shards
+          ∙ ap (λ (x : Drawn). desk (empty_book ∷ []) (map line_of config.statics) no_traffic opens x c.in_ok-handed.handed.items c.in_ok-accounts.accounts.reports c.in_ok-kept.kept.items) (draws_are b)
+          ∙ ap (λ (ls : List (List ℕ)). desk (empty_book ∷ []) (map line_of config.statics) no_traffic opens first ls c.in_ok-accounts.accounts.reports c.in_ok-kept.kept.items) c.in_ok-handed.ensures.handed
+          ∙ ap (λ (rs : List Reports). desk (empty_book ∷ []) (map line_of config.statics) no_traffic opens first (map (λ n. none_handed) (range_with_len 0 config.shards)) rs c.in_ok-kept.kept.items) (reports_are b)
+          ∙ ap (λ (is : List Item). desk (empty_book ∷ []) (map line_of config.statics) no_traffic opens first (map (λ n. none_handed) (range_with_len 0 config.shards)) (map (λ n. no_reports) (range_with_len 0 config.shards)) is) c.in_ok-kept.ensures.0;
     }
 
 pub shards-requires-clause-circuits : goal.shards-requires-clause-circuits
