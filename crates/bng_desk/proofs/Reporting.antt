@@ -1,9 +1,8 @@
 -- The Interims that a settlement forms, one term after the other, and one shard after the other.
-use Rattle.std.proofs.Common.{◌≡◌, ◌⊎◌, ⊎_elim, inl, inr, ℕ, zero, suc, ◌+◌, ◌<◌, ◌≤◌, true, false, List, [], ◌∷◌, ◌++◌, Option, None, Some, IsSome, is_some, map, length, take, drop, get_or, set, slice_get, refl, sym, ap, subst, ◌∙◌, append_assoc, append-nil, length-set, arith}
+use Rattle.std.proofs.Common.{◌≡◌, ◌⊎◌, ⊎_elim, inl, inr, ℕ, zero, suc, ◌+◌, ◌<◌, ◌≤◌, true, List, [], ◌∷◌, ◌++◌, Option, None, Some, IsSome, is_some, length, take, drop, get_or, set, slice_get, refl, sym, ap, subst, ◌∙◌, append_assoc, append-nil, length-set, arith}
 use Rattle.std.specs.List.{All, AllByRecursion, AllZip}
 use Rattle.std.proofs.lemmas.Bool.{cases_Bool}
-use Rattle.std.proofs.lemmas.List.{drop-drop, drop-set-lt, length-append, take_all, take_more, take_more_set}
-use Rattle.std.proofs.lemmas.List.Elements.{recursion_from_All}
+use Rattle.std.proofs.lemmas.List.{drop-drop, drop-set-lt, take_all, take_more, take_more_set}
 use Rattle.bng_acct.specs.declared.facts.Moment.{Moment}
 use Rattle.bng_acct.specs.declared.facts.StatusType.TheVariants.{Interim}
 use Rattle.bng_acct.specs.declared.facts.TermFacts.{TermFacts}
@@ -20,16 +19,16 @@ use Rattle.bng_engine.specs.Terms.{Key}
 use Rattle.bng_engine.specs.Views.{Row}
 use Rattle.bng_engine.proofs.Walks.{same_at}
 use Rattle.bng_shard.specs.Interims.{Reports, owed, with_report}
-use Rattle.bng_shard.specs.Protocol.{SaysOf, key_in}
+use Rattle.bng_shard.specs.Protocol.{SaysOf}
 use Rattle.bng_shard.specs.Tenures.{Tenure}
-use Rattle.bng_desk.specs.Accounting.{AreFactsOf, FormedRecord}
+use Rattle.bng_desk.specs.Accounting.{FormedRecord}
 use Rattle.bng_desk.specs.Interims.{AreAwaited, AwaitsAt, FormsInterim, FormsInterims, TakesInterims, last_after, owed_by}
 use Rattle.bng_desk.specs.Model.{keys_in}
 use Rattle.bng_desk.specs.Round.{terms_in}
 use Rattle.bng_desk.specs.Taking.{KeepsHeld, ReportsShard, Shown, states_of}
 use Rattle.bng_desk.proofs.Billed.{formed_others}
 use Rattle.bng_desk.proofs.Booking.{AreAmong, facts_wider}
-use Rattle.bng_desk.proofs.Parts.{StandsAt, all_left, all_right}
+use Rattle.bng_desk.proofs.Parts.{all_left, all_right}
 use Rattle.bng_desk.proofs.Readying.{Shards}
 use Rattle.bng_desk.proofs.ShardKeys.{keys_of, keys_split, shard_at, tenures_among}
 use Rattle.bng_desk.proofs.TermsLeft.{keys_there}

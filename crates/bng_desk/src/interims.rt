@@ -4,7 +4,6 @@ ghost use Rattle.std.specs.List.{All};
 ghost use Rattle.bng_acct.specs.Request.{AreClasses};
 ghost use Rattle.bng_acct.specs.Roster.{of_term};
 ghost use Rattle.bng_acct.specs.Spool.{is_live};
-ghost use Rattle.bng_base.specs.declared.circuit.TermId.{TermId};
 ghost use Rattle.bng_engine.specs.Lists.{AnyOf, Zip3};
 ghost use Rattle.bng_engine.specs.Terms.{keys};
 ghost use Rattle.bng_radius_wire.specs.Attributes.{Field};
