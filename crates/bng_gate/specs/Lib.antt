@@ -11,3 +11,4 @@ pub mod Rounds
 pub mod Recorded
 pub mod Unchanged
 pub mod Headline
+pub mod Ready
