@@ -56,3 +56,4 @@ pub mod Passing
 pub mod PassingOn
 pub mod Invented
 pub mod Headlines
+pub mod Ready

@@ -12,3 +12,4 @@ pub mod Rounds
 pub mod Recorded
 pub mod Unchanged
 pub mod Headline
+pub mod Ready

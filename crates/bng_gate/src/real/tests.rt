@@ -128,6 +128,70 @@ fn wait_ends_at_a_datagram_or_its_time(rt: HostRuntime) -> Result<(), Fail> {
 }
 
 #[test]
+fn what_came_is_read_on_until_it_runs_out(rt: HostRuntime) -> Result<(), Fail> {
+    let mut plant = RealPlant::new(&rt, rt.alloc())?;
+    let mut frame = Frame::new();
+    let (access, other) = (free_end(&rt)?, stranger(&rt)?);
+    assert_eq!(rt; plant.bind(Role::Access(1), access, None), Bound::Ok);
+    let from = end_of(&other)?;
+    for length in 1..=4 {
+        assert_eq!(rt; send_sevens(&other, access, length)?, length);
+    }
+    for length in 1..=4 {
+        let mut got = plant.recv(Role::Access(1), &mut frame);
+        if got == Received::Empty {
+            plant.wait(5_000);
+            got = plant.recv(Role::Access(1), &mut frame);
+        }
+        assert_eq!(rt; got, Received::Got { from, cut: false });
+        assert_eq!(rt; frame.payload().len(), length);
+    }
+    let got = plant.recv(Role::Access(1), &mut frame);
+    assert_eq!(rt; (got, plant.faults), (Received::Empty, 0));
+    Ok(())
+}
+
+/// What an access port gives in turns that read Control once before it, 100,000 of them at most. Before each, so many more
+/// datagrams come to Control.
+fn come_in<N: Net>(
+    plant: &mut RealPlant<'_, N>,
+    frame: &mut Frame,
+    other: &UdpSocket,
+    control: Peer,
+    more: usize,
+) -> io::Result<Received> {
+    for _ in 0..100_000 {
+        for _ in 0..more {
+            send_sevens(other, control, 1)?;
+        }
+        let _ = plant.recv(Role::Control, frame);
+        let got = plant.recv(Role::Access(1), frame);
+        if got != Received::Empty {
+            return Ok(got);
+        }
+    }
+    Ok(Received::Empty)
+}
+
+#[test]
+fn turns_read_a_port_whatever_comes_to_control(rt: HostRuntime) -> Result<(), Fail> {
+    let mut plant = RealPlant::new(&rt, rt.alloc())?;
+    let mut frame = Frame::new();
+    let (control, access, other) = (free_end(&rt)?, free_end(&rt)?, stranger(&rt)?);
+    assert_eq!(rt; plant.bind(Role::Control, control, None), Bound::Ok);
+    assert_eq!(rt; plant.bind(Role::Access(1), access, None), Bound::Ok);
+    let from = end_of(&other)?;
+    for more in [0, 0, 0, 2, 2, 2] {
+        assert_eq!(rt; send_sevens(&other, access, 4)?, 4);
+        let got = come_in(&mut plant, &mut frame, &other, control, more)?;
+        assert_eq!(rt; got, Received::Got { from, cut: false });
+        let none = plant.recv(Role::Access(1), &mut frame);
+        assert_eq!(rt; (none, plant.faults), (Received::Empty, 0));
+    }
+    Ok(())
+}
+
+#[test]
 fn clock_counts_milliseconds_from_its_start(rt: HostRuntime) -> Result<(), Fail> {
     let mut clock = RealClock::new(&rt);
     let first = clock.now();
