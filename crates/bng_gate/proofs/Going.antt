@@ -1,13 +1,11 @@
 -- The rounds of a run are turns of the engine.
-use Rattle.std.proofs.Common.{◌≡◌, ◌+◌, List, [], ◌∷◌, map, length, Option, Some, None, refl, ap, subst, sym, ◌∙◌}
-use Rattle.std.specs.List.{AllByRecursion, AllZip, flat_map}
+use Rattle.std.proofs.Common.{◌≡◌, ◌+◌, List, [], ◌∷◌, map, length, Some, None, refl, ap, subst, sym, ◌∙◌}
+use Rattle.std.specs.List.{AllByRecursion, AllZip}
 use Rattle.bng_base.specs.declared.address.Ip4.{Ip4}
 use Rattle.bng_base.specs.declared.book.Book.{Book}
 use Rattle.bng_base.specs.declared.item.Entry.{Entry}
-use Rattle.bng_base.specs.Chain.{Chain}
 use Rattle.bng_engine.specs.Books.{BooksGrow}
 use Rattle.bng_engine.specs.Calls.{Kept, Moves}
-use Rattle.bng_engine.specs.Histories.{ShardTurn}
 use Rattle.bng_engine.specs.Journals.{after, outs_of, AreSteps}
 use Rattle.bng_engine.specs.Laws.{TurnBy}
 use Rattle.bng_engine.specs.Pool.{ClaimsSoFar}
@@ -20,7 +18,6 @@ use Rattle.bng_engine.proofs.Walks.{zip_both}
 use Rattle.bng_shard.specs.Protocol.{ShardState, Handled, pppoe}
 use Rattle.bng_desk.specs.Model.{Desk}
 use Rattle.bng_desk.specs.Round.{Round, left_by, views_of, view_of, view_after, held_by}
-use Rattle.bng_gate.specs.Rounds.{turns_of}
 use Rattle.bng_gate.proofs.Follows.{Follows, IsOf}
 
 -- A turn of a shard goes by its number, its state and its sums alone ---------------------------------------------------
@@ -71,36 +68,22 @@ left_kept : (vs : List (ShardView ShardState Handled)) → AllZip Kept vs (views
 left_kept [] = tt
 left_kept (v ∷ vs) = (record { number = refl; state = refl; rows = refl; books = refl }, left_kept vs)
 
-round_turns : (v : DeskView ShardState Handled) (d : Desk) (round : Round) → Stands v d → IsOf d (Some round) → TurnBy pppoe v (map turn_in round.shards) (view_after round)
+pub round_turns : (v : DeskView ShardState Handled) (d : Desk) (round : Round) → Stands v d → IsOf d (Some round) → TurnBy pppoe v (map turn_in round.shards) (view_after round)
 round_turns v d round stands is = record {
   turn = turn_from pppoe v (view_of d.shards d.pool d.tallies) (view_after round) stands.shards stands.held stands.tallies is.2.turn;
   parts = refl;
 }
 
-round_stands : (d d' : Desk) (round : Round) → Follows d (Some round) d' → Stands (view_after round) d'
+pub round_stands : (d d' : Desk) (round : Round) → Follows d (Some round) d' → Stands (view_after round) d'
 round_stands d d' round follows = record {
   shards = subst (λ (vs : List (ShardView ShardState Entry)). AllZip Kept round.shards (views_of vs)) (sym follows.shards) (left_kept round.shards);
   held = ap held_by follows.pool;
   tallies = follows.tallies;
 }
 
-none_stands : (v : DeskView ShardState Handled) (d d' : Desk) → Stands v d → Follows d None d' → Stands v d'
+pub none_stands : (v : DeskView ShardState Handled) (d d' : Desk) → Stands v d → Follows d None d' → Stands v d'
 none_stands v d d' stands follows = record {
   shards = subst (λ (vs : List (ShardView ShardState Entry)). AllZip Kept v.shards (views_of vs)) (sym follows.shards) stands.shards;
   held = ap held_by follows.pool ∙ stands.held;
   tallies = follows.tallies ∙ stands.tallies;
 }
-
--- where the turns of the engine lead, with the desk
-pub record Leads (v : DeskView ShardState Handled) (rounds : List (List (ShardTurn Handled))) (d' : Desk) : Type 0 where
-  pub view : DeskView ShardState Handled
-  pub turns : Chain (TurnBy pppoe) v rounds view
-  pub stands : Stands view d'
-
-pub rounds_lead : (d d' : Desk) (rounds : List (Option Round)) → Chain Follows d rounds d' → (v : DeskView ShardState Handled) → Stands v d → Leads v (flat_map turns_of rounds) d'
-rounds_lead d d' [] run v stands = record { view = v; turns = refl; stands = subst (λ (x : Desk). Stands v x) (sym run) stands }
-rounds_lead d d' (None ∷ rounds) run v stands = rounds_lead run.0 d' rounds run.2 v (none_stands v d run.0 stands run.1)
-rounds_lead d d' (Some round ∷ rounds) run v stands =
-    let mid = view_after round in
-    let rest = rounds_lead run.0 d' rounds run.2 mid (round_stands d run.0 round run.1) in
-    record { view = rest.view; turns = (mid, round_turns v d round stands run.1.is_round, rest.turns); stands = rest.stands }

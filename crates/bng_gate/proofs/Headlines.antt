@@ -1,6 +1,6 @@
 -- The headline of a run, from its turns.
 use Rattle.std.proofs.Common.{◌≡◌, ◌⊎◌, inl, inr, ℕ, Bool, List, [], ◌∷◌, length, map, Option, refl, sym, ap, subst, ◌∙◌, arith}
-use Rattle.std.specs.Prelude.{◌↔◌}
+use Rattle.std.specs.Prelude.{◌↔◌, zip}
 use Rattle.std.specs.List.{All, AllByRecursion, AllZip, Contains, sum_by}
 use Rattle.bng_base.specs.declared.outside.Datagram.{Datagram}
 use Rattle.bng_base.specs.declared.outside.Heard.{Heard}
@@ -13,7 +13,7 @@ use Rattle.bng_config.specs.Configuration.{IsRead}
 use Rattle.bng_config.specs.Rules.{KeepsRules}
 use Rattle.bng_config.proofs.Kept.{read_keeps}
 use Rattle.bng_engine.specs.Accounted.{Accounted, nothing_yet as new_history, opening as nothing_yet}
-use Rattle.bng_engine.specs.Histories.{History, ShardTurn, Run as Rounds}
+use Rattle.bng_engine.specs.Histories.{ShardTurn}
 use Rattle.bng_engine.specs.Laws.{Opens, RightRound, RunFrom, RowsAccountOnWire, sends_of, stops_of}
 use Rattle.bng_engine.specs.Quantities.{Quantity, Octets, empty_book}
 use Rattle.bng_engine.specs.Sums.{is_any}
@@ -21,7 +21,7 @@ use Rattle.bng_engine.specs.Terms.{Key}
 use Rattle.bng_engine.specs.Views.{DeskView, ShardView, rows_where}
 use Rattle.bng_engine.specs.Wire.{went}
 use Rattle.bng_engine.proofs.Openings.{refused_keeps, opening_accounted}
-use Rattle.bng_engine.proofs.Runs.{rounds_are_right, run_conserves_at, turns_go_on, rows_account_on_wire}
+use Rattle.bng_engine.proofs.Runs.{rounds_are_right, run_conserves_at, rows_account_on_wire}
 use Rattle.bng_engine.proofs.Turns.{balanced}
 use Rattle.bng_shard.specs.declared.rules.Rules.{Rules}
 use Rattle.bng_shard.specs.declared.sums.Traffic.{Traffic}
@@ -31,6 +31,7 @@ use Rattle.bng_desk.specs.declared.desk.DeskState.TheVariants.{Ended}
 use Rattle.bng_desk.specs.declared.drops.Drops.{Drops}
 use Rattle.bng_desk.specs.declared.line.Line.{Line}
 use Rattle.bng_desk.specs.declared.sums.Totals.{Totals}
+use Rattle.bng_desk.specs.Accounting.{FormedRecord}
 use Rattle.bng_desk.specs.Model.{Desk, all_stopped as all_say, carried_on, all_carried, line_after, no_traffic, plus_traffic, state_of, total_of, totals_of, traffic_by}
 use Rattle.bng_desk.specs.Opening.{billing_rules, line_of, opened_shards}
 use Rattle.bng_desk.specs.Report.{report_text, by_number}
@@ -38,8 +39,9 @@ use Rattle.bng_desk.specs.Round.{view_of, views_of}
 use Rattle.bng_gate.specs.declared.texts.Refusal.{Refusal}
 use Rattle.bng_gate.specs.declared.texts.Refusal.TheVariants.{Usage, Refused, CannotOpen, OutOfMemory, TraceFailed, OutputFailed}
 use Rattle.bng_gate.specs.Granted.{Granted, stages_of}
-use Rattle.bng_gate.specs.Recorded.{Recorded}
+use Rattle.bng_gate.specs.Recorded.{Recorded, formed_of}
 use Rattle.bng_gate.specs.Replied.{AreReplied}
+use Rattle.bng_gate.specs.Reported.{ReportsLive}
 use Rattle.bng_gate.specs.Unanswered.{unanswered_of, NamesStops}
 use Rattle.bng_gate.specs.Headline.{AreStopped, HaveTerms, calls_in_run, Headline, IsSafe, IsQuiet, StopsAccount, WasSafe, all_terms_of, all_traffic, terms_of_run, total_in, totals_in}
 use Rattle.bng_gate.specs.Rounds.{rounds_in, rounds_of, plant_of, on_data, drops_of_run}
@@ -50,7 +52,7 @@ use Rattle.bng_gate.proofs.Addressing.{all_addressed}
 use Rattle.bng_gate.proofs.Agreed.{agreed}
 use Rattle.bng_gate.proofs.Drops.{all_dropped}
 use Rattle.bng_gate.proofs.Follows.{Follows, run_follows}
-use Rattle.bng_gate.proofs.Going.{Leads, stands_itself, rounds_lead}
+use Rattle.bng_gate.proofs.Going.{stands_itself}
 use Rattle.bng_gate.proofs.Invented.{HaveRules, nothing_invented, opened_rules, stages_invent_nothing}
 use Rattle.bng_gate.proofs.Keys.{IsOurs}
 use Rattle.bng_gate.proofs.Leaving.{HasNoRows, HasNoTerms, IsEmpty, all_stopped, ended_empty, rows_gone, rows_say_none, shards_say_none, terms_gone}
@@ -58,7 +60,8 @@ use Rattle.bng_gate.proofs.Lines.{lines_gone, one_worker, report_told, stopped_g
 use Rattle.bng_gate.proofs.LoginsGranted.{logins_granted}
 use Rattle.bng_gate.proofs.Openings.{opens}
 use Rattle.bng_gate.proofs.Owning.{sends_ours}
-use Rattle.bng_gate.proofs.Recording.{recorded_of}
+use Rattle.bng_gate.proofs.Recording.{Said, all_said, recorded_of}
+use Rattle.bng_gate.proofs.Reporting.{GoesLive, reports_go_on}
 use Rattle.bng_gate.proofs.Replying.{replies_of}
 use Rattle.bng_gate.proofs.OnAcct.{all_else}
 use Rattle.bng_gate.proofs.Staging.{stages_acknowledged, stages_heard, stages_taken, stages_sent}
@@ -102,34 +105,34 @@ module _ (text : List ℕ) (config : Config) (read : IsRead text config) (seed :
   follows : Chain Follows course.opening (rounds_in course.turns course.endings) course.last
   follows = run_follows course.opening course.over course.last course.turns course.endings course.run course.ending
 
-  leads : Leads start rounds course.last
-  leads = rounds_lead course.opening course.last (rounds_in course.turns course.endings) follows start (stands_itself course.opening)
+  said : Said start rounds (formed_of course.turns course.endings) course.last
+  said = all_said course.opening course.over course.last course.turns course.endings course.run course.ending start (stands_itself course.opening)
 
-  goes : (h : History ShardState) × Rounds pppoe (nothing_yet start) rounds h × Accounted pppoe leads.view h
-  goes = turns_go_on pppoe pppoe_laws start leads.view (nothing_yet start) rounds leads.turns (opening_accounted pppoe start start_opens)
+  goes : GoesLive said.view (nothing_yet start) rounds said.interims
+  goes = reports_go_on start said.view (nothing_yet start) rounds said.interims (formed_of course.turns course.endings) said.say said.turns (opening_accounted pppoe start start_opens)
 
-  run_from : RunFrom pppoe start rounds goes.0
-  run_from = record { opens = start_opens; run = goes.1 }
+  run_from : RunFrom pppoe start rounds goes.history
+  run_from = record { opens = start_opens; run = goes.run }
 
-  accounted : Accounted pppoe end goes.0
-  accounted = refused_keeps pppoe leads.view end goes.0 leads.stands.shards leads.stands.held leads.stands.tallies goes.2
+  accounted : Accounted pppoe end goes.history
+  accounted = refused_keeps pppoe said.view end goes.history said.stands.shards said.stands.held said.stands.tallies goes.accounted
 
   on_wire : RowsAccountOnWire pppoe rounds end
-  on_wire = rows_account_on_wire pppoe pppoe_laws start end goes.0 rounds goes.1 accounted
+  on_wire = rows_account_on_wire pppoe pppoe_laws start end goes.history rounds goes.run accounted
 
   -- each term is live or has its Stop, and what was sent is theirs
-  terms : AllZip HaveTerms goes.0.shards (terms_of_run config rounds)
-  terms = run_terms config rules r now start shards_are goes.0 rounds goes.1
+  terms : AllZip HaveTerms goes.history.shards (terms_of_run config rounds)
+  terms = run_terms config rules r now start shards_are goes.history rounds goes.run
 
   ours : AllByRecursion (IsOurs (Contains (all_terms_of config rounds))) (sends_of rounds)
-  ours = sends_ours (nothing_yet start) goes.0 rounds (terms_of_run config rounds) goes.1 terms accounted.fine.sound
+  ours = sends_ours (nothing_yet start) goes.history rounds (terms_of_run config rounds) goes.run terms accounted.fine.sound
 
   -- the shards work by the rules of the configuration, which they had at the opening
   have_rules : HaveRules r (nothing_yet start).shards
   have_rules = subst (λ (vs : List (ShardView ShardState Handled)). HaveRules r (map new_history vs)) (sym shards_are) (opened_rules config r now)
 
-  right : Chain (RightRound pppoe) (nothing_yet start) rounds goes.0
-  right = rounds_are_right pppoe pppoe_laws start rounds goes.0 run_from
+  right : Chain (RightRound pppoe) (nothing_yet start) rounds goes.history
+  right = rounds_are_right pppoe pppoe_laws start rounds goes.history run_from
 
   none_kept : course.opening.kept ≡ []
   none_kept = ap (λ (d : Desk). d.kept) course.begins.is_opened.desk
@@ -137,12 +140,12 @@ module _ (text : List ℕ) (config : Config) (read : IsRead text config) (seed :
   invented_in_stages : All (λ s. NothingIsInvented config s.taken s.sent) (stages_of course.turns course.endings)
   invented_in_stages =
       stages_invent_nothing config r course.begins.is_opened.are_rules.access course.begins.is_opened.are_rules.core_peer course.opening course.over course.last course.turns course.endings course.run course.ending
-      none_kept have_rules goes.0 right
+      none_kept have_rules goes.history right
 
   invented : NothingIsInvented config (plant_of course.turns course.endings).taken (plant_of course.turns course.endings).sent
   invented =
       nothing_invented config r course.begins.is_opened.are_rules.access course.begins.is_opened.are_rules.core_peer course.opening course.over course.last course.turns course.endings course.run course.ending
-      none_kept have_rules goes.0 right (plant_of course.turns course.endings).taken (plant_of course.turns course.endings).sent
+      none_kept have_rules goes.history right (plant_of course.turns course.endings).taken (plant_of course.turns course.endings).sent
       (stages_taken course.opening course.over course.turns course.endings course.run) (sent_are course.turns course.endings)
 
   lines : course.last.lines ≡ map (line_after (stops_of rounds)) (map line_of config.statics)
@@ -166,10 +169,10 @@ module _ (text : List ℕ) (config : Config) (read : IsRead text config) (seed :
   replied : AreReplied config seed course.turns
   replied = replies_of config turns_most seed course.begins.bound.now course.begins.bound.wall course.opening course.over course.turns course.begins.is_opened course.run
 
-  recorded : Recorded config course.begins.bound.wall course.begins.is_opened.starts course.turns course.endings course.last (plant_of course.turns course.endings).taken sent
+  recorded : (r : Recorded config course.begins.bound.wall course.begins.is_opened.starts course.turns course.endings course.last (plant_of course.turns course.endings).taken sent) × (r.interims ≡ said.interims)
   recorded =
       recorded_of config turns_most seed course.begins.bound.now course.begins.bound.wall course.opening course.over course.last course.turns course.endings course.begins.is_opened course.run course.ending
-      (all_else (Contains (all_terms_of config rounds)) (sends_of rounds) ours)
+      (all_else (Contains (all_terms_of config rounds)) (sends_of rounds) ours) said.interims said.say
 
   pub safe_of : IsSafe config seed old new course
   safe_of = record {
@@ -184,15 +187,15 @@ module _ (text : List ℕ) (config : Config) (read : IsRead text config) (seed :
     are_sent = refl;
     items = taken_are course.opening course.over course.turns course.endings course.run;
     sends = sends;
-    history = goes.0;
+    history = goes.history;
     rounds = right;
     terms = terms;
-    causes = run_causes config rules r now start shards_are goes.0 rounds goes.1;
-    causes_known = run_causes_known config rules r now start shards_are goes.0 rounds goes.1;
-    conserved = run_conserves_at pppoe pppoe_laws start rounds goes.0 run_from;
-    balanced = balanced pppoe end goes.0 accounted;
+    causes = run_causes config rules r now start shards_are goes.history rounds goes.run;
+    causes_known = run_causes_known config rules r now start shards_are goes.history rounds goes.run;
+    conserved = run_conserves_at pppoe pppoe_laws start rounds goes.history run_from;
+    balanced = balanced pppoe end goes.history accounted;
     addressed = all_addressed (all_terms_of config rounds) sent (sends_of rounds) sends ours;
-    addressed_live = live_addressed start goes.0 rounds start_opens.new goes.1;
+    addressed_live = live_addressed start goes.history rounds start_opens.new goes.run;
     invented_nothing = invented;
     stages_invented_nothing = invented_in_stages;
     stages_heard = stages_heard course.opening course.over course.turns course.endings course.run;
@@ -201,7 +204,8 @@ module _ (text : List ℕ) (config : Config) (read : IsRead text config) (seed :
     stages_sent = stages_sent course.turns course.endings;
     replied = replied;
     granted = granted;
-    recorded = recorded;
+    recorded = recorded.0;
+    interims = subst (λ (is : List (List FormedRecord)). Chain ReportsLive (nothing_yet start) (zip rounds is) goes.history) (sym recorded.1) goes.live;
     unsent = record {
       later = omega (arith, course.begins.bound.unfailed, course.told.plant.causes.later);
       rose = omega (arith, course.begins.bound.unfailed, course.told.plant.causes.rose, unsent_failed course.turns course.endings);
@@ -213,23 +217,23 @@ module _ (text : List ℕ) (config : Config) (read : IsRead text config) (seed :
     empty : AllByRecursion IsEmpty course.last.shards
     empty = ended_empty course.last ended
 
-    none_left : AllByRecursion HasNoTerms goes.0.shards
-    none_left = terms_gone course.last.shards goes.0.shards empty accounted.tells.shards (run_stays config rules r now start shards_are goes.0 rounds goes.1)
+    none_left : AllByRecursion HasNoTerms goes.history.shards
+    none_left = terms_gone course.last.shards goes.history.shards empty accounted.tells.shards (run_stays config rules r now start shards_are goes.history rounds goes.run)
 
     no_rows : AllByRecursion HasNoRows course.last.shards
-    no_rows = rows_gone course.last.shards goes.0.shards accounted.tells.shards none_left
+    no_rows = rows_gone course.last.shards goes.history.shards accounted.tells.shards none_left
 
     rows_none : (q : Quantity) (pick : Key → Bool) (input : Bool) → sum_by (λ x. rows_where q pick input x.rows) end.shards ≡ 0
     rows_none q pick input = rows_say_none q pick input course.last.shards no_rows
 
-    stopped_all : AllZip AreStopped goes.0.shards (terms_of_run config rounds)
-    stopped_all = all_stopped goes.0.shards (terms_of_run config rounds) none_left terms
+    stopped_all : AllZip AreStopped goes.history.shards (terms_of_run config rounds)
+    stopped_all = all_stopped goes.history.shards (terms_of_run config rounds) none_left terms
 
     exact : StopsAccount (stops_of rounds) sent
     exact = stops_account sent rounds sends end rows_none on_wire
 
     total : total_of course.last.tallies ≡ total_in sent
-    total = total_same sent rounds exact start end goes.0 goes.1 (balanced pppoe end goes.0 accounted) rows_none
+    total = total_same sent rounds exact start end goes.history goes.run (balanced pppoe end goes.history accounted) rows_none
 
     stopped_all_say : course.last.stopped_traffic ≡ plus_traffic no_traffic (all_say (stops_of rounds))
     stopped_all_say =
@@ -256,7 +260,7 @@ module _ (text : List ℕ) (config : Config) (read : IsRead text config) (seed :
     -- no Stop is open exactly where each was acknowledged
     answered : (unanswered_of course.last ≡ []) ↔ StopsAreAcknowledged (calls_in_run config seed old new course)
     answered =
-        stops_acknowledged (billing_rules config course.begins.bound.wall) recorded.opened course.last.billing (calls_in_run config seed old new course) recorded.is_new recorded.calls
+        stops_acknowledged (billing_rules config course.begins.bound.wall) recorded.0.opened course.last.billing (calls_in_run config seed old new course) recorded.0.is_new recorded.0.calls
         (agreed config turns_most seed course.begins.bound.now course.begins.bound.wall course.opening course.over course.last course.turns course.endings course.begins.is_opened course.run course.ending ended)
 
 module _ (text : List ℕ) (config : Config) (read : IsRead text config) (status : ℕ) (seed : List ℕ) (old new : World) (run : Runs config seed (outside old) (outside new) old.out new.out)

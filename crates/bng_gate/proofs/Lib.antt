@@ -46,6 +46,7 @@ pub mod Staging
 pub mod OnAcct
 pub mod Calling
 pub mod Agreed
+pub mod Reporting
 pub mod Recording
 pub mod Addressing
 pub mod AddressedLive

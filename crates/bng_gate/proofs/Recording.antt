@@ -1,5 +1,6 @@
 -- What a run did with accounting, from its turns.
 use Rattle.std.proofs.Common.{◌≡◌, ℕ, Bool, true, false, List, [], ◌∷◌, ◌++◌, map, Option, Some, None, refl, sym, ap, subst, ◌∙◌, append-nil, append_assoc}
+use Rattle.std.specs.Prelude.{zip}
 use Rattle.std.specs.List.{AllByRecursion, AllZip, flat_map}
 use Rattle.std.proofs.lemmas.List.Concat.{flat_map-append}
 use Rattle.std.proofs.lemmas.List.Folds.{flat_map-map}
@@ -16,22 +17,26 @@ use Rattle.bng_config.specs.declared.config.Config.{Config}
 use Rattle.bng_engine.specs.Histories.{ShardTurn}
 use Rattle.bng_engine.specs.Laws.{sends_of}
 use Rattle.bng_engine.specs.Terms.{Key, Stop}
-use Rattle.bng_engine.specs.Views.{ShardView, turn_in}
+use Rattle.bng_engine.specs.Views.{DeskView, ShardView, turn_in}
 use Rattle.bng_lane.specs.Sends.{LaneSend}
+use Rattle.bng_shard.specs.Interims.{Reports}
 use Rattle.bng_shard.specs.Protocol.{ShardState, Handled}
 use Rattle.bng_shard.specs.Tenures.{Tenure}
 use Rattle.bng_desk.specs.Accounting.{Acknowledged, FormedRecord, IsStartOf, IsStopOf, RecordRequests, RecordSend, record_datagram, record_sends}
 use Rattle.bng_desk.specs.Model.{Desk, has_ended}
 use Rattle.bng_desk.specs.Opening.{IsOpened, billing_rules}
 use Rattle.bng_desk.specs.Reading.{taken_in}
-use Rattle.bng_desk.specs.Round.{Round, handled_states, news_in, starts_of, stops_of, terms_in}
+use Rattle.bng_desk.specs.Round.{Round, handled_states, news_in, starts_of, stops_of, terms_in, view_after}
 use Rattle.bng_desk.specs.Turn.{Turn, Step, AreOfRound, FormsRecords, after_end}
 use Rattle.bng_gate.specs.Granted.{Stage, stage_in, end_stage_in, stages_of}
 use Rattle.bng_gate.specs.Recorded.{Recorded, SaysRound, SaysStart, SaysStop, SayRounds, formed_in, end_formed_in, formed_of, formed_call, heard_call, again_calls, given_calls, request_calls, calls_in, stopped_if, end_calls_in, calls_of, sent_by_calls, taken_for}
 use Rattle.bng_gate.specs.Rounds.{plant_of, round_in, end_round_in, rounds_of, turns_of}
 use Rattle.bng_gate.specs.Serving.{Made, MadeEnd, Late, Ends, Waits, LateStep, Run, EndRun}
 use Rattle.bng_gate.proofs.Calling.{ending_calls, forms_calls, made_calls, run_calls, step_calls}
+use Rattle.bng_gate.proofs.Follows.{Follows, end_follows, step_follows}
+use Rattle.bng_gate.proofs.Going.{Stands, none_stands, round_stands, round_turns}
 use Rattle.bng_gate.proofs.OnAcct.{IsElse, stages_recorded}
+use Rattle.bng_gate.proofs.Reporting.{ReportTurn, round_reports}
 use Rattle.bng_gate.proofs.Staging.{stages_acknowledged}
 
 -- The records of the rounds ---------------------------------------------------------------------------------------------------------
@@ -61,9 +66,10 @@ start_said terms moment wall k f is = record {
   carried = is.facts.carried;
 }
 
--- the records of a round are of its Stops and Starts as the engine lists them
-round_said : (shards : List (ShardView ShardState Entry)) (moment wall : ℕ) (round : Round) (formed : List FormedRecord) → AreOfRound shards moment wall round formed → SaysRound (map turn_in round.shards) formed
-round_said shards moment wall round formed is =
+-- the records of a round are of its Stops and Starts as the engine lists them, and then its Interims
+round_said : (shards : List (ShardView ShardState Entry)) (moment wall : ℕ) (round : Round) (reports reports' : List Reports) (b : BillingState) (formed : List FormedRecord) (b' : BillingState)
+    → (is : AreOfRound shards moment wall round reports reports' b formed b') → SaysRound (map turn_in round.shards) is.interims formed
+round_said shards moment wall round reports reports' b formed b' is =
     let states = handled_states shards round.shards in
     record {
       stops = is.stops;
@@ -75,39 +81,66 @@ round_said shards moment wall round formed is =
           (each_said (IsStartOf (news_in states) moment wall) SaysStart (start_said (news_in states) moment wall) (starts_of round) is.starts is.are_starts);
     }
 
--- before the records of these rounds, those of one more
-round_first : (shards : List (ShardView ShardState Entry)) (moment wall : ℕ) (round : Option Round) (formed : List FormedRecord) → FormsRecords shards moment wall round formed
-    → (rounds : List (List (ShardTurn Handled))) (rest : List FormedRecord) → SayRounds rounds rest → SayRounds (turns_of round ++ rounds) (formed ++ rest)
-round_first shards moment wall None formed none rounds rest say = subst (λ (fs : List FormedRecord). SayRounds rounds (fs ++ rest)) (sym none) say
-round_first shards moment wall (Some round) formed of_round rounds rest say = (formed, rest, refl, round_said shards moment wall round formed of_round, say)
+-- What the records of these rounds say, with the Interims of each; the rounds are turns of the engine that lead to this desk.
+pub record Said (v : DeskView ShardState Handled) (rounds : List (List (ShardTurn Handled))) (formed : List FormedRecord) (last : Desk) : Type 0 where
+  pub interims : List (List FormedRecord)
+  pub say : SayRounds rounds interims formed
+  pub view : DeskView ShardState Handled
+  pub turns : Chain ReportTurn v (zip rounds interims) view
+  pub stands : Stands view last
 
-step_says : (d d' : Desk) (t : Option Turn) → Step d t d' → (rounds : List (List (ShardTurn Handled))) (rest : List FormedRecord) → SayRounds rounds rest → SayRounds (turns_of (round_in t) ++ rounds) (formed_in t ++ rest)
-step_says d d' None step rounds rest say = say
-step_says d d' (Some t) step rounds rest say = round_first d.shards t.moment t.wall t.round t.formed step.3.of_round rounds rest say
+-- wherever a desk stands
+abbrev SaidFrom : Desk → List (List (ShardTurn Handled)) → List FormedRecord → Desk → Type 0
+SaidFrom d rounds formed last = (v : DeskView ShardState Handled) → Stands v d → Said v rounds formed last
 
-end_says : (d d' : Desk) (t : Late) → LateStep d t d' → (rounds : List (List (ShardTurn Handled))) (rest : List FormedRecord) → SayRounds rounds rest → SayRounds (turns_of (end_round_in t) ++ rounds) (end_formed_in t ++ rest)
-end_says d d' (Ends None) step rounds rest say = say
-end_says d d' (Waits t) step rounds rest say = say
-end_says d d' (Ends (Some t)) step rounds rest say = round_first d.shards t.moment t.wall t.round t.formed step.3.of_round rounds rest say
+module _ (last : Desk) where
+  -- before the records of these rounds, those of one more
+  round_first : (d d' : Desk) (round : Option Round) → Follows d round d' → (moment wall : ℕ) (reports reports' : List Reports) (b : BillingState) (formed : List FormedRecord) (b' : BillingState)
+      → FormsRecords d.shards moment wall round reports reports' b formed b' → (rounds : List (List (ShardTurn Handled))) (rest : List FormedRecord) → SaidFrom d' rounds rest last → SaidFrom d (turns_of round ++ rounds) (formed ++ rest) last
+  round_first d d' None follows moment wall reports reports' b formed b' none rounds rest later v stands =
+      subst (λ (fs : List FormedRecord). Said v rounds (fs ++ rest) last) (sym none.0) (later v (none_stands v d d' stands follows))
+  round_first d d' (Some round) follows moment wall reports reports' b formed b' of_round rounds rest later v stands =
+      let mid = view_after round in
+      let said = later mid (round_stands d d' round follows) in
+      record {
+        interims = of_round.interims ∷ said.interims;
+        say = (formed, rest, refl, round_said d.shards moment wall round reports reports' b formed b' of_round, said.say);
+        view = said.view;
+        turns = (mid, record { turn = round_turns v d round stands follows.is_round; reported = round_reports d.shards moment wall round reports reports' b formed b' of_round }, said.turns);
+        stands = said.stands;
+      }
 
-run_says : (d d' : Desk) (turns : List Made) → Run d turns d' → (rounds : List (Option Round)) (rest : List FormedRecord) → SayRounds (flat_map turns_of rounds) rest
-    → SayRounds (flat_map turns_of (map (λ m. round_in m.turn) turns ++ rounds)) (flat_map (λ m. formed_in m.turn) turns ++ rest)
-run_says d d' [] run rounds rest say = say
-run_says d d' (m ∷ turns) run rounds rest say =
-    let later = map (λ (x : Made). round_in x.turn) turns ++ rounds in
-    let formed = flat_map (λ (x : Made). formed_in x.turn) turns in
-    subst (SayRounds (turns_of (round_in m.turn) ++ flat_map turns_of later)) (sym (append_assoc (formed_in m.turn) formed rest))
-    (step_says d run.0 m.turn run.1.1 (flat_map turns_of later) (formed ++ rest) (run_says run.0 d' turns run.2 rounds rest say))
+  step_says : (d d' : Desk) (t : Option Turn) → Step d t d' → (rounds : List (List (ShardTurn Handled))) (rest : List FormedRecord) → SaidFrom d' rounds rest last → SaidFrom d (turns_of (round_in t) ++ rounds) (formed_in t ++ rest) last
+  step_says d d' None step rounds rest later v stands = later v (none_stands v d d' stands (step_follows d d' None step))
+  step_says d d' (Some t) step rounds rest later v stands =
+      let by = step.3 in
+      round_first d d' t.round (step_follows d d' (Some t) step) t.moment t.wall d.reports t.reports by.heard t.formed by.booked by.of_round rounds rest later v stands
 
-ending_says : (d d' : Desk) (endings : List MadeEnd) → EndRun d endings d' → SayRounds (flat_map turns_of (map (λ m. end_round_in m.turn) endings)) (flat_map (λ m. end_formed_in m.turn) endings)
-ending_says d d' [] run = refl
-ending_says d d' (m ∷ endings) run =
-    end_says d run.0 m.turn run.1.1 (flat_map turns_of (map (λ (x : MadeEnd). end_round_in x.turn) endings)) (flat_map (λ (x : MadeEnd). end_formed_in x.turn) endings)
-    (ending_says run.0 d' endings run.2)
+  end_says : (d d' : Desk) (t : Late) → LateStep d t d' → (rounds : List (List (ShardTurn Handled))) (rest : List FormedRecord) → SaidFrom d' rounds rest last → SaidFrom d (turns_of (end_round_in t) ++ rounds) (end_formed_in t ++ rest) last
+  end_says d d' (Ends None) step rounds rest later v stands = later v (none_stands v d d' stands (end_follows d d' (Ends None) step))
+  end_says d d' (Waits t) step rounds rest later v stands = later v (none_stands v d d' stands (end_follows d d' (Waits t) step))
+  end_says d d' (Ends (Some t)) step rounds rest later v stands =
+      let by = step.3 in
+      round_first d d' t.round (end_follows d d' (Ends (Some t)) step) t.moment t.wall d.reports t.reports d.billing t.formed by.booked by.of_round rounds rest later v stands
 
-all_said : (d over last : Desk) (turns : List Made) (endings : List MadeEnd) → Run d turns over → EndRun over endings last → SayRounds (rounds_of turns endings) (formed_of turns endings)
+  run_says : (d d' : Desk) (turns : List Made) → Run d turns d' → (rounds : List (Option Round)) (rest : List FormedRecord) → SaidFrom d' (flat_map turns_of rounds) rest last
+      → SaidFrom d (flat_map turns_of (map (λ m. round_in m.turn) turns ++ rounds)) (flat_map (λ m. formed_in m.turn) turns ++ rest) last
+  run_says d d' [] run rounds rest later v stands = later v (subst (Stands v) (sym run) stands)
+  run_says d d' (m ∷ turns) run rounds rest later v stands =
+      let after = map (λ (x : Made). round_in x.turn) turns ++ rounds in
+      let formed = flat_map (λ (x : Made). formed_in x.turn) turns in
+      subst (λ (fs : List FormedRecord). Said v (turns_of (round_in m.turn) ++ flat_map turns_of after) fs last) (sym (append_assoc (formed_in m.turn) formed rest))
+      (step_says d run.0 m.turn run.1.1 (flat_map turns_of after) (formed ++ rest) (run_says run.0 d' turns run.2 rounds rest later) v stands)
+
+  ending_says : (d : Desk) (endings : List MadeEnd) → EndRun d endings last → SaidFrom d (flat_map turns_of (map (λ m. end_round_in m.turn) endings)) (flat_map (λ m. end_formed_in m.turn) endings) last
+  ending_says d [] run v stands = record { interims = []; say = refl; view = v; turns = refl; stands = subst (Stands v) (sym run) stands }
+  ending_says d (m ∷ endings) run v stands =
+      end_says d run.0 m.turn run.1.1 (flat_map turns_of (map (λ (x : MadeEnd). end_round_in x.turn) endings)) (flat_map (λ (x : MadeEnd). end_formed_in x.turn) endings)
+      (ending_says run.0 endings run.2) v stands
+
+pub all_said : (d over last : Desk) (turns : List Made) (endings : List MadeEnd) → Run d turns over → EndRun over endings last → SaidFrom d (rounds_of turns endings) (formed_of turns endings) last
 all_said d over last turns endings run ending =
-    run_says d over turns run (map (λ (m : MadeEnd). end_round_in m.turn) endings) (flat_map (λ (m : MadeEnd). end_formed_in m.turn) endings) (ending_says over last endings ending)
+    run_says last d over turns run (map (λ (m : MadeEnd). end_round_in m.turn) endings) (flat_map (λ (m : MadeEnd). end_formed_in m.turn) endings) (ending_says last over endings ending)
 
 -- What was sent --------------------------------------------------------------------------------------------------------------------
 
@@ -330,8 +363,9 @@ all_takes starts turns endings =
 -- All turns ------------------------------------------------------------------------------------------------------------------------
 
 pub recorded_of : (config : Config) (rounds : ℕ) (seed : List ℕ) (now wall : ℕ) (opening over last : Desk) (turns : List Made) (endings : List MadeEnd) → (is : IsOpened config rounds seed now wall opening) → Run opening turns over → EndRun over endings last
-    → AllByRecursion IsElse (sends_of (rounds_of turns endings)) → Recorded config wall is.starts turns endings last (plant_of turns endings).taken (plant_of turns endings).sent
-recorded_of config rounds seed now wall opening over last turns endings is run ending elsewhere =
+    → AllByRecursion IsElse (sends_of (rounds_of turns endings)) → (interims : List (List FormedRecord)) → SayRounds (rounds_of turns endings) interims (formed_of turns endings)
+    → (r : Recorded config wall is.starts turns endings last (plant_of turns endings).taken (plant_of turns endings).sent) × (r.interims ≡ interims)
+recorded_of config rounds seed now wall opening over last turns endings is run ending elsewhere interims say =
     let first = map formed_call is.starts in
     let calls = flat_map (λ (m : Made). calls_in m.turn) turns in
     let closes = flat_map (λ (m : MadeEnd). end_calls_in m.desk m.turn) endings in
@@ -339,13 +373,16 @@ recorded_of config rounds seed now wall opening over last turns endings is run e
     let starts : Chain Does is.new_billing first opening.billing = subst (Chain Does is.new_billing first) (sym from) (forms_calls is.new_billing is.billing is.starts is.forms) in
     let chain : Chain Does is.new_billing (calls_of is.starts turns endings) last.billing =
     chain_append Does is.new_billing opening.billing last.billing first (calls ++ closes) starts
-    (chain_append Does opening.billing over.billing last.billing calls closes (run_calls opening over turns run) (ending_calls over last endings ending)) in
-    record {
-      opened = is.new_billing;
-      is_new = is.is_new;
-      calls = chain;
-      formed = all_said opening over last turns endings run ending;
-      requests = stages_recorded turns endings elsewhere ∙ all_sends config.acct_server is.starts opening over last turns endings run ending (stays_at config.acct_server is.new_billing opening.billing first starts is.is_new.client.acct_server);
-      heard = stages_acknowledged opening over turns endings run ∙ all_takes is.starts turns endings;
-      answered = answers_of (billing_rules config wall) is.new_billing last.billing (calls_of is.starts turns endings) is.is_new chain;
-    }
+    (chain_append Does opening.billing over.billing last.billing calls closes (run_calls opening over turns run) (ending_calls over last endings ending)) in (
+      record {
+        opened = is.new_billing;
+        is_new = is.is_new;
+        calls = chain;
+        interims = interims;
+        formed = say;
+        requests = stages_recorded turns endings elsewhere ∙ all_sends config.acct_server is.starts opening over last turns endings run ending (stays_at config.acct_server is.new_billing opening.billing first starts is.is_new.client.acct_server);
+        heard = stages_acknowledged opening over turns endings run ∙ all_takes is.starts turns endings;
+        answered = answers_of (billing_rules config wall) is.new_billing last.billing (calls_of is.starts turns endings) is.is_new chain;
+      },
+      refl,
+    )

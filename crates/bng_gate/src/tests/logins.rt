@@ -72,15 +72,15 @@ const IDLE_STOPPED: &str = "05010014f25e633ff24e3df526cf7f078b422307";
 
 /// The host asks by IPCP for any address, and hears which it is to be; asks for that, and hears that it has it; and takes the gateway's
 /// (RFC 1332 section 3.3).
-const ANY: &[u8] = b"\x80\x21\x01\x01\x00\x0a\x03\x06\x00\x00\x00\x00";
+pub(super) const ANY: &[u8] = b"\x80\x21\x01\x01\x00\x0a\x03\x06\x00\x00\x00\x00";
 
 const TO_BE: &[u8] = b"\x80\x21\x03\x01\x00\x0a\x03\x06\x0a\x00\x00\x32";
 
-const ASKS: &[u8] = b"\x80\x21\x01\x02\x00\x0a\x03\x06\x0a\x00\x00\x32";
+pub(super) const ASKS: &[u8] = b"\x80\x21\x01\x02\x00\x0a\x03\x06\x0a\x00\x00\x32";
 
 const GETS: &[u8] = b"\x80\x21\x02\x02\x00\x0a\x03\x06\x0a\x00\x00\x32";
 
-const TAKES: &[u8] = b"\x80\x21\x02\x01\x00\x0a\x03\x06\x0a\x00\x00\x01";
+pub(super) const TAKES: &[u8] = b"\x80\x21\x02\x01\x00\x0a\x03\x06\x0a\x00\x00\x01";
 
 /// A packet of 40 octets from 10.0.0.50 with TTL 64 in a PPP frame, and the packet that goes to the core for it.
 const FROM_HOST: &[u8] =
@@ -151,7 +151,7 @@ const BOTH_ACCEPTS: [&str; 2] = [
 ];
 
 /// A run over this configuration, at moments that are so many milliseconds apart.
-fn run_in<R: Threads + Wait + Sync>(
+pub(super) fn run_in<R: Threads + Wait + Sync>(
     rt: &R,
     alloc: Global,
     configuration: &str,
@@ -175,7 +175,7 @@ fn run_in<R: Threads + Wait + Sync>(
 }
 
 /// A datagram to Acct from the server.
-fn response(alloc: Global, octets: &str) -> Result<Arrival, Fail> {
+pub(super) fn response(alloc: Global, octets: &str) -> Result<Arrival, Fail> {
     let octets = hex::decode(alloc, octets)?;
     Ok(Arrival::new(Role::Acct, loopback(1813), octets.as_slice()))
 }
@@ -203,7 +203,12 @@ fn visit(alloc: Global) -> Result<Vec<Arrival>, Fail> {
 }
 
 /// The records that a run sent to the server are these.
-fn records(rt: &impl Abort, alloc: Global, ended: &Ended, wanted: &[&str]) -> Result<(), Fail> {
+pub(super) fn records(
+    rt: &impl Abort,
+    alloc: Global,
+    ended: &Ended,
+    wanted: &[&str],
+) -> Result<(), Fail> {
     let sent = ended.plant.sent().iter();
     let mut records = sent.filter(|datagram| datagram.role == Role::Acct);
     for octets in wanted {
