@@ -5,6 +5,7 @@ import os
 import resource
 import subprocess
 import sys
+import threading
 import time
 
 from gateway import CRATE, PROGRAM, USAGE, Lab, delivery, frame, is_built, packet, report, run, tried, udp
@@ -24,13 +25,18 @@ class Checks:
 
     passed = failed = 0
 
+    def __init__(self):
+        # Two may be compared at once.
+        self.turn = threading.Lock()
+
     def same(self, what, got, want):
-        if got == want:
-            self.passed += 1
-            print(f"ok     {what}")
-        else:
-            self.failed += 1
-            print(f"FAILED {what}\n  got  {got!r}\n  want {want!r}")
+        with self.turn:
+            if got == want:
+                self.passed += 1
+                print(f"ok     {what}")
+            else:
+                self.failed += 1
+                print(f"FAILED {what}\n  got  {got!r}\n  want {want!r}")
 
 
 def forwards_one_packet(checks, command, patience):
