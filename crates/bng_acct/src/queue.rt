@@ -93,6 +93,13 @@ impl Queue {
         number
     }
 
+    /// Whether a record waits.
+    pub(crate) fn waits(&self) -> bool
+        ensures { (result ≡ false) ↔ (self.now.waiting ≡ []) }
+    {
+        self.waiting.first().is_some()
+    }
+
     /// The number of the record that waited longest, which waits no longer.
     pub(crate) fn hand_out(&mut self) -> Option<u32>
         ensures some { IfSome result (λ n. HandsOut self.old self.new n) }

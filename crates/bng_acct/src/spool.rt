@@ -224,6 +224,13 @@ impl Spool {
         self.open_number(*term, StatusType::Interim).is_none()
     }
 
+    /// Whether a record was not handed out yet. It takes the same time however many are open.
+    pub fn waits(&self) -> bool
+        ensures { (result ≡ false) ↔ (self.now.waiting ≡ []) }
+    {
+        self.queue.waits()
+    }
+
     /// Writes the record that was formed first of those not handed out yet, as an Accounting-Request of at most 1,024
     /// octets that is still to be numbered and signed, and hands it out. None exactly where there is none.
     pub fn next(&mut self, into: &mut Frame) -> Option<RecordNo>

@@ -13,3 +13,4 @@ pub mod PppGrammar
 pub mod PppoeGrammar
 pub mod Books
 pub mod Listed
+pub mod Batches

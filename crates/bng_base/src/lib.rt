@@ -4,6 +4,7 @@
 #![tactic(auto)]
 
 mod address;
+mod batch;
 mod book;
 mod circuit;
 mod codec;
@@ -19,6 +20,7 @@ mod settings;
 mod tunnel_step;
 
 pub use crate::address::{Ip4, Mac, Peer, SessionNo, TunnelNo};
+pub use crate::batch::Batch;
 pub use crate::book::{Book, Profile, Range, Rate};
 pub use crate::circuit::{Circuit, TermId};
 pub use crate::codec::{ReadError, Written};

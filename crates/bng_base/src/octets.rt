@@ -33,6 +33,20 @@ impl Octets {
         Octets { frame }
     }
 
+    /// Becomes the payload of a frame.
+    pub fn copy_from(&mut self, frame: &Frame)
+        ensures { self.new ≡ frame.now.payload }
+    {
+        self.frame.copy_from(frame);
+    }
+
+    /// Becomes what other octets are.
+    pub fn take_over(&mut self, other: &Octets)
+        ensures { self.new ≡ other.now }
+    {
+        self.frame.copy_from(&other.frame);
+    }
+
     pub fn as_slice(&self) -> &[u8]
         ensures octets { result.now ≡ self.now }
         ensures fits { length self.now ≤ ROOM }

@@ -1,6 +1,6 @@
 -- The client of accounting, whose table of Accounting-Requests alone changes.
 use Rattle.std.proofs.Common.{◌≡◌, ℕ, ◌+◌, ◌<◌, Bool, true, false, leb, List, length, Option, Some, None, refl, sym, ap, subst, ◌∙◌, arith, ⊎_elim}
-use Rattle.std.specs.Prelude.{slice_set, slice_index}
+use Rattle.std.specs.Prelude.{◌⊎◌, slice_set, slice_index}
 use Rattle.std.proofs.lemmas.Bool.Decides.{leb_tells}
 use Rattle.std.proofs.lemmas.Bool.{false≢true}
 use Rattle.bng_base.specs.declared.address.Peer.{Peer}
@@ -16,22 +16,20 @@ use Rattle.bng_rad_client.specs.declared.replies.Replied.TheVariants.{Matched, I
 use Rattle.bng_rad_client.specs.declared.rules.Lane.{Lane}
 use Rattle.bng_rad_client.specs.declared.rules.Lane.TheVariants.{Auth, Acct}
 use Rattle.bng_rad_client.specs.declared.rules.Owner.{Owner}
-use Rattle.bng_rad_client.specs.declared.rules.Owner.TheVariants.{Ask}
 use Rattle.bng_rad_client.specs.Asking.{IsAsked}
-use Rattle.bng_rad_client.specs.Due.{is_sought}
+use Rattle.bng_rad_client.specs.Due.{is_sought, OneBelow}
 use Rattle.bng_rad_client.specs.DueRequests.{IsResent}
 use Rattle.bng_rad_client.specs.Replies.{IsReplyOf, Answers, authenticator_of}
 use Rattle.bng_rad_client.specs.State.{State as Client, ChangesTable}
 use Rattle.bng_rad_client.specs.Table.{Table, request_of}
-use Rattle.bng_acct.specs.declared.facts.RecordNo.{RecordNo}
 use Rattle.bng_acct.specs.Spool.{State as Spool, HandsOver}
-use Rattle.bng_billing.specs.State.{BillingState, places_of, flag_of, owner_of, with_table_of, freed}
+use Rattle.bng_billing.specs.State.{BillingState, places_of, flag_of, owner_of, with_table_of}
 use Rattle.bng_billing.specs.Invariant.{IsBilling}
 use Rattle.bng_billing.specs.Replies.{Counts, Acknowledges, Takes, IsAcknowledged}
 use Rattle.bng_billing.specs.Due.{IsResentBy, NoneToResend, is_due_again, due_count}
 use Rattle.bng_billing.specs.Sending.{IsSentBy}
 use Rattle.bng_billing.proofs.Places.{within, count_less, count_none, no_request}
-use Rattle.bng_billing.proofs.Numbers.{one_number, some_is, none_some}
+use Rattle.bng_billing.proofs.Numbers.{some_is, none_some}
 use Rattle.bng_billing.proofs.Keeping.{sends_pending, acks_keeps}
 
 abbrev made : Table → Table → Peer → Peer → List ℕ → ℕ → Client
@@ -179,3 +177,11 @@ none_due old now size none = count_none (is_due_again now) (places_of old) (λ i
     at : (i : ℕ) → i < 256 → (p : Option Pending) → request_of (places_of old) i ≡ p → is_due_again now (request_of (places_of old) i) ≡ false
     at i below None e = ap (is_due_again now) e
     at i below (Some r) e = ap (is_due_again now) e ∙ wanted i below r e (is_sought Endless now r) refl
+
+-- a request whose interval has passed is an Accounting-Request
+pub one_due : (c : Client) (s : Spool) (now : ℕ) → IsBilling c s → OneBelow (is_sought Endless now) c.auth.places 256 ⊎ OneBelow (is_sought Endless now) c.acct.places 256
+    → OneBelow (is_sought Endless now) c.acct.places 256
+one_due c s now billing one = ⊎_elim
+    (λ auth. absurd (let both : None ≡ Some auth.request = sym (no_request 256 auth.id) ∙ ap (λ (t : Table). request_of t.places auth.id) (sym billing.auth) ∙ auth.is in cc))
+    (λ acct. acct)
+    one

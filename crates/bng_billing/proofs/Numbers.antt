@@ -1,16 +1,16 @@
 -- Numbers of records: of their requests, and of those that wait.
-use Rattle.std.proofs.Common.{◌≡◌, ◌≢◌, inl, inr, ◌⊎◌, ⊎_elim, ℕ, Bool, true, false, not, cond, List, [], ◌∷◌, ◌++◌, Option, Some, None, refl, sym, ap, ◌∙◌, subst, eqb, arith}
+use Rattle.std.proofs.Common.{◌≡◌, ◌≢◌, inl, inr, ⊎_elim, ℕ, Bool, true, false, not, cond, List, [], ◌∷◌, ◌++◌, Option, Some, None, refl, sym, ap, ◌∙◌, eqb, arith}
 use Rattle.std.specs.Prelude.{filter, is_some}
 use Rattle.std.specs.List.{AllByRecursion}
-use Rattle.std.proofs.lemmas.Bool.{cases_Bool, ne_eqb, cases_eq}
+use Rattle.std.proofs.lemmas.Bool.{cases_Bool}
 use Rattle.bng_rad_client.specs.declared.pending.Pending.{Pending}
 use Rattle.bng_rad_client.specs.declared.rules.Owner.{Owner}
 use Rattle.bng_rad_client.specs.declared.rules.Owner.TheVariants.{Ask, Record as OfRecord}
 use Rattle.bng_acct.specs.declared.sheet.Sheet.{Sheet}
 use Rattle.bng_acct.specs.Queue.{sheet_at, is_waiting, Apart, AreWaiting, IsIn, without}
-use Rattle.bng_acct.specs.Spool.{is_stop, is_stop_sheet, only_stop}
+use Rattle.bng_acct.specs.Spool.{is_stop_sheet, only_stop}
 use Rattle.bng_billing.specs.State.{owner_of}
-use Rattle.bng_billing.specs.Stopping.{is_known, is_lost, unless_lost}
+use Rattle.bng_billing.specs.Stopping.{is_known, unless_lost}
 
 abbrev number_in : Owner → ℕ
 number_in (Ask session ask) = 0

@@ -1,12 +1,12 @@
 -- The request of a record, signed.
-use Rattle.std.proofs.Common.{◌≡◌, ℕ, ◌+◌, ◌-◌, Bool, true, false, cond, List, [], ◌∷◌, ◌++◌, length, drop, eqb, Option, Some, None, refl, sym, ap, subst, ◌∙◌, arith}
+use Rattle.std.proofs.Common.{◌≡◌, ℕ, ◌+◌, ◌-◌, Bool, false, cond, List, [], ◌∷◌, ◌++◌, length, drop, eqb, Option, Some, None, refl, sym, ap, subst, ◌∙◌, arith}
 use Rattle.std.specs.List.{position_from, AllByRecursion}
 use Rattle.std.proofs.lemmas.List.{length-take, length-drop}
 use Rattle.bng_base.specs.Packet.{Packet as Bytes}
 use Rattle.bng_base.specs.declared.circuit.Circuit.{Circuit}
 use Rattle.bng_base.specs.declared.circuit.Circuit.TheVariants.{Pppoe, L2tp}
 use Rattle.bng_radius_wire.specs.Attributes.{Field}
-use Rattle.bng_radius_wire.specs.Grammar.{Packet, IsRadius, length_in, attributes_text}
+use Rattle.bng_radius_wire.specs.Grammar.{Packet, IsRadius, length_in}
 use Rattle.bng_radius_wire.specs.Digests.{zeros, is_message_authenticator, response_authenticator, filled_at, has_digest, signed_request, signed_reply, filled}
 use Rattle.bng_radius_wire.proofs.Spelled.{size_of}
 use Rattle.bng_acct.specs.declared.facts.StatusType.{StatusType}

@@ -1,5 +1,5 @@
 -- The stop: Starts and Interims are forgotten.
-use Rattle.std.specs.Prelude.{◌≡◌, ℕ, ◌≤◌, Bool, false, not, ◌&&◌, nat_lt, List, Option, Some, None, is_some, length, filter, slice_index_or, slice_set, if◌then◌else◌}
+use Rattle.std.specs.Prelude.{◌≡◌, ℕ, ◌≤◌, Bool, false, not, nat_lt, List, Option, Some, None, is_some, length, filter, slice_index_or, slice_set, if◌then◌else◌}
 use Rattle.bng_base.specs.declared.circuit.TermId.{TermId}
 use Rattle.bng_rad_client.specs.declared.pending.Pending.{Pending}
 use Rattle.bng_rad_client.specs.declared.rules.Owner.{Owner}

@@ -1,6 +1,8 @@
-ghost use Rattle.std.specs.Prelude.{◌≡◌, ◌≤◌, ◌↔◌, ◌+◌, IsTrue, IfOk, IfSome, IfNone, OnSome, None, List, length, slice_get};
+ghost use Rattle.std.specs.Prelude.{◌≡◌, ◌≤◌, ◌↔◌, ◌+◌, IsTrue, IfOk, IfSome, IfNone, OnSome, None, false, List, length, slice_get};
 ghost use Rattle.std.specs.Option.{option_copied};
 ghost use Rattle.bng_radius_wire.specs.Attributes.{Field};
+ghost use Rattle.bng_rad_client.specs.declared.due.Sought.TheVariants.{Endless};
+ghost use Rattle.bng_rad_client.specs.Due.{is_sought, OneBelow};
 ghost use Rattle.bng_rad_client.specs.DueRequests.{IsDeadline};
 ghost use Rattle.bng_acct.specs.Request.{AreClasses};
 ghost use Rattle.bng_acct.specs.Spool.{open_of, IsAdmitted, Agree, unacked_stops};
@@ -156,6 +158,14 @@ impl Billing {
         self.spool.session_id(term)
     }
 
+    /// Whether a record waits and fewer than 256 requests are out: where it is false, `send` has nothing to answer. It takes
+    /// the same time however many are open or out.
+    pub fn waits(&self) -> bool
+        ensures { (result ≡ false) ↔ NoneToSend self.now }
+    {
+        self.client.room(Kind::Acct) && self.spool.waits()
+    }
+
     /// Hands out, at this moment in milliseconds, the record that was formed first of those that wait: its number, and the
     /// identifier and the octets of its request, which is to be sent. Until `note` says that it was, no datagram is its
     /// reply. None exactly where no record waits or 256 requests are out.
@@ -210,6 +220,16 @@ impl Billing {
             Replied::Matched(Owner::Ask { .. }) => unreachable!(),
             Replied::Ignored(_) => None,
         }
+    }
+
+    /// Whether the interval of a request has passed at this moment, in milliseconds. It takes the same time however many are
+    /// out; where it is false, `resend` has nothing to answer.
+    pub fn is_due(&self, now: u64) -> bool
+        ensures again { result ≡ false → NoneToResend self.now now }
+        ensures done { result ≡ false → due_count self.now now ≡ 0 }
+        ensures due { IsTrue result → OneBelow (is_sought Endless now) (places_of self.now) 256 }
+    {
+        self.client.is_due(now)
     }
 
     /// The identifier and the octets of a request that is to be sent again at this moment, in milliseconds, which counts as

@@ -11,12 +11,12 @@ use Rattle.bng_billing.specs.State.{BillingState}
 use Rattle.bng_engine.specs.Lists.{AnyOf}
 use Rattle.bng_engine.specs.Terms.{Key, Stop}
 use Rattle.bng_engine.proofs.Everywhere.{any_either, any_left, any_right}
-use Rattle.bng_shard.specs.declared.sums.Traffic.{Traffic}
 use Rattle.bng_shard.specs.Protocol.{SaysOf}
 use Rattle.bng_shard.specs.Tenures.{LeavesTerms, Tenure}
+use Rattle.bng_desk.specs.declared.accounts.Stopped.{Stopped}
 use Rattle.bng_desk.specs.Accounting.{AreFactsOf, FormedRecord, Forms, IsStartOf, IsStopOf}
-use Rattle.bng_desk.specs.Model.{all_stopped, line_after, plus_traffic}
-use Rattle.bng_desk.specs.Taking.{Accounts, BooksStarts, BooksStops}
+use Rattle.bng_desk.specs.Model.{line_after}
+use Rattle.bng_desk.specs.Taking.{Accounts, BooksStarts, BooksStops, plus_stops}
 use Rattle.bng_desk.proofs.InAll.{stopped_none, stopped_more}
 use Rattle.bng_desk.proofs.Lines.{lines_none, lines_more}
 use Rattle.bng_desk.proofs.Parts.{zip_append, zip_weaker}
@@ -75,7 +75,7 @@ pub books_none : (terms : List Tenure) (moment wall : ℕ) (a : Accounts) → Bo
 books_none terms moment wall a = record { formed = []; forms = refl; are_stops = tt; lines_are = lines_none a.lines; stopped_is = stopped_none a.stopped; reports_are = refl }
 
 pub books_one : (terms : List Tenure) (moment wall n : ℕ) (s : Stop) (facts : TermFacts) (at : Moment) (a a' : Accounts) → AreFactsOf terms s.key s.carried facts → at ≡ record { now = moment; wall = wall; cause = s.cause }
-    → IsFormedBy a.billing OfStop facts at n a'.billing → a'.lines ≡ map (line_after (s ∷ [])) a.lines → a'.stopped ≡ plus_traffic a.stopped (all_stopped (s ∷ [])) → a'.reports ≡ a.reports → BooksStops terms moment wall (s ∷ []) a a'
+    → IsFormedBy a.billing OfStop facts at n a'.billing → a'.lines ≡ map (line_after (s ∷ [])) a.lines → a'.stopped ≡ plus_stops a.stopped (s ∷ []) → a'.reports ≡ a.reports → BooksStops terms moment wall (s ∷ []) a a'
 books_one terms moment wall n s facts at a a' are when formed lines stopped reports = record {
   formed = record { status = OfStop; facts = facts; moment = at; number = n } ∷ [];
   forms = (a'.billing, formed, refl);
@@ -103,7 +103,7 @@ books_more terms moment wall ss ts a b c x y = record {
   forms = forms_append a.billing b.billing c.billing x.formed y.formed x.forms y.forms;
   are_stops = zip_append (IsStopOf terms moment wall) ss ts x.formed y.formed x.are_stops y.are_stops;
   lines_are = y.lines_are ∙ ap (map (line_after ts)) x.lines_are ∙ sym (lines_more ss ts a.lines);
-  stopped_is = y.stopped_is ∙ ap (λ (t : Traffic). plus_traffic t (all_stopped ts)) x.stopped_is ∙ sym (stopped_more ss ts a.stopped);
+  stopped_is = y.stopped_is ∙ ap (λ (t : Stopped). plus_stops t ts) x.stopped_is ∙ sym (stopped_more ss ts a.stopped);
   reports_are = y.reports_are ∙ x.reports_are;
 }
 

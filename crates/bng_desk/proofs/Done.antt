@@ -17,9 +17,9 @@ use Rattle.bng_engine.specs.Lists.{Zip3}
 use Rattle.bng_engine.specs.Views.{ShardView}
 use Rattle.bng_ppp.specs.LinkRelation.{earliest}
 use Rattle.bng_pool.specs.Plain.{PlainView}
-use Rattle.bng_shard.specs.declared.sums.Traffic.{Traffic}
 use Rattle.bng_shard.specs.Interims.{Reports}
 use Rattle.bng_shard.specs.Protocol.{Handled, ShardState, pppoe}
+use Rattle.bng_desk.specs.declared.accounts.Stopped.{Stopped}
 use Rattle.bng_desk.specs.declared.drops.Drops.{Drops}
 use Rattle.bng_desk.specs.declared.holding.Named.{Named}
 use Rattle.bng_desk.specs.declared.line.Line.{Line}
@@ -39,6 +39,10 @@ use Rattle.bng_desk.proofs.Resting.{kept_rested, left_rested, round_rested}
 abbrev Shards : Type 0
 Shards = List (ShardView ShardState Entry)
 
+-- what all Stops say that were formed so far, and how many they are
+abbrev pub stopped_in : Desk → Stopped
+stopped_in d = record { carried = d.stopped_book; stops = d.stops }
+
 -- what a turn has of its round, before which accounting stood so
 pub record RoundDone (d : Desk) (heard : BillingState) (moment wall : ℕ) (items : List Item) (old new : PlantTold) (shards : Shards) (pool : PlainView) (accounts : Accounts) (drops : Drops) (tally : Book) (told_is : RoundRecord) (opened : Bool) (kept : List Item) : Type 0 where
   pub round : Option Round
@@ -46,7 +50,7 @@ pub record RoundDone (d : Desk) (heard : BillingState) (moment wall : ℕ) (item
   pub shards_are : shards ≡ (after_round d items round).shards
   pub pool_is : pool ≡ (after_round d items round).pool
   pub lines_are : accounts.lines ≡ (after_round d items round).lines
-  pub stopped_is : accounts.stopped ≡ (after_round d items round).stopped_traffic
+  pub stopped_is : accounts.stopped ≡ stopped_in (after_round d items round)
   pub allows : Allows heard d.shards round
   pub formed : List FormedRecord
   pub forms : Forms heard formed accounts.billing
@@ -59,7 +63,7 @@ pub record RoundDone (d : Desk) (heard : BillingState) (moment wall : ℕ) (item
   pub kept_is : kept ≡ (after_round d items round).kept
 
 abbrev accounts_of : Desk → BillingState → Accounts
-accounts_of d heard = record { lines = d.lines; stopped = d.stopped_traffic; billing = heard; reports = d.reports }
+accounts_of d heard = record { lines = d.lines; stopped = stopped_in d; billing = heard; reports = d.reports }
 
 -- a round over shards is one over these shards at rest
 states_rested : (vs : Shards) (xs : List (ShardView ShardState Handled)) → handled_states (map rested vs) xs ≡ handled_states vs xs
@@ -147,7 +151,8 @@ pub after_parts : (d : Desk) (items : List Item) (round : Option Round)
       shards = (after_round d items round).shards;
       pool = (after_round d items round).pool;
       lines = (after_round d items round).lines;
-      stopped_traffic = (after_round d items round).stopped_traffic;
+      stopped_book = (after_round d items round).stopped_book;
+      stops = (after_round d items round).stops;
       drops = (after_round d items round).drops;
       tallies = (after_round d items round).tallies;
       kept = (after_round d items round).kept;
@@ -156,22 +161,22 @@ pub after_parts : (d : Desk) (items : List Item) (round : Option Round)
 after_parts d items None = refl
 after_parts d items (Some round) = refl
 
-abbrev with_round : Desk → Shards → PlainView → List Line → Traffic → Drops → List Book → List Item → Desk
-with_round d shards pool lines stopped drops tallies kept = record d { shards = shards; pool = pool; lines = lines; stopped_traffic = stopped; drops = drops; tallies = tallies; kept = kept }
+abbrev with_round : Desk → Shards → PlainView → List Line → Stopped → Drops → List Book → List Item → Desk
+with_round d shards pool lines stopped drops tallies kept = record d { shards = shards; pool = pool; lines = lines; stopped_book = stopped.carried; stops = stopped.stops; drops = drops; tallies = tallies; kept = kept }
 
 -- the desk after its round, from its parts
-module _ (d : Desk) (items : List Item) (round : Option Round) (shards : Shards) (pool : PlainView) (lines : List Line) (stopped : Traffic) (drops : Drops) (tallies : List Book) (kept : List Item) where
-  pub is_after_round : shards ≡ (after_round d items round).shards → pool ≡ (after_round d items round).pool → lines ≡ (after_round d items round).lines → stopped ≡ (after_round d items round).stopped_traffic → drops ≡ (after_round d items round).drops → tallies ≡ (after_round d items round).tallies → kept ≡ (after_round d items round).kept
-      → record d { shards = shards; pool = pool; lines = lines; stopped_traffic = stopped; drops = drops; tallies = tallies; kept = kept } ≡ after_round d items round
+module _ (d : Desk) (items : List Item) (round : Option Round) (shards : Shards) (pool : PlainView) (lines : List Line) (stopped : Stopped) (drops : Drops) (tallies : List Book) (kept : List Item) where
+  pub is_after_round : shards ≡ (after_round d items round).shards → pool ≡ (after_round d items round).pool → lines ≡ (after_round d items round).lines → stopped ≡ stopped_in (after_round d items round) → drops ≡ (after_round d items round).drops → tallies ≡ (after_round d items round).tallies → kept ≡ (after_round d items round).kept
+      → record d { shards = shards; pool = pool; lines = lines; stopped_book = stopped.carried; stops = stopped.stops; drops = drops; tallies = tallies; kept = kept } ≡ after_round d items round
   is_after_round shards_are pool_is lines_are stopped_is drops_are tallies_are kept_is =
       let r = after_round d items round in
       ap (λ (xs : Shards). with_round d xs pool lines stopped drops tallies kept) shards_are
       ∙ ap (λ (hs : PlainView). with_round d r.shards hs lines stopped drops tallies kept) pool_is
       ∙ ap (λ (ls : List Line). with_round d r.shards r.pool ls stopped drops tallies kept) lines_are
-      ∙ ap (λ (t : Traffic). with_round d r.shards r.pool r.lines t drops tallies kept) stopped_is
-      ∙ ap (λ (y : Drops). with_round d r.shards r.pool r.lines r.stopped_traffic y tallies kept) drops_are
-      ∙ ap (λ (bs : List Book). with_round d r.shards r.pool r.lines r.stopped_traffic r.drops bs kept) tallies_are
-      ∙ ap (λ (is : List Item). with_round d r.shards r.pool r.lines r.stopped_traffic r.drops r.tallies is) kept_is
+      ∙ ap (λ (t : Stopped). with_round d r.shards r.pool r.lines t drops tallies kept) stopped_is
+      ∙ ap (λ (y : Drops). with_round d r.shards r.pool r.lines (stopped_in r) y tallies kept) drops_are
+      ∙ ap (λ (bs : List Book). with_round d r.shards r.pool r.lines (stopped_in r) r.drops bs kept) tallies_are
+      ∙ ap (λ (is : List Item). with_round d r.shards r.pool r.lines (stopped_in r) r.drops r.tallies is) kept_is
       ∙ after_parts d items round
 
 -- the phases of a turn, one after the other

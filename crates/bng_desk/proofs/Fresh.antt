@@ -18,17 +18,17 @@ use Rattle.bng_shard.specs.Protocol.{HasPools, ShardState, opened, terms_of}
 use Rattle.bng_shard.specs.Questions.{none_handed}
 use Rattle.bng_shard.specs.Sums.{IsLow, AreLow, RowsAreLow}
 use Rattle.bng_shard.specs.declared.rules.Rules.{Rules}
-use Rattle.bng_shard.specs.declared.sums.Traffic.{Traffic}
 use Rattle.bng_base.specs.declared.item.Item.{Item}
+use Rattle.bng_desk.specs.declared.accounts.Stopped.{Stopped}
 use Rattle.bng_desk.specs.declared.drops.Drops.{Drops}
 use Rattle.bng_desk.specs.declared.line.Line.{Line}
 use Rattle.bng_desk.specs.Accounting.{AreBilled, KnowsBegun}
 use Rattle.bng_desk.specs.Counting.{Within, no_drops}
 use Rattle.bng_desk.specs.Interims.{AreAwaited, AwaitsAt}
 use Rattle.bng_desk.specs.Kept.{IsKept, IsUnended, is_verdict, all_turns, rested, octets_most, drops_most}
-use Rattle.bng_desk.specs.Model.{Desk, keys_in, no_traffic}
+use Rattle.bng_desk.specs.Model.{Desk, begun_in, keys_in, live_terms}
 use Rattle.bng_desk.specs.Opening.{line_of}
-use Rattle.bng_desk.specs.Taking.{IsEmpty, KeepsTerms, HasFewSessions, AddsUp, AreInOrder, AreTallied, CarriesWithin, kept_in, live_by, octets_of, stopped_in}
+use Rattle.bng_desk.specs.Taking.{IsEmpty, KeepsTerms, HasFewSessions, AddsUp, AreInOrder, AreTallied, CarriesWithin, kept_in, live_by, no_stops, stopped_in}
 use Rattle.bng_desk.proofs.Readying.{WorksBy}
 use Rattle.bng_desk.proofs.Returning.{HoldsOwn}
 use Rattle.bng_desk.proofs.Keeping.{AreKept, none_kept, one_low, unended_left}
@@ -91,9 +91,9 @@ module _ (rules : Rules) (statics : ℕ → List Static) (now : ℕ) where
   kept_none input l [] = refl
   kept_none input l (n ∷ ns) = omega (arith, sum_by-cons (kept_in input l) (fresh n) (map fresh ns), none_carried Octets (has_lease l.address) input (keys (terms_of (fresh n).state)), kept_none input l ns)
 
-  live_none : (input : Bool) (ns : List ℕ) → sum_by (live_by input) (map fresh ns) ≡ 0
-  live_none input [] = refl
-  live_none input (n ∷ ns) = omega (arith, sum_by-cons (live_by input) (fresh n) (map fresh ns), none_carried Octets is_any input (keys (terms_of (fresh n).state)), live_none input ns)
+  live_none : (q : Quantity) (input : Bool) (ns : List ℕ) → sum_by (live_by q input) (map fresh ns) ≡ 0
+  live_none q input [] = refl
+  live_none q input (n ∷ ns) = omega (arith, sum_by-cons (live_by q input) (fresh n) (map fresh ns), none_carried q is_any input (keys (terms_of (fresh n).state)), live_none q input ns)
 
 -- an Interim may be due at any moment
 any_moment : (o : Option ℕ) → IfSome o (λ at. 0 ≤ at)
@@ -115,18 +115,17 @@ pub fresh_tallied : (rules : Rules) (statics : ℕ → List Static) (now : ℕ) 
 fresh_tallied rules statics now tally ns cs =
     All-map (CarriesWithin (λ input. in_book Octets input tally) (map (fresh rules statics now) ns)) line_of cs (λ k d lt input. omega (arith, none_stopped input (get_or cs k d), kept_none rules statics now input (line_of (get_or cs k d)) ns))
 
-nothing_of : (input : Bool) → octets_of input no_traffic ≡ 0
-nothing_of true = refl
-nothing_of false = refl
-
--- what was carried in all is nothing, as the tally says
-fresh_sum : (rules : Rules) (statics : ℕ → List Static) (now : ℕ) (ns : List ℕ) → AddsUp empty_book (map (fresh rules statics now) ns) no_traffic
-fresh_sum rules statics now ns input = omega (arith, nothing_of input, live_none rules statics now input ns, nothing_in Octets input)
+-- what was carried in all is nothing, as the tally says, and each term that began has no Stop yet
+fresh_sum : (rules : Rules) (statics : ℕ → List Static) (now : ℕ) (ns : List ℕ) → live_terms (map (fresh rules statics now) ns) ≡ begun_in (map (fresh rules statics now) ns) → AddsUp empty_book (map (fresh rules statics now) ns) no_stops
+fresh_sum rules statics now ns counts = record {
+  carried = λ q input. omega (arith, live_none rules statics now q input ns, nothing_in q input);
+  terms = omega (arith, counts);
+}
 
 -- a desk with such shards, in which nothing has happened
-pub kept_fresh : (d : Desk) (statics : ℕ → List Static) (now : ℕ) (cs : List Static) → d.shards ≡ map (λ n. opened n d.rules (statics n) now) (range_with_len 0 d.rules.shards) → All HasFewSessions d.shards → d.lines ≡ map line_of cs → d.stopped_traffic ≡ no_traffic → 1 ≤ length d.rules.access → length d.rules.access ≤ 16 → 1 ≤ d.rules.shards → d.rules.shards ≤ 64
+pub kept_fresh : (d : Desk) (statics : ℕ → List Static) (now : ℕ) (cs : List Static) → d.shards ≡ map (λ n. opened n d.rules (statics n) now) (range_with_len 0 d.rules.shards) → All HasFewSessions d.shards → d.lines ≡ map line_of cs → (let x : Stopped = record { carried = d.stopped_book; stops = d.stops } in x) ≡ no_stops → live_terms d.shards ≡ begun_in d.shards → 1 ≤ length d.rules.access → length d.rules.access ≤ 16 → 1 ≤ d.rules.shards → d.rules.shards ≤ 64
     → HasPools d.rules.pools d.pool.ranges → d.pool.shards ≡ d.rules.shards → All (HoldsOwn d.pool.table) d.shards → All (KeepsTerms d.moment) d.shards → d.rounds ≤ 2 ^ 40 → d.turns ≡ 0 → d.endings ≡ 0 → d.unopened ≡ 0 → d.closed ≡ false → d.told ≡ 0 → d.drawn ≡ 1 → d.drops ≡ no_drops → d.tallies ≡ empty_book ∷ [] → d.kept ≡ [] → d.handed ≡ map (λ n. none_handed) (range_with_len 0 d.rules.shards) → d.reports ≡ map (λ n. no_reports) (range_with_len 0 d.rules.shards) → d.closing ≡ d.moment → d.graces ≡ 0 → AreBilled (keys_in d.shards) d.billing → KnowsBegun d.shards d.billing → IsKept d
-kept_fresh d statics now cs shards few lines stopped some_port few_ports some_shard few_shards pools places held terms most turns endings unopened closed told drawn drops tallies kept handed reports closing graces billed knows =
+kept_fresh d statics now cs shards few lines stopped counts some_port few_ports some_shard few_shards pools places held terms most turns endings unopened closed told drawn drops tallies kept handed reports closing graces billed knows =
     let staying = subst (λ (is : List Item). AreKept d is) (sym kept) (none_kept d) in
     let unended : IsUnended d = record { endings = endings; unopened = unopened; closed = closed; graces = graces } in
     let count = ap (λ (xs : List (ShardView ShardState Entry)). length xs) shards ∙ length-map-range_with_len (λ (n : ℕ). opened n d.rules (statics n) now) 0 d.rules.shards in
@@ -158,9 +157,10 @@ kept_fresh d statics now cs shards few lines stopped some_port few_ports some_sh
       tallies = subst (λ (bs : List Book). AreLow (octets_most * all_turns d) bs) (sym tallies) (one_low (octets_most * all_turns d) empty_book (empty_low (octets_most * all_turns d)));
       tallied = subst (λ (ls : List Line). AreTallied (book_at 0 d.tallies) d.shards ls) (sym lines)
           (subst (λ (xs : List (ShardView ShardState Entry)). AreTallied (book_at 0 d.tallies) xs (map line_of cs)) (sym shards) (fresh_tallied d.rules statics now (book_at 0 d.tallies) (range_with_len 0 d.rules.shards) cs));
-      adds_up = subst (λ (t : Traffic). AddsUp (book_at 0 d.tallies) d.shards t) (sym stopped)
-          (subst (λ (xs : List (ShardView ShardState Entry)). AddsUp (book_at 0 d.tallies) xs no_traffic) (sym shards)
-          (subst (λ (bs : List Book). AddsUp (book_at 0 bs) (map (fresh d.rules statics now) (range_with_len 0 d.rules.shards)) no_traffic) (sym tallies) (fresh_sum d.rules statics now (range_with_len 0 d.rules.shards))));
+      adds_up = subst (λ (t : Stopped). AddsUp (book_at 0 d.tallies) d.shards t) (sym stopped)
+          (subst (λ (xs : List (ShardView ShardState Entry)). AddsUp (book_at 0 d.tallies) xs no_stops) (sym shards)
+          (subst (λ (bs : List Book). AddsUp (book_at 0 bs) (map (fresh d.rules statics now) (range_with_len 0 d.rules.shards)) no_stops) (sym tallies)
+          (fresh_sum d.rules statics now (range_with_len 0 d.rules.shards) (subst (λ (xs : List (ShardView ShardState Entry)). live_terms xs ≡ begun_in xs) shards counts))));
       counts = subst (λ (x : Drops). Within (drops_most * all_turns d) x) (sym drops) (record { malformed = omega arith; no_session = omega arith; not_open = omega arith; expired = omega arith; spoofed = omega arith; too_big = omega arith; exceeded = omega arith; link_failed = omega arith; want_of_memory = omega arith });
       kept = staying.items;
       stays = staying.stays;

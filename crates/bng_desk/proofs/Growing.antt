@@ -1,13 +1,14 @@
 -- What a journal adds to the terms of a shard.
-use Rattle.std.proofs.Common.{◌≡◌, ℕ, ◌+◌, ◌<◌, ◌≤◌, Bool, true, false, cond, List, [], ◌∷◌, ◌++◌, map, length, refl, sym, ap, subst, ◌∙◌, arith, append-nil, append_assoc, length-append}
+use Rattle.std.proofs.Common.{◌≡◌, ℕ, ◌+◌, ◌*◌, ◌^◌, ◌<◌, ◌≤◌, Bool, true, false, cond, List, [], ◌∷◌, ◌++◌, map, length, refl, sym, ap, subst, ◌∙◌, arith, append-nil, append_assoc, length-append}
 use Rattle.std.specs.List.{AllByRecursion, AllZip, range_with_len}
 use Rattle.std.proofs.lemmas.List.{length-map, map-append}
+use Rattle.std.proofs.lemmas.List.Sums.{sum_by-cons}
 use Rattle.bng_base.specs.declared.item.Entry.{Entry}
 use Rattle.bng_base.specs.declared.item.Item.{Item}
 use Rattle.bng_base.specs.declared.item.OutRecord.{OutRecord}
 use Rattle.bng_engine.specs.Journals.{after, AreLimited, AreSteps, claims_of}
 use Rattle.bng_engine.specs.Lists.{Zip3}
-use Rattle.bng_engine.specs.Terms.{Key, keys}
+use Rattle.bng_engine.specs.Terms.{Key, Term, keys}
 use Rattle.bng_engine.proofs.Everywhere.{all_append, all_mapped, all_weaker}
 use Rattle.bng_engine.proofs.Journals.{run_few}
 use Rattle.bng_shard.specs.declared.whose.Whose.{Whose}
@@ -21,9 +22,11 @@ use Rattle.bng_shard.proofs.GrantLaws.{step_sound}
 use Rattle.bng_shard.proofs.Numbered.{step_tenures}
 use Rattle.bng_shard.proofs.StepLaws.{pppoe_laws}
 use Rattle.bng_desk.specs.Items.{entries_in, stands_in, without_claim}
+use Rattle.bng_desk.specs.Model.{begun_in, live_terms}
 use Rattle.bng_desk.specs.Round.{entries_of, handled_states, views_of}
-use Rattle.bng_desk.specs.Taking.{AreDealt, HasAllowance, IsTurning, KeepsTerms, SentTo, Shown, Sight, states_of}
+use Rattle.bng_desk.specs.Taking.{AreDealt, HasAllowance, HasNumbers, IsTurning, KeepsTerms, SentTo, Shown, Sight, states_of}
 use Rattle.bng_desk.proofs.Dealing.{Seens}
+use Rattle.bng_desk.proofs.InAll.{terms_by}
 use Rattle.bng_desk.proofs.Readying.{Shards}
 
 -- Along a journal -----------------------------------------------------------------------------------------------------------
@@ -170,15 +173,19 @@ pub record Grown (moment : ℕ) (v u : Shown) : Type 0 where
   pub shard : u.state.slots.sessions.shard ≡ u.number
   pub keys_grow : keys (terms_of u.state) ≡ keys (terms_of v.state) ++ map key_in u.state.slots.news
   pub begun : v.state.slots.begun ≤ u.state.slots.begun
+  pub count : u.state.slots.begun ≡ v.state.slots.begun + length u.state.slots.news
+  pub numbers : u.state.slots.begun < 2 ^ 48
   pub later : AllByRecursion (IsLater v.state.slots.begun) u.state.slots.news
   pub few : length u.state.slots.news ≤ v.allowance
 
-pub grown : (moment : ℕ) (v u : Shown) → KeepsTerms moment v → Worked moment v u → Grown moment v u
-grown moment v u k w =
+pub grown : (moment : ℕ) (v u : Shown) → KeepsTerms moment v → HasNumbers v → Worked moment v u → Grown moment v u
+grown moment v u k has w =
     let all = begets_along v.state w.journal w.steps in
     let lasts = lasts_along moment v.state w.journal w.steps w.moments (record { sound = k.sound; tenures = k.tenures }) in
     let few = run_few pppoe pppoe_laws v.allowance 0 v.state w.journal w.steps w.limits (omega arith) in
     let news : u.state.slots.news ≡ all.began = ap (λ (s : ShardState). s.slots.news) w.state ∙ all.news ∙ ap (λ (ts : List Tenure). ts ++ all.began) k.owes_none in
+    let count : u.state.slots.begun ≡ v.state.slots.begun + length u.state.slots.news = omega (arith, ap (λ (s : ShardState). s.slots.begun) w.state, all.begun, ap (λ (ts : List Tenure). length ts) news) in
+    let least : length u.state.slots.news ≤ v.allowance = omega (arith, few, all.count, ap (λ (ts : List Tenure). length ts) news) in
     record {
       sound = subst (λ (s : ShardState). IsSound s.slots) (sym w.state) lasts.sound;
       tenures = subst (λ (s : ShardState). AreTenures moment s.slots) (sym w.state) lasts.tenures;
@@ -189,13 +196,50 @@ grown moment v u k w =
           ∙ all.keys_are
           ∙ ap (λ (ks : List Key). ks ++ map key_in all.began) (sym (keys_are v.state.slots.terms))
           ∙ ap (λ (ts : List Tenure). keys (terms_of v.state) ++ map key_in ts) (sym news);
-      begun = omega (arith, ap (λ (s : ShardState). s.slots.begun) w.state, all.begun);
+      begun = omega (arith, count);
+      count = count;
+      numbers = omega (arith, count, least, has);
       later = subst (λ (ts : List Tenure). AllByRecursion (IsLater v.state.slots.begun) ts) (sym news) all.later;
-      few = omega (arith, few, all.count, ap (λ (ts : List Tenure). length ts) news);
+      few = least;
     }
 
-pub all_grown : (moment : ℕ) (vs us : Shards) → AllByRecursion (KeepsTerms moment) vs → AllZip (Worked moment) vs us → AllZip (Grown moment) vs us
-all_grown moment [] [] k w = tt
-all_grown moment [] (u ∷ us) k w = absurd w
-all_grown moment (v ∷ vs) [] k w = absurd w
-all_grown moment (v ∷ vs) (u ∷ us) k w = (grown moment v u k.0 w.0, all_grown moment vs us k.1 w.1)
+pub all_grown : (moment : ℕ) (vs us : Shards) → AllByRecursion (KeepsTerms moment) vs → AllByRecursion HasNumbers vs → AllZip (Worked moment) vs us → AllZip (Grown moment) vs us
+all_grown moment [] [] k n w = tt
+all_grown moment [] (u ∷ us) k n w = absurd w
+all_grown moment (v ∷ vs) [] k n w = absurd w
+all_grown moment (v ∷ vs) (u ∷ us) k n w = (grown moment v u k.0 n.0 w.0, all_grown moment vs us k.1 n.1 w.1)
+
+-- How many there are ------------------------------------------------------------------------------------------------------
+
+abbrev begun_by : Shown → ℕ
+begun_by v = v.state.slots.begun
+
+keys_count : (ts : List Term) → length (keys ts) ≡ length ts
+keys_count ts = length-map ts (λ (t : Term). t.key)
+
+one_grew : (moment : ℕ) (v u : Shown) → Grown moment v u → terms_by u + begun_by v ≡ terms_by v + begun_by u
+one_grew moment v u g =
+    let news = u.state.slots.news in
+    omega (
+      arith,
+      g.count,
+      ap (λ (ks : List Key). length ks) g.keys_grow,
+      length-append (keys (terms_of v.state)) (map key_in news),
+      length-map news key_in,
+      keys_count (terms_of v.state),
+      keys_count (terms_of u.state),
+    )
+
+-- as many terms began as there are more
+pub terms_grew : (moment : ℕ) (vs us : Shards) → AllZip (Grown moment) vs us → live_terms us + begun_in vs ≡ live_terms vs + begun_in us
+terms_grew moment [] [] g = refl
+terms_grew moment [] (u ∷ us) g = absurd g
+terms_grew moment (v ∷ vs) [] g = absurd g
+terms_grew moment (v ∷ vs) (u ∷ us) g =
+    omega (arith, sum_by-cons terms_by v vs, sum_by-cons terms_by u us, sum_by-cons begun_by v vs, sum_by-cons begun_by u us, one_grew moment v u g.0, terms_grew moment vs us g.1)
+
+pub few_begun : (moment : ℕ) (vs us : Shards) → AllZip (Grown moment) vs us → begun_in us ≤ 2 ^ 48 * length us
+few_begun moment [] [] g = omega arith
+few_begun moment [] (u ∷ us) g = absurd g
+few_begun moment (v ∷ vs) [] g = absurd g
+few_begun moment (v ∷ vs) (u ∷ us) g = omega (arith, sum_by-cons begun_by u us, g.0.numbers, few_begun moment vs us g.1)

@@ -242,4 +242,4 @@ knows_later R rises vs us z b knows t h e =
 pub terms_later : (m n : ℕ) (vs : Shards) → m ≤ n → All (KeepsTerms m) vs → All (KeepsTerms n) vs
 terms_later m n vs le all k d lt =
     let here = all k d lt in
-    record { sound = here.sound; number = here.number; tenures = tenures_later m n (get_or vs k d).state.slots le here.tenures; owes_none = here.owes_none }
+    record { sound = here.sound; number = here.number; tenures = tenures_later m n (get_or vs k d).state.slots le here.tenures; owes_none = here.owes_none; numbers = here.numbers }

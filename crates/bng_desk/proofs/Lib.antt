@@ -42,6 +42,7 @@ pub mod Growing
 pub mod Settles
 pub mod Newcomers
 pub mod Resting
+mod Counted
 pub mod Dwindling
 pub mod Works
 pub mod Done
@@ -54,7 +55,6 @@ pub mod Turning
 pub mod Ending
 pub mod Keeping
 pub mod Leaving
-mod InPlace
 pub mod LoginLaws
 pub mod RadiusSends
 pub mod RequestLaws

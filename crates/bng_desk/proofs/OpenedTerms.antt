@@ -1,11 +1,11 @@
 -- The terms of the shards at the opening: no two are one, they are no more than the circuits, and their numbers were given.
-use Rattle.std.proofs.Common.{◌≡◌, ◌≢◌, ℕ, zero, suc, ◌+◌, ◌*◌, ◌/◌, ◌<◌, ◌≤◌, ◌==◌, ◌&&◌, Bool, true, false, cond, eqb, List, [], ◌∷◌, map, filter, length, get_or, ⊎_elim, Some, refl, sym, ap, subst, ◌∙◌, arith}
+use Rattle.std.proofs.Common.{◌≡◌, ◌≢◌, ℕ, zero, suc, ◌+◌, ◌*◌, ◌/◌, ◌^◌, ◌<◌, ◌≤◌, ◌==◌, ◌&&◌, Bool, true, false, cond, eqb, List, [], ◌∷◌, map, filter, length, get_or, ⊎_elim, Some, refl, sym, ap, subst, ◌∙◌, arith}
 use Rattle.std.specs.List.{All, AllByRecursion, AllPairs, flat_map, range_with_len, sum_by}
 use Rattle.std.proofs.lemmas.Bool.Decides.{nat_tests}
-use Rattle.std.proofs.lemmas.List.{length-append}
+use Rattle.std.proofs.lemmas.List.{length-append, length-map}
 use Rattle.std.proofs.lemmas.List.Concat.{length-flat_map}
 use Rattle.std.proofs.lemmas.List.Elements.{All-append, recursion_from_All}
-use Rattle.std.proofs.lemmas.List.Sums.{sum_by-cons}
+use Rattle.std.proofs.lemmas.List.Sums.{count_by-le-length, length-filter, sum_by-cons}
 use Rattle.bng_acct.specs.declared.held.Held.{Held}
 use Rattle.bng_acct.specs.Roster.{of_term, same}
 use Rattle.bng_base.specs.declared.address.SessionNo.{SessionNo}
@@ -13,7 +13,7 @@ use Rattle.bng_base.specs.declared.circuit.TermId.{TermId}
 use Rattle.bng_base.specs.declared.item.Entry.{Entry}
 use Rattle.bng_base.specs.declared.settings.Static.{Static}
 use Rattle.bng_billing.specs.State.{BillingState}
-use Rattle.bng_engine.specs.Terms.{Key, keys}
+use Rattle.bng_engine.specs.Terms.{Key, Term, keys}
 use Rattle.bng_engine.specs.Lists.{AnyOf}
 use Rattle.bng_engine.specs.Views.{ShardView}
 use Rattle.bng_engine.proofs.Adding.{sum_plus}
@@ -24,17 +24,19 @@ use Rattle.bng_shard.specs.Lasting.{IsTenureOf}
 use Rattle.bng_shard.specs.Opening.{circuit_at, in_order, tenures_after}
 use Rattle.bng_shard.specs.Protocol.{ShardState, opened, profiles_there, term_in, terms_of}
 use Rattle.bng_shard.specs.Tenures.{Tenure}
+use Rattle.bng_shard.proofs.InOrder.{sum_in_order}
 use Rattle.bng_shard.proofs.Numbered.{tenures_opened}
 use Rattle.bng_shard.proofs.OpenedKeys.{rows_apart, rows_of_shard}
 use Rattle.bng_shard.proofs.RowLaws.{new_keys}
 use Rattle.bng_shard.proofs.SoundOpening.{opened_sound}
 use Rattle.bng_slots.specs.Sessions.{IsNumberOf}
 use Rattle.bng_desk.specs.Accounting.{KnowsBegun}
-use Rattle.bng_desk.specs.Model.{keys_in}
+use Rattle.bng_desk.specs.Model.{begun_in, keys_in, live_terms}
 use Rattle.bng_desk.specs.Opening.{AreServed, shard_of}
 use Rattle.bng_desk.specs.Taking.{AreInOrder, KeepsTerms}
 use Rattle.bng_desk.proofs.Beginning.{IsTermOf}
 use Rattle.bng_desk.proofs.Billed.{AreApart}
+use Rattle.bng_desk.proofs.InAll.{terms_by}
 use Rattle.bng_desk.proofs.Outfit.{are_of, of_shard}
 use Rattle.bng_desk.proofs.Parts.{pairs_append}
 use Rattle.bng_desk.proofs.Readying.{Shards}
@@ -88,6 +90,10 @@ module _ {X : Type 0} (number : X → ℕ) where
 terms_count : (now n : ℕ) (cs : List Static) → length (keys (map term_in (tenures_after now n cs))) ≡ length cs
 terms_count now n [] = refl
 terms_count now n (c ∷ cs) = ap suc (terms_count now (n + 1) cs)
+
+ones : (cs : List Static) → sum_by (λ (c : Static). 1) cs ≡ length cs
+ones [] = refl
+ones (c ∷ cs) = omega (arith, sum_by-cons (λ (x : Static). 1) c cs, ones cs)
 
 circuits_few : (a k : ℕ) (cs : List Static) → length (flat_map (circuit_at cs) (range_with_len a k)) ≤ length cs
 circuits_few a k cs = omega (arith, length-flat_map (circuit_at cs) (range_with_len a k), few_numbered (λ (c : Static). c.session.0) a k cs)
@@ -160,10 +166,36 @@ module _ (r : Rules) (circuits : List Static) (now : ℕ) (served : AreServed r 
       omega (arith, ap (λ (s : SessionNo). s.0) is, of_this a (omega (arith, low)) i d lt, from_this (a + 1) k (omega (arith, low)) j e within)))
 
   -- what lasts of each shard
-  pub opened_keeps : (n : ℕ) → n < 64 → KeepsTerms now (opened n r (of_shard circuits n) now)
-  opened_keeps n low =
+  pub opened_keeps : length circuits < 2 ^ 48 → (n : ℕ) → n < 64 → KeepsTerms now (opened n r (of_shard circuits n) now)
+  opened_keeps few n low =
       let of = are_of r circuits n served in
-      record { sound = opened_sound n (of_shard circuits n) of.sessions now low of.own; number = refl; tenures = tenures_opened n now (of_shard circuits n) of.own; owes_none = refl }
+      record {
+        sound = opened_sound n (of_shard circuits n) of.sessions now low of.own;
+        number = refl;
+        tenures = tenures_opened n now (of_shard circuits n) of.own;
+        owes_none = refl;
+        numbers = omega (arith, few, length-filter (λ (c : Static). shard_of c == n) circuits, count_by-le-length (λ (c : Static). shard_of c == n) circuits);
+      }
+
+  -- each has as many terms as it has circuits, which began with it
+  one_opened : (n : ℕ) → terms_by (opened n r (of_shard circuits n) now) ≡ length (of_shard circuits n)
+  one_opened n =
+      let cs = of_shard circuits n in
+      let one : Static → ℕ = λ _. 1 in
+      omega (
+        arith,
+        length-map (map term_in (tenures_after now 0 (in_order n cs))) (λ (t : Term). t.key),
+        terms_count now 0 (in_order n cs),
+        ones (in_order n cs),
+        sum_in_order one n cs (recursion_from_All (λ (c : Static). IsNumberOf n c.session.0) cs (are_of r circuits n served).own),
+        ones cs,
+      )
+
+  pub terms_opened : (a k : ℕ) → live_terms (map (λ n. opened n r (of_shard circuits n) now) (range_with_len a k)) ≡ begun_in (map (λ n. opened n r (of_shard circuits n) now) (range_with_len a k))
+  terms_opened a zero = refl
+  terms_opened a (suc k) =
+      let later = map (λ n. opened n r (of_shard circuits n) now) (range_with_len (a + 1) k) in
+      omega (arith, sum_by-cons terms_by (opened a r (of_shard circuits a) now) later, sum_by-cons (λ (v : ShardView ShardState Entry). v.state.slots.begun) (opened a r (of_shard circuits a) now) later, one_opened a, terms_opened (a + 1) k)
 
   -- and no two of them are one
   pub terms_apart : r.shards ≤ 64 → AllPairs (λ (j k : Key). same j.term k.term ≡ false) (keys_in (map (λ n. opened n r (of_shard circuits n) now) (range_with_len 0 r.shards)))

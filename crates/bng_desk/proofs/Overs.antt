@@ -5,7 +5,6 @@ use Rattle.std.proofs.lemmas.List.Elements.{All-from_recursion, AllZip-get_or, l
 use Rattle.std.proofs.lemmas.List.Sums.{sum_by-cons}
 use Rattle.bng_engine.specs.Lists.{Zip3}
 use Rattle.bng_engine.specs.Terms.{Key, Stop}
-use Rattle.bng_shard.specs.declared.sums.Traffic.{Traffic}
 use Rattle.bng_shard.specs.Granting.{IsSound}
 use Rattle.bng_shard.specs.Lasting.{AreTenures}
 use Rattle.bng_shard.specs.Protocol.{ShardState}
@@ -13,11 +12,15 @@ use Rattle.bng_shard.specs.State.{settled}
 use Rattle.bng_shard.specs.Tenures.{Tenure}
 use Rattle.bng_shard.proofs.GrantLaws.{settled_sound}
 use Rattle.bng_shard.proofs.Numbered.{tenures_settled}
+use Rattle.bng_desk.specs.declared.accounts.Stopped.{Stopped}
 use Rattle.bng_desk.specs.declared.line.Line.{Line}
 use Rattle.bng_desk.specs.Accounting.{KnowsBegun}
+use Rattle.bng_desk.specs.Model.{begun_in}
 use Rattle.bng_desk.specs.Round.{news_in, terms_in}
-use Rattle.bng_desk.specs.Taking.{Accounts, AreInOrder, BegunTo, BooksStarts, BooksStops, KeepsTerms, LinesWithin, ReapedTo, Shown, carried_in_all, joined, kept_in, live_by, octets_of, states_of}
+use Rattle.bng_desk.specs.Taking.{Accounts, AddsUp, AreInOrder, BegunTo, BooksStarts, BooksStops, KeepsTerms, LinesWithin, ReapedTo, SameInAll, Shown, joined, kept_in, live_by, states_of}
+use Rattle.bng_base.specs.declared.book.Book.{Book}
 use Rattle.bng_desk.proofs.Growing.{Grown}
+use Rattle.bng_desk.proofs.InAll.{terms_by}
 use Rattle.bng_desk.proofs.Knowing.{HasTenures, all_begun, knows_later, starts_known, stops_known}
 use Rattle.bng_desk.proofs.Joining.{reaped_news}
 use Rattle.bng_desk.proofs.Readying.{Shards}
@@ -48,15 +51,30 @@ pub started_within : (most : Bool → ℕ) (left zs : Shards) (kss : List (List 
 started_within most left zs kss ls ls' begun same within =
     subst (λ (xs : List Line). LinesWithin most zs xs) (sym same) (λ k e lt input. omega (arith, within k e lt input, started_rows input (get_or ls k e) left zs kss begun))
 
-started_live : (input : Bool) (left zs : Shards) (kss : List (List Key)) → Zip3 BegunTo left zs kss → sum_by (live_by input) zs ≡ sum_by (live_by input) left
-started_live input [] [] [] begun = refl
-started_live input (w ∷ left) (z ∷ zs) (ks ∷ kss) begun =
-    omega (arith, sum_by-cons (live_by input) z zs, sum_by-cons (live_by input) w left, ap (live_by input) begun.0.after, started_live input left zs kss begun.1)
-started_live input left zs kss begun = absurd begun
+-- whatever is summed over the shards that a Start does not change
+started_sum : (f : Shown → ℕ) → ((w : Shown) → f (started w) ≡ f w) → (left zs : Shards) (kss : List (List Key)) → Zip3 BegunTo left zs kss → sum_by f zs ≡ sum_by f left
+started_sum f same [] [] [] begun = refl
+started_sum f same (w ∷ left) (z ∷ zs) (ks ∷ kss) begun =
+    omega (arith, sum_by-cons f z zs, sum_by-cons f w left, ap f begun.0.after, same w, started_sum f same left zs kss begun.1)
+started_sum f same left zs kss begun = absurd begun
 
--- what was carried in all is what it was
-pub started_same : (input : Bool) (left zs : Shards) (kss : List (List Key)) (t t' : Traffic) → Zip3 BegunTo left zs kss → t' ≡ t → carried_in_all input zs t' ≡ carried_in_all input left t
-started_same input left zs kss t t' begun same = omega (arith, started_live input left zs kss begun, ap (octets_of input) same)
+abbrev begun_by : Shown → ℕ
+begun_by v = v.state.slots.begun
+
+reaped_begun : (us left : Shards) (sss : List (List Stop)) → Zip3 ReapedTo us left sss → begun_in left ≡ begun_in us
+reaped_begun [] [] [] reaped = refl
+reaped_begun (u ∷ us) (w ∷ left) (ss ∷ sss) reaped =
+    omega (arith, sum_by-cons begun_by u us, sum_by-cons begun_by w left, ap (λ (s : ShardState). s.slots.begun) reaped.0.state, reaped_begun us left sss reaped.1)
+reaped_begun us left sss reaped = absurd reaped
+
+-- what was carried in all stands in the tally still, and each term has its Stop or has none yet
+pub settled_adds_up : (tally : Book) (us left zs : Shards) (sss : List (List Stop)) (kss : List (List Key)) (r s t : Stopped) → Zip3 ReapedTo us left sss → SameInAll us r left s → Zip3 BegunTo left zs kss → t ≡ s → AddsUp tally us r → AddsUp tally zs t
+settled_adds_up tally us left zs sss kss r s t reaped same begun kept all =
+    subst (λ (x : Stopped). AddsUp tally zs x) (sym kept)
+    (record {
+      carried = λ q input. omega (arith, started_sum (live_by q input) (λ w. refl) left zs kss begun, same.carried q input, all.carried q input);
+      terms = omega (arith, started_sum terms_by (λ w. refl) left zs kss begun, started_sum begun_by (λ w. refl) left zs kss begun, same.terms, all.terms, reaped_begun us left sss reaped);
+    })
 
 -- A shard once its round is over ------------------------------------------------------------------------------------------
 
@@ -84,6 +102,7 @@ one_keeps moment v u z g o = record {
   number = ap (λ (s : ShardState). s.slots.sessions.shard) o.state ∙ g.shard ∙ sym o.number;
   tenures = subst (λ (s : ShardState). AreTenures moment s.slots) (sym o.state) (tenures_settled moment u.state.slots g.tenures);
   owes_none = ap (λ (s : ShardState). s.slots.news) o.state;
+  numbers = omega (arith, g.numbers, ap (λ (s : ShardState). s.slots.begun) o.state);
 }
 
 all_keep : (moment : ℕ) (vs us zs : Shards) → AllZip (Grown moment) vs us → AllZip IsOver us zs → AllByRecursion (KeepsTerms moment) zs

@@ -1,7 +1,7 @@
 -- The terms that ended leave the shards, one shard after the other.
-use Rattle.std.proofs.Common.{◌≡◌, ◌≢◌, ℕ, zero, suc, ◌+◌, ◌<◌, Bool, List, [], ◌∷◌, ◌++◌, None, Some, map, filter, length, take, drop, get_or, set, refl, sym, ap, subst, ◌∙◌, append-nil, arith}
+use Rattle.std.proofs.Common.{◌≡◌, ◌≢◌, ℕ, zero, suc, ◌+◌, ◌<◌, Bool, List, [], ◌∷◌, ◌++◌, None, Some, map, filter, length, take, drop, get_or, set, refl, sym, ap, subst, ◌∙◌, append-nil, length-append, arith}
 use Rattle.std.specs.List.{All, AllZip, sum_by}
-use Rattle.std.proofs.lemmas.List.{take_more, take_more_set, take_all, drop-set-lt, drop-drop}
+use Rattle.std.proofs.lemmas.List.{length-map, take_more, take_more_set, take_all, drop-set-lt, drop-drop}
 use Rattle.std.proofs.lemmas.List.Concat.{flat_map-append}
 use Rattle.std.proofs.lemmas.List.Elements.{All-cons, All-head, All-tail}
 use Rattle.std.proofs.lemmas.List.Sums.{sum_by-cons}
@@ -26,7 +26,7 @@ use Rattle.bng_pool.specs.Plain.{PlainView}
 use Rattle.bng_pool.specs.Tables.{TableFrees, entry}
 use Rattle.bng_shard.specs.declared.rules.Rules.{Rules}
 use Rattle.bng_shard.specs.Lasting.{AreTenures}
-use Rattle.bng_shard.specs.Protocol.{ShardState, AreHeld, Handled, Leaves, pppoe, ended_terms, key_in, terms_of}
+use Rattle.bng_shard.specs.Protocol.{ShardState, AreHeld, Handled, Leaves, pppoe, ended_terms, key_in, term_in, terms_of}
 use Rattle.bng_shard.specs.State.{State, reaped as reaped_slots}
 use Rattle.bng_shard.specs.Sums.{AreLow, RowsAreLow}
 use Rattle.bng_shard.specs.Tenures.{LeavesTerms, Tenure}
@@ -34,10 +34,10 @@ use Rattle.bng_desk.specs.declared.line.Line.{Line}
 use Rattle.bng_desk.specs.Accounting.{AreSettling, FormedRecord, Forms, IsStopOf}
 use Rattle.bng_desk.specs.Model.{keys_in}
 use Rattle.bng_desk.specs.Round.{IsReturned, news_in, terms_in}
-use Rattle.bng_desk.specs.Taking.{IsEmpty, HasFewSessions, Accounts, AreInOrder, BooksStops, LinesWithin, TakesIn, ReapedTo, ReapsShard, ReapsAll, carried_in_all, settled_as, states_of, kept_in, joined, far}
+use Rattle.bng_desk.specs.Taking.{IsEmpty, HasFewSessions, Accounts, AreInOrder, BooksStops, LinesWithin, TakesIn, ReapedTo, ReapsShard, ReapsAll, SameInAll, settled_as, states_of, kept_in, joined, far}
 use Rattle.bng_desk.proofs.Booking.{AreAmong, among_left, among_left_by, among_right, books_more, books_none, books_wider}
 use Rattle.bng_desk.proofs.Forming.{settling_stopped, stop_admitted, stop_once}
-use Rattle.bng_desk.proofs.InAll.{same_more}
+use Rattle.bng_desk.proofs.InAll.{same_more, same_next, same_none, terms_by}
 use Rattle.bng_desk.proofs.Lines.{within_more}
 use Rattle.bng_desk.proofs.Parts.{stands_at}
 use Rattle.bng_desk.proofs.Readying.{Shards}
@@ -58,19 +58,21 @@ pub record LeavesSome (v w : ShardView ShardState Entry) (stops : List Stop) : T
   pub slots : reaped_slots w.state.slots ≡ reaped_slots v.state.slots
   pub among : AreAmong w.state.slots.terms v.state.slots.terms
   pub fit : Same (row_keys v.rows) (keys (terms_of v.state)) → Same (row_keys w.rows) (keys (terms_of w.state))
+  pub count : length stops + terms_by w ≡ terms_by v
   pub number : w.number ≡ v.number
   pub allowance : w.allowance ≡ v.allowance
   pub books : w.books ≡ v.books
   pub journal : w.journal ≡ v.journal
   pub outs : w.outs ≡ v.outs
 
-leaves_none : (v : ShardView ShardState Entry) → LeavesSome v v []
+pub leaves_none : (v : ShardView ShardState Entry) → LeavesSome v v []
 leaves_none v = record {
   reaping = reaping_begins pppoe (seen v []) refl;
   rules = refl;
   slots = refl;
   among = λ user class began k any. any;
   fit = λ h. h;
+  count = omega arith;
   number = refl;
   allowance = refl;
   books = refl;
@@ -82,6 +84,19 @@ ones : (ts : List Term) → sum_by (λ (t : Term). 1) ts ≡ length ts
 ones [] = refl
 ones (t ∷ ts) = omega (arith, sum_by-cons (λ (t : Term). 1) t ts, ones ts)
 
+-- there is one less
+pub one_less : (w w' : ShardView ShardState Entry) (t : Tenure) → LeavesTerms w.state.slots.terms w'.state.slots.terms t → 1 + terms_by w' ≡ terms_by w
+one_less w w' t left =
+    omega (
+      arith,
+      length-map w.state.slots.terms term_in,
+      length-map w'.state.slots.terms term_in,
+      ap (λ (ts : List Tenure). length ts) left.were,
+      ap (λ (ts : List Tenure). length ts) left.are,
+      length-append left.before (t ∷ left.after),
+      length-append left.before left.after,
+    )
+
 -- one more leaves
 leaves_more : (v w w' : ShardView ShardState Entry) (stops : List Stop) (s : Stop) (t : Tenure) → LeavesSome v w stops → Leaves w w' s → LeavesTerms w.state.slots.terms w'.state.slots.terms t → LeavesSome v w' (stops ++ s ∷ [])
 leaves_more v w w' stops s t some one left = record {
@@ -90,6 +105,7 @@ leaves_more v w w' stops s t some one left = record {
   slots = one.slots ∙ some.slots;
   among = λ user class began k any. some.among user class began k (among_left_by w.state.slots.terms w'.state.slots.terms t left user class began k any);
   fit = λ h. same_equal (row_keys w'.rows) (keys (terms_of w'.state)) one.fit;
+  count = omega (arith, some.count, one_less w w' t left, length-append stops (s ∷ []));
   number = one.number ∙ some.number;
   allowance = one.allowance ∙ some.allowance;
   books = one.books ∙ some.books;
@@ -108,7 +124,7 @@ pub record ReapsFew (moment wall : ℕ) (v w : ShardView ShardState Entry) (pool
   pub returned : IsReturned stops pool pool'
   pub booked : BooksStops v.state.slots.terms moment wall stops a a'
   pub within : (most : Bool → ℕ) → LinesWithin most (v ∷ []) a.lines → LinesWithin most (w ∷ []) a'.lines
-  pub same : (input : Bool) → carried_in_all input (w ∷ []) a'.stopped ≡ carried_in_all input (v ∷ []) a.stopped
+  pub same : SameInAll (v ∷ []) a.stopped (w ∷ []) a'.stopped
   pub tenures : AreTenures moment w.state.slots
   pub settling : KeepsSettling v.state w.state a.billing a'.billing
   pub held : HoldsOwn pool'.table w
@@ -121,7 +137,7 @@ reaps_begin moment wall v pool a tenures held = record {
   returned = returned_none pool;
   booked = books_none v.state.slots.terms moment wall a;
   within = λ most h. h;
-  same = λ input. refl;
+  same = same_none (v ∷ []) a.stopped;
   tenures = tenures;
   settling = λ front back began h. h;
   held = held;
@@ -184,7 +200,7 @@ reaps_on moment wall v w w' s t k pool pool' pool'' a a' a'' so_far one left is 
   returned = returned_more so_far.stops (s ∷ []) pool pool' pool'' so_far.returned (returned_one s k pool' pool'' frees rest);
   booked = books_more v.state.slots.terms moment wall so_far.stops (s ∷ []) a a' a'' so_far.booked booked;
   within = λ most h. subst (λ (ls : List Line). LinesWithin most (w' ∷ []) ls) (sym booked.lines_are) (within_more most (w ∷ []) 0 w w' (s ∷ []) a'.lines (omega arith) one.rows (so_far.within most h));
-  same = λ input. same_more input (w ∷ []) 0 w w' (s ∷ []) a'.stopped a''.stopped (omega arith) one.rows booked.stopped_is ∙ so_far.same input;
+  same = same_next (v ∷ []) (w ∷ []) (w' ∷ []) a.stopped a'.stopped a''.stopped so_far.same (same_more (w ∷ []) 0 w w' (s ∷ []) a'.stopped a''.stopped (omega arith) one.rows (one_less w w' t left) booked.stopped_is);
   tenures = tenures_left moment w.state.slots w'.state.slots t left one.slots so_far.tenures;
   settling = λ front back began h. left_settling front back began w w' t s.key left is v.state.slots.terms moment wall s a' a'' refl booked (so_far.settling front back began h);
   held = held;
@@ -197,13 +213,18 @@ fewer_ended w w' s one = omega (arith, one.one (λ k c. 1), ones (ended_terms w'
 
 -- All have left ---------------------------------------------------------------------------------------------------------
 
-abbrev pub over : ShardView ShardState Entry → ShardView ShardState Entry
-over w = record w { state = record w.state { slots = reaped_slots w.state.slots }; room = 0 }
+-- nothing that ended is there any more; the room of the round is what it is
+abbrev pub over : (room : ℕ) → ShardView ShardState Entry → ShardView ShardState Entry
+over room w = record w { state = record w.state { slots = reaped_slots w.state.slots }; room = room }
+
+-- a shard in which nothing has ended is so already
+pub settled_is : (v : ShardView ShardState Entry) → reaped_slots v.state.slots ≡ v.state.slots → v ≡ over v.room v
+settled_is v same = ap (λ (s : State). record v { state = record v.state { slots = s } }) (sym same)
 
 abbrev state_with : Rules → State → ShardState
 state_with rules slots = record { rules = rules; slots = slots }
 
-module _ (w w' : ShardView ShardState Entry) (none : filter is_ended (terms_of w.state) ≡ []) (is : w' ≡ over w) where
+module _ (w w' : ShardView ShardState Entry) (room : ℕ) (none : filter is_ended (terms_of w.state) ≡ []) (is : w' ≡ over room w) where
   -- those that are left are all that were there
   same_terms : w'.state.slots.terms ≡ w.state.slots.terms
   same_terms = ap (λ (x : ShardView ShardState Entry). x.state.slots.terms) is ∙ all_stay w.state.slots.terms none
@@ -228,6 +249,7 @@ module _ (w w' : ShardView ShardState Entry) (none : filter is_ended (terms_of w
     state = ap (λ (x : ShardView ShardState Entry). x.state) is ∙ ap (λ (r : Rules). state_with r (reaped_slots w.state.slots)) some.rules ∙ ap (λ (s : State). state_with v.state.rules s) some.slots;
     fit = λ h. same_fit (some.fit h);
     rows = λ q pick input. omega (arith, some.reaping.rows q pick input, ap (rows_where q pick input) rows_are);
+    count = omega (arith, some.count, ap (λ (ts : List Tenure). length (map term_in ts)) same_terms);
     number = ap (λ (x : ShardView ShardState Entry). x.number) is ∙ some.number;
     allowance = ap (λ (x : ShardView ShardState Entry). x.allowance) is ∙ some.allowance;
     books = ap (λ (x : ShardView ShardState Entry). x.books) is ∙ some.books;
@@ -248,7 +270,7 @@ pub record ReapsSome (moment wall : ℕ) (olds shards : Shards) (i : ℕ) (pool 
   pub order : AreInOrder shards
   pub held : All (HoldsOwn pool'.table) shards
   pub within : (most : Bool → ℕ) → LinesWithin most olds a.lines → LinesWithin most shards a'.lines
-  pub same : (input : Bool) → carried_in_all input shards a'.stopped ≡ carried_in_all input olds a.stopped
+  pub same : SameInAll olds a.stopped shards a'.stopped
   pub tenures : All (λ (v : ShardView ShardState Entry). AreTenures moment v.state.slots) shards
   pub settling : AreSettling (keys_in shards) (map key_in (news_in (states_of olds))) a'.billing
 
@@ -269,7 +291,7 @@ reaps_none moment wall olds pool a order held tenures settling = record {
   order = order;
   held = held;
   within = λ most h. h;
-  same = λ input. refl;
+  same = same_none olds a.stopped;
   tenures = tenures;
   settling = settling;
 }
@@ -326,7 +348,7 @@ module _ (moment wall : ℕ) (olds shards : Shards) (i : ℕ) (d w : ShardView S
         booked = subst (λ (xs : List Stop). BooksStops (terms_in (states_of olds)) moment wall xs a a'') (sym all)
             (books_more (terms_in (states_of olds)) moment wall (joined sss) ss a a' a'' so_far.booked (books_wider was.state.slots.terms (terms_in (states_of olds)) moment wall ss a' a'' among one.booked));
         within = λ most h. subst (λ (ls : List Line). LinesWithin most (set shards i w) ls) (sym one.booked.lines_are) (within_more most shards i d w ss a'.lines within one.reaped.rows (so_far.within most h));
-        same = λ input. same_more input shards i d w ss a'.stopped a''.stopped within one.reaped.rows one.booked.stopped_is ∙ so_far.same input;
+        same = same_next olds shards (set shards i w) a.stopped a'.stopped a''.stopped so_far.same (same_more shards i d w ss a'.stopped a''.stopped within one.reaped.rows one.reaped.count one.booked.stopped_is);
         tenures = all_set (λ (x : ShardView ShardState Entry). AreTenures moment x.state.slots) shards i w tenures so_far.tenures;
         settling = settling_set shards i w began a''.billing within (keeps (keys_in (take i shards)) (keys_in (drop (i + 1) shards)) began (settling_at shards i d began a'.billing within so_far.settling));
       }

@@ -1,5 +1,5 @@
 -- Shards between rounds, as the desk's contracts see them.
-use Rattle.std.proofs.Common.{◌≡◌, ℕ, zero, suc, ◌+◌, Bool, true, false, cond, List, [], ◌∷◌, Option, None, map, filter, fold, slice_get, refl, sym, ap, ◌∙◌}
+use Rattle.std.proofs.Common.{◌≡◌, ℕ, zero, suc, ◌+◌, Bool, true, false, cond, List, [], ◌∷◌, Option, None, map, filter, fold, slice_get, refl, sym, ap, ◌∙◌, arith}
 use Rattle.std.specs.List.{AllZip}
 use Rattle.std.proofs.lemmas.List.Sums.{sum_by-cons}
 use Rattle.bng_base.specs.declared.address.Ip4.{Ip4}
@@ -21,11 +21,11 @@ use Rattle.bng_shard.specs.Protocol.{ShardState, Handled, pppoe, deadline_of, se
 use Rattle.bng_desk.specs.declared.line.Line.{Line}
 use Rattle.bng_desk.specs.Items.{for_shard, is_due, ticks_of}
 use Rattle.bng_desk.specs.Kept.{rested}
-use Rattle.bng_desk.specs.Model.{sessions_in, carried_on, live_of, plus_traffic, traffic_at}
+use Rattle.bng_desk.specs.Model.{begun_in, sessions_in, carried_on, live_of, live_terms, plus_traffic, traffic_at}
 use Rattle.bng_desk.specs.Round.{Round, IsRound, left_by, views_of, view_of, view_after}
 use Rattle.bng_desk.specs.Taking.{IsLeftBy, live_by}
 use Rattle.bng_desk.specs.Turn.{deadline_in}
-use Rattle.bng_desk.proofs.InAll.{traffic_is}
+use Rattle.bng_desk.proofs.InAll.{book_is, live_in_all, terms_by}
 
 abbrev Shards : Type 0
 Shards = List (ShardView ShardState Entry)
@@ -52,7 +52,14 @@ all_carried_rested vs (l ∷ ls) = ap (λ (t : Traffic). t ∷ map (carried_on v
 
 -- what the terms carried that have no Stop yet
 pub live_rested : (vs : Shards) → live_of (map rested vs) ≡ live_of vs
-live_rested vs = traffic_is (live_of (map rested vs)) (live_of vs).input (live_of vs).output (sum_map rested (live_by true) vs) (sum_map rested (live_by false) vs)
+live_rested vs = book_is (live_of (map rested vs)) (live_of vs) (λ q input. omega (arith, live_in_all q input (map rested vs), live_in_all q input vs, sum_map rested (live_by q input) vs))
+
+-- and how many there are, and how many began
+pub terms_rested : (vs : Shards) → live_terms (map rested vs) ≡ live_terms vs
+terms_rested vs = sum_map rested terms_by vs
+
+pub begun_rested : (vs : Shards) → begun_in (map rested vs) ≡ begun_in vs
+begun_rested vs = sum_map rested (λ (v : ShardView ShardState Entry). v.state.slots.begun) vs
 
 earliest_rested : (vs : Shards) (a : Option ℕ) → fold (λ b (v : ShardView ShardState Entry). earliest b (deadline_of v.state)) a (map rested vs) ≡ fold (λ b (v : ShardView ShardState Entry). earliest b (deadline_of v.state)) a vs
 earliest_rested [] a = refl

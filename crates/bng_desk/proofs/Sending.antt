@@ -321,9 +321,9 @@ aside was x n h = record { number = h.number; steps = h.steps; limits = h.limits
 abbrev pub roomless : ShardView ShardState Entry → ShardView ShardState Entry
 roomless w = record w { room = 0 }
 
-module _ (v w w' : ShardView ShardState Entry) (old new : PlantTold) (first last outs rest : List OutRecord) (journal : List Entry) (drops drops' : Drops) (tally tally' : Book) where
-  pub sends_all : Turns v → SendsSome v w old new [] outs rest drops drops' tally tally' → rest ≡ [] → journal ≡ v.journal → last ≡ first ++ outs → w' ≡ roomless w → Sends v w' old new first last journal drops drops' tally tally'
-  sends_all turns s none is moved left =
+module _ (v w w' : ShardView ShardState Entry) (old new : PlantTold) (first last rest : List OutRecord) (journal : List Entry) (drops drops' : Drops) (tally tally' : Book) where
+  pub sends_all : Turns v → SendsSome v w old new first last rest drops drops' tally tally' → rest ≡ [] → journal ≡ v.journal → w' ≡ roomless w → Sends v w' old new first last journal drops drops' tally tally'
+  sends_all turns s none is left =
       let are : map unsent s.sends ++ map unsent [] ≡ map unsent v.outs = ap (λ (xs : List OutRecord). map unsent s.sends ++ map unsent xs) (sym none) ∙ s.are_outs in
       let all : map unsent s.sends ≡ map unsent v.outs = sym (append-nil (map unsent s.sends)) ∙ are in
       let here = turns.turning in
@@ -341,7 +341,7 @@ module _ (v w w' : ShardView ShardState Entry) (old new : PlantTold) (first last
               subst (λ (y : ShardView ShardState Entry). RowsAreLow (most + octets) y.rows) (sym left) (sent_low v turns.was turns.now here w s.sends turn [] are most octets low light);
           books = λ most low. subst (λ (y : ShardView ShardState Entry). AreLow most y.books) (sym left) (books_low v turns.was turns.now here w s.sends turn most low);
         };
-        outs_are = moved ∙ ap (λ (xs : List OutRecord). first ++ xs) s.outs_are;
+        outs_are = s.outs_are;
         journal_is = is;
         told = s.told;
         drops_are = s.drops_are;

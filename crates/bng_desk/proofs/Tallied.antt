@@ -1,5 +1,5 @@
 -- What the circuits have carried stands in the tally.
-use Rattle.std.proofs.Common.{◌≡◌, ℕ, zero, suc, ◌+◌, ◌^◌, ◌≤◌, Bool, true, false, ◌&&◌, cond, List, [], ◌∷◌, Option, Some, None, get_or, slice_get, refl, ap, arith}
+use Rattle.std.proofs.Common.{◌≡◌, ℕ, zero, suc, ◌+◌, ◌^◌, ◌≤◌, Bool, true, false, ◌&&◌, cond, List, [], ◌∷◌, Option, Some, None, length, get_or, slice_get, refl, ap, arith}
 use Rattle.std.specs.List.{AllZip, sum_by}
 use Rattle.std.proofs.lemmas.List.Sums.{sum_by-append, sum_by-cons, sum_by-le-sum_by}
 use Rattle.bng_base.specs.declared.address.Ip4.{Ip4}
@@ -20,14 +20,16 @@ use Rattle.bng_engine.proofs.Adding.{sum_plus}
 use Rattle.bng_pool.specs.Plain.{PlainView}
 use Rattle.bng_shard.specs.declared.rules.Rules.{Rules}
 use Rattle.bng_shard.specs.declared.sums.Traffic.{Traffic}
-use Rattle.bng_shard.specs.Protocol.{ShardState, row_at}
+use Rattle.bng_shard.specs.Protocol.{ShardState, row_at, terms_of}
 use Rattle.bng_shard.specs.Sums.{IsLow, traffic_in}
+use Rattle.bng_desk.specs.declared.accounts.Stopped.{Stopped}
 use Rattle.bng_desk.specs.declared.drops.Drops.{Drops}
 use Rattle.bng_desk.specs.declared.line.Line.{Line}
-use Rattle.bng_desk.specs.Model.{no_traffic, traffic_at, traffic_or}
+use Rattle.bng_desk.specs.Model.{begun_in, live_terms, no_traffic, traffic_at, traffic_or}
 use Rattle.bng_desk.specs.Round.{views_of}
-use Rattle.bng_desk.specs.Taking.{AddsUp, AllWithin, AreTallied, CarriesWithin, Deals, IsTurning, LinesWithin, SendsAll, SentTo, far, joined, kept_in, octets_of, stopped_in}
+use Rattle.bng_desk.specs.Taking.{AddsUp, AllWithin, AreTallied, CarriesWithin, Deals, IsTurning, LinesWithin, SendsAll, SentTo, far, joined, kept_in, stopped_in}
 use Rattle.bng_desk.proofs.Dealing.{Seens}
+use Rattle.bng_desk.proofs.InAll.{terms_by}
 use Rattle.bng_desk.proofs.Joining.{all_turning, outs_seats, passed_first, shown_outs}
 use Rattle.bng_desk.proofs.Readying.{Shards}
 use Rattle.bng_desk.proofs.Settling.{joined_passed}
@@ -125,32 +127,59 @@ sent_tallied r pool pool' moment items vs ws us loose d d' d'' t t' t'' p p' out
 
 -- In all ----------------------------------------------------------------------------------------------------------------
 
-pub sum_kept : (tally : Book) (vs ws : Shards) (t : Traffic) → AllZip Kept vs ws → AddsUp tally vs t → AddsUp tally ws t
-sum_kept tally vs ws t kept all input = omega (arith, all input, rows_kept Octets is_any input vs ws kept)
+-- whatever is summed of what a shard keeps
+kept_sum : (f : ShardView ShardState Entry → ℕ) → ((v w : ShardView ShardState Entry) → Kept v w → f w ≡ f v) → (vs ws : Shards) → AllZip Kept vs ws → sum_by f ws ≡ sum_by f vs
+kept_sum f same [] [] h = refl
+kept_sum f same [] (w ∷ ws) h = absurd h
+kept_sum f same (v ∷ vs) [] h = absurd h
+kept_sum f same (v ∷ vs) (w ∷ ws) h = omega (arith, sum_by-cons f v vs, sum_by-cons f w ws, same v w h.0, kept_sum f same vs ws h.1)
 
-pub sum_far : (most : ℕ) (tally : Book) (vs : Shards) (t : Traffic) → most ≤ 2 ^ 63 → IsLow most tally → AddsUp tally vs t → AllWithin far vs t
-sum_far most tally vs t le low all input = omega (arith, all input, low Octets input, le)
+pub sum_kept : (tally : Book) (vs ws : Shards) (t : Stopped) → AllZip Kept vs ws → AddsUp tally vs t → AddsUp tally ws t
+sum_kept tally vs ws t kept all = record {
+  carried = λ q input. omega (arith, all.carried q input, rows_kept q is_any input vs ws kept);
+  terms = omega (
+    arith,
+    all.terms,
+    kept_sum terms_by (λ v w k. ap (λ (s : ShardState). length (terms_of s)) k.state) vs ws kept,
+    kept_sum (λ (v : ShardView ShardState Entry). v.state.slots.begun) (λ v w k. ap (λ (s : ShardState). s.slots.begun) k.state) vs ws kept,
+  );
+}
 
--- the outs of the shards were sent: what was carried in all is exactly what stands in the tally still
-pub sent_sum_up : (r : Rules) (pool pool' : PlainView) (moment : ℕ) (items : List Item) (vs ws us : Shards) (loose : List Loose) (d d' d'' : Drops) (t t' t'' : Book) (p p' : PlantTold) (outs : List OutRecord) (journals : List (List Entry)) (stopped : Traffic)
-    → (deals : Deals r pool pool' moment items vs ws loose d d' t t') → SendsAll ws us p p' outs journals d' d'' t' t'' → AddsUp t vs stopped → AddsUp t'' us stopped
-sent_sum_up r pool pool' moment items vs ws us loose d d' d'' t t' t'' p p' outs journals stopped deals s all input =
-    let f = charge_if Octets (is_directed input) in
-    let any : sent_where Octets is_any input (joined s.sends) ≡ sent_sum f (joined s.sends) = refl in
-    omega (
-      arith,
-      all input,
-      rows_sent Octets is_any input vs ws deals.seen us s.sends (all_turning r pool pool' moment items vs ws loose d d' t t' deals) s.each,
-      any,
-      passed_is f (joined s.sends),
-      joined_passed f ws us s.sends s.each,
-      shown_outs f ws deals.seen deals.shown,
-      passed_first Octets input (all_outs deals.seen) (outs_seats (views_of vs) deals.seen deals.round.shards deals.round.seats),
-      deals.round.passed.each Octets 0 input (omega arith),
-      s.falls Octets input,
-    )
+pub sum_far : (most : ℕ) (tally : Book) (vs : Shards) (t : Stopped) → most ≤ 2 ^ 63 → IsLow most tally → begun_in vs ≤ 2 ^ 63 → AddsUp tally vs t → AllWithin far vs t
+sum_far most tally vs t le low few all = record {
+  carried = λ q input. omega (arith, all.carried q input, low q input, le);
+  terms = omega (arith, all.terms, few);
+}
+
+-- The outs of the shards were sent: what was carried in all is exactly what stands in the tally still. As many terms began as there are
+-- more.
+pub sent_sum_up : (r : Rules) (pool pool' : PlainView) (moment : ℕ) (items : List Item) (vs ws us : Shards) (loose : List Loose) (d d' d'' : Drops) (t t' t'' : Book) (p p' : PlantTold) (outs : List OutRecord) (journals : List (List Entry)) (stopped : Stopped)
+    → (deals : Deals r pool pool' moment items vs ws loose d d' t t') → SendsAll ws us p p' outs journals d' d'' t' t'' → live_terms us + begun_in vs ≡ live_terms vs + begun_in us → AddsUp t vs stopped → AddsUp t'' us stopped
+sent_sum_up r pool pool' moment items vs ws us loose d d' d'' t t' t'' p p' outs journals stopped deals s grew all = record {
+  carried = λ q input.
+      let f = charge_if q (is_directed input) in
+      let any : sent_where q is_any input (joined s.sends) ≡ sent_sum f (joined s.sends) = refl in
+      omega (
+        arith,
+        all.carried q input,
+        rows_sent q is_any input vs ws deals.seen us s.sends (all_turning r pool pool' moment items vs ws loose d d' t t' deals) s.each,
+        any,
+        passed_is f (joined s.sends),
+        joined_passed f ws us s.sends s.each,
+        shown_outs f ws deals.seen deals.shown,
+        passed_first q input (all_outs deals.seen) (outs_seats (views_of vs) deals.seen deals.round.shards deals.round.seats),
+        deals.round.passed.each q 0 input (omega arith),
+        s.falls q input,
+      );
+  terms = omega (arith, all.terms, grew);
+}
 
 -- What is told of a circuit ---------------------------------------------------------------------------------------------
+
+-- octets of one direction
+abbrev pub octets_of : Bool → Traffic → ℕ
+octets_of true t = t.input
+octets_of false t = t.output
 
 none_of : (input : Bool) → octets_of input no_traffic ≡ 0
 none_of true = refl

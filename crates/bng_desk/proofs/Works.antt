@@ -14,7 +14,8 @@ use Rattle.bng_desk.proofs.Readying.{Shards}
 abbrev pub with_works : Desk → Works → Shards → Desk
 with_works d w shards = record d {
   lines = w.accounts.lines;
-  stopped_traffic = w.accounts.stopped;
+  stopped_book = w.accounts.stopped.carried;
+  stops = w.accounts.stopped.stops;
   shards = shards;
   pool = w.pool;
   tallies = w.tally ∷ [];

@@ -1,5 +1,5 @@
 -- How many items were dropped, by cause.
-use Rattle.std.specs.Prelude.{ℕ, ◌+◌, ◌≤◌, Bool, true, false, List, count_by}
+use Rattle.std.specs.Prelude.{ℕ, ◌+◌, ◌≤◌, Bool, true, false, List, [], ◌∷◌, count_by}
 use Rattle.bng_base.specs.declared.fate.DropCause.{DropCause}
 use Rattle.bng_base.specs.declared.fate.DropCause.TheVariants.{Malformed, NoSession, NotOpen, Expired, Spoofed, TooBig, Exceeded, LinkFailed, WantOfMemory}
 use Rattle.bng_base.specs.declared.fate.Fate.{Fate}
@@ -8,6 +8,11 @@ use Rattle.bng_desk.specs.declared.drops.Drops.{Drops}
 
 abbrev pub no_drops : Drops
 no_drops = record { malformed = 0; no_session = 0; not_open = 0; expired = 0; spoofed = 0; too_big = 0; exceeded = 0; link_failed = 0; want_of_memory = 0 }
+
+-- the drops, by the number of the cause
+abbrev pub by_number : Drops → List ℕ
+by_number d =
+    d.malformed ∷ d.no_session ∷ d.not_open ∷ d.expired ∷ d.spoofed ∷ d.too_big ∷ d.exceeded ∷ d.link_failed ∷ d.want_of_memory ∷ []
 
 -- one item more, with this fate
 abbrev pub with_cause : Drops → DropCause → Drops

@@ -62,7 +62,7 @@ pub record Stays (shards : ℕ) (items : List Item) : Type 0 where
 -- One port to sixteen, one shard to 64 in their order, all by the desk's rules, with nothing of a round in them and at most 1,022
 -- sessions in each, one seat. Its terms hold their addresses, have numbers that it gave, and have a Start each. No sum is above what the
 -- turns so far could add, and none wraps before the last; what was carried with a circuit's address, by Stops and by rows, stands in the
--- seat's tally, and what all Stops and all rows say is exactly that tally. What stays of a round that was not opened are verdicts, and Ends in the ending alone. Of each shard there is a list of the
+-- seat's tally, and what all Stops and all rows say is exactly that tally; each term that began has its Stop, or has none yet. What stays of a round that was not opened are verdicts, and Ends in the ending alone. Of each shard there is a list of the
 -- questions that it handed out. Each term that is there is live in accounting, no two terms are one, and accounting knows of no term that
 -- did not begin. No Interim is due before the moment that is kept for that of its shard.
 pub record IsKept (d : Desk) : Type 0 where
@@ -92,7 +92,7 @@ pub record IsKept (d : Desk) : Type 0 where
   pub books : All (λ v. AreLow (octets_most * all_turns d) v.books) d.shards
   pub tallies : AreLow (octets_most * all_turns d) d.tallies
   pub tallied : AreTallied (book_at 0 d.tallies) d.shards d.lines
-  pub adds_up : AddsUp (book_at 0 d.tallies) d.shards d.stopped_traffic
+  pub adds_up : AddsUp (book_at 0 d.tallies) d.shards (record { carried = d.stopped_book; stops = d.stops })
   pub counts : Within (drops_most * all_turns d) d.drops
   pub kept : AreItems d.kept
   pub stays : Stays (length d.shards) d.kept

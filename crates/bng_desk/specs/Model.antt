@@ -1,5 +1,5 @@
 -- The desk as contracts see it.
-use Rattle.std.specs.Prelude.{◌≡◌, ℕ, ◌+◌, ◌-◌, ◌*◌, ◌/◌, Bool, true, false, ◌==◌, ◌||◌, ◌&&◌, not, List, Option, Some, None, map, sum_by, slice_get, nat_le, if◌then◌else◌}
+use Rattle.std.specs.Prelude.{◌≡◌, ℕ, ◌+◌, ◌-◌, ◌*◌, ◌/◌, Bool, true, false, ◌==◌, ◌||◌, ◌&&◌, not, List, Option, Some, None, length, map, sum_by, slice_get, nat_le, if◌then◌else◌}
 use Rattle.std.specs.List.{All, flat_map}
 use Rattle.bng_acct.specs.Spool.{unacked_stops}
 use Rattle.bng_base.specs.declared.address.Ip4.{Ip4}
@@ -7,27 +7,27 @@ use Rattle.bng_base.specs.declared.book.Book.{Book}
 use Rattle.bng_base.specs.declared.item.Entry.{Entry}
 use Rattle.bng_base.specs.declared.item.Item.{Item}
 use Rattle.bng_billing.specs.State.{BillingState}
-use Rattle.bng_engine.specs.Quantities.{Octets}
+use Rattle.bng_engine.specs.Quantities.{Octets, Packets}
 use Rattle.bng_engine.specs.Sums.{has_lease, is_any, stopped_where}
 use Rattle.bng_engine.specs.Terms.{Key, Stop, keys}
-use Rattle.bng_engine.specs.Views.{ShardView, Row}
+use Rattle.bng_engine.specs.Views.{ShardView, Row, rows_where}
 use Rattle.bng_lane.specs.State.{LaneState}
 use Rattle.bng_pool.specs.Plain.{PlainView}
 use Rattle.bng_shard.specs.declared.rules.Rules.{Rules}
 use Rattle.bng_shard.specs.declared.sums.Traffic.{Traffic}
 use Rattle.bng_shard.specs.Interims.{Reports}
-use Rattle.bng_shard.specs.Live.{octets_in_rows}
 use Rattle.bng_shard.specs.Protocol.{ShardState, row_at, sessions_of, terms_of}
 use Rattle.bng_shard.specs.Sums.{traffic_in}
 use Rattle.bng_desk.specs.declared.desk.DeskState.{DeskState}
 use Rattle.bng_desk.specs.declared.desk.DeskState.TheVariants.{Serving, Ending, Grace, Ended, Starved}
 use Rattle.bng_desk.specs.declared.drops.Drops.{Drops}
 use Rattle.bng_desk.specs.declared.line.Line.{Line}
-use Rattle.bng_desk.specs.declared.sums.Totals.{Totals}
+use Rattle.bng_desk.specs.declared.sums.Sums.{Sums}
+use Rattle.bng_desk.specs.Counting.{by_number}
 use Rattle.bng_desk.specs.Reading.{is_empty}
 
 -- By what it serves, the provisioned circuits in the order of the configuration, what the Stops of all terms say that were formed so far,
--- after how many turns it ends serving by itself, how many it made, whether it was told to stop, the shards in the order of their numbers, who holds an address, what each seat passed, the
+-- and how many those are, after how many turns it ends serving by itself, how many it made, whether it was told to stop, the shards in the order of their numbers, who holds an address, what each seat passed, the
 -- seed and how many times sixteen octets were drawn from it, the drops, the last moment that it was given, and the number of the last
 -- round that the trace took, 0 before the first. The lane of the questions that are out at the server, and of each shard which of its
 -- questions were handed out. The records that are open at the server of accounting. Of each shard which Interims were taken. Of the ending: how
@@ -37,7 +37,8 @@ use Rattle.bng_desk.specs.Reading.{is_empty}
 pub record Desk : Type 0 where
   pub rules : Rules
   pub lines : List Line
-  pub stopped_traffic : Traffic
+  pub stopped_book : Book
+  pub stops : ℕ
   pub rounds : ℕ
   pub turns : ℕ
   pub stopped : Bool
@@ -137,17 +138,51 @@ stopped_of address stops = record { input = stopped_where Octets (has_lease addr
 abbrev pub line_after : List Stop → Line → Line
 line_after stops l = record l { stopped = plus_traffic l.stopped (stopped_of l.address stops) }
 
--- what these Stops say in all, in octets
-abbrev pub all_stopped : List Stop → Traffic
-all_stopped stops = record { input = stopped_where Octets is_any true stops; output = stopped_where Octets is_any false stops }
+-- one book and the other together
+abbrev pub plus_book : Book → Book → Book
+plus_book a b = record {
+  input = a.input + b.input;
+  output = a.output + b.output;
+  input_packets = a.input_packets + b.input_packets;
+  output_packets = a.output_packets + b.output_packets;
+}
 
--- what the terms of all shards carried that have no Stop yet
-abbrev pub live_of : List (ShardView ShardState Entry) → Traffic
-live_of shards = record { input = sum_by (λ v. octets_in_rows true v.rows) shards; output = sum_by (λ v. octets_in_rows false v.rows) shards }
+-- what these Stops say in all, in octets and in packets
+abbrev pub all_stopped : List Stop → Book
+all_stopped stops = record {
+  input = stopped_where Octets is_any true stops;
+  output = stopped_where Octets is_any false stops;
+  input_packets = stopped_where Packets is_any true stops;
+  output_packets = stopped_where Packets is_any false stops;
+}
 
--- the terms that have a Stop, and those that have none yet
-abbrev pub totals_of : Desk → Totals
-totals_of d = record { stopped = d.stopped_traffic; live = live_of d.shards }
+-- what the terms of all shards carried that have no Stop yet, in octets and in packets
+abbrev pub live_of : List (ShardView ShardState Entry) → Book
+live_of shards = record {
+  input = sum_by (λ v. rows_where Octets is_any true v.rows) shards;
+  output = sum_by (λ v. rows_where Octets is_any false v.rows) shards;
+  input_packets = sum_by (λ v. rows_where Packets is_any true v.rows) shards;
+  output_packets = sum_by (λ v. rows_where Packets is_any false v.rows) shards;
+}
+
+-- how many terms began, those of the circuits at the opening among them, and how many of them have no Stop yet
+abbrev pub begun_in : List (ShardView ShardState Entry) → ℕ
+begun_in shards = sum_by (λ v. v.state.slots.begun) shards
+
+abbrev pub live_terms : List (ShardView ShardState Entry) → ℕ
+live_terms shards = sum_by (λ v. length (terms_of v.state)) shards
+
+-- What all terms carried: those that have a Stop, those that have none yet, and both together. How many terms began, how many Stops were
+-- formed, and how many items were dropped, by the number of the cause.
+abbrev pub sums_of : Desk → Sums
+sums_of d = record {
+  stopped = d.stopped_book;
+  live = live_of d.shards;
+  total = plus_book d.stopped_book (live_of d.shards);
+  terms = begun_in d.shards;
+  stops = d.stops;
+  drops = by_number d.drops;
+}
 
 abbrev pub all_carried : Desk → List Traffic
 all_carried d = map (carried_on d.shards) d.lines
@@ -156,6 +191,11 @@ all_carried d = map (carried_on d.shards) d.lines
 abbrev pub traffic_by : Book → Traffic
 traffic_by tally = record { input = tally.input; output = tally.output }
 
--- and what all seats passed: the octets of all packets that were sent
-abbrev pub total_of : List Book → Traffic
-total_of tallies = record { input = sum_by (λ (b : Book). b.input) tallies; output = sum_by (λ (b : Book). b.output) tallies }
+-- and what all seats passed: the octets and the number of all packets that were sent
+abbrev pub total_of : List Book → Book
+total_of tallies = record {
+  input = sum_by (λ (b : Book). b.input) tallies;
+  output = sum_by (λ (b : Book). b.output) tallies;
+  input_packets = sum_by (λ (b : Book). b.input_packets) tallies;
+  output_packets = sum_by (λ (b : Book). b.output_packets) tallies;
+}

@@ -33,7 +33,7 @@ use Rattle.bng_desk.specs.Counting.{no_drops}
 use Rattle.bng_desk.specs.Model.{Desk, keys_in, no_traffic}
 use Rattle.bng_desk.specs.Random.{draw}
 use Rattle.bng_desk.specs.Round.{terms_in}
-use Rattle.bng_desk.specs.Taking.{Accounts, BooksStarts, states_of}
+use Rattle.bng_desk.specs.Taking.{Accounts, BooksStarts, no_stops, states_of}
 
 -- what the access port with this number offers: its MAC, this key of its cookies, this name and these services
 pub record IsOfferOf (name : List ℕ) (services : List (ArrayVec ℕ)) (key : List ℕ) (number : ℕ) (port : AccessPort) (offer : PortRules) : Type 0 where
@@ -123,7 +123,7 @@ billing_rules config wall = record {
 pub record OpensAccounts (rules : BillingRules) (lines : List Line) (reports : List Reports) (shards : List (ShardView ShardState Entry)) (now : ℕ) (a : Accounts) : Type 0 where
   pub new_billing : BillingState
   pub is_new : IsNewBilling rules new_billing
-  pub booked : BooksStarts (terms_in (states_of shards)) now rules.acct.wall (keys_in shards) (record { lines = lines; stopped = no_traffic; billing = new_billing; reports = reports }) a
+  pub booked : BooksStarts (terms_in (states_of shards)) now rules.acct.wall (keys_in shards) (record { lines = lines; stopped = no_stops; billing = new_billing; reports = reports }) a
   pub billed : AreBilled (keys_in shards) a.billing
   pub known : (t : TermId) (h : Held) → of_term t a.billing.spool.held ≡ Some h → AnyOf (λ (k : Key). k.term ≡ t) (keys_in shards)
 
@@ -146,7 +146,8 @@ pub record IsOpened (config : Config) (rounds : ℕ) (seed : List ℕ) (now wall
   pub desk : d ≡ record {
     rules = rules;
     lines = map line_of config.statics;
-    stopped_traffic = no_traffic;
+    stopped_book = empty_book;
+    stops = 0;
     rounds = rounds;
     turns = 0;
     stopped = false;

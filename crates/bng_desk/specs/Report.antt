@@ -4,19 +4,13 @@ use Rattle.std.specs.Fmt.{decimal}
 use Rattle.bng_acct.specs.declared.facts.TermFacts.{TermFacts}
 use Rattle.bng_acct.specs.Texts.{session_id, port_id}
 use Rattle.bng_base.specs.declared.address.Ip4.{Ip4}
+use Rattle.bng_base.specs.declared.book.Book.{Book}
 use Rattle.bng_config.specs.Address.{address_text}
 use Rattle.bng_base.specs.declared.fate.DropCause.{DropCause}
 use Rattle.bng_base.specs.declared.fate.DropCause.TheVariants.{Malformed, NoSession, NotOpen, Expired, Spoofed, TooBig, Exceeded, LinkFailed, WantOfMemory}
-use Rattle.bng_desk.specs.declared.drops.Drops.{Drops}
 use Rattle.bng_desk.specs.declared.line.Line.{Line}
-use Rattle.bng_desk.specs.declared.sums.Totals.{Totals}
-use Rattle.bng_desk.specs.Model.{plus_traffic}
+use Rattle.bng_desk.specs.Model.{traffic_by}
 use Rattle.bng_shard.specs.declared.sums.Traffic.{Traffic}
-
--- the drops, by the number of the cause
-abbrev pub by_number : Drops → List ℕ
-by_number d =
-    d.malformed ∷ d.no_session ∷ d.not_open ∷ d.expired ∷ d.spoofed ∷ d.too_big ∷ d.exceeded ∷ d.link_failed ∷ d.want_of_memory ∷ []
 
 -- the causes, by number
 abbrev pub causes : List DropCause
@@ -70,13 +64,13 @@ drop_lines _ [] = []
 drop_lines [] (items ∷ others) = []
 drop_lines (cause ∷ more) (items ∷ others) = drop_line cause items ++ drop_lines more others
 
--- what the Stops say, what the terms carried that have no Stop yet, and both together; each worker, each circuit, and what was dropped by
--- each cause
-abbrev pub report_text : Totals → List Traffic → List Line → List Traffic → List ℕ → List ℕ
-report_text totals workers circuits traffic drops =
-    traffic_line (codes "stopped") totals.stopped
-    ++ traffic_line (codes "live") totals.live
-    ++ traffic_line (codes "total") (plus_traffic totals.stopped totals.live)
+-- of what the Stops say, what the terms carried that have no Stop yet, and both together the octets; each worker, each circuit, and what
+-- was dropped by each cause
+abbrev pub report_text : Book → Book → Book → List Traffic → List Line → List Traffic → List ℕ → List ℕ
+report_text stopped live total workers circuits traffic drops =
+    traffic_line (codes "stopped") (traffic_by stopped)
+    ++ traffic_line (codes "live") (traffic_by live)
+    ++ traffic_line (codes "total") (traffic_by total)
     ++ worker_lines 0 workers
     ++ static_lines circuits traffic
     ++ drop_lines causes drops

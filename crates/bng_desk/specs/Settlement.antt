@@ -30,9 +30,8 @@ pub record AreBlank (shards : ℕ) (lists : Lists) : Type 0 where
   pub journals : lists.journals.items ≡ []
   pub journals_room : shards ≤ vec_capacity lists.journals
   pub outs : lists.outs.items ≡ []
-  pub outs_room : 5760 + 320 * shards ≤ vec_capacity lists.outs
+  pub outs_room : 5760 + 320 * shards ≤ lists.outs.room
   pub allowances : lists.allowances.items ≡ replicate shards 0
-  pub refused : lists.refused.items ≡ []
 
 -- The shards are those of the rules, in their order, with nothing of a round in them, and no sum is near its end; what was carried with the
 -- circuits' addresses stands in the tally, which is exactly what was carried in all, and the terms are billed. Nothing stays of the round before, and there is room for what may stay

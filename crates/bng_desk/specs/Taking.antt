@@ -20,7 +20,7 @@ use Rattle.bng_base.specs.Stretch.{ExtendsPlant}
 use Rattle.bng_engine.specs.Calls.{Kept, InTurn, all_sends}
 use Rattle.bng_engine.specs.Journals.{unsent}
 use Rattle.bng_engine.specs.Lists.{Zip3}
-use Rattle.bng_engine.specs.Quantities.{Quantity, Octets, amount, in_book}
+use Rattle.bng_engine.specs.Quantities.{Quantity, Octets, amount, in_book, empty_book}
 use Rattle.bng_engine.specs.Showing.{Shows, with_lists}
 use Rattle.bng_engine.specs.Sums.{has_lease, is_any, same, charge_if, is_directed, passed_sum, failed_sum, stopped_where}
 use Rattle.bng_engine.specs.Settlements.{OneEach}
@@ -29,7 +29,6 @@ use Rattle.bng_engine.specs.Turns.{InRound}
 use Rattle.bng_engine.specs.Views.{ShardView, row_keys, rows_where}
 use Rattle.bng_pool.specs.Plain.{PlainView}
 use Rattle.bng_shard.specs.declared.rules.Rules.{Rules}
-use Rattle.bng_shard.specs.declared.sums.Traffic.{Traffic}
 use Rattle.bng_shard.specs.declared.sums.Charged.{Charged}
 use Rattle.bng_shard.specs.declared.sums.Charged.TheVariants.{Packet, Control}
 use Rattle.bng_shard.specs.declared.whose.Whose.{Whose}
@@ -37,7 +36,6 @@ use Rattle.bng_shard.specs.declared.whose.Whose.TheVariants.{Loose as IsLoose, S
 use Rattle.bng_shard.specs.Hearing.{outs_most}
 use Rattle.bng_shard.specs.Granting.{IsSound}
 use Rattle.bng_shard.specs.Interims.{Reports, owed}
-use Rattle.bng_shard.specs.Live.{octets_in_rows}
 use Rattle.bng_shard.specs.Lasting.{AreTenures}
 use Rattle.bng_shard.specs.Protocol.{ShardState, Handled, key_in, pppoe, sessions_of, terms_of, entry_of, Handles}
 use Rattle.bng_shard.specs.Room.{is_tick, is_end}
@@ -46,6 +44,7 @@ use Rattle.bng_shard.specs.Sums.{AreLow, RowsAreLow}
 use Rattle.bng_shard.specs.Tenures.{Tenure}
 use Rattle.bng_shard.specs.Whose.{IsWhose}
 use Rattle.bng_billing.specs.State.{BillingState}
+use Rattle.bng_desk.specs.declared.accounts.Stopped.{Stopped}
 use Rattle.bng_desk.specs.declared.drops.Drops.{Drops}
 use Rattle.bng_desk.specs.declared.holding.Named.{Named}
 use Rattle.bng_desk.specs.declared.line.Line.{Line}
@@ -54,7 +53,7 @@ use Rattle.bng_desk.specs.Counting.{drops_of, plus}
 use Rattle.bng_desk.specs.Interims.{FormsInterims, TakesInterims, owed_by}
 use Rattle.bng_desk.specs.Items.{entries_in, kept_of, loose_item, loose_in, without_claim}
 use Rattle.bng_desk.specs.Allowing.{Allows}
-use Rattle.bng_desk.specs.Model.{all_stopped, line_after, plus_traffic}
+use Rattle.bng_desk.specs.Model.{all_stopped, begun_in, line_after, live_terms, plus_book}
 use Rattle.bng_desk.specs.Round.{Round, IsRound, StandsWithin, AreClaimed, IsWhoseIn, views_of, held_by, stops_of, starts_of, terms_in, news_in, handled_states, IsReturned, is_failed, with_failed, sends_stretch, drops_in, record_of, refused_of, refused_record, with_refused, entries_of}
 
 -- a shard as the desk has it, and as the engine sees it
@@ -72,13 +71,18 @@ IsEmpty v = (v.journal ≡ []) × (v.outs ≡ [])
 abbrev pub OwesNone : Shown → Type 0
 OwesNone v = v.state.slots.news ≡ []
 
--- What lasts of a shard from round to round, at this moment: its sessions and terms are its own, with numbers that it gave, and the terms
--- began no later; of each a Start was formed.
+-- What lasts of a shard from round to round, at this moment: its sessions and terms are its own, with numbers that it gave, of which there
+-- are 2^48 - 1, and the terms began no later; of each a Start was formed.
 pub record KeepsTerms (moment : ℕ) (v : Shown) : Type 0 where
   pub sound : IsSound v.state.slots
   pub number : v.state.slots.sessions.shard ≡ v.number
   pub tenures : AreTenures moment v.state.slots
   pub owes_none : OwesNone v
+  pub numbers : v.state.slots.begun < 2 ^ 48
+
+-- there is a number for each term that may begin
+abbrev pub HasNumbers : Shown → Type 0
+HasNumbers v = v.state.slots.begun + v.allowance < 2 ^ 48
 
 -- a row for each term
 abbrev pub HasRows : Shown → Type 0
@@ -256,6 +260,7 @@ pub record ReapedTo (v v' : Shown) (stops : List Stop) : Type 0 where
   pub state : v'.state ≡ record v.state { slots = reaped v.state.slots }
   pub fit : Same (row_keys v.rows) (keys (terms_of v.state)) → Same (row_keys v'.rows) (keys (terms_of v'.state))
   pub rows : (q : Quantity) (pick : Key → Bool) (input : Bool) → stopped_where q pick input stops + rows_where q pick input v'.rows ≡ rows_where q pick input v.rows
+  pub count : length stops + length (terms_of v'.state) ≡ length (terms_of v.state)
   pub number : v'.number ≡ v.number
   pub allowance : v'.allowance ≡ v.allowance
   pub books : v'.books ≡ v.books
@@ -269,22 +274,30 @@ pub record BegunTo (v v' : Shown) (starts : List Key) : Type 0 where
   pub each : Same starts (map key_in v.state.slots.news)
   pub after : v' ≡ record v { state = record v.state { slots = record v.state.slots { news = [] } } }
 
--- what a settlement writes to beside the shards: the lines of the circuits, what all Stops say, the records of terms, and of each shard
--- which Interims were taken
+-- no Stop was formed yet
+abbrev pub no_stops : Stopped
+no_stops = record { carried = empty_book; stops = 0 }
+
+-- what all Stops say, and how many they are, with these Stops
+abbrev pub plus_stops : Stopped → List Stop → Stopped
+plus_stops stopped stops = record { carried = plus_book stopped.carried (all_stopped stops); stops = stopped.stops + length stops }
+
+-- what a settlement writes to beside the shards: the lines of the circuits, what all Stops say and how many they are, the records of terms,
+-- and of each shard which Interims were taken
 pub record Accounts : Type 0 where
   pub lines : List Line
-  pub stopped : Traffic
+  pub stopped : Stopped
   pub billing : BillingState
   pub reports : List Reports
 
 -- Of each of these Stops a record was formed, in their order, at this moment and this second on the wall, and what it says was added to
--- the line with its address and to what all Stops say. They are of these terms.
+-- the line with its address and to what all Stops say, among which it was counted. They are of these terms.
 pub record BooksStops (terms : List Tenure) (moment wall : ℕ) (stops : List Stop) (a a' : Accounts) : Type 0 where
   pub formed : List FormedRecord
   pub forms : Forms a.billing formed a'.billing
   pub are_stops : AllZip (IsStopOf terms moment wall) stops formed
   pub lines_are : a'.lines ≡ map (line_after stops) a.lines
-  pub stopped_is : a'.stopped ≡ plus_traffic a.stopped (all_stopped stops)
+  pub stopped_is : a'.stopped ≡ plus_stops a.stopped stops
   pub reports_are : a'.reports ≡ a.reports
 
 -- Of each of the terms with these keys a Start was formed, in their order, at this moment and this second on the wall. They are of these
@@ -373,30 +386,38 @@ TakesIn stops l = (input : Bool) → stopped_in input l + stopped_where Octets (
 abbrev pub AreTallied : Book → List Shown → List Line → Type 0
 AreTallied tally vs lines = LinesWithin (λ input. in_book Octets input tally) vs lines
 
--- octets of one direction
-abbrev pub octets_of : Bool → Traffic → ℕ
-octets_of true t = t.input
-octets_of false t = t.output
-
--- what a shard says of all terms that are there
-abbrev pub live_by : Bool → Shown → ℕ
-live_by input v = octets_in_rows input v.rows
+-- what a shard says of all terms that are there, in one direction
+abbrev pub live_by : Quantity → Bool → Shown → ℕ
+live_by q input v = rows_where q is_any input v.rows
 
 -- what all Stops say so far, and what the shards say of the terms that have none yet
-abbrev pub carried_in_all : Bool → List Shown → Traffic → ℕ
-carried_in_all input vs stopped = octets_of input stopped + sum_by (live_by input) vs
+abbrev pub carried_in_all : Quantity → Bool → List Shown → Stopped → ℕ
+carried_in_all q input vs stopped = in_book q input stopped.carried + sum_by (live_by q input) vs
 
--- no more was carried, in octets of either direction
-abbrev pub AllWithin : (Bool → ℕ) → List Shown → Traffic → Type 0
-AllWithin most vs stopped = (input : Bool) → carried_in_all input vs stopped ≤ most input
+-- the terms that have a Stop, and those that have none yet
+abbrev pub terms_in_all : List Shown → Stopped → ℕ
+terms_in_all vs stopped = stopped.stops + live_terms vs
 
--- there is room for what these Stops say beside what all Stops say so far
-abbrev pub HasRoomFor : List Stop → Traffic → Type 0
-HasRoomFor stops stopped = (input : Bool) → octets_of input stopped + stopped_where Octets is_any input stops ≤ far input
+-- no more was carried, in octets and in packets of either direction, and there are not too many terms to be counted
+pub record AllWithin (most : Bool → ℕ) (vs : List Shown) (stopped : Stopped) : Type 0 where
+  pub carried : (q : Quantity) (input : Bool) → carried_in_all q input vs stopped ≤ most input
+  pub terms : terms_in_all vs stopped ≤ 2 ^ 63
 
--- what was carried in all is exactly what stands in the tally
-abbrev pub AddsUp : Book → List Shown → Traffic → Type 0
-AddsUp tally vs stopped = (input : Bool) → carried_in_all input vs stopped ≡ in_book Octets input tally
+-- there is room for these Stops beside all Stops so far, and for what they say
+pub record HasRoomFor (stops : List Stop) (stopped : Stopped) : Type 0 where
+  pub carried : (q : Quantity) (input : Bool) → in_book q input stopped.carried + stopped_where q is_any input stops ≤ far input
+  pub count : stopped.stops + length stops ≤ 2 ^ 63
+
+-- what left the shards stands in what all Stops say, and nothing else changed
+pub record SameInAll (vs : List Shown) (stopped : Stopped) (vs' : List Shown) (stopped' : Stopped) : Type 0 where
+  pub carried : (q : Quantity) (input : Bool) → carried_in_all q input vs' stopped' ≡ carried_in_all q input vs stopped
+  pub terms : terms_in_all vs' stopped' ≡ terms_in_all vs stopped
+
+-- What was carried in all is exactly what stands in the tally, in octets and in packets of either direction; and each term that began has
+-- its Stop, or has none yet.
+pub record AddsUp (tally : Book) (vs : List Shown) (stopped : Stopped) : Type 0 where
+  pub carried : (q : Quantity) (input : Bool) → carried_in_all q input vs stopped ≡ in_book q input tally
+  pub terms : terms_in_all vs stopped ≡ begun_in vs
 
 -- the desk has the shard as the engine left it
 pub record IsLeftBy (w : Shown) (v : Sight) : Type 0 where

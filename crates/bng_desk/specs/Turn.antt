@@ -34,7 +34,7 @@ use Rattle.bng_rad_client.specs.DueRequests.{IsDeadline}
 use Rattle.bng_verdict.specs.declared.question.QuestionNo.{QuestionNo}
 use Rattle.bng_desk.specs.Items.{DataReading, taken_items, ticks_of, ends_of, drawn_from, kept_of}
 use Rattle.bng_desk.specs.Logins.{Answered, Requests, Hears, TimesOut, SettlesLane, reply_items, timeout_items, auth_reading, requests_stretch, verdicts_most}
-use Rattle.bng_desk.specs.Model.{Desk, all_stopped, grace_most, has_ended, line_after, plus_traffic}
+use Rattle.bng_desk.specs.Model.{Desk, all_stopped, grace_most, has_ended, line_after, plus_book}
 use Rattle.bng_desk.specs.Reading.{receives, taken_in, ending_stretch, EndsRight, is_empty}
 use Rattle.bng_desk.specs.Round.{Round, IsRound, stops_of, starts_of, terms_in, news_in, handled_states, left_by, drops_in, sends_stretch, record_of, refused_of, refused_record, with_refused}
 
@@ -138,7 +138,8 @@ after_round d items (Some round) = record d {
   shards = map left_by round.shards;
   pool = round.pool;
   lines = map (line_after (stops_of round)) d.lines;
-  stopped_traffic = plus_traffic d.stopped_traffic (all_stopped (stops_of round));
+  stopped_book = plus_book d.stopped_book (all_stopped (stops_of round));
+  stops = d.stops + length (stops_of round);
   tallies = round.tallies;
   drops = plus d.drops (drops_in (items ∷ []) round);
   kept = [];

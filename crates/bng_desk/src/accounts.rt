@@ -1,4 +1,5 @@
-//! What a settlement writes to beside the shards: the lines of the circuits, what all Stops say, and the records of terms.
+//! What a settlement writes to beside the shards: the lines of the circuits, what all Stops say and how many they are, and the records of
+//! terms.
 ghost use Rattle.std.specs.Prelude.{◌≡◌, ◌⊎◌, ◌+◌, ◌≤◌, ◌<◌, ◌^◌, List, true, false, None, [], ◌∷◌, IfOk, length, map};
 ghost use Rattle.std.specs.List.{All, AllPairs};
 ghost use Rattle.bng_acct.specs.Roster.{of_term, same};
@@ -16,31 +17,50 @@ ghost use Rattle.bng_shard.specs.Tenures.{Tenure};
 ghost use Rattle.bng_desk.specs.Accounting.{AreBilled, IsStartOf, IsStopOf};
 ghost use Rattle.bng_desk.specs.Intake.{SendsRecords, TakesAcknowledgements};
 ghost use Rattle.bng_desk.specs.Interims.{AreAwaited};
-ghost use Rattle.bng_desk.specs.Model.{all_stopped, keys_in, line_after, plus_traffic};
+ghost use Rattle.bng_desk.specs.Model.{keys_in, line_after};
 ghost use Rattle.bng_desk.specs.Reading.{is_empty};
 ghost use Rattle.bng_desk.specs.Report.{stop_lines};
-ghost use Rattle.bng_desk.specs.Taking.{BooksStarts, BooksStops, HasRoomFor, KeepsHeld, ReportsAll, TakesIn};
+ghost use Rattle.bng_desk.specs.Taking.{BooksStarts, BooksStops, HasRoomFor, KeepsHeld, ReportsAll, TakesIn, plus_stops};
 ghost use Rattle.bng_desk.specs.Turn.{Closes};
 
 use crate::acknowledgements::take_acknowledgements;
 use crate::interims::report_each;
 use crate::line::Line;
 use crate::records::send_records;
+use crate::sums::plus_book;
 use crate::unanswered::unanswered;
 use bng_acct::{Moment, TermFacts};
 use bng_base::{Book, Frame};
 use bng_billing::Billing;
 use bng_plant::Plant;
-use bng_shard::{EndedTerm, LiveTerm, Reports, Shard, Traffic};
+use bng_shard::{EndedTerm, LiveTerm, Reports, Shard};
 use std::alloc::{AllocError, Global};
 use std::marker::Model;
+
+/// What the Stops of all terms say that were formed so far, in octets and in packets, and how many they are.
+#[derive(Clone, Copy)]
+pub(crate) struct Stopped {
+    pub(crate) carried: Book,
+    pub(crate) stops: u64,
+}
+
+/// No Stop was formed yet.
+pub(crate) const NO_STOPS: Stopped = Stopped {
+    carried: Book {
+        input: 0,
+        output: 0,
+        input_packets: 0,
+        output_packets: 0,
+    },
+    stops: 0,
+};
 
 /// The lines of the circuits, what the Stops of all terms say that were formed so far, the records of terms, and of each shard which
 /// Interims were taken.
 #[derive(Drop)]
 pub(crate) struct Accounts {
     pub(crate) lines: Vec<Line>,
-    pub(crate) stopped: Traffic,
+    pub(crate) stopped: Stopped,
     pub(crate) billing: Billing,
     pub(crate) reports: Vec<Reports>,
 }
@@ -74,14 +94,14 @@ fn add_carried(lines: &mut Vec<Line>, ended: &EndedTerm)
     }
 }
 
-// What was carried so far, with what a term that ended carried.
-fn with_carried(stopped: Traffic, ended: &EndedTerm) -> Traffic
+// One Stop more, that of a term that ended.
+fn with_stop(stopped: Stopped, ended: &EndedTerm) -> Stopped
     requires { HasRoomFor (stop_of ended.now ∷ []) stopped }
-    ensures { result ≡ plus_traffic stopped (all_stopped (stop_of ended.now ∷ [])) }
+    ensures { result ≡ plus_stops stopped (stop_of ended.now ∷ []) }
 {
-    Traffic {
-        input: stopped.input + ended.carried.input,
-        output: stopped.output + ended.carried.output,
+    Stopped {
+        carried: plus_book(stopped.carried, ended.carried),
+        stops: stopped.stops + 1,
     }
 }
 
@@ -113,8 +133,8 @@ impl Accounts {
     }
 
     /// Forms the Stop of a term that ended, at this moment and this second on the wall, and adds what it carried to the line with its
-    /// address and to what all Stops say. Its Classes are whole, it began no later than now, no Stop of it is open, and there is room for it. It is one of these
-    /// terms.
+    /// address and to what all Stops say, among which it counts. Its Classes are whole, it began no later than now, no Stop of it is open,
+    /// and there is room for it. It is one of these terms.
     pub(crate) fn stop(&mut self, ended: EndedTerm, moment: u64, wall: u64)
         requires classes { (classes : List Field) × AreClasses classes ended.class.items }
         requires began { ended.began ≤ moment }
@@ -125,7 +145,7 @@ impl Accounts {
         ensures { (terms : List Tenure) → AnyOf (SaysOf ended.user.items ended.class.items ended.began (stop_of ended).key) terms → BooksStops terms moment wall (stop_of ended ∷ []) self.old self.new }
     {
         add_carried(&mut self.lines, &ended);
-        self.stopped = with_carried(self.stopped, &ended);
+        self.stopped = with_stop(self.stopped, &ended);
         let at = Moment {
             now: moment,
             wall,
@@ -222,8 +242,8 @@ impl Accounts {
         unanswered(alloc, &self.billing)
     }
 
-    /// What the Stops of all terms say that were formed so far.
-    pub(crate) fn stopped(&self) -> Traffic
+    /// What the Stops of all terms say that were formed so far, and how many they are.
+    pub(crate) fn stopped(&self) -> Stopped
         ensures { result ≡ self.now.stopped }
     {
         self.stopped

@@ -1,11 +1,11 @@
 //! What came from the RADIUS server, as the verdicts of a round.
-ghost use Rattle.std.specs.Prelude.{◌≡◌, ◌+◌, ◌≤◌, ◌<◌, ◌^◌, length, vec_capacity};
+ghost use Rattle.std.specs.Prelude.{◌≡◌, ◌+◌, ◌≤◌, ◌<◌, ◌^◌, length};
 ghost use Rattle.bng_desk.specs.Intake.{AddsReply, TakesReplies};
 ghost use Rattle.bng_desk.specs.Logins.{verdict_item};
 
 use crate::calls::receive;
 use crate::random::Draws;
-use bng_base::{Frame, Item, ItemKind, Peer, Received, Role};
+use bng_base::{Batch, Frame, Item, ItemKind, Peer, Received, Role};
 use bng_lane::Lane;
 use bng_plant::Plant;
 use bng_verdict::QuestionNo;
@@ -44,20 +44,20 @@ fn add_reply(
     cut: bool,
     frame: &mut Frame,
     draws: &mut Draws,
-    items: &mut Vec<Item>,
+    items: &mut Batch<Item>,
 )
     requires whole { frame.old.headroom ≡ 64 }
-    requires room { length items.old.items < vec_capacity items.old }
+    requires room { length items.old.items < items.old.room }
     requires drawn { draws.old.drawn < 2 ^ 62 }
     ensures adds { AddsReply (record { from = from; cut = cut; octets = frame.old.payload }) lane.old lane.new draws.old draws.new items.old.items items.new.items }
-    ensures capacity { vec_capacity items.new ≡ vec_capacity items.old }
+    ensures capacity { items.new.room ≡ items.old.room }
     ensures few { length items.new.items ≤ length items.old.items + 1 }
     ensures few_drawn { draws.new.drawn ≤ draws.old.drawn + 1 }
 {
     if let Some(number) = lane.take(from, frame.payload()) {
         let random = draws.sixteen();
         let whole = mem::replace(frame, Frame::new());
-        items.push_reserved(verdict(number, from, cut, whole, random));
+        items.push(verdict(number, from, cut, whole, random));
     }
 }
 
@@ -68,12 +68,12 @@ pub(crate) fn take_replies<P: Plant>(
     frame: &mut Frame,
     lane: &mut Lane,
     draws: &mut Draws,
-    items: &mut Vec<Item>,
+    items: &mut Batch<Item>,
 ) -> bool
-    requires room { length items.old.items + 128 ≤ vec_capacity items.old }
+    requires room { length items.old.items + 128 ≤ items.old.room }
     requires drawn { draws.old.drawn < 2 ^ 61 }
     ensures takes { TakesReplies (P.told plant.old) (P.told plant.new) lane.old lane.new draws.old draws.new items.old.items items.new.items result }
-    ensures capacity { vec_capacity items.new ≡ vec_capacity items.old }
+    ensures capacity { items.new.room ≡ items.old.room }
 {
     let mut quiet = true;
     for _taken in 0..VERDICTS_MOST {

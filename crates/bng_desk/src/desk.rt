@@ -5,21 +5,21 @@ ghost use Rattle.bng_base.specs.declared.settings.NamedRange.{NamedRange};
 ghost use Rattle.bng_config.specs.Rules.{KeepsRules};
 ghost use Rattle.bng_pool.specs.Ranges.{ArePoolRanges, HasAddress};
 ghost use Rattle.bng_shard.specs.Protocol.{profiles_there};
-ghost use Rattle.bng_desk.specs.Model.{state_of, all_carried, live_of, plus_traffic, sessions_in, total_of, totals_of, traffic_by, HasOneRule, grace_most, graces_most};
+ghost use Rattle.bng_desk.specs.Model.{state_of, all_carried, live_terms, sessions_in, sums_of, total_of, traffic_by, HasOneRule, grace_most, graces_most};
 ghost use Rattle.bng_desk.specs.Opening.{IsOpened};
-ghost use Rattle.bng_desk.specs.Report.{by_number, report_text, stop_lines};
+ghost use Rattle.bng_desk.specs.Report.{report_text, stop_lines};
 
 use crate::drops::NO_DROPS;
 use crate::flags::either;
 use crate::lists::Lists;
 use crate::opening;
 use crate::random::Draws;
-use crate::report::report;
+use crate::report::{octets_of, report};
 use crate::settlement::Works;
-use crate::sums::{Totals, all_carried, live, sessions_in};
-use bng_base::{Book, Item};
+use crate::sums::{Sums, all_carried, begun_in, live, plus_book, sessions_in};
+use bng_base::{Book, Frame, Item};
 use bng_config::Config;
-use bng_shard::{Rules, Shard, Traffic};
+use bng_shard::{Rules, Shard};
 use std::alloc::Global;
 use std::marker::Model;
 
@@ -90,9 +90,9 @@ impl Model for Desk {
 
     ghost coded = { Prim.hlevel (codes, state_code) };
 
-    ghost view = { λ d. record { rules = d.rules; lines = d.works.accounts.lines; stopped_traffic = d.works.accounts.stopped; rounds = d.rounds; turns = d.turns; stopped = d.stopped; shards = map rested d.works.shards.items; pool = d.works.pool; tallies = d.works.tally ∷ []; seed = d.works.draws.seed; drawn = d.works.draws.drawn; drops = d.works.drops; moment = d.moment; told = d.told; lane = d.works.lane; handed = d.works.handed.items; billing = d.works.accounts.billing; reports = d.works.accounts.reports; endings = d.endings; unopened = d.unopened; closed = d.closed; closing = d.closing; graces = d.graces; kept = d.works.kept.items } };
+    ghost view = { λ d. record { rules = d.rules; lines = d.works.accounts.lines; stopped_book = d.works.accounts.stopped.carried; stops = d.works.accounts.stopped.stops; rounds = d.rounds; turns = d.turns; stopped = d.stopped; shards = map rested d.works.shards.items; pool = d.works.pool; tallies = d.works.tally ∷ []; seed = d.works.draws.seed; drawn = d.works.draws.drawn; drops = d.works.drops; moment = d.moment; told = d.told; lane = d.works.lane; handed = d.works.handed.items; billing = d.works.accounts.billing; reports = d.works.accounts.reports; endings = d.endings; unopened = d.unopened; closed = d.closed; closing = d.closing; graces = d.graces; kept = d.works.kept.items } };
 
-    ghost invariant = { λ d. IsKept (record { rules = d.rules; lines = d.works.accounts.lines; stopped_traffic = d.works.accounts.stopped; rounds = d.rounds; turns = d.turns; stopped = d.stopped; shards = d.works.shards.items; pool = d.works.pool; tallies = d.works.tally ∷ []; seed = d.works.draws.seed; drawn = d.works.draws.drawn; drops = d.works.drops; moment = d.moment; told = d.told; lane = d.works.lane; handed = d.works.handed.items; billing = d.works.accounts.billing; reports = d.works.accounts.reports; endings = d.endings; unopened = d.unopened; closed = d.closed; closing = d.closing; graces = d.graces; kept = d.works.kept.items }) × (192 ≤ vec_capacity d.works.kept) };
+    ghost invariant = { λ d. IsKept (record { rules = d.rules; lines = d.works.accounts.lines; stopped_book = d.works.accounts.stopped.carried; stops = d.works.accounts.stopped.stops; rounds = d.rounds; turns = d.turns; stopped = d.stopped; shards = d.works.shards.items; pool = d.works.pool; tallies = d.works.tally ∷ []; seed = d.works.draws.seed; drawn = d.works.draws.drawn; drops = d.works.drops; moment = d.moment; told = d.told; lane = d.works.lane; handed = d.works.handed.items; billing = d.works.accounts.billing; reports = d.works.accounts.reports; endings = d.endings; unopened = d.unopened; closed = d.closed; closing = d.closing; graces = d.graces; kept = d.works.kept.items }) × (192 ≤ vec_capacity d.works.kept) };
 }
 
 // An empty list with room for all items that may stay of a round.
@@ -135,16 +135,6 @@ fn stands(over: bool, ended: bool, done: bool, starved: bool) -> DeskState
         DeskState::Starved
     } else {
         DeskState::Ending
-    }
-}
-
-// The octets of a worker's packets.
-fn passed_by(tally: Book) -> Traffic
-    ensures { result ≡ traffic_by tally }
-{
-    Traffic {
-        input: tally.input,
-        output: tally.output,
     }
 }
 
@@ -198,6 +188,7 @@ impl Desk {
                 kept,
                 lists: Lists::new(alloc),
                 spare: Vec::new(alloc),
+                frame: Frame::new(),
             },
             moment: now,
             told: 0,
@@ -235,18 +226,17 @@ impl Desk {
     /// and both together, which are those of all packets that were sent; those of each worker and of each provisioned circuit; and the
     /// drops by cause.
     pub fn report(&self, alloc: Global, out: &mut Vec<u8>) -> Result<(), DeskError>
-        ensures appended { OnOk result (out.new.items ≡ out.old.items ++ report_text (totals_of self.now) (map traffic_by self.now.tallies) self.now.lines (all_carried self.now) (by_number self.now.drops)) }
-        ensures adds_up { plus_traffic self.now.stopped_traffic (live_of self.now.shards) ≡ total_of self.now.tallies }
+        ensures appended { OnOk result (out.new.items ≡ out.old.items ++ report_text (sums_of self.now).stopped (sums_of self.now).live (sums_of self.now).total (map traffic_by self.now.tallies) self.now.lines (all_carried self.now) (sums_of self.now).drops) }
+        ensures adds_up { (sums_of self.now).total ≡ total_of self.now.tallies }
         ensures kept { OnErr result (out.new.items ≡ out.old.items) }
     {
         let lines = self.works.accounts.lines();
         let Ok(traffic) = all_carried(alloc, self.works.shards.as_slice(), lines) else {
             return Err(DeskError::OutOfMemory);
         };
-        let drops = self.works.drops.by_number();
-        let totals = self.totals();
-        let workers = [passed_by(self.works.tally)];
-        let Ok(text) = report(alloc, totals, &workers, lines, traffic.as_slice(), &drops) else {
+        let sums = self.sums();
+        let workers = [octets_of(self.works.tally)];
+        let Ok(text) = report(alloc, &sums, &workers, lines, traffic.as_slice()) else {
             return Err(DeskError::OutOfMemory);
         };
         match out.extend_from_slice(text.as_bytes()) {
@@ -255,15 +245,24 @@ impl Desk {
         }
     }
 
-    // What all terms carried.
-    fn totals(&self) -> Totals
-        ensures totals { result ≡ totals_of self.now }
-        ensures low_input { result.stopped.input + result.live.input < 2 ^ 64 }
-        ensures low_output { result.stopped.output + result.live.output < 2 ^ 64 }
+    /// What the desk has counted since it was opened: what all terms carried, in octets and in packets of each direction; the terms that
+    /// began; the Stops that were formed; and the items that were dropped. What the Stops say and what the other terms carried so far are
+    /// together all packets that were sent; and each term that began has its Stop, or has none yet.
+    pub fn sums(&self) -> Sums
+        ensures sums { result ≡ sums_of self.now }
+        ensures adds_up { result.total ≡ total_of self.now.tallies }
+        ensures each_term { result.terms ≡ result.stops + live_terms self.now.shards }
     {
-        Totals {
-            stopped: self.works.accounts.stopped(),
-            live: live(self.works.shards.as_slice()),
+        let shards = self.works.shards.as_slice();
+        let stopped = self.works.accounts.stopped();
+        let live = live(shards);
+        Sums {
+            stopped: stopped.carried,
+            live,
+            total: plus_book(stopped.carried, live),
+            terms: begun_in(shards),
+            stops: stopped.stops,
+            drops: self.works.drops.by_number(),
         }
     }
 

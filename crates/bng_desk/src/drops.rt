@@ -1,6 +1,5 @@
 ghost use Rattle.std.specs.Prelude.{◌≡◌, ◌≤◌, ◌^◌};
-ghost use Rattle.bng_desk.specs.Report.{by_number};
-ghost use Rattle.bng_desk.specs.Counting.{with_fate, plus, Within};
+ghost use Rattle.bng_desk.specs.Counting.{by_number, with_fate, plus, Within};
 ghost use Rattle.bng_desk.specs.Round.{with_refused};
 
 use bng_base::{DropCause, Fate};

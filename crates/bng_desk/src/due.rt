@@ -1,5 +1,5 @@
 //! What is due in the shards.
-ghost use Rattle.std.specs.Prelude.{◌≡◌, ◌+◌, ◌≤◌, ◌<◌, ◌^◌, ◌++◌, ◌∷◌, [], length, vec_capacity};
+ghost use Rattle.std.specs.Prelude.{◌≡◌, ◌+◌, ◌≤◌, ◌<◌, ◌^◌, ◌++◌, ◌∷◌, [], length};
 ghost use Rattle.bng_desk.specs.Intake.{AddsTimeouts};
 ghost use Rattle.bng_desk.specs.Items.{ticks_of, ends_of, drawn_from, for_shard, is_reached};
 ghost use Rattle.bng_desk.specs.Random.{draw};
@@ -9,7 +9,7 @@ ghost use Rattle.bng_ppp.specs.LinkRelation.{earliest as first_of};
 
 use crate::answers::verdict;
 use crate::random::Draws;
-use bng_base::{Frame, Ip4, Item, ItemKind, Peer};
+use bng_base::{Batch, Frame, Ip4, Item, ItemKind, Peer};
 use bng_lane::Lane;
 use bng_shard::Shard;
 
@@ -50,29 +50,29 @@ fn item_for(kind: ItemKind, shard: u16, draws: &mut Draws) -> Item
 }
 
 // Adds a Tick for the shard with this number, if it has a due deadline.
-fn add_tick(shard: &Shard, number: u16, now: u64, draws: &mut Draws, items: &mut Vec<Item>)
+fn add_tick(shard: &Shard, number: u16, now: u64, draws: &mut Draws, items: &mut Batch<Item>)
     requires number { shard.now.number ≡ number }
-    requires room { length items.old.items < vec_capacity items.old }
+    requires room { length items.old.items < items.old.room }
     requires drawn { draws.old.drawn < 2 ^ 62 }
     ensures items { items.new.items ≡ items.old.items ++ drawn_from draws.old.seed draws.old.drawn (ticks_of now (shard.now ∷ [])) }
     ensures drawn { draws.new ≡ record draws.old { drawn = draws.old.drawn + length (ticks_of now (shard.now ∷ [])) } }
-    ensures capacity { vec_capacity items.new ≡ vec_capacity items.old }
+    ensures capacity { items.new.room ≡ items.old.room }
 {
     if is_reached(shard.due(), now) {
         let tick = item_for(ItemKind::Tick, number, draws);
-        items.push_reserved(tick);
+        items.push(tick);
     }
 }
 
 /// Adds a Tick for each shard that has a due deadline, in the order of their numbers.
-pub(crate) fn add_ticks(shards: &[Shard], now: u64, draws: &mut Draws, items: &mut Vec<Item>)
+pub(crate) fn add_ticks(shards: &[Shard], now: u64, draws: &mut Draws, items: &mut Batch<Item>)
     requires numbers { AreInOrder shards.now }
     requires few { length shards.now ≤ 64 }
-    requires room { length items.old.items + length shards.now ≤ vec_capacity items.old }
+    requires room { length items.old.items + length shards.now ≤ items.old.room }
     requires drawn { draws.old.drawn < 2 ^ 61 }
     ensures items { items.new.items ≡ items.old.items ++ drawn_from draws.old.seed draws.old.drawn (ticks_of now shards.now) }
     ensures drawn { draws.new ≡ record draws.old { drawn = draws.old.drawn + length (ticks_of now shards.now) } }
-    ensures capacity { vec_capacity items.new ≡ vec_capacity items.old }
+    ensures capacity { items.new.room ≡ items.old.room }
 {
     for (number, shard) in shards.iter().enumerate() {
         add_tick(shard, number as u16, now, draws, items);
@@ -85,37 +85,40 @@ pub(crate) fn add_timeouts(
     now: u64,
     most: usize,
     draws: &mut Draws,
-    items: &mut Vec<Item>,
+    items: &mut Batch<Item>,
 )
     requires few { most ≤ 128 }
-    requires room { length items.old.items + most ≤ vec_capacity items.old }
+    requires room { length items.old.items + most ≤ items.old.room }
     requires drawn { draws.old.drawn < 2 ^ 61 }
     ensures adds { AddsTimeouts now most lane.old lane.new draws.old draws.new items.old.items items.new.items }
     ensures few { length items.new.items ≤ length items.old.items + most }
     ensures few_drawn { draws.new.drawn ≤ draws.old.drawn + most }
-    ensures capacity { vec_capacity items.new ≡ vec_capacity items.old }
+    ensures capacity { items.new.room ≡ items.old.room }
 {
+    if !lane.is_due(now) {
+        return;
+    }
     for _given_up in 0..most {
         let Some(number) = lane.give_up(now) else {
             return;
         };
         let random = draws.sixteen();
-        items.push_reserved(verdict(number, NOBODY, false, Frame::new(), random));
+        items.push(verdict(number, NOBODY, false, Frame::new(), random));
     }
 }
 
 /// Adds an End for each of so many shards.
-pub(crate) fn add_ends(shards: usize, draws: &mut Draws, items: &mut Vec<Item>)
+pub(crate) fn add_ends(shards: usize, draws: &mut Draws, items: &mut Batch<Item>)
     requires few { shards ≤ 64 }
-    requires room { length items.old.items + shards ≤ vec_capacity items.old }
+    requires room { length items.old.items + shards ≤ items.old.room }
     requires drawn { draws.old.drawn < 2 ^ 61 }
     ensures items { items.new.items ≡ items.old.items ++ drawn_from draws.old.seed draws.old.drawn (ends_of shards) }
     ensures drawn { draws.new ≡ record draws.old { drawn = draws.old.drawn + shards } }
-    ensures capacity { vec_capacity items.new ≡ vec_capacity items.old }
+    ensures capacity { items.new.room ≡ items.old.room }
 {
     for number in 0..shards {
         let end = item_for(ItemKind::End, number as u16, draws);
-        items.push_reserved(end);
+        items.push(end);
     }
 }
 

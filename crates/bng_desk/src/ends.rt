@@ -7,7 +7,7 @@ ghost use Rattle.bng_shard.specs.Room.{is_end};
 use crate::due::add_ends;
 use crate::lists::move_all;
 use crate::random::Draws;
-use bng_base::{Item, ItemKind};
+use bng_base::{Batch, Item, ItemKind};
 
 fn is_end(kind: ItemKind) -> bool
     ensures { result ≡ is_end kind }
@@ -32,10 +32,15 @@ fn has_end(items: &[Item]) -> bool
 
 /// Puts the items of a round of the ending on `items`: those that stay of the round before, and an End for each of so many shards,
 /// unless Ends are among them.
-pub(crate) fn to_end(kept: &mut Vec<Item>, shards: usize, draws: &mut Draws, items: &mut Vec<Item>)
+pub(crate) fn to_end(
+    kept: &mut Vec<Item>,
+    shards: usize,
+    draws: &mut Draws,
+    items: &mut Batch<Item>,
+)
     requires few { shards ≤ 64 }
     requires empty { items.old.items ≡ [] }
-    requires room { length kept.old.items + shards ≤ vec_capacity items.old }
+    requires room { length kept.old.items + shards ≤ items.old.room }
     requires drawn { draws.old.drawn < 2 ^ 61 }
     ensures items { items.new.items ≡ (if has_end kept.old.items then kept.old.items else kept.old.items ++ drawn_from draws.old.seed draws.old.drawn (ends_of shards)) }
     ensures drawn { draws.new ≡ record draws.old { drawn = draws.old.drawn + (if has_end kept.old.items then 0 else shards) } }

@@ -12,7 +12,7 @@ use crate::flags::both;
 use crate::intake::take_data;
 use crate::lists::move_all;
 use crate::random::Draws;
-use bng_base::{Frame, Item};
+use bng_base::{Batch, Frame, Item};
 use bng_lane::Lane;
 use bng_plant::Plant;
 use bng_shard::{Rules, Shard};
@@ -33,12 +33,12 @@ fn take_if<P: Plant>(
     frame: &mut Frame,
     lane: &mut Lane,
     draws: &mut Draws,
-    items: &mut Vec<Item>,
+    items: &mut Batch<Item>,
 ) -> bool
-    requires room { length items.old.items + 128 ≤ vec_capacity items.old }
+    requires room { length items.old.items + 128 ≤ items.old.room }
     requires drawn { draws.old.drawn < 2 ^ 61 }
     ensures takes { TakesAuth reads (P.told plant.old) (P.told plant.new) lane.old lane.new draws.old draws.new items.old.items items.new.items result }
-    ensures capacity { vec_capacity items.new ≡ vec_capacity items.old }
+    ensures capacity { items.new.room ≡ items.old.room }
 {
     if reads {
         take_replies(plant, frame, lane, draws, items)
@@ -55,16 +55,16 @@ fn begin<P: Plant>(
     draws: &mut Draws,
     lane: &mut Lane,
     kept: &mut Vec<Item>,
-    items: &mut Vec<Item>,
+    items: &mut Batch<Item>,
 ) -> bool
     requires empty { items.old.items ≡ [] }
-    requires room { 1024 ≤ vec_capacity items.old }
+    requires room { 1024 ≤ items.old.room }
     requires drawn { draws.old.drawn < 2 ^ 59 }
     requires few_kept { length kept.old.items ≤ 128 }
     ensures takes { TakesAuth (is_empty kept.old.items) (P.told plant.old) (P.told plant.new) lane.old lane.new draws.old draws.new kept.old.items items.new.items result }
     ensures few { length items.new.items ≤ 128 }
     ensures few_drawn { draws.new.drawn ≤ draws.old.drawn + 128 }
-    ensures room { 1024 ≤ vec_capacity items.new }
+    ensures room { 1024 ≤ items.new.room }
     ensures none_kept { kept.new.items ≡ [] }
     ensures kept_room { vec_capacity kept.new ≡ vec_capacity kept.old }
 {
@@ -86,14 +86,14 @@ pub(crate) fn gather<P: Plant>(
     draws: &mut Draws,
     lane: &mut Lane,
     kept: &mut Vec<Item>,
-    items: &mut Vec<Item>,
+    items: &mut Batch<Item>,
 ) -> bool
     requires some { 1 ≤ length rules.now.access }
     requires few { length rules.now.access ≤ 16 }
     requires numbers { AreInOrder shards.now }
     requires few_shards { length shards.now ≤ 64 }
     requires empty { items.old.items ≡ [] }
-    requires room { 1024 ≤ vec_capacity items.old }
+    requires room { 1024 ≤ items.old.room }
     requires drawn { draws.old.drawn < 2 ^ 59 }
     requires verdicts { All is_verdict kept.old.items }
     requires few_kept { length kept.old.items ≤ 128 }

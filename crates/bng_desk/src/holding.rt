@@ -12,7 +12,7 @@ ghost use Rattle.bng_desk.specs.Interims.{AreAwaited};
 ghost use Rattle.bng_desk.specs.Items.{stays, kept_of, is_from_outside};
 ghost use Rattle.bng_desk.specs.Kept.{octets_most, drops_most};
 ghost use Rattle.bng_desk.specs.Model.{keys_in};
-ghost use Rattle.bng_desk.specs.Taking.{IsEmpty, HasFewSessions, HasRows, KeepsTerms, AreInOrder, AreItems, RoundHeld, Holds, AddsUp, AreTallied, outs_of_items};
+ghost use Rattle.bng_desk.specs.Taking.{IsEmpty, HasFewSessions, HasNumbers, HasRows, KeepsTerms, AreInOrder, AreItems, RoundHeld, Holds, AddsUp, AreTallied, outs_of_items};
 ghost use Rattle.bng_desk.specs.Round.{refused_of};
 ghost use Rattle.bng_desk.specs.Turn.{told_if};
 
@@ -24,7 +24,7 @@ use crate::round::{deal_all, prepare_all, send_all};
 use crate::starts::begin_all;
 use crate::stops::reap_all;
 use bng_base::{
-    Book, Entry, Frame, Ip4, Item, ItemKind, Listed, Loose, OutRecord, Peer, RoundRecord,
+    Batch, Book, Entry, Frame, Ip4, Item, ItemKind, Listed, Loose, OutRecord, Peer, RoundRecord,
 };
 use bng_plant::{Noted, Plant, Trace};
 use bng_pool::PlainPool;
@@ -46,8 +46,8 @@ fn recorded(
     allowances: Vec<u32>,
     journals: Vec<Listed<Entry>>,
     loose: Vec<Loose>,
-    outs: Vec<OutRecord>,
-    refused: Vec<Item>,
+    outs: Batch<OutRecord>,
+    refused: Batch<Item>,
 ) -> RoundRecord
     ensures { result ≡ record { number = named.number; moment = named.moment; wall = named.wall; allowances = allowances.items; journals = journals.items; loose = loose.items; outs = outs.items; refused = refused.items } }
 {
@@ -58,8 +58,8 @@ fn recorded(
         allowances: Listed::of(allowances),
         journals: Listed::of(journals),
         loose: Listed::of(loose),
-        outs: Listed::of(outs),
-        refused: Listed::of(refused),
+        outs: Listed::of_batch(outs),
+        refused: Listed::of_batch(refused),
     }
 }
 
@@ -95,14 +95,14 @@ pub(crate) fn opened<P: Plant>(
     requires adds_up { AddsUp tally.old shards.old accounts.old.stopped }
     requires billed { AreBilled (keys_in shards.old) accounts.old.billing }
     requires knows { KnowsBegun shards.old accounts.old.billing }
+    requires serials { All HasNumbers shards.old }
     requires awaited { AreAwaited named.moment shards.old accounts.old.reports }
     requires free { length accounts.old.billing.spool.held + sum_by (λ v. v.allowance) shards.old ≤ accounts.old.billing.spool.rules.terms }
     requires few_outs { outs_of_items lists.items.items ≤ 5760 + 320 * length shards.old }
     requires loose { (lists.loose.items ≡ []) × (1024 ≤ vec_capacity lists.loose) }
     requires journals { (lists.journals.items ≡ []) × (length shards.old ≤ vec_capacity lists.journals) }
-    requires outs { (lists.outs.items ≡ []) × (5760 + 320 * length shards.old ≤ vec_capacity lists.outs) }
+    requires outs { (lists.outs.items ≡ []) × (5760 + 320 * length shards.old ≤ lists.outs.room) }
     requires allowances { lists.allowances.items ≡ replicate (length shards.old) 0 }
-    requires refused { lists.refused.items ≡ [] }
     requires drops { Within (2 ^ 61) drops.old }
     ensures round { RoundHeld rules.now pool.old pool.new accounts.old accounts.new named lists.items.items (P.told plant.old) (P.told plant.new) shards.old shards.new drops.old drops.new tally.old tally.new result }
     ensures empty { All IsEmpty shards.new }
@@ -123,19 +123,18 @@ pub(crate) fn opened<P: Plant>(
     ensures within { (most : ℕ) → Within most drops.old → Within (most + drops_most) drops.new }
 {
     let Lists {
-        items,
+        mut items,
         mut loose,
         mut allowances,
         mut journals,
         mut outs,
-        refused,
     } = lists;
     deal_all(
         rules,
         shards,
         pool,
         named.moment,
-        items,
+        &items,
         &mut loose,
         drops,
         tally,
@@ -145,7 +144,9 @@ pub(crate) fn opened<P: Plant>(
     begin_all(shards, accounts, named.moment, named.wall);
     accounts.report_all(shards, named.moment, named.wall);
     note_allowances(shards, &mut allowances);
-    recorded(named, allowances, journals, loose, outs, refused)
+    // The emptied batch goes back with the record, so that its places serve the next turn.
+    items.clear();
+    recorded(named, allowances, journals, loose, outs, items)
 }
 
 // The record of a round that was not opened, with the items of the outside that it refused.
@@ -168,12 +169,11 @@ pub(crate) fn refused(
         allowances,
         mut journals,
         outs,
-        refused: _,
     } = lists;
     for _shard in 0..shards {
         journals.push_reserved(Listed::of(Vec::new(alloc)));
     }
-    recorded(named, allowances, journals, loose, outs, refused)
+    recorded(named, allowances, journals, loose, outs, Batch::of(refused))
 }
 
 // An item in the place of one that was taken off a list.
@@ -258,7 +258,7 @@ pub(crate) fn hold<P: Plant>(
     named: Named,
     mut lists: Lists,
     kept: &mut Vec<Item>,
-    spare: &mut Vec<Vec<Entry>>,
+    spare: &mut Vec<Batch<Entry>>,
     drops: &mut Drops,
     tally: &mut Book,
 ) -> Held
@@ -285,9 +285,8 @@ pub(crate) fn hold<P: Plant>(
     requires few_outs { outs_of_items lists.items.items ≤ 5760 + 320 * length shards.old }
     requires loose { (lists.loose.items ≡ []) × (1024 ≤ vec_capacity lists.loose) }
     requires journals { (lists.journals.items ≡ []) × (length shards.old ≤ vec_capacity lists.journals) }
-    requires outs { (lists.outs.items ≡ []) × (5760 + 320 * length shards.old ≤ vec_capacity lists.outs) }
+    requires outs { (lists.outs.items ≡ []) × (5760 + 320 * length shards.old ≤ lists.outs.room) }
     requires allowances { lists.allowances.items ≡ replicate (length shards.old) 0 }
-    requires refused { lists.refused.items ≡ [] }
     requires none_kept { kept.old.items ≡ [] }
     requires kept_room { length (kept_of lists.items.items) ≤ vec_capacity kept.old }
     requires drops { Within (2 ^ 61) drops.old }
@@ -320,8 +319,8 @@ pub(crate) fn hold<P: Plant>(
             is_opened: true,
         };
     }
-    let items = mem::replace(&mut lists.items, Vec::new(alloc));
-    let outside = part(items, kept);
+    let items = mem::replace(&mut lists.items, Batch::new(alloc));
+    let outside = part(items.into_vec(), kept);
     count_refused(drops, outside.len());
     Held {
         record: refused(alloc, shards.len(), named, lists, outside),

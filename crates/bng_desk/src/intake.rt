@@ -1,5 +1,5 @@
 //! What was taken from the access ports and the core, as the items of a round.
-ghost use Rattle.std.specs.Prelude.{◌≡◌, ◌∷◌, [], ◌+◌, ◌≤◌, ◌<◌, ◌^◌, length, vec_capacity};
+ghost use Rattle.std.specs.Prelude.{◌≡◌, ◌∷◌, [], ◌+◌, ◌≤◌, ◌<◌, ◌^◌, length};
 ghost use Rattle.bng_desk.specs.Items.{kind_of};
 ghost use Rattle.bng_desk.specs.Intake.{Takes};
 ghost use Rattle.bng_desk.specs.Turn.{most_of, ports_up_to, data_roles};
@@ -7,10 +7,9 @@ ghost use Rattle.bng_desk.specs.Turn.{most_of, ports_up_to, data_roles};
 use crate::calls::receive;
 use crate::flags::both;
 use crate::random::Draws;
-use bng_base::{Frame, Item, ItemKind, Received, Role};
+use bng_base::{Batch, Frame, Item, ItemKind, Received, Role};
 use bng_plant::Plant;
 use bng_shard::Rules;
-use std::mem;
 
 /// How many datagrams of the access ports a turn takes, all together.
 const PORTS_MOST: usize = 224;
@@ -18,8 +17,8 @@ const PORTS_MOST: usize = 224;
 /// How many datagrams of the core a turn takes.
 const CORE_MOST: usize = 224;
 
-// Takes datagrams of a role into a frame until Empty, Failed or this number; each is an item, which has the frame, and an
-// empty one takes its place. Says whether nothing was taken.
+// Takes datagrams of a role into a frame until Empty, Failed or this number; each is an item, which has a copy of the frame. Says
+// whether nothing was taken.
 fn take_role<P: Plant>(
     plant: &mut P,
     frame: &mut Frame,
@@ -27,29 +26,21 @@ fn take_role<P: Plant>(
     kind: ItemKind,
     most: usize,
     draws: &mut Draws,
-    items: &mut Vec<Item>,
+    items: &mut Batch<Item>,
 ) -> bool
     requires kind { kind ≡ kind_of role }
     requires few { most ≤ 224 }
-    requires room { length items.old.items + most ≤ vec_capacity items.old }
+    requires room { length items.old.items + most ≤ items.old.room }
     requires drawn { draws.old.drawn < 2 ^ 61 }
     ensures takes { Takes (role ∷ []) (λ _. most) most (P.told plant.old) (P.told plant.new) draws.old draws.new items.old.items items.new.items result }
-    ensures capacity { vec_capacity items.new ≡ vec_capacity items.old }
+    ensures capacity { items.new.room ≡ items.old.room }
 {
     let mut quiet = true;
     for _taken in 0..most {
         match receive(plant, role, frame) {
             Received::Got { from, cut } => {
                 let random = draws.sixteen();
-                items.push_reserved(Item {
-                    kind,
-                    from,
-                    frame: mem::replace(frame, Frame::new()),
-                    cut,
-                    random,
-                    target: 0,
-                    ask: 0,
-                });
+                items.push_datagram(kind, from, cut, frame, random);
                 quiet = false;
             }
             Received::Empty | Received::Failed => return quiet,
@@ -64,14 +55,14 @@ fn take_ports<P: Plant>(
     plant: &mut P,
     frame: &mut Frame,
     draws: &mut Draws,
-    items: &mut Vec<Item>,
+    items: &mut Batch<Item>,
 ) -> bool
     requires some { 1 ≤ length rules.now.access }
     requires few { length rules.now.access ≤ 16 }
-    requires room { length items.old.items + 224 ≤ vec_capacity items.old }
+    requires room { length items.old.items + 224 ≤ items.old.room }
     requires drawn { draws.old.drawn < 2 ^ 60 }
     ensures takes { Takes (ports_up_to (length rules.now.access)) (most_of rules.now) 224 (P.told plant.old) (P.told plant.new) draws.old draws.new items.old.items items.new.items result }
-    ensures capacity { vec_capacity items.new ≡ vec_capacity items.old }
+    ensures capacity { items.new.room ≡ items.old.room }
 {
     let ports = rules.access.as_slice().len();
     let most = PORTS_MOST / ports;
@@ -98,16 +89,16 @@ pub(crate) fn take_data<P: Plant>(
     plant: &mut P,
     frame: &mut Frame,
     draws: &mut Draws,
-    items: &mut Vec<Item>,
+    items: &mut Batch<Item>,
 ) -> bool
     requires some { 1 ≤ length rules.now.access }
     requires few { length rules.now.access ≤ 16 }
-    requires room { length items.old.items + 448 ≤ vec_capacity items.old }
+    requires room { length items.old.items + 448 ≤ items.old.room }
     requires drawn { draws.old.drawn < 2 ^ 60 }
     ensures takes { Takes (data_roles rules.now) (most_of rules.now) 448 (P.told plant.old) (P.told plant.new) draws.old draws.new items.old.items items.new.items result }
     ensures few { length items.new.items ≤ length items.old.items + 448 }
     ensures few_drawn { draws.new.drawn ≤ draws.old.drawn + 448 }
-    ensures capacity { vec_capacity items.new ≡ vec_capacity items.old }
+    ensures capacity { items.new.room ≡ items.old.room }
 {
     let ports = take_ports(rules, plant, frame, draws, items);
     let core = take_role(

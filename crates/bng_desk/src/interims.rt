@@ -63,6 +63,9 @@ fn report(shard: &Shard, reports: &mut Reports, billing: &mut Billing, moment: u
     ensures awaited { AwaitsAt moment shard.now reports.new }
     ensures held { KeepsHeld billing.old billing.new }
 {
+    if !shard.may_report(reports, moment) {
+        return;
+    }
     while let Some(due) = shard.interim(reports, moment) {
         form(billing, due, moment, wall);
     }

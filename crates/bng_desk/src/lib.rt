@@ -41,4 +41,4 @@ pub use crate::desk::{Desk, DeskError, DeskState, Turned};
 pub use crate::drops::Drops;
 pub use crate::line::Line;
 pub use crate::reading::Ended;
-pub use crate::sums::Totals;
+pub use crate::sums::Sums;

@@ -1,7 +1,7 @@
 //! The lists of a turn.
 ghost use Rattle.std.specs.Prelude.{◌≡◌, ◌≤◌, ◌+◌, ◌*◌, ◌++◌, [], length, vec_capacity, replicate, IfOk};
 
-use bng_base::{Entry, Item, Listed, Loose, OutRecord, RoundRecord};
+use bng_base::{Batch, Entry, Item, Listed, Loose, OutRecord, RoundRecord};
 use std::alloc::{AllocError, Global};
 use std::mem;
 
@@ -21,12 +21,11 @@ const SPARE_MOST: usize = 64;
 /// The lists of a turn, with room for all that it may put on them. A desk keeps them from turn to turn.
 #[derive(Drop)]
 pub(crate) struct Lists {
-    pub(crate) items: Vec<Item>,
+    pub(crate) items: Batch<Item>,
     pub(crate) loose: Vec<Loose>,
     pub(crate) allowances: Vec<u32>,
     pub(crate) journals: Vec<Listed<Entry>>,
-    pub(crate) outs: Vec<OutRecord>,
-    pub(crate) refused: Vec<Item>,
+    pub(crate) outs: Batch<OutRecord>,
 }
 
 // An empty list with room for so many, of one that was used before.
@@ -40,16 +39,29 @@ fn roomy<T: Drop>(mut list: Vec<T>, room: usize) -> Result<Vec<T>, AllocError>
     }
 }
 
-/// Moves all items of a list to the end of another one that has room for them. Both keep their memory.
-pub(crate) fn move_all(from: &mut Vec<Item>, to: &mut Vec<Item>)
-    requires room { length to.old.items + length from.old.items ≤ vec_capacity to.old }
+// An empty batch with places for so many, of one that was used before.
+fn cleared<T: Drop>(mut batch: Batch<T>, room: usize) -> Result<Batch<T>, AllocError>
+    ensures { IfOk result (λ b. (b.items ≡ []) × (room ≤ b.room)) }
+{
+    batch.clear();
+    match batch.reserve(room) {
+        Ok(()) => Ok(batch),
+        Err(_) => Err(AllocError),
+    }
+}
+
+/// Moves all items of a list to the end of a batch that has room for them. Both keep their memory.
+pub(crate) fn move_all(from: &mut Vec<Item>, to: &mut Batch<Item>)
+    requires room { length to.old.items + length from.old.items ≤ to.old.room }
     ensures moved { to.new.items ≡ to.old.items ++ from.old.items }
     ensures none { from.new.items ≡ [] }
     ensures from_room { vec_capacity from.new ≡ vec_capacity from.old }
-    ensures to_room { vec_capacity to.old ≤ vec_capacity to.new }
+    ensures to_room { to.new.room ≡ to.old.room }
 {
-    let moved = to.append(from);
-    prove!(moved.is_ok());
+    for item in from.as_slice() {
+        to.push_copy(item);
+    }
+    from.clear();
 }
 
 // So many zeros, in the place of what was on a list.
@@ -63,9 +75,9 @@ fn zeros(mut list: Vec<u32>, count: usize) -> Result<Vec<u32>, AllocError>
     }
 }
 
-// Keeps the list of a journal for a later round, if it has room, few are kept, and there is memory to keep it.
-fn keep(spare: &mut Vec<Vec<Entry>>, journal: Vec<Entry>) {
-    if journal.capacity() == 0 || SPARE_MOST <= spare.len() {
+// Keeps the list of a journal for a later round, if few are kept, and there is memory to keep it.
+fn keep(spare: &mut Vec<Batch<Entry>>, journal: Batch<Entry>) {
+    if SPARE_MOST <= spare.len() {
         return;
     }
     match spare.push(journal) {
@@ -74,28 +86,35 @@ fn keep(spare: &mut Vec<Vec<Entry>>, journal: Vec<Entry>) {
     }
 }
 
+// Keeps the lists of the journals, which are taken off.
+fn keep_all(spare: &mut Vec<Batch<Entry>>, journals: &mut Vec<Listed<Entry>>) {
+    for _shard in 0..journals.len() {
+        if let Some(journal) = journals.pop() {
+            keep(spare, journal.into_batch());
+        }
+    }
+}
+
 impl Lists {
     /// Lists with nothing on them and no room.
     pub(crate) fn new(alloc: Global) -> Lists {
         Lists {
-            items: Vec::new(alloc),
+            items: Batch::new(alloc),
             loose: Vec::new(alloc),
             allowances: Vec::new(alloc),
             journals: Vec::new(alloc),
-            outs: Vec::new(alloc),
-            refused: Vec::new(alloc),
+            outs: Batch::new(alloc),
         }
     }
 
     /// Empty lists for a turn over so many shards, of those of the turn before. No term may begin in a round: each allowance is 0.
     pub(crate) fn take(&mut self, alloc: Global, shards: usize) -> Result<Lists, AllocError>
         requires { shards ≤ 64 }
-        ensures items { IfOk result (λ l. (l.items.items ≡ []) × (1024 ≤ vec_capacity l.items)) }
+        ensures items { IfOk result (λ l. (l.items.items ≡ []) × (1024 ≤ l.items.room)) }
         ensures loose { IfOk result (λ l. (l.loose.items ≡ []) × (1024 ≤ vec_capacity l.loose)) }
         ensures allowances { IfOk result (λ l. l.allowances.items ≡ replicate shards 0) }
         ensures journals { IfOk result (λ l. (l.journals.items ≡ []) × (shards ≤ vec_capacity l.journals)) }
-        ensures outs { IfOk result (λ l. (l.outs.items ≡ []) × (5760 + 320 * shards ≤ vec_capacity l.outs)) }
-        ensures refused { IfOk result (λ l. l.refused.items ≡ []) }
+        ensures outs { IfOk result (λ l. (l.outs.items ≡ []) × (5760 + 320 * shards ≤ l.outs.room)) }
     {
         let Lists {
             items,
@@ -103,28 +122,27 @@ impl Lists {
             allowances,
             journals,
             outs,
-            refused: _,
         } = mem::replace(self, Lists::new(alloc));
-        let items = roomy(items, ITEMS_MOST)?;
+        let items = cleared(items, ITEMS_MOST)?;
         let loose = roomy(loose, ITEMS_MOST)?;
         let allowances = zeros(allowances, shards)?;
         let journals = roomy(journals, shards)?;
-        let outs = roomy(outs, TAKEN_OUTS_MOST + SHARD_OUTS_MOST * shards)?;
+        let outs = cleared(outs, TAKEN_OUTS_MOST + SHARD_OUTS_MOST * shards)?;
         Ok(Lists {
             items,
             loose,
             allowances,
             journals,
             outs,
-            refused: Vec::new(alloc),
         })
     }
 
-    /// The lists of a round that was told, for the next turn. Those of its journals go to `spare`.
+    /// The lists of a round that was told, for the next turn. Those of its journals go to `spare`; where it was not opened they have no
+    /// memory, and are let go.
     pub(crate) fn of_round(
-        alloc: Global,
         round: RoundRecord,
-        spare: &mut Vec<Vec<Entry>>,
+        is_opened: bool,
+        spare: &mut Vec<Batch<Entry>>,
     ) -> Lists {
         let RoundRecord {
             number: _,
@@ -137,18 +155,15 @@ impl Lists {
             refused,
         } = round;
         let mut journals = journals.into_vec();
-        for _shard in 0..journals.len() {
-            if let Some(journal) = journals.pop() {
-                keep(spare, journal.into_vec());
-            }
+        if is_opened {
+            keep_all(spare, &mut journals);
         }
         Lists {
-            items: refused.into_vec(),
+            items: refused.into_batch(),
             loose: loose.into_vec(),
             allowances: allowances.into_vec(),
             journals,
-            outs: outs.into_vec(),
-            refused: Vec::new(alloc),
+            outs: outs.into_batch(),
         }
     }
 }

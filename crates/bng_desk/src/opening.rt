@@ -14,7 +14,7 @@ ghost use Rattle.bng_desk.specs.Opening.{line_of, shard_of, circuit_with, dns_of
 ghost use Rattle.bng_desk.specs.Model.{keys_in};
 ghost use Rattle.bng_desk.specs.Taking.{HasFewSessions, HasRows};
 
-use crate::accounts::Accounts;
+use crate::accounts::{Accounts, NO_STOPS};
 use crate::copying::{all_copied, copied, kinds_copied, pools_copied, ports_copied, rules_copied};
 use crate::desk::DeskError;
 use crate::line::Line;
@@ -155,7 +155,7 @@ pub(crate) fn accounts(
     };
     let mut accounts = Accounts {
         lines,
-        stopped: NO_TRAFFIC,
+        stopped: NO_STOPS,
         billing,
         reports,
     };

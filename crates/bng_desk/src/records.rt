@@ -25,6 +25,10 @@ fn send_one<P: Plant>(plant: &mut P, billing: &mut Billing, id: u8, request: &Fr
 fn resend_all<P: Plant>(plant: &mut P, billing: &mut Billing, now: u64)
     ensures { ResendsRecords now (P.told plant.old) (P.told plant.new) billing.old billing.new }
 {
+    // The frame of a request is prepared where it is declared: no room for one where none is due.
+    if !billing.is_due(now) {
+        return;
+    }
     while let Some((id, request)) = billing.resend(now) {
         let _sent = send_one(plant, billing, id, &request);
     }
@@ -34,6 +38,10 @@ fn resend_all<P: Plant>(plant: &mut P, billing: &mut Billing, now: u64)
 fn give_all<P: Plant>(plant: &mut P, billing: &mut Billing, now: u64)
     ensures { GivesRecords now (P.told plant.old) (P.told plant.new) billing.old billing.new }
 {
+    // As above, where none waits.
+    if !billing.waits() {
+        return;
+    }
     while let Some((_number, id, request)) = billing.send(now) {
         let _sent = send_one(plant, billing, id, &request);
     }

@@ -1,10 +1,11 @@
-ghost use Rattle.std.specs.Prelude.{◌≡◌, ◌+◌, ◌++◌, ◌<◌, ◌^◌, IfOk, OnOk, length, string_bytes};
+ghost use Rattle.std.specs.Prelude.{◌≡◌, ◌++◌, IfOk, OnOk, length, string_bytes};
 ghost use Rattle.bng_config.specs.Address.{address_text};
+ghost use Rattle.bng_desk.specs.Model.{traffic_by};
 ghost use Rattle.bng_desk.specs.Report.{report_text, traffic_line, worker_line, worker_lines, static_line, static_lines, drop_line, drop_lines, causes, quantities, cause_name};
 
 use crate::line::Line;
-use crate::sums::{Totals, plus};
-use bng_base::{DropCause, Ip4};
+use crate::sums::Sums;
+use bng_base::{Book, DropCause, Ip4};
 use bng_shard::Traffic;
 use std::alloc::{AllocError, Global};
 
@@ -21,29 +22,36 @@ const CAUSES: [DropCause; 9] = [
     DropCause::WantOfMemory,
 ];
 
-/// The report: what the Stops say, what the terms carried that have no Stop yet, and both together; a line for each worker, from 0, and
-/// for each circuit; and the items dropped by each cause. `drops` is by the number of the cause. There is one traffic for each circuit.
+/// The report: the octets that the Stops say, those that the terms carried that have no Stop yet, and both together; a line for each
+/// worker, from 0, and for each circuit; and the items dropped by each cause. There is one traffic for each circuit.
 pub(crate) fn report(
     alloc: Global,
-    totals: Totals,
+    sums: &Sums,
     workers: &[Traffic],
     circuits: &[Line],
     traffic: &[Traffic],
-    drops: &[u64; 9],
 ) -> Result<String, AllocError>
     requires circuits { length traffic.now ≡ length circuits.now }
-    requires input { totals.stopped.input + totals.live.input < 2 ^ 64 }
-    requires output { totals.stopped.output + totals.live.output < 2 ^ 64 }
-    ensures { IfOk result (λ text. string_bytes text ≡ report_text totals workers.now circuits.now traffic.now drops.now) }
+    ensures { IfOk result (λ text. string_bytes text ≡ report_text sums.now.stopped sums.now.live sums.now.total workers.now circuits.now traffic.now sums.now.drops) }
 {
     let mut text = String::new(alloc);
-    push_line(&mut text, "stopped", totals.stopped)?;
-    push_line(&mut text, "live", totals.live)?;
-    push_line(&mut text, "total", plus(totals.stopped, totals.live))?;
+    push_line(&mut text, "stopped", octets_of(sums.stopped))?;
+    push_line(&mut text, "live", octets_of(sums.live))?;
+    push_line(&mut text, "total", octets_of(sums.total))?;
     push_worker_lines(&mut text, workers)?;
     push_static_lines(&mut text, circuits, traffic)?;
-    push_drop_lines(&mut text, drops)?;
+    push_drop_lines(&mut text, &sums.drops)?;
     Ok(text)
+}
+
+/// The octets of a book.
+pub(crate) fn octets_of(book: Book) -> Traffic
+    ensures { result ≡ traffic_by book }
+{
+    Traffic {
+        input: book.input,
+        output: book.output,
+    }
 }
 
 fn push_line(text: &mut String, name: &str, carried: Traffic) -> Result<(), AllocError>

@@ -30,6 +30,10 @@ fn send_one<P: Plant>(plant: &mut P, lane: &mut Lane, id: u8, request: &Frame) -
 fn send_again<P: Plant>(plant: &mut P, lane: &mut Lane, now: u64)
     ensures { SendsAgain now (P.told plant.old) (P.told plant.new) lane.old lane.new }
 {
+    // The frame of a request is prepared where it is declared: no room for one where none is due.
+    if !lane.is_due(now) {
+        return;
+    }
     while let Some((id, request)) = lane.resend(now) {
         let _sent = send_one(plant, lane, id, &request);
     }
@@ -58,6 +62,9 @@ fn ask_all<P: Plant>(
     requires drawn { draws.old.drawn < 2 ^ 61 }
     ensures { AsksAll now shard.now.number shard.now.state.slots (P.told plant.old) (P.told plant.new) lane.old lane.new handed.old handed.new draws.old draws.new }
 {
+    if !shard.has_open() {
+        return;
+    }
     while lane.room() {
         let Some(ask) = shard.asked(handed) else {
             return;

@@ -1,5 +1,5 @@
 //! A round and its settlement, over all shards.
-ghost use Rattle.std.specs.Prelude.{◌≡◌, ◌+◌, ◌*◌, ◌≤◌, ◌<◌, ◌^◌, [], true, ℕ, List, Bool, length, sum_by, slice_index_or, vec_capacity};
+ghost use Rattle.std.specs.Prelude.{◌≡◌, ◌+◌, ◌*◌, ◌≤◌, ◌<◌, ◌^◌, ◌++◌, ◌∷◌, [], true, ℕ, List, Bool, length, sum_by, slice_index_or, vec_capacity};
 ghost use Rattle.std.specs.List.{All, AllZip};
 ghost use Rattle.bng_engine.specs.Calls.{Kept, IsReady};
 ghost use Rattle.bng_engine.specs.Lists.{one_if};
@@ -17,14 +17,14 @@ ghost use Rattle.bng_desk.specs.Taking.{Shown, IsEmpty, HasRows, AreInOrder, Are
 use crate::allowing::allowance;
 use crate::calls::send;
 use crate::drops::{Drops, count};
-use bng_base::{Book, DropCause, Entry, Fate, Item, Listed, Loose, OutRecord};
+use bng_base::{Batch, Book, DropCause, Entry, Fate, Frame, Item, Listed, Loose, OutRecord};
 use bng_plant::Plant;
 use bng_pool::PlainPool;
 use bng_shard::{Charged, Rules, Shard, Whose, whose_is};
 use std::alloc::Global;
 
 // Lends a shard the list of a journal of before, emptied.
-fn lend(shard: &mut Shard, mut list: Vec<Entry>)
+fn lend(shard: &mut Shard, mut list: Batch<Entry>)
     requires { shard.old.journal ≡ [] }
     ensures { shard.new ≡ record shard.old { room = 0 } }
 {
@@ -39,7 +39,7 @@ fn prepare_one(
     alloc: Global,
     items: u16,
     allowance: u32,
-    spare: &mut Vec<Vec<Entry>>,
+    spare: &mut Vec<Batch<Entry>>,
 ) -> bool
     requires empty { IsEmpty shard.old }
     requires numbers { 0 < allowance → shard.old.state.slots.begun + allowance < 2 ^ 48 }
@@ -61,7 +61,7 @@ pub(crate) fn prepare_all(
     alloc: Global,
     items: u16,
     free: u32,
-    spare: &mut Vec<Vec<Entry>>,
+    spare: &mut Vec<Batch<Entry>>,
 ) -> bool
     requires some { 1 ≤ length shards.old }
     requires few { length shards.old ≤ 64 }
@@ -82,14 +82,36 @@ pub(crate) fn prepare_all(
     true
 }
 
-// Hands an item to its shard, or keeps it as a loose one, and answers its fate.
+// A copy of an item, as a loose one with this fate.
+fn loose_of(place: u16, item: &Item, fate: Fate) -> Loose
+    ensures { result ≡ record { seat = 0; place = place; item = item.now; fate = fate } }
+{
+    let mut frame = Frame::new();
+    frame.copy_from(&item.frame);
+    Loose {
+        seat: 0,
+        place,
+        item: Item {
+            kind: item.kind,
+            from: item.from,
+            frame,
+            cut: item.cut,
+            random: item.random,
+            target: item.target,
+            ask: item.ask,
+        },
+        fate,
+    }
+}
+
+// Hands an item to its shard, or keeps a copy of it as a loose one, and answers its fate.
 fn deal(
     rules: &Rules,
     shards: &mut [Shard],
     pool: &mut PlainPool,
     place: u16,
     now: u64,
-    item: Item,
+    item: &Item,
     loose: &mut Vec<Loose>,
     tally: &mut Book,
 ) -> Fate
@@ -101,24 +123,19 @@ fn deal(
     requires places { pool.old.shards ≡ rules.now.shards }
     requires held { All (λ v. AreHeld v.number (terms_of v.state) pool.old.table) shards.old }
     requires moment { now < 2 ^ 60 }
-    requires whole { item.frame.headroom ≡ 64 }
+    requires whole { item.now.frame.headroom ≡ 64 }
     requires room { All (λ v. 0 < v.room) shards.old }
-    requires once { (n : ℕ) (d : Shown) → n < length shards.old → IsWhose rules.now pool.old.table item (Whose.Stands n) → Admits (slice_index_or shards.old n d) item.kind }
+    requires once { (n : ℕ) (d : Shown) → n < length shards.old → IsWhose rules.now pool.old.table item.now (Whose.Stands n) → Admits (slice_index_or shards.old n d) item.now.kind }
     requires low_books { All (λ v. AreLow (2 ^ 63) v.books) shards.old }
     requires low_tally { IsLow (2 ^ 63) tally.old }
     requires loose_room { length loose.old.items < vec_capacity loose.old }
-    ensures deals { DealsOne rules.now pool.old pool.new place now item shards.old shards.new loose.old.items loose.new.items tally.old tally.new result }
+    ensures deals { DealsOne rules.now pool.old pool.new place now item.now shards.old shards.new loose.old.items loose.new.items tally.old tally.new result }
     ensures held { All (λ v. AreHeld v.number (terms_of v.state) pool.new.table) shards.new }
     ensures capacity { vec_capacity loose.new ≡ vec_capacity loose.old }
 {
-    match whose_is(rules, pool, &item) {
+    match whose_is(rules, pool, item) {
         Whose::Loose(fate) => {
-            loose.push_reserved(Loose {
-                seat: 0,
-                place,
-                item,
-                fate,
-            });
+            loose.push_reserved(loose_of(place, item, fate));
             fate
         }
         Whose::Stands(number) => {
@@ -134,7 +151,7 @@ pub(crate) fn deal_all(
     shards: &mut [Shard],
     pool: &mut PlainPool,
     now: u64,
-    items: Vec<Item>,
+    items: &Batch<Item>,
     loose: &mut Vec<Loose>,
     drops: &mut Drops,
     tally: &mut Book,
@@ -147,22 +164,22 @@ pub(crate) fn deal_all(
     requires places { pool.old.shards ≡ rules.now.shards }
     requires held { All (λ v. AreHeld v.number (terms_of v.state) pool.old.table) shards.old }
     requires moment { now < 2 ^ 60 }
-    requires items { AreItems items.items }
-    requires ready { All (λ v. IsReady (length items.items) v.allowance v) shards.old }
+    requires items { AreItems items.now.items }
+    requires ready { All (λ v. IsReady (length items.now.items) v.allowance v) shards.old }
     requires rows { All HasRows shards.old }
     requires low_books { All (λ v. AreLow (2 ^ 62 + 2 ^ 61) v.books) shards.old }
     requires low_tally { IsLow (2 ^ 62 + 2 ^ 61) tally.old }
     requires loose { loose.old.items ≡ [] }
-    requires room { length items.items ≤ vec_capacity loose.old }
+    requires room { length items.now.items ≤ vec_capacity loose.old }
     requires drops { Within (2 ^ 62) drops.old }
-    ensures deals { Deals rules.now pool.old pool.new now items.items shards.old shards.new loose.new.items drops.old drops.new tally.old tally.new }
+    ensures deals { Deals rules.now pool.old pool.new now items.now.items shards.old shards.new loose.new.items drops.old drops.new tally.old tally.new }
     ensures numbers { AreInOrder shards.new }
     ensures held { All (λ v. AreHeld v.number (terms_of v.state) pool.new.table) shards.new }
-    ensures within { (most : ℕ) → Within most drops.old → Within (most + length items.items) drops.new }
-    ensures tally { (most : ℕ) → IsLow most tally.old → IsLow (most + 4160 * length items.items) tally.new }
+    ensures within { (most : ℕ) → Within most drops.old → Within (most + length items.now.items) drops.new }
+    ensures tally { (most : ℕ) → IsLow most tally.old → IsLow (most + 4160 * length items.now.items) tally.new }
 {
     let mut place = 0;
-    for item in items {
+    for item in items.as_slice() {
         let fate = deal(rules, shards, pool, place, now, item, loose, tally);
         count(drops, fate);
         place += 1;
@@ -209,34 +226,42 @@ fn take_back(tally: &mut Book, charged: Charged, sent: bool)
     }
 }
 
-// Sends what a shard has to send and charges the answers.
+// The out that was added last.
+fn last_of(outs: &Batch<OutRecord>) -> &OutRecord
+    requires some { 1 ≤ length outs.now.items }
+    ensures { (others : List OutRecord) (last : OutRecord) → outs.now.items ≡ others ++ last ∷ [] → result.now ≡ last }
+{
+    let outs = outs.as_slice();
+    &outs[outs.len() - 1]
+}
+
+// Sends what a shard has to send and charges the answers. Each out is copied once, to its place among the outs of the turn.
 fn send_outs<P: Plant>(
     shard: &mut Shard,
     plant: &mut P,
-    outs: &mut Vec<OutRecord>,
+    outs: &mut Batch<OutRecord>,
     drops: &mut Drops,
     tally: &mut Book,
-) -> Vec<Entry>
+) -> Batch<Entry>
     requires turns { Turns shard.old }
     requires low { RowsAreLow (2 ^ 62 + 2 ^ 61) shard.old.rows }
     requires light { IsLight (4160 * 1024) shard.old.outs }
-    requires room { length outs.old.items + length shard.old.outs ≤ vec_capacity outs.old }
+    requires room { length outs.old.items + length shard.old.outs ≤ outs.old.room }
     requires few { length shard.old.outs ≤ 2 ^ 32 }
     requires drops { Within (2 ^ 62 + 2 ^ 61) drops.old }
     requires covered { Covers tally.old shard.old.outs }
     ensures sends { Sends shard.old shard.new (P.told plant.old) (P.told plant.new) outs.old.items outs.new.items result.items drops.old drops.new tally.old tally.new }
-    ensures capacity { vec_capacity outs.old ≤ vec_capacity outs.new }
+    ensures capacity { outs.new.room ≡ outs.old.room }
 {
     let (journal, mut to_send) = shard.drain();
-    for out in to_send.iter_mut() {
+    for out in to_send.as_slice() {
         let sent = send(plant, out.role, out.to, out.frame.as_slice());
-        out.sent = sent;
-        let charged = shard.charge(out);
+        outs.push_sent(out, sent);
+        let charged = shard.charge(last_of(outs));
         count_failed(drops, charged, sent);
         take_back(tally, charged, sent);
     }
-    let moved = outs.append(&mut to_send);
-    prove!(moved.is_ok());
+    to_send.clear();
     shard.keep_outs(to_send);
     journal
 }
@@ -245,7 +270,7 @@ fn send_outs<P: Plant>(
 pub(crate) fn send_all<P: Plant>(
     shards: &mut [Shard],
     plant: &mut P,
-    outs: &mut Vec<OutRecord>,
+    outs: &mut Batch<OutRecord>,
     journals: &mut Vec<Listed<Entry>>,
     drops: &mut Drops,
     tally: &mut Book,
@@ -255,7 +280,7 @@ pub(crate) fn send_all<P: Plant>(
     requires light { All (λ v. IsLight (4160 * 1024) v.outs) shards.old }
     requires outs { outs.old.items ≡ [] }
     requires journals { journals.old.items ≡ [] }
-    requires outs_room { sum_by (λ v. length v.outs) shards.old ≤ vec_capacity outs.old }
+    requires outs_room { sum_by (λ v. length v.outs) shards.old ≤ outs.old.room }
     requires journals_room { length shards.old ≤ vec_capacity journals.old }
     requires drops { Within (2 ^ 62) drops.old }
     requires few { sum_by (λ v. length v.outs) shards.old ≤ 2 ^ 32 }
@@ -266,6 +291,6 @@ pub(crate) fn send_all<P: Plant>(
 {
     for shard in shards.iter_mut() {
         let journal = send_outs(shard, plant, outs, drops, tally);
-        journals.push_reserved(Listed::of(journal));
+        journals.push_reserved(Listed::of_batch(journal));
     }
 }

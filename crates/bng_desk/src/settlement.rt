@@ -8,7 +8,7 @@ use crate::holding::{Held, Named, hold, note};
 use crate::lists::Lists;
 use crate::random::Draws;
 use crate::requests::send_requests;
-use bng_base::{Book, Entry, Item};
+use bng_base::{Batch, Book, Entry, Frame, Item};
 use bng_lane::Lane;
 use bng_plant::{Plant, Trace};
 use bng_pool::PlainPool;
@@ -17,6 +17,7 @@ use std::alloc::Global;
 
 /// What the turns of a desk work on. The lists of its turns are kept from one to the next: `lists`, and in `spare` those of the shards'
 /// journals. `kept` has room for all that may stay of a round, so that a round that could not be opened for want of memory takes none.
+/// Into `frame` a turn receives; it is kept so that no turn blanks one.
 #[derive(Drop)]
 pub(crate) struct Works {
     pub(crate) shards: Vec<Shard>,
@@ -29,7 +30,8 @@ pub(crate) struct Works {
     pub(crate) handed: Vec<Handed>,
     pub(crate) kept: Vec<Item>,
     pub(crate) lists: Lists,
-    pub(crate) spare: Vec<Vec<Entry>>,
+    pub(crate) spare: Vec<Batch<Entry>>,
+    pub(crate) frame: Frame,
 }
 
 /// What came of a settlement: whether the trace took its round, and whether that was opened.
@@ -78,6 +80,6 @@ pub(crate) fn settle<P: Plant, T: Trace>(
     );
     works.accounts.send(plant, named.moment);
     let noted = note(trace, &record);
-    works.lists = Lists::of_round(alloc, record, &mut works.spare);
+    works.lists = Lists::of_round(record, is_opened, &mut works.spare);
     Settled { noted, is_opened }
 }

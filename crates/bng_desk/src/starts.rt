@@ -39,6 +39,9 @@ fn begin(shard: &mut Shard, accounts: &mut Accounts, moment: u64, wall: u64)
     ensures begins { BeginsShard shard.old.state.slots.news moment wall shard.old shard.new accounts.old accounts.new }
     ensures settling { (terms front back : List Key) → AreSettling terms (front ++ (map key_in shard.old.state.slots.news ++ back)) accounts.old.billing → AreSettling terms (front ++ back) accounts.new.billing }
 {
+    if !shard.has_news() {
+        return;
+    }
     while let Some(term) = shard.fresh() {
         accounts.start(term, moment, wall);
     }

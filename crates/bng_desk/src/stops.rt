@@ -7,7 +7,7 @@ ghost use Rattle.bng_shard.specs.Protocol.{AreHeld, key_in, terms_of};
 ghost use Rattle.bng_desk.specs.Accounting.{AreSettling};
 ghost use Rattle.bng_desk.specs.Model.{keys_in};
 ghost use Rattle.bng_desk.specs.Round.{news_in};
-ghost use Rattle.bng_desk.specs.Taking.{carried_in_all, states_of, AllWithin, AreInOrder, LinesWithin, ReapsShard, ReapsAll, far};
+ghost use Rattle.bng_desk.specs.Taking.{states_of, AllWithin, AreInOrder, LinesWithin, ReapsShard, ReapsAll, SameInAll, far};
 
 use crate::accounts::Accounts;
 use bng_pool::PlainPool;
@@ -26,6 +26,9 @@ fn reap(shard: &mut Shard, pool: &mut PlainPool, accounts: &mut Accounts, moment
     ensures held { AreHeld shard.new.number (terms_of shard.new.state) pool.new.table }
     ensures others { (n : ℕ) (terms : List Term) → n ≢ shard.old.number → AreHeld n terms pool.old.table → AreHeld n terms pool.new.table }
 {
+    if shard.is_settled() {
+        return;
+    }
     while let Some(ended) = shard.reap(pool) {
         // What accounting knows of terms agrees with its records: no Stop of a live term is open.
         prove!(accounts.free() <= u32::MAX);
@@ -34,9 +37,8 @@ fn reap(shard: &mut Shard, pool: &mut PlainPool, accounts: &mut Accounts, moment
 }
 
 /// Lets the terms leave that ended, of the shards in their order: each by one Stop, with which its address is given back, of which a
-/// record is formed at this moment and this second on the wall, and what it carried is added to the line with its address and to what all Stops
-/// say. It is called
-/// once all outs of a round were sent and charged.
+/// record is formed at this moment and this second on the wall, and what it carried is added to the line with its address and to what all
+/// Stops say, among which it counts. It is called once all outs of a round were sent and charged.
 pub(crate) fn reap_all(
     shards: &mut [Shard],
     pool: &mut PlainPool,
@@ -52,7 +54,7 @@ pub(crate) fn reap_all(
     requires held { All (λ v. AreHeld v.number (terms_of v.state) pool.old.table) shards.old }
     ensures reaps { ReapsAll moment wall shards.old shards.new pool.old pool.new accounts.old accounts.new }
     ensures within { (most : Bool → ℕ) → LinesWithin most shards.old accounts.old.lines → LinesWithin most shards.new accounts.new.lines }
-    ensures same { (input : Bool) → carried_in_all input shards.new accounts.new.stopped ≡ carried_in_all input shards.old accounts.old.stopped }
+    ensures same { SameInAll shards.old accounts.old.stopped shards.new accounts.new.stopped }
     ensures settling { AreSettling (keys_in shards.new) (map key_in (news_in (states_of shards.new))) accounts.new.billing }
     ensures terms { All (λ v. AreTenures moment v.state.slots) shards.new }
     ensures held { All (λ v. AreHeld v.number (terms_of v.state) pool.new.table) shards.new }

@@ -1,11 +1,13 @@
 //! Sums over all shards.
-ghost use Rattle.std.specs.Prelude.{◌≡◌, ◌≤◌, ◌<◌, ◌+◌, ◌/◌, ◌^◌, IfOk, length, map, slice_get};
-ghost use Rattle.bng_desk.specs.Model.{sessions_in, carried_on, live_of, plus_traffic, traffic_at, traffic_or};
+ghost use Rattle.std.specs.Prelude.{◌≡◌, ◌≤◌, ◌<◌, ◌+◌, ◌/◌, ◌^◌, Bool, IfOk, length, map, slice_get};
+ghost use Rattle.std.specs.List.{All};
+ghost use Rattle.bng_engine.specs.Quantities.{Quantity, in_book};
+ghost use Rattle.bng_desk.specs.Model.{begun_in, sessions_in, carried_on, live_of, plus_book, plus_traffic, traffic_at, traffic_or};
 ghost use Rattle.bng_desk.specs.Taking.{CarriesWithin, LinesWithin, far};
 ghost use Rattle.bng_shard.specs.Protocol.{row_at};
 
 use crate::line::Line;
-use bng_base::{Ip4, SessionNo};
+use bng_base::{Book, Ip4, SessionNo};
 use bng_shard::{Shard, Traffic};
 use std::alloc::{AllocError, Global};
 
@@ -27,12 +29,50 @@ pub(crate) fn sessions_in(shards: &[Shard]) -> u64
     sessions
 }
 
-/// What all terms carried, as the report tells it: what the Stops say that were formed so far, and what the terms carried that have no
-/// Stop yet.
-#[derive(Clone, Copy)]
-pub struct Totals {
-    pub stopped: Traffic,
-    pub live: Traffic,
+/// How many terms began in all shards, those of the provisioned circuits at the opening among them.
+pub(crate) fn begun_in(shards: &[Shard]) -> u64
+    requires few { length shards.now ≤ 64 }
+    requires low { All (λ v. v.state.slots.begun < 2 ^ 48) shards.now }
+    ensures { result ≡ begun_in shards.now }
+{
+    let mut begun = 0;
+    for shard in shards {
+        begun += shard.begun();
+    }
+    begun
+}
+
+/// What a desk has counted since it was opened. A book's octets are the IPv4 total lengths of its packets, of which each was sent; `input`
+/// is from the subscribers and `output` towards them. Each term that began has its Stop, or has none yet; and all terms together carried
+/// what was sent.
+#[derive(Clone, Copy, PartialEq, Eq, Debug)]
+pub struct Sums {
+    /// What the terms carried that ended and have left, as their Stops say.
+    pub stopped: Book,
+    /// What the terms carried so far that have no Stop yet.
+    pub live: Book,
+    /// Both together.
+    pub total: Book,
+    /// The terms that began, those of the provisioned circuits among them, which begin with the desk.
+    pub terms: u64,
+    /// The Stops that were formed, whether or not the server of accounting has acknowledged them.
+    pub stops: u64,
+    /// The items that were dropped, by the number of the cause: Malformed, NoSession, NotOpen, Expired, Spoofed, TooBig, Exceeded,
+    /// LinkFailed, WantOfMemory.
+    pub drops: [u64; 9],
+}
+
+/// One book and the other together.
+pub(crate) fn plus_book(a: Book, b: Book) -> Book
+    requires low { (q : Quantity) (input : Bool) → in_book q input a + in_book q input b < 2 ^ 64 }
+    ensures { result ≡ plus_book a b }
+{
+    Book {
+        input: a.input + b.input,
+        output: a.output + b.output,
+        input_packets: a.input_packets + b.input_packets,
+        output_packets: a.output_packets + b.output_packets,
+    }
 }
 
 // What the term with an address carried; nothing where the shard has no such term.
@@ -95,14 +135,13 @@ pub(crate) fn all_carried(
 }
 
 /// What the terms of all shards carried that have no Stop yet.
-pub(crate) fn live(shards: &[Shard]) -> Traffic
-    requires input { (live_of shards.now).input < 2 ^ 64 }
-    requires output { (live_of shards.now).output < 2 ^ 64 }
+pub(crate) fn live(shards: &[Shard]) -> Book
+    requires low { (q : Quantity) (input : Bool) → in_book q input (live_of shards.now) < 2 ^ 64 }
     ensures { result ≡ live_of shards.now }
 {
-    let mut sum = NO_TRAFFIC;
+    let mut sum = Book::empty();
     for shard in shards {
-        sum = plus(sum, shard.live());
+        sum = plus_book(sum, shard.live());
     }
     sum
 }

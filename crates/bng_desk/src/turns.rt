@@ -15,7 +15,6 @@ use crate::gathering::gather;
 use crate::holding::Named;
 use crate::settlement::{Settled, settle};
 use crate::sums::sessions_in;
-use bng_base::Frame;
 use bng_plant::{Clock, Gate, Plant, Trace};
 use std::alloc::Global;
 use std::sync::Wait;
@@ -85,14 +84,13 @@ impl Desk {
         };
         let now = clock.now();
         let wall = clock.wall();
-        let mut frame = Frame::new();
-        let heeding = heed(plant, &mut frame);
-        let unacknowledged = self.works.accounts.hear(plant, &mut frame);
+        let heeding = heed(plant, &mut self.works.frame);
+        let unacknowledged = self.works.accounts.hear(plant, &mut self.works.frame);
         let quiet = gather(
             &self.rules,
             self.works.shards.as_slice(),
             plant,
-            &mut frame,
+            &mut self.works.frame,
             now,
             &mut self.works.draws,
             &mut self.works.lane,
@@ -194,8 +192,7 @@ impl Desk {
     {
         let now = clock.now();
         let _wall = clock.wall();
-        let mut frame = Frame::new();
-        let unacknowledged = self.works.accounts.hear(plant, &mut frame);
+        let unacknowledged = self.works.accounts.hear(plant, &mut self.works.frame);
         self.works.accounts.send(plant, now);
         let last = Some(self.closing + GRACE_MOST);
         let due = earlier(self.works.accounts.deadline(), last);

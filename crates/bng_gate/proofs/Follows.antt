@@ -7,10 +7,9 @@ use Rattle.bng_base.specs.Chain.{Chain}
 use Rattle.bng_base.proofs.ChainLaws.{chain_append}
 use Rattle.bng_engine.specs.Views.{ShardView}
 use Rattle.bng_pool.specs.Plain.{PlainView}
-use Rattle.bng_shard.specs.declared.sums.Traffic.{Traffic}
 use Rattle.bng_shard.specs.Protocol.{ShardState}
 use Rattle.bng_desk.specs.declared.line.Line.{Line}
-use Rattle.bng_desk.specs.Model.{Desk, all_stopped, line_after, plus_traffic}
+use Rattle.bng_desk.specs.Model.{Desk, all_stopped, line_after, plus_book}
 use Rattle.bng_desk.specs.Round.{Round, IsRound, left_by, stops_of}
 use Rattle.bng_desk.specs.Turn.{Turn, RoundOf, Step, after_round, items_of, ending_items}
 use Rattle.bng_gate.specs.Rounds.{round_in, end_round_in, rounds_in}
@@ -37,9 +36,9 @@ lines_left lines None = lines
 lines_left lines (Some round) = map (line_after (stops_of round)) lines
 
 -- and what all Stops say
-abbrev pub stopped_left : Traffic → Option Round → Traffic
+abbrev pub stopped_left : Book → Option Round → Book
 stopped_left stopped None = stopped
-stopped_left stopped (Some round) = plus_traffic stopped (all_stopped (stops_of round))
+stopped_left stopped (Some round) = plus_book stopped (all_stopped (stops_of round))
 
 -- the round was one of this desk, at some moment and of some items
 abbrev pub IsOf : Desk → Option Round → Type 0
@@ -54,7 +53,7 @@ pub record Follows (d : Desk) (round : Option Round) (d' : Desk) : Type 0 where
   pub pool : d'.pool ≡ pool_after d.pool round
   pub rules : d'.rules ≡ d.rules
   pub lines : d'.lines ≡ lines_left d.lines round
-  pub stopped : d'.stopped_traffic ≡ stopped_left d.stopped_traffic round
+  pub stopped : d'.stopped_book ≡ stopped_left d.stopped_book round
 
 is_of : (d : Desk) (moment : ℕ) (items : List Item) (round : Option Round) → RoundOf d moment items round → IsOf d round
 is_of d moment items None h = tt
@@ -81,7 +80,7 @@ lines_there : (d : Desk) (items : List Item) (round : Option Round) → (after_r
 lines_there d items None = refl
 lines_there d items (Some round) = refl
 
-stopped_there : (d : Desk) (items : List Item) (round : Option Round) → (after_round d items round).stopped_traffic ≡ stopped_left d.stopped_traffic round
+stopped_there : (d : Desk) (items : List Item) (round : Option Round) → (after_round d items round).stopped_book ≡ stopped_left d.stopped_book round
 stopped_there d items None = refl
 stopped_there d items (Some round) = refl
 
@@ -93,7 +92,7 @@ step_follows d d' None step = record {
   pool = ap (λ (x : Desk). x.pool) step;
   rules = ap (λ (x : Desk). x.rules) step;
   lines = ap (λ (x : Desk). x.lines) step;
-  stopped = ap (λ (x : Desk). x.stopped_traffic) step;
+  stopped = ap (λ (x : Desk). x.stopped_book) step;
 }
 step_follows d d' (Some t) step = record {
   is_round = is_of d t.moment (items_of d t) t.round step.1;
@@ -102,7 +101,7 @@ step_follows d d' (Some t) step = record {
   pool = ap (λ (x : Desk). x.pool) step.4 ∙ pool_left d (items_of d t) t.round;
   rules = ap (λ (x : Desk). x.rules) step.4 ∙ rules_after d (items_of d t) t.round;
   lines = ap (λ (x : Desk). x.lines) step.4 ∙ lines_there d (items_of d t) t.round;
-  stopped = ap (λ (x : Desk). x.stopped_traffic) step.4 ∙ stopped_there d (items_of d t) t.round;
+  stopped = ap (λ (x : Desk). x.stopped_book) step.4 ∙ stopped_there d (items_of d t) t.round;
 }
 
 pub end_follows : (d d' : Desk) (t : Late) → LateStep d t d' → Follows d (end_round_in t) d'
@@ -113,7 +112,7 @@ end_follows d d' (Ends None) step = record {
   pool = ap (λ (x : Desk). x.pool) step;
   rules = ap (λ (x : Desk). x.rules) step;
   lines = ap (λ (x : Desk). x.lines) step;
-  stopped = ap (λ (x : Desk). x.stopped_traffic) step;
+  stopped = ap (λ (x : Desk). x.stopped_book) step;
 }
 end_follows d d' (Ends (Some t)) step = record {
   is_round = is_of d t.moment (ending_items d) t.round step.1;
@@ -122,7 +121,7 @@ end_follows d d' (Ends (Some t)) step = record {
   pool = ap (λ (x : Desk). x.pool) step.4 ∙ pool_left d (ending_items d) t.round;
   rules = ap (λ (x : Desk). x.rules) step.4 ∙ rules_after d (ending_items d) t.round;
   lines = ap (λ (x : Desk). x.lines) step.4 ∙ lines_there d (ending_items d) t.round;
-  stopped = ap (λ (x : Desk). x.stopped_traffic) step.4 ∙ stopped_there d (ending_items d) t.round;
+  stopped = ap (λ (x : Desk). x.stopped_book) step.4 ∙ stopped_there d (ending_items d) t.round;
 }
 end_follows d d' (Waits t) step = record {
   is_round = tt;
@@ -131,7 +130,7 @@ end_follows d d' (Waits t) step = record {
   pool = ap (λ (x : Desk). x.pool) step.after;
   rules = ap (λ (x : Desk). x.rules) step.after;
   lines = ap (λ (x : Desk). x.lines) step.after;
-  stopped = ap (λ (x : Desk). x.stopped_traffic) step.after;
+  stopped = ap (λ (x : Desk). x.stopped_book) step.after;
 }
 
 -- a chain, seen by what each of its links has

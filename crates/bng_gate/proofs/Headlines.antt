@@ -2,6 +2,7 @@
 use Rattle.std.proofs.Common.{◌≡◌, ◌⊎◌, inl, inr, ℕ, Bool, List, [], ◌∷◌, length, map, Option, refl, sym, ap, subst, ◌∙◌, arith}
 use Rattle.std.specs.Prelude.{◌↔◌, zip}
 use Rattle.std.specs.List.{All, AllByRecursion, AllZip, Contains, sum_by}
+use Rattle.bng_base.specs.declared.book.Book.{Book}
 use Rattle.bng_base.specs.declared.outside.Datagram.{Datagram}
 use Rattle.bng_base.specs.declared.outside.Heard.{Heard}
 use Rattle.bng_base.specs.Chain.{Chain}
@@ -15,7 +16,7 @@ use Rattle.bng_config.proofs.Kept.{read_keeps}
 use Rattle.bng_engine.specs.Accounted.{Accounted, nothing_yet as new_history, opening as nothing_yet}
 use Rattle.bng_engine.specs.Histories.{ShardTurn}
 use Rattle.bng_engine.specs.Laws.{Opens, RightRound, RunFrom, RowsAccountOnWire, sends_of, stops_of}
-use Rattle.bng_engine.specs.Quantities.{Quantity, Octets, empty_book}
+use Rattle.bng_engine.specs.Quantities.{Quantity, empty_book}
 use Rattle.bng_engine.specs.Sums.{is_any}
 use Rattle.bng_engine.specs.Terms.{Key}
 use Rattle.bng_engine.specs.Views.{DeskView, ShardView, rows_where}
@@ -30,11 +31,11 @@ use Rattle.bng_shard.proofs.StepLaws.{pppoe_laws}
 use Rattle.bng_desk.specs.declared.desk.DeskState.TheVariants.{Ended}
 use Rattle.bng_desk.specs.declared.drops.Drops.{Drops}
 use Rattle.bng_desk.specs.declared.line.Line.{Line}
-use Rattle.bng_desk.specs.declared.sums.Totals.{Totals}
 use Rattle.bng_desk.specs.Accounting.{FormedRecord}
-use Rattle.bng_desk.specs.Model.{Desk, all_stopped as all_say, carried_on, all_carried, line_after, no_traffic, plus_traffic, state_of, total_of, totals_of, traffic_by}
+use Rattle.bng_desk.specs.Counting.{by_number}
+use Rattle.bng_desk.specs.Model.{Desk, all_stopped as all_say, carried_on, all_carried, line_after, live_of, plus_book, state_of, total_of, traffic_by}
 use Rattle.bng_desk.specs.Opening.{billing_rules, line_of, opened_shards}
-use Rattle.bng_desk.specs.Report.{report_text, by_number}
+use Rattle.bng_desk.specs.Report.{report_text}
 use Rattle.bng_desk.specs.Round.{view_of, views_of}
 use Rattle.bng_gate.specs.declared.texts.Refusal.{Refusal}
 use Rattle.bng_gate.specs.declared.texts.Refusal.TheVariants.{Usage, Refused, CannotOpen, OutOfMemory, TraceFailed, OutputFailed}
@@ -43,7 +44,7 @@ use Rattle.bng_gate.specs.Recorded.{Recorded, formed_of}
 use Rattle.bng_gate.specs.Replied.{AreReplied}
 use Rattle.bng_gate.specs.Reported.{ReportsLive}
 use Rattle.bng_gate.specs.Unanswered.{unanswered_of, NamesStops}
-use Rattle.bng_gate.specs.Headline.{AreStopped, HaveTerms, calls_in_run, Headline, IsSafe, IsQuiet, StopsAccount, WasSafe, all_terms_of, all_traffic, terms_of_run, total_in, totals_in}
+use Rattle.bng_gate.specs.Headline.{AreStopped, HaveTerms, calls_in_run, Headline, IsSafe, IsQuiet, StopsAccount, WasSafe, all_terms_of, all_traffic, terms_of_run, total_in}
 use Rattle.bng_gate.specs.Rounds.{rounds_in, rounds_of, plant_of, on_data, drops_of_run}
 use Rattle.bng_gate.specs.Unchanged.{NothingIsInvented}
 use Rattle.bng_gate.specs.Run.{World, turns_most, outside, Prepares, Course, Runs, report_of, IsReady, IsUntouched, WantsToServe, Why, IsUnwritten, RunEnds}
@@ -67,7 +68,7 @@ use Rattle.bng_gate.proofs.OnAcct.{all_else}
 use Rattle.bng_gate.proofs.Staging.{stages_acknowledged, stages_heard, stages_taken, stages_sent}
 use Rattle.bng_gate.proofs.Stopping.{run_causes, run_causes_known, run_stays, run_terms}
 use Rattle.bng_gate.proofs.Telling.{sent_are, taken_are, unsent_failed}
-use Rattle.bng_gate.proofs.Traffic.{stops_account, total_same, totals_same, traffic_same}
+use Rattle.bng_gate.proofs.Traffic.{live_none, plus_none, stopped_same, stops_account, total_same, traffic_same}
 
 -- each circuit of a configuration that is read has the first profile
 first_profiles : (text : List ℕ) (config : Config) → IsRead text config → All (λ c. c.profile ≡ 0) config.statics
@@ -235,27 +236,35 @@ module _ (text : List ℕ) (config : Config) (read : IsRead text config) (seed :
     total : total_of course.last.tallies ≡ total_in sent
     total = total_same sent rounds exact start end goes.history goes.run (balanced pppoe end goes.history accounted) rows_none
 
-    stopped_all_say : course.last.stopped_traffic ≡ plus_traffic no_traffic (all_say (stops_of rounds))
+    stopped_all_say : course.last.stopped_book ≡ total_in sent
     stopped_all_say =
-        stopped_gone course.opening course.last (rounds_in course.turns course.endings) follows ∙ ap (λ (d : Desk). plus_traffic d.stopped_traffic (all_say (stops_of rounds))) course.begins.is_opened.desk
+        stopped_gone course.opening course.last (rounds_in course.turns course.endings) follows ∙ ap (λ (d : Desk). plus_book d.stopped_book (all_say (stops_of rounds))) course.begins.is_opened.desk ∙ stopped_same sent (stops_of rounds) exact
 
-    totals : totals_of course.last ≡ totals_in sent
-    totals = totals_same sent (stops_of rounds) exact course.last stopped_all_say (λ input. shards_say_none Octets is_any input course.last.shards no_rows)
+    none_live : live_of course.last.shards ≡ empty_book
+    none_live = live_none course.last.shards (λ q input. shards_say_none q is_any input course.last.shards no_rows)
 
-    workers : map traffic_by course.last.tallies ≡ total_in sent ∷ []
+    workers : map traffic_by course.last.tallies ≡ traffic_by (total_in sent) ∷ []
     workers =
         one_worker course.last.tallies (tallies_gone course.opening course.last (rounds_in course.turns course.endings) follows ∙ ap (λ (d : Desk). length d.tallies) course.begins.is_opened.desk)
-        ∙ ap (λ (t : Traffic). let ts : List Traffic = t ∷ [] in ts) total
+        ∙ ap (λ (b : Book). let ts : List Traffic = traffic_by b ∷ [] in ts) total
 
-    report : report_of course.last ≡ report_text (totals_in sent) (total_in sent ∷ []) (map line_of config.statics) (all_traffic config sent) (by_number (drops_of_run course.turns course.endings))
+    -- the report, by what the Stops say and what is live, of which the total is made
+    abbrev report_by : Book → Book → Book → List Traffic → List Line → List Traffic → Drops → List ℕ
+    report_by stopped live total workers lines traffic drops = report_text stopped live total workers lines traffic (by_number drops)
+
+    report : report_of course.last ≡ report_text (total_in sent) empty_book (total_in sent) (traffic_by (total_in sent) ∷ []) (map line_of config.statics) (all_traffic config sent) (by_number (drops_of_run course.turns course.endings))
     report =
-        let one : List Traffic = total_in sent ∷ [] in
-        ap (λ (t : Totals). report_text t (map traffic_by course.last.tallies) course.last.lines (all_carried course.last) (by_number course.last.drops)) totals
-        ∙ ap (λ (ws : List Traffic). report_text (totals_in sent) ws course.last.lines (all_carried course.last) (by_number course.last.drops)) workers
-        ∙ ap (λ (ls : List Line). report_text (totals_in sent) one ls (map (carried_on course.last.shards) ls) (by_number course.last.drops)) lines
-        ∙ ap (λ (ts : List Traffic). report_text (totals_in sent) one (map (line_after (stops_of rounds)) (map line_of config.statics)) ts (by_number course.last.drops)) (traffic_same sent (stops_of rounds) exact course.last.shards no_rows config.statics)
-        ∙ report_told (totals_in sent) one (stops_of rounds) (map line_of config.statics) (all_traffic config sent) (by_number course.last.drops)
-        ∙ ap (λ (d : Drops). report_text (totals_in sent) one (map line_of config.statics) (all_traffic config sent) (by_number d)) drops
+        let sum = total_in sent in
+        let one : List Traffic = traffic_by sum ∷ [] in
+        let d = course.last in
+        ap (λ (b : Book). report_by b (live_of d.shards) (plus_book b (live_of d.shards)) (map traffic_by d.tallies) d.lines (all_carried d) d.drops) stopped_all_say
+        ∙ ap (λ (b : Book). report_by sum b (plus_book sum b) (map traffic_by d.tallies) d.lines (all_carried d) d.drops) none_live
+        ∙ ap (λ (b : Book). report_by sum empty_book b (map traffic_by d.tallies) d.lines (all_carried d) d.drops) (plus_none sum)
+        ∙ ap (λ (ws : List Traffic). report_by sum empty_book sum ws d.lines (all_carried d) d.drops) workers
+        ∙ ap (λ (ls : List Line). report_by sum empty_book sum one ls (map (carried_on d.shards) ls) d.drops) lines
+        ∙ ap (λ (ts : List Traffic). report_by sum empty_book sum one (map (line_after (stops_of rounds)) (map line_of config.statics)) ts d.drops) (traffic_same sent (stops_of rounds) exact d.shards no_rows config.statics)
+        ∙ report_told sum empty_book sum one (stops_of rounds) (map line_of config.statics) (all_traffic config sent) (by_number d.drops)
+        ∙ ap (λ (x : Drops). report_by sum empty_book sum one (map line_of config.statics) (all_traffic config sent) x) drops
 
     -- no Stop is open exactly where each was acknowledged
     answered : (unanswered_of course.last ≡ []) ↔ StopsAreAcknowledged (calls_in_run config seed old new course)

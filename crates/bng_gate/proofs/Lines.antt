@@ -7,17 +7,17 @@ use Rattle.bng_base.specs.declared.book.Book.{Book}
 use Rattle.bng_base.specs.Chain.{Chain}
 use Rattle.bng_engine.specs.Histories.{stops_in}
 use Rattle.bng_engine.specs.Laws.{stops_of}
-use Rattle.bng_engine.specs.Quantities.{Octets, in_book}
+use Rattle.bng_engine.specs.Quantities.{Quantity, Octets, in_book}
 use Rattle.bng_engine.specs.Sums.{has_lease, is_any, stopped_where}
 use Rattle.bng_engine.specs.Terms.{Key, Stop}
 use Rattle.bng_engine.specs.Views.{ShardView, turn_in}
 use Rattle.bng_shard.specs.declared.sums.Traffic.{Traffic}
 use Rattle.bng_shard.specs.Protocol.{ShardState, Handled}
 use Rattle.bng_desk.specs.declared.line.Line.{Line}
-use Rattle.bng_desk.specs.declared.sums.Totals.{Totals}
-use Rattle.bng_desk.specs.Model.{Desk, all_stopped, line_after, plus_traffic, stopped_of, total_of, traffic_by}
+use Rattle.bng_desk.specs.Model.{Desk, all_stopped, line_after, plus_book, plus_traffic, stopped_of, total_of, traffic_by}
 use Rattle.bng_desk.specs.Report.{causes, drop_lines, report_text, static_line, static_lines, traffic_line, worker_lines}
 use Rattle.bng_desk.specs.Round.{Round}
+use Rattle.bng_desk.proofs.InAll.{book_is, plus_in, stopped_in_all}
 use Rattle.bng_gate.specs.Rounds.{turns_of}
 use Rattle.bng_gate.proofs.Follows.{Follows}
 
@@ -31,13 +31,13 @@ traffic_is t input output i o = ap (λ (x : ℕ). make x t.output) i ∙ ap (λ 
 
 -- Lines ----------------------------------------------------------------------------------------------------------------
 
-stopped_more : (pick : Key → Bool) (input : Bool) (a b : List Stop) → stopped_where Octets pick input (a ++ b) ≡ stopped_where Octets pick input a + stopped_where Octets pick input b
-stopped_more pick input a b = sum_by-append (λ (s : Stop). cond (pick s.key) (in_book Octets input s.carried) 0) a b
+stopped_more : (q : Quantity) (pick : Key → Bool) (input : Bool) (a b : List Stop) → stopped_where q pick input (a ++ b) ≡ stopped_where q pick input a + stopped_where q pick input b
+stopped_more q pick input a b = sum_by-append (λ (s : Stop). cond (pick s.key) (in_book q input s.carried) 0) a b
 
 traffic_more : (t : Traffic) (address : Ip4) (a b : List Stop) → plus_traffic (plus_traffic t (stopped_of address a)) (stopped_of address b) ≡ plus_traffic t (stopped_of address (a ++ b))
 traffic_more t address a b =
     traffic_is (plus_traffic (plus_traffic t (stopped_of address a)) (stopped_of address b)) (t.input + (stopped_of address (a ++ b)).input) (t.output + (stopped_of address (a ++ b)).output)
-    (omega (arith, stopped_more (has_lease address) true a b)) (omega (arith, stopped_more (has_lease address) false a b))
+    (omega (arith, stopped_more Octets (has_lease address) true a b)) (omega (arith, stopped_more Octets (has_lease address) false a b))
 
 abbrev with_stopped : Line → Traffic → Line
 with_stopped l t = record l { stopped = t }
@@ -73,22 +73,36 @@ lines_gone d d' (Some round ∷ rounds) run =
     ∙ lines_more (stops_in (map turn_in round.shards)) rest d.lines
 
 -- what all Stops say, after all rounds
-all_none : (t : Traffic) → plus_traffic t (all_stopped []) ≡ t
-all_none t = traffic_is (plus_traffic t (all_stopped [])) t.input t.output (add-zero t.input) (add-zero t.output)
+none_say : (q : Quantity) (input : Bool) → stopped_where q is_any input [] ≡ 0
+none_say q input = refl
 
-all_more : (t : Traffic) (a b : List Stop) → plus_traffic (plus_traffic t (all_stopped a)) (all_stopped b) ≡ plus_traffic t (all_stopped (a ++ b))
+all_none : (b : Book) → plus_book b (all_stopped []) ≡ b
+all_none b = book_is (plus_book b (all_stopped [])) b (λ q input. omega (arith, plus_in q input b (all_stopped []), stopped_in_all q input [], none_say q input))
+
+all_more : (t : Book) (a b : List Stop) → plus_book (plus_book t (all_stopped a)) (all_stopped b) ≡ plus_book t (all_stopped (a ++ b))
 all_more t a b =
-    traffic_is (plus_traffic (plus_traffic t (all_stopped a)) (all_stopped b)) (t.input + (all_stopped (a ++ b)).input) (t.output + (all_stopped (a ++ b)).output) (omega (arith, stopped_more is_any true a b)) (omega (arith, stopped_more is_any false a b))
+    book_is (plus_book (plus_book t (all_stopped a)) (all_stopped b)) (plus_book t (all_stopped (a ++ b)))
+    (λ q input.
+    omega (
+      arith,
+      plus_in q input (plus_book t (all_stopped a)) (all_stopped b),
+      plus_in q input t (all_stopped a),
+      plus_in q input t (all_stopped (a ++ b)),
+      stopped_in_all q input a,
+      stopped_in_all q input b,
+      stopped_in_all q input (a ++ b),
+      stopped_more q is_any input a b,
+    ))
 
-pub stopped_gone : (d d' : Desk) (rounds : List (Option Round)) → Chain Follows d rounds d' → d'.stopped_traffic ≡ plus_traffic d.stopped_traffic (all_stopped (stops_of (flat_map turns_of rounds)))
-stopped_gone d d' [] run = ap (λ (x : Desk). x.stopped_traffic) run ∙ sym (all_none d.stopped_traffic)
+pub stopped_gone : (d d' : Desk) (rounds : List (Option Round)) → Chain Follows d rounds d' → d'.stopped_book ≡ plus_book d.stopped_book (all_stopped (stops_of (flat_map turns_of rounds)))
+stopped_gone d d' [] run = ap (λ (x : Desk). x.stopped_book) run ∙ sym (all_none d.stopped_book)
 stopped_gone d d' (None ∷ rounds) run =
-    stopped_gone run.0 d' rounds run.2 ∙ ap (λ (t : Traffic). plus_traffic t (all_stopped (stops_of (flat_map turns_of rounds)))) run.1.stopped
+    stopped_gone run.0 d' rounds run.2 ∙ ap (λ (t : Book). plus_book t (all_stopped (stops_of (flat_map turns_of rounds)))) run.1.stopped
 stopped_gone d d' (Some round ∷ rounds) run =
     let rest = stops_of (flat_map turns_of rounds) in
     stopped_gone run.0 d' rounds run.2
-    ∙ ap (λ (t : Traffic). plus_traffic t (all_stopped rest)) (run.1.stopped ∙ ap (λ (ss : List Stop). plus_traffic d.stopped_traffic (all_stopped ss)) (round_stops round.shards))
-    ∙ all_more d.stopped_traffic (stops_in (map turn_in round.shards)) rest
+    ∙ ap (λ (t : Book). plus_book t (all_stopped rest)) (run.1.stopped ∙ ap (λ (ss : List Stop). plus_book d.stopped_book (all_stopped ss)) (round_stops round.shards))
+    ∙ all_more d.stopped_book (stops_in (map turn_in round.shards)) rest
 
 -- Workers --------------------------------------------------------------------------------------------------------------
 
@@ -99,11 +113,11 @@ tallies_gone d d' (None ∷ rounds) run = tallies_gone run.0 d' rounds run.2 ∙
 tallies_gone d d' (Some round ∷ rounds) run = tallies_gone run.0 d' rounds run.2 ∙ ap (λ (bs : List Book). length bs) run.1.tallies ∙ run.1.is_round.2.turn.tallies.count
 
 -- one worker has passed what all have
-pub one_worker : (bs : List Book) → length bs ≡ 1 → map traffic_by bs ≡ total_of bs ∷ []
+pub one_worker : (bs : List Book) → length bs ≡ 1 → map traffic_by bs ≡ traffic_by (total_of bs) ∷ []
 one_worker [] e = absurd (omega (arith, e))
 one_worker (b ∷ []) e =
     ap (λ (t : Traffic). let ts : List Traffic = t ∷ [] in ts)
-    (sym (traffic_is (total_of (b ∷ [])) b.input b.output (omega (arith, sum_by-cons (λ (x : Book). x.input) b [])) (omega (arith, sum_by-cons (λ (x : Book). x.output) b []))))
+    (sym (traffic_is (traffic_by (total_of (b ∷ []))) b.input b.output (omega (arith, sum_by-cons (λ (x : Book). x.input) b [])) (omega (arith, sum_by-cons (λ (x : Book). x.output) b []))))
 one_worker (b ∷ c ∷ bs) e = absurd (omega (arith, e))
 
 -- The report -----------------------------------------------------------------------------------------------------------
@@ -114,8 +128,9 @@ lines_told stops [] ts = refl
 lines_told stops (l ∷ ls) [] = refl
 lines_told stops (l ∷ ls) (t ∷ ts) = ap (λ (x : List ℕ). static_line l.address t ++ x) (lines_told stops ls ts)
 
-pub report_told : (totals : Totals) (workers : List Traffic) (stops : List Stop) (ls : List Line) (ts : List Traffic) (drops : List ℕ) → report_text totals workers (map (line_after stops) ls) ts drops ≡ report_text totals workers ls ts drops
-report_told totals workers stops ls ts drops =
+pub report_told : (stopped live total : Book) (workers : List Traffic) (stops : List Stop) (ls : List Line) (ts : List Traffic) (drops : List ℕ)
+    → report_text stopped live total workers (map (line_after stops) ls) ts drops ≡ report_text stopped live total workers ls ts drops
+report_told stopped live total workers stops ls ts drops =
     ap
-    (λ (x : List ℕ). traffic_line (codes "stopped") totals.stopped ++ traffic_line (codes "live") totals.live ++ traffic_line (codes "total") (plus_traffic totals.stopped totals.live) ++ worker_lines 0 workers ++ x ++ drop_lines causes drops)
+    (λ (x : List ℕ). traffic_line (codes "stopped") (traffic_by stopped) ++ traffic_line (codes "live") (traffic_by live) ++ traffic_line (codes "total") (traffic_by total) ++ worker_lines 0 workers ++ x ++ drop_lines causes drops)
     (lines_told stops ls ts)

@@ -4,6 +4,7 @@ use Rattle.std.specs.Prelude.{slice_get}
 use Rattle.std.specs.List.{AllByRecursion, sum_by}
 use Rattle.std.proofs.lemmas.List.Sums.{sum_by-cons}
 use Rattle.bng_base.specs.declared.address.Ip4.{Ip4}
+use Rattle.bng_base.specs.declared.book.Book.{Book}
 use Rattle.bng_base.specs.declared.item.Entry.{Entry}
 use Rattle.bng_base.specs.declared.item.OutRecord.{OutRecord}
 use Rattle.bng_base.specs.declared.outside.Datagram.{Datagram}
@@ -14,7 +15,7 @@ use Rattle.bng_base.specs.Roles.{is_data}
 use Rattle.bng_engine.specs.Accounted.{Balanced, nothing_yet, opening}
 use Rattle.bng_engine.specs.Histories.{History, ShardHistory, ShardTurn, Run}
 use Rattle.bng_engine.specs.Laws.{RowsAccountOnWire, accounted_in, sends_of, stops_of}
-use Rattle.bng_engine.specs.Quantities.{Quantity, Octets, in_book}
+use Rattle.bng_engine.specs.Quantities.{Quantity, Octets, Packets, empty_book, in_book}
 use Rattle.bng_engine.specs.Sums.{stopped_where, has_lease, has_circuit, is_at, is_any}
 use Rattle.bng_engine.specs.Terms.{Key, Stop}
 use Rattle.bng_engine.specs.Views.{DeskView, Row, ShardView, rows_where}
@@ -25,10 +26,10 @@ use Rattle.bng_shard.specs.declared.sums.Traffic.{Traffic}
 use Rattle.bng_shard.specs.Protocol.{ShardState, Handled, pppoe, row_at}
 use Rattle.bng_shard.specs.Reader.{pppoe_reader}
 use Rattle.bng_desk.specs.declared.line.Line.{Line}
-use Rattle.bng_desk.specs.declared.sums.Totals.{Totals}
-use Rattle.bng_desk.specs.Model.{Desk, all_stopped, carried_on, line_after, live_of, no_traffic, plus_traffic, total_of, totals_of, traffic_at, traffic_or}
+use Rattle.bng_desk.specs.Model.{all_stopped, carried_on, line_after, live_of, no_traffic, plus_book, plus_traffic, total_of, traffic_at, traffic_or}
 use Rattle.bng_desk.specs.Opening.{line_of}
-use Rattle.bng_gate.specs.Headline.{StopsAccount, total_in, totals_in, traffic_of}
+use Rattle.bng_desk.proofs.InAll.{book_is, live_in_all, plus_in, stopped_in_all}
+use Rattle.bng_gate.specs.Headline.{StopsAccount, total_in, traffic_of}
 use Rattle.bng_gate.specs.Rounds.{on_data}
 use Rattle.bng_gate.proofs.Lines.{traffic_is}
 
@@ -107,6 +108,25 @@ module _ (sent : List Datagram) (stops : List Stop) (exact : StopsAccount stops 
       ap (λ (t : Traffic). t ∷ map (carried_on shards) (map (line_after stops) (map line_of cs))) (traffic_one c)
       ∙ ap (λ (ts : List Traffic). traffic_of sent c ∷ ts) (traffic_same cs)
 
+-- what all Stops say is what was sent
+stops_say : (sent : List Datagram) (stops : List Stop) → StopsAccount stops sent → (q : Quantity) (input : Bool) → stopped_where q is_any input stops ≡ in_book q input (total_in sent)
+stops_say sent stops exact Octets true = exact.all_input Octets
+stops_say sent stops exact Octets false = exact.all_output Octets
+stops_say sent stops exact Packets true = exact.all_input Packets
+stops_say sent stops exact Packets false = exact.all_output Packets
+
+in_total : (q : Quantity) (input : Bool) (tallies : List Book) → in_book q input (total_of tallies) ≡ sum_by (in_book q input) tallies
+in_total Octets true tallies = refl
+in_total Octets false tallies = refl
+in_total Packets true tallies = refl
+in_total Packets false tallies = refl
+
+nothing_in : (q : Quantity) (input : Bool) → in_book q input empty_book ≡ 0
+nothing_in Octets true = refl
+nothing_in Octets false = refl
+nothing_in Packets true = refl
+nothing_in Packets false = refl
+
 -- The total: what the seats tell is what the Stops say, where no row says anything
 none_stopped : (f : Stop → ℕ) (vs : List (ShardView ShardState Handled)) → sum_by (λ h. sum_by f h.stops) (map nothing_yet vs) ≡ 0
 none_stopped f [] = refl
@@ -114,27 +134,30 @@ none_stopped f (v ∷ vs) = omega (arith, sum_by-cons (λ (h : ShardHistory Shar
 
 module _ (sent : List Datagram) (rounds : List (List (ShardTurn Handled))) (exact : StopsAccount (stops_of rounds) sent) (start end : DeskView ShardState Handled) (h : History ShardState) (run : Run pppoe (opening start) rounds h) (balanced : Balanced end h)
     (none : (q : Quantity) (pick : Key → Bool) (input : Bool) → sum_by (λ x. rows_where q pick input x.rows) end.shards ≡ 0) where
-  tally_is : (input : Bool) → sum_by (in_book Octets input) end.tallies ≡ stopped_where Octets is_any input (stops_of rounds)
-  tally_is input =
-      let part = λ (s : Stop). in_book Octets input s.carried in
+  tally_is : (q : Quantity) (input : Bool) → sum_by (in_book q input) end.tallies ≡ stopped_where q is_any input (stops_of rounds)
+  tally_is q input =
+      let part = λ (s : Stop). in_book q input s.carried in
       omega (
         arith,
-        balanced.tallies Octets input,
-        balanced.carried Octets input,
-        none Octets is_any input,
+        balanced.tallies q input,
+        balanced.carried q input,
+        none q is_any input,
         run_stopped pppoe (λ (r : OutRecord). 0) part (opening start) h rounds run,
         none_stopped part start.shards,
       )
 
   pub total_same : total_of end.tallies ≡ total_in sent
   total_same =
-      let t = total_in sent in
-      traffic_is (total_of end.tallies) t.input t.output (tally_is true ∙ exact.all_input Octets) (tally_is false ∙ exact.all_output Octets)
+      book_is (total_of end.tallies) (total_in sent) (λ q input. in_total q input end.tallies ∙ tally_is q input ∙ stops_say sent (stops_of rounds) exact q input)
 
--- what the report says of all terms: the Stops say what was sent, where no row says anything
-pub totals_same : (sent : List Datagram) (stops : List Stop) → StopsAccount stops sent → (d : Desk) → d.stopped_traffic ≡ plus_traffic no_traffic (all_stopped stops) → ((input : Bool) → sum_by (λ (v : ShardView ShardState Entry). rows_where Octets is_any input v.rows) d.shards ≡ 0) → totals_of d ≡ totals_in sent
-totals_same sent stops exact d stopped none =
-    let t = total_in sent in
-    let with = λ (a b : Traffic). let x : Totals = record { stopped = a; live = b } in x in
-    ap (λ (a : Traffic). with a (live_of d.shards)) (stopped ∙ traffic_is (plus_traffic no_traffic (all_stopped stops)) t.input t.output (omega (arith, exact.all_input Octets)) (omega (arith, exact.all_output Octets)))
-    ∙ ap (λ (b : Traffic). with t b) (traffic_is (live_of d.shards) 0 0 (none true) (none false))
+-- what the report says of all terms: the Stops say what was sent, and no row says anything
+pub stopped_same : (sent : List Datagram) (stops : List Stop) → StopsAccount stops sent → plus_book empty_book (all_stopped stops) ≡ total_in sent
+stopped_same sent stops exact =
+    book_is (plus_book empty_book (all_stopped stops)) (total_in sent) (λ q input. omega (arith, plus_in q input empty_book (all_stopped stops), nothing_in q input, stopped_in_all q input stops, stops_say sent stops exact q input))
+
+pub live_none : (vs : List (ShardView ShardState Entry)) → ((q : Quantity) (input : Bool) → sum_by (λ (v : ShardView ShardState Entry). rows_where q is_any input v.rows) vs ≡ 0) → live_of vs ≡ empty_book
+live_none vs none = book_is (live_of vs) empty_book (λ q input. omega (arith, live_in_all q input vs, none q input, nothing_in q input))
+
+-- and nothing beside it is the same
+pub plus_none : (b : Book) → plus_book b empty_book ≡ b
+plus_none b = book_is (plus_book b empty_book) b (λ q input. omega (arith, plus_in q input b empty_book, nothing_in q input))

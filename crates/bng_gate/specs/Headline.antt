@@ -5,6 +5,7 @@ use Rattle.byteorder.specs.Endian.{big_from}
 use Rattle.bng_base.specs.declared.address.Ip4.{Ip4}
 use Rattle.bng_base.specs.declared.address.Mac.{Mac}
 use Rattle.bng_base.specs.declared.address.SessionNo.{SessionNo}
+use Rattle.bng_base.specs.declared.book.Book.{Book}
 use Rattle.bng_base.specs.declared.circuit.Circuit.{Circuit}
 use Rattle.bng_base.specs.declared.circuit.Circuit.TheVariants.{Pppoe}
 use Rattle.bng_base.specs.declared.ipv4.Ipv4.{Ipv4}
@@ -26,7 +27,7 @@ use Rattle.bng_engine.specs.Exact.{ConservedAt}
 use Rattle.bng_engine.specs.Histories.{History, NextRound, ShardHistory, ShardTurn, sends_in}
 use Rattle.bng_engine.specs.Lists.{AnyOf}
 use Rattle.bng_engine.specs.Laws.{RightRound, sends_of, stops_of}
-use Rattle.bng_engine.specs.Quantities.{Quantity, Octets}
+use Rattle.bng_engine.specs.Quantities.{Quantity, Octets, Packets, empty_book}
 use Rattle.bng_engine.specs.Sums.{stopped_where, has_lease, has_circuit, is_at, is_any}
 use Rattle.bng_engine.specs.Terms.{Key, Stop, is_live, keys, stopped_keys}
 use Rattle.bng_engine.specs.Wire.{is_input, is_from, is_output, is_to, is_on, is_on_to, told_of, went}
@@ -35,11 +36,11 @@ use Rattle.bng_shard.specs.Protocol.{Handled, ShardState, terms_of, terms_of_cir
 use Rattle.bng_shard.specs.Lasting.{IsCause}
 use Rattle.bng_shard.specs.Link.{nas_request}
 use Rattle.bng_shard.specs.Reader.{is_session_data, pppoe_reader, tells_pppoe}
-use Rattle.bng_desk.specs.declared.sums.Totals.{Totals}
-use Rattle.bng_desk.specs.Model.{no_traffic}
+use Rattle.bng_desk.specs.Counting.{by_number}
+use Rattle.bng_desk.specs.Model.{traffic_by}
 use Rattle.bng_desk.specs.Opening.{line_of, statics_of}
 use Rattle.bng_desk.specs.Reading.{taken_in}
-use Rattle.bng_desk.specs.Report.{report_text, by_number}
+use Rattle.bng_desk.specs.Report.{report_text}
 use Rattle.bng_desk.specs.Round.{not_sent, view_of}
 use Rattle.bng_gate.specs.Granted.{Granted, stages_of}
 use Rattle.bng_gate.specs.Recorded.{Recorded, calls_of}
@@ -92,13 +93,14 @@ traffic_of sent c = record {
   output = told_of pppoe_reader Octets (is_to c.address) sent;
 }
 
--- and of all packets: those to the core, and those that went out on access ports
-abbrev pub total_in : List Datagram → Traffic
-total_in sent = record { input = told_of pppoe_reader Octets is_input sent; output = told_of pppoe_reader Octets is_output sent }
-
--- what all terms carried, once each has its Stop: that is what the Stops say, and nothing is live
-abbrev pub totals_in : List Datagram → Totals
-totals_in sent = record { stopped = total_in sent; live = no_traffic }
+-- and the octets and the number of all packets: those to the core, and those that went out on access ports
+abbrev pub total_in : List Datagram → Book
+total_in sent = record {
+  input = told_of pppoe_reader Octets is_input sent;
+  output = told_of pppoe_reader Octets is_output sent;
+  input_packets = told_of pppoe_reader Packets is_input sent;
+  output_packets = told_of pppoe_reader Packets is_output sent;
+}
 
 -- of each circuit, in the order of the configuration
 abbrev pub all_traffic : Config → List Datagram → List Traffic
@@ -245,7 +247,7 @@ pub record Headline (config : Config) (status : ℕ) (old new : World) : Type 0 
   -- What the Stops say, as it is printed, is the octets of all packets that were sent. Nothing is printed as live, so that the total printed
   -- is that same number, and it is what is printed for the one worker. The octets printed for a circuit are those of the packets from its
   -- address and to it. The drops printed are those of the rounds, and of those that could not be opened.
-  pub printed : Grows old.out.bytes new.out.bytes (report_text (totals_in safe.sent) (total_in safe.sent ∷ []) (map line_of config.statics) (all_traffic config safe.sent) (by_number (drops_of_run run.completes.course.turns run.completes.course.endings)))
+  pub printed : Grows old.out.bytes new.out.bytes (report_text (total_in safe.sent) empty_book (total_in safe.sent) (traffic_by (total_in safe.sent) ∷ []) (map line_of config.statics) (all_traffic config safe.sent) (by_number (drops_of_run run.completes.course.turns run.completes.course.endings)))
   -- With status 0 each Stop that was formed was acknowledged by a datagram that was heard later. With status 6 some was not, and the
   -- lines of those that were not were written.
   pub acknowledged : status ≡ 0 → StopsAreAcknowledged (calls_in_run config seed old new run.completes.course)

@@ -12,6 +12,7 @@ use std::thread::Threads;
 
 mod accounting;
 mod authentication;
+mod counting;
 mod discovery;
 mod forwarding;
 mod host;

@@ -139,8 +139,8 @@ fn draw_seed<E: Entropy>(entropy: &mut E) -> Option<[u8; 32]>
     }
 }
 
-// Binds the roles, reads the clock, and opens the desk.
-fn open_desk<P: Plant, C: Clock>(
+/// Binds the roles, reads the clock, and opens the desk.
+pub(crate) fn open_desk<P: Plant, C: Clock>(
     alloc: Global,
     config: Config,
     seed: [u8; 32],

@@ -1,13 +1,14 @@
 -- The client of a lane, whose table alone changes.
 use Rattle.std.proofs.Common.{◌≡◌, ◌≢◌, ℕ, ◌+◌, ◌<◌, Bool, true, false, ◌&&◌, leb, List, length, Option, Some, None, refl, sym, ap, subst, ◌∙◌, arith, ⊎_elim}
-use Rattle.std.specs.Prelude.{slice_set, slice_index, nat_lt}
+use Rattle.std.specs.Prelude.{◌⊎◌, slice_set, slice_index, nat_le, nat_lt}
+use Rattle.std.proofs.lemmas.Bool.{and_parts}
 use Rattle.std.proofs.lemmas.Bool.Decides.{leb_tells}
 use Rattle.std.proofs.lemmas.List.{length-set, get_or-set_same}
 use Rattle.bng_base.specs.declared.address.Peer.{Peer}
 use Rattle.bng_base.specs.Packet.{Packet as Bytes}
 use Rattle.bng_radius_wire.specs.Grammar.{Packet, IsRadius, length_in}
 use Rattle.bng_radius_wire.specs.Digests.{filled, CanBeSigned}
-use Rattle.bng_rad_client.specs.declared.due.Sought.TheVariants.{Timeout}
+use Rattle.bng_rad_client.specs.declared.due.Sought.TheVariants.{Timeout, Endless}
 use Rattle.bng_rad_client.specs.declared.pending.Pending.{Pending}
 use Rattle.bng_rad_client.specs.declared.replies.Ignored.{Ignored as Cause}
 use Rattle.bng_rad_client.specs.declared.replies.Replied.TheVariants.{Matched, Ignored}
@@ -16,7 +17,7 @@ use Rattle.bng_rad_client.specs.declared.rules.Lane.TheVariants.{Auth, Acct}
 use Rattle.bng_rad_client.specs.declared.rules.Owner.{Owner}
 use Rattle.bng_rad_client.specs.declared.rules.Owner.TheVariants.{Ask}
 use Rattle.bng_rad_client.specs.Asking.{IsAsked}
-use Rattle.bng_rad_client.specs.Due.{is_sought, NoneBelow}
+use Rattle.bng_rad_client.specs.Due.{is_sought, NoneBelow, OneBelow}
 use Rattle.bng_rad_client.specs.DueRequests.{to_resend, IsResent}
 use Rattle.bng_rad_client.specs.Replies.{IsReplyOf, Answers}
 use Rattle.bng_rad_client.specs.Sends.{IsGivenUp}
@@ -166,6 +167,22 @@ none_due old now size none = count_none (is_due_again old now) (places_of old) (
     at : (i : ℕ) → i < 256 → (p : Option Pending) → request_of (places_of old) i ≡ p → is_due_again old now (request_of (places_of old) i) ≡ false
     at i below None e = ap (is_due_again old now) e
     at i below (Some r) e = ap (is_due_again old now) e ∙ wanted i below r e (to_resend old.client Auth now r) refl
+
+-- where the interval of no request has passed, none is to be sent again
+pub none_again : (l : LaneState) (now : ℕ) → NoneBelow (is_sought Endless now) (places_of l) 256 → NoneToResend l now
+none_again l now none j r below is wants = none j r below is (and_parts (leb (r.sent_at + 3000) now) (nat_lt r.sends l.client.tries) wants).0
+
+-- and none is given up
+pub none_too_often : (l : LaneState) (now : ℕ) → NoneBelow (is_sought Endless now) (places_of l) 256 → GivesUp l now None l
+none_too_often l now none = (λ j r below is wants. none j r below is (and_parts (leb (r.sent_at + 3000) now) (nat_le l.client.tries r.sends) wants).0, refl)
+
+-- a request whose interval has passed is a question's
+pub one_due : (c : State) (now : ℕ) → IsLane c → OneBelow (is_sought Endless now) c.auth.places 256 ⊎ OneBelow (is_sought Endless now) c.acct.places 256
+    → OneBelow (is_sought Endless now) c.auth.places 256
+one_due c now lane one = ⊎_elim
+    (λ auth. auth)
+    (λ acct. absurd (let both : None ≡ Some acct.request = sym (no_request 256 acct.id) ∙ ap (λ (t : Table). request_of t.places acct.id) (sym lane.acct) ∙ acct.is in cc))
+    one
 
 -- nothing is given up
 pub none_given_up : (old : LaneState) (client : State) (now : ℕ) → NoneBelow (is_sought (Timeout old.client.tries) now) (places_of old) 256 → client ≡ old.client

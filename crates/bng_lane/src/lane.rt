@@ -1,5 +1,7 @@
-ghost use Rattle.std.specs.Prelude.{◌≡◌, ◌≤◌, ◌<◌, ◌↔◌, ◌+◌, IsTrue, IfOk, IfSome, IfNone, OnSome, length};
+ghost use Rattle.std.specs.Prelude.{◌≡◌, ◌≤◌, ◌<◌, ◌↔◌, ◌+◌, IsTrue, IfOk, IfSome, IfNone, OnSome, None, false, length};
+ghost use Rattle.bng_rad_client.specs.declared.due.Sought.TheVariants.{Endless};
 ghost use Rattle.bng_rad_client.specs.Table.{taken};
+ghost use Rattle.bng_rad_client.specs.Due.{is_sought, OneBelow};
 ghost use Rattle.bng_rad_client.specs.DueRequests.{IsDeadline};
 ghost use Rattle.bng_lane.specs.Invariant.{question_of};
 ghost use Rattle.bng_lane.specs.State.{IsNewLane, places_of, noted};
@@ -103,6 +105,17 @@ impl Lane {
             Replied::Matched(owner) => question_of(owner),
             Replied::Ignored(_) => None,
         }
+    }
+
+    /// Whether the interval of a request has passed at this moment, in milliseconds. It takes the same time however many are
+    /// out; where it is false, neither `give_up` nor `resend` has anything to answer.
+    pub fn is_due(&self, now: u64) -> bool
+        ensures again { result ≡ false → NoneToResend self.now now }
+        ensures done { result ≡ false → due_count self.now now ≡ 0 }
+        ensures given_up { result ≡ false → GivesUp self.now now None self.now }
+        ensures due { IsTrue result → OneBelow (is_sought Endless now) (places_of self.now) 256 }
+    {
+        self.client.is_due(now)
     }
 
     /// Gives up a question at this moment, in milliseconds: of the requests that were sent as often as they are to be, and

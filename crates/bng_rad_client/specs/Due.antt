@@ -35,6 +35,14 @@ pub record IsOldestBelow (wanted : Pending → Bool) (places : List (Option Pend
 abbrev pub NoneBelow : (Pending → Bool) → List (Option Pending) → ℕ → Type 0
 NoneBelow wanted places n = (j : ℕ) (r : Pending) → j < n → request_of places j ≡ Some r → wanted r ≡ true → ⊥
 
+-- a request below an identifier is wanted
+pub record OneBelow (wanted : Pending → Bool) (places : List (Option Pending)) (n : ℕ) : Type 0 where
+  pub id : ℕ
+  pub request : Pending
+  pub below : id < n
+  pub is : request_of places id ≡ Some request
+  pub wants : wanted request ≡ true
+
 abbrev pub IsOldestOrNone : (Pending → Bool) → List (Option Pending) → ℕ → Option Due → Type 0
 IsOldestOrNone wanted places n None = NoneBelow wanted places n
 IsOldestOrNone wanted places n (Some d) = IsOldestBelow wanted places n d

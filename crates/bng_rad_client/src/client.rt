@@ -1,10 +1,12 @@
-ghost use Rattle.std.specs.Prelude.{◌≡◌, ◌≢◌, ◌≤◌, ◌<◌, ◌↔◌, ◌+◌, ℕ, List, Option, Some, None, IsTrue, IfOk, IfNone, length, slice_set, replicate};
+ghost use Rattle.std.specs.Prelude.{◌≡◌, ◌≢◌, ◌≤◌, ◌<◌, ◌↔◌, ◌⊎◌, ◌+◌, ℕ, List, Option, Some, None, false, IsTrue, IfOk, IfNone, length, slice_set, replicate};
 ghost use Rattle.std.specs.Option.{option_map};
 ghost use Rattle.bng_radius_wire.specs.Grammar.{Packet, IsRadius, length_in};
 ghost use Rattle.bng_radius_wire.specs.Digests.{CanBeSigned};
 ghost use Rattle.bng_rad_client.specs.Table.{request_of, taken};
 ghost use Rattle.bng_rad_client.specs.Asking.{IsAsked, WhenSent, WhenWaiting};
 ghost use Rattle.bng_rad_client.specs.Replies.{Answers, WhenIgnored, WhenMatched, IsReplyOf};
+ghost use Rattle.bng_rad_client.specs.declared.due.Sought.TheVariants.{Endless};
+ghost use Rattle.bng_rad_client.specs.Due.{is_sought, NoneBelow, OneBelow};
 ghost use Rattle.bng_rad_client.specs.DueRequests.{IsDue, IsDeadline};
 ghost use Rattle.bng_rad_client.specs.State.{table_of, server_of, ChangesTable, IsOpened};
 
@@ -202,6 +204,15 @@ impl Client {
             }),
             Longest::Neither => None,
         }
+    }
+
+    /// Whether the interval of a request of either lane has passed. It takes the same time however many are out; where it is
+    /// false, `due` has nothing to answer.
+    pub fn is_due(&self, now: u64) -> bool
+        ensures no { result ≡ false → NoneBelow (is_sought Endless now) self.now.auth.places 256 × NoneBelow (is_sought Endless now) self.now.acct.places 256 }
+        ensures yes { IsTrue result → OneBelow (is_sought Endless now) self.now.auth.places 256 ⊎ OneBelow (is_sought Endless now) self.now.acct.places 256 }
+    {
+        self.auth.is_due(now) || self.acct.is_due(now)
     }
 
     /// The first moment at which a request of the lane is due, if no other call comes before. None exactly where none is

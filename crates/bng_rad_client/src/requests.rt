@@ -1,8 +1,8 @@
 ghost use Rattle.std.specs.Prelude.{◌≡◌, ◌<◌, ◌+◌, ◌%◌, ◌↔◌, IsTrue, IfSome, IfNone, OnSome, IfOk, Some, None, false, length, slice_set, replicate};
 ghost use Rattle.std.specs.Option.{option_copied};
-ghost use Rattle.bng_rad_client.specs.declared.due.Sought.TheVariants.{Any};
+ghost use Rattle.bng_rad_client.specs.declared.due.Sought.TheVariants.{Endless, Any};
 ghost use Rattle.bng_rad_client.specs.Table.{request_of, taken, IsNextFree};
-ghost use Rattle.bng_rad_client.specs.Due.{is_sought, IsOldestOrNone};
+ghost use Rattle.bng_rad_client.specs.Due.{is_sought, NoneBelow, OneBelow, IsOldestOrNone};
 ghost use Rattle.bng_rad_client.specs.Requests.{ComesFirst, HasLeft, HasCome};
 
 use crate::due::{Due, Sought, is_due, older};
@@ -166,6 +166,17 @@ impl Requests {
                 oldest_of(self.places.as_slice(), now, sought)
             }
             _ => None,
+        }
+    }
+
+    /// Whether the interval of a request has passed. It looks at the one that was sent first alone.
+    pub fn is_due(&self, now: u64) -> bool
+        ensures no { result ≡ false → NoneBelow (is_sought Endless now) self.now.places 256 }
+        ensures yes { IsTrue result → OneBelow (is_sought Endless now) self.now.places 256 }
+    {
+        match self.first {
+            Some(first) => is_due(first.sent_at, now),
+            None => false,
         }
     }
 

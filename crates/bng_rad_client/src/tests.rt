@@ -206,7 +206,9 @@ fn the_deadline_is_that_of_the_oldest_request(rt: HostRuntime) -> Result<(), Fai
         ask_bare(&mut client, Lane::Acct, owner, code, now).ok_or("not sent")?;
         assert!(rt; client.deadline(Lane::Acct) == Some(first));
     }
+    assert!(rt; !client.is_due(3019));
     assert!(rt; client.due(3019, false).is_none());
+    assert!(rt; client.is_due(3020));
     for id in [1, 2] {
         match client.due(3020, false) {
             Some(DueRequest::Resend { id: sent, .. }) => assert!(rt; sent == id),

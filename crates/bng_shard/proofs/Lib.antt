@@ -67,6 +67,7 @@ pub mod Circuits
 pub mod Scanning
 pub mod Listing
 pub mod Waiting
+pub mod Idle
 pub mod Telling
 pub mod SumsKept
 pub mod Tying

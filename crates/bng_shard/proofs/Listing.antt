@@ -16,7 +16,7 @@ use Rattle.bng_shard.specs.Listing.{AreListed, IsLowestPassing, does_pass, passi
 use Rattle.bng_shard.specs.Questions.{open_in}
 use Rattle.bng_shard.specs.Serving.{AreOfShard, asks, is_young, is_young_in}
 use Rattle.bng_shard.specs.State.{leaves, leaves_in}
-use Rattle.bng_shard.proofs.Values.{find_first, find_none, kept, sum_most, sum_nothing, values-kept}
+use Rattle.bng_shard.proofs.Values.{find_first, find_none, kept, sum_holds, sum_most, sum_nothing, values-kept}
 
 not_true : (b : Bool) → not b ≡ true → b ≡ false
 not_true true h = absurd (false≢true h)
@@ -63,6 +63,17 @@ listed_there n (x ∷ xs) one =
           let none = ap {B = ℕ} (λ (b : Bool). cond b 1 0) e in
           let rest = listed_there n xs (omega (arith, all, none, one)) in
           (rest.0, (suc rest.1.0, omega (arith, rest.1.1), rest.1.2), rest.2)
+    ] refl
+
+-- and is that of a session that passes
+pub listed_passes : (test : Session → Bool) (s : Sessions Session) (numbers : List SessionNo) → AreListed test s numbers → (n : SessionNo) → Contains numbers n → does_pass test (value_at s n.0) ≡ true
+listed_passes test s numbers h n c =
+    let one = sum_holds (λ (m : SessionNo). cond (m.0 == n.0) 1 0) numbers n c in
+    let here = ap {B = ℕ} (λ (b : Bool). cond b 1 0) (eq-eqb n.0 n.0 refl) in
+    let is = h n.0 in
+    elim (does_pass test (value_at s n.0)) as (λ b. does_pass test (value_at s n.0) ≡ b → b ≡ true) [
+      | true ↦ λ e. refl
+      | false ↦ λ e. let none = ap {B = ℕ} (λ (b : Bool). cond b 1 0) e in absurd (omega (arith, one, here, is, none))
     ] refl
 
 pushed : (b : Bool) (k : ℕ) (m : SessionNo) (numbers : List SessionNo) → times k (cond b (numbers ++ m ∷ []) numbers) ≡ times k numbers + cond b (cond (m.0 == k) 1 0) 0

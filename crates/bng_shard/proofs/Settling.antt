@@ -1,6 +1,6 @@
 -- The sessions that have ended leave one after another.
-use Rattle.std.proofs.Common.{◌≡◌, ◌⊎◌, ℕ, ◌==◌, Bool, true, false, not, cond, List, [], ◌∷◌, ◌++◌, Option, Some, None, is_some, option_and_then, Contains, inl, inr, refl, sym, ap, subst, ◌∙◌, arith}
-use Rattle.std.proofs.lemmas.Bool.{cases_eq, eq-eqb, false≢true}
+use Rattle.std.proofs.Common.{◌≡◌, ◌⊎◌, ℕ, Bool, true, false, not, cond, List, [], ◌∷◌, ◌++◌, Option, Some, None, is_some, option_and_then, Contains, inl, inr, refl, sym, ap, subst, ◌∙◌, arith}
+use Rattle.std.proofs.lemmas.Bool.{cases_eq, false≢true}
 use Rattle.std.proofs.lemmas.List.Elements.{Contains-push, Contains-push_cases, Contains-append_left}
 use Rattle.bng_base.specs.declared.address.Ip4.{Ip4}
 use Rattle.bng_base.specs.declared.address.SessionNo.{SessionNo}
@@ -13,8 +13,8 @@ use Rattle.bng_shard.specs.Listing.{does_pass, passing_in}
 use Rattle.bng_shard.specs.Serving.{AreApart, AreLeased, AreOwn, AreOfShard, AreLeaving}
 use Rattle.bng_shard.specs.State.{leaves}
 use Rattle.bng_shard.proofs.Earliest.{read_there}
-use Rattle.bng_shard.proofs.Listing.{listed_there}
-use Rattle.bng_shard.proofs.Values.{kept, none_kept, none_some, numbered, same_sessions, sum_holds, sum_nothing, value_at-kept}
+use Rattle.bng_shard.proofs.Listing.{listed_passes, listed_there}
+use Rattle.bng_shard.proofs.Values.{kept, none_kept, none_some, numbered, same_sessions, sum_nothing, value_at-kept}
 
 abbrev does_leave : Option Session → Bool
 does_leave o = does_pass leaves o
@@ -33,22 +33,11 @@ some_there (Some a) h = (a, refl)
 same_session_number : (a b : SessionNo) → a.0 ≡ b.0 → a ≡ b
 same_session_number a b e = λ i. record { 0 = e i }
 
--- a number that stands in the list is that of a session that has ended
-listed_leaves : (s : Sessions Session) (numbers : List SessionNo) → AreLeaving s numbers → (n : SessionNo) → Contains numbers n → does_leave (value_at s n.0) ≡ true
-listed_leaves s numbers h n c =
-    let one = sum_holds (λ (m : SessionNo). cond (m.0 == n.0) 1 0) numbers n c in
-    let here = ap {B = ℕ} (λ (b : Bool). cond b 1 0) (eq-eqb n.0 n.0 refl) in
-    let is = h n.0 in
-    elim (does_leave (value_at s n.0)) as (λ b. does_leave (value_at s n.0) ≡ b → b ≡ true) [
-      | true ↦ λ e. refl
-      | false ↦ λ e. let none = ap {B = ℕ} (λ (b : Bool). cond b 1 0) e in absurd (omega (arith, one, here, is, none))
-    ] refl
-
 pub settles_none : (s : Sessions Session) (numbers : List SessionNo) → AreLeaving s numbers → Settles s s numbers
 settles_none s numbers h = record {
   shard = refl;
   left = λ n. inl refl;
-  listed = listed_leaves s numbers h;
+  listed = listed_passes leaves s numbers h;
   all = λ n d.
       let k = listed_there n.0 numbers (h n.0 ∙ ap {B = ℕ} (λ (b : Bool). cond b 1 0) d) in
       subst (Contains numbers) (same_session_number k.0 n k.2) k.1;

@@ -17,10 +17,10 @@ use Rattle.bng_shard.specs.Serving.{AreAsking, AreOfShard, AreOwn, asks}
 use Rattle.bng_shard.proofs.Listing.{lowest_is, none_is}
 use Rattle.bng_shard.proofs.Values.{above, behind, first, first_found, none_some, same_some, second}
 
-abbrev asked : List Session → List Asking
+abbrev pub asked : List Session → List Asking
 asked xs = flat_map (λ x. asked_in x (open_of x)) xs
 
-abbrev left : List ℕ → List Asking → List Asking
+abbrev pub left : List ℕ → List Asking → List Asking
 left handed qs = filter (λ a. not (is_handed handed a)) qs
 
 abbrev asking_at : Session → Option Asking

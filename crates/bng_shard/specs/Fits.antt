@@ -1,5 +1,5 @@
 -- What the fields of a shard keep.
-use Rattle.std.specs.Prelude.{◌≡◌, ◌≢◌, ℕ, ◌+◌, ◌*◌, ◌^◌, ◌<◌, ◌≤◌, Some, cond, List, length, vec_capacity}
+use Rattle.std.specs.Prelude.{◌≡◌, ◌≢◌, ℕ, ◌+◌, ◌*◌, ◌^◌, ◌<◌, ◌≤◌, Some, cond, List, length}
 use Rattle.std.specs.List.{All, AllPairs, flat_map}
 use Rattle.bng_base.specs.declared.item.Entry.{Entry}
 use Rattle.bng_base.specs.declared.settings.AccessPort.{AccessPort}
@@ -40,6 +40,6 @@ pub record Fits (a : Inside) : Type 0 where
   pub few_pools : length a.rules.pools ≤ 16
   pub auth : 0 < length a.rules.link.auth.items
   pub offers : length a.rules.offers ≡ length a.rules.access
-  pub journal_room : length a.journal.items + a.room ≤ vec_capacity a.journal
-  pub outs_room : 0 < a.room → length a.outs.items + 10 * a.room + owed a.journal.items + 3 ≤ vec_capacity a.outs
+  pub journal_room : length a.journal.items + a.room ≤ a.journal.room
+  pub outs_room : 0 < a.room → length a.outs.items + 10 * a.room + owed a.journal.items + 3 ≤ a.outs.room
   pub terms_room : a.room ≤ a.terms.room

@@ -1,5 +1,5 @@
 //! Packets of the sessions' terms: from a circuit to the core, and from the core to a circuit.
-ghost use Rattle.std.specs.Prelude.{◌≡◌, ◌<◌, ◌^◌, ℕ, List, None as Nothing, length, vec_capacity, option_map};
+ghost use Rattle.std.specs.Prelude.{◌≡◌, ◌<◌, ◌^◌, ℕ, List, None as Nothing, length, option_map};
 ghost use Rattle.std.specs.List.{list_any};
 ghost use Rattle.std.specs.Option.{option_copied};
 ghost use Rattle.bng_base.specs.FateOf.{arrival_of};
@@ -19,21 +19,11 @@ use crate::served::Served;
 use crate::session::{Lease, Session};
 use crate::terms::Terms;
 use bng_base::{
-    Charge, Circuit, DropCause, Fate, Frame, Ip4, Ipv4, Item, OutRecord, Role, SessionNo, TermId,
+    Batch, Charge, Circuit, DropCause, Fate, Frame, Ip4, Ipv4, Item, OutRecord, Role, SessionNo,
+    TermId,
 };
 use bng_forward::{Arrived, TermView, down, packet_from, put_in_frame, take_from_frame, up};
 use bng_pppoe_wire::Pppoe;
-
-// The octets of a datagram, apart from its item.
-fn copied(frame: &Frame) -> Frame
-    requires { frame.now.headroom ≡ 64 }
-    ensures payload { result.payload ≡ frame.now.payload }
-    ensures headroom { result.headroom ≡ 64 }
-{
-    let mut copy = Frame::new();
-    copy.set(frame.payload());
-    copy
-}
 
 // Whose packet it is: the session's term.
 fn charge_of(session: &Session, lease: Lease, input: bool, octets: u16) -> Charge
@@ -101,20 +91,21 @@ pub(crate) fn hear_data(
     frame: &Pppoe<'_>,
     size: usize,
     item: &Item,
-    outs: &mut Vec<OutRecord>,
+    outs: &mut Batch<OutRecord>,
 ) -> Fate
     requires moment { now < 2 ^ 60 }
     requires whole { item.now.frame.headroom ≡ 64 }
     requires here { at.shard ≡ served.old.sessions.shard }
     requires tied { AreTied served.old.sessions (tenures_in terms.now.rows) }
-    requires room { length outs.old.items < vec_capacity outs.old }
+    requires room { length outs.old.items < outs.old.room }
     requires came { IsFrame rules.now.access number (arrival_of item.now) (frame_of frame.now) }
     requires carries { (info : List ℕ) × Carries (frame_of frame.now) info × (length info ≡ size) }
     ensures does { (info : List ℕ) → Carries (frame_of frame.now) info → DoesWith (λ e d. HearsData rules.now (whole served.old terms.now) e number (frame_of frame.now) info d) 1 (whole served.old terms.now) (whole served.new terms.now) outs.old.items outs.new.items at now item.now result }
-    ensures capacity { vec_capacity outs.new ≡ vec_capacity outs.old }
+    ensures capacity { outs.new.room ≡ outs.old.room }
 {
     let session = served.session_of(number, frame.src, SessionNo(frame.session));
-    let mut packet = copied(&item.frame);
+    let mut packet = Frame::new();
+    packet.copy_from(&item.frame);
     take_from_frame(&mut packet, size);
     let fate = up(view_of(session), &mut packet);
     let Fate::Forwarded = fate else {
@@ -129,7 +120,7 @@ pub(crate) fn hear_data(
     let octets = packet.payload().len() as u16;
     let charge = charge_of(session, lease, true, octets);
     served.note_passed(charge.term.session, now);
-    push_out(outs, at, Role::Core, rules.core_peer, packet, Some(charge));
+    push_out(outs, at, Role::Core, rules.core_peer, &packet, Some(charge));
     Fate::Forwarded
 }
 
@@ -142,20 +133,21 @@ fn hear_packet(
     now: u64,
     header: Ipv4,
     item: &Item,
-    outs: &mut Vec<OutRecord>,
+    outs: &mut Batch<OutRecord>,
 ) -> Fate
     requires moment { now < 2 ^ 60 }
     requires whole { item.now.frame.headroom ≡ 64 }
     requires here { at.shard ≡ served.old.sessions.shard }
     requires tied { AreTied served.old.sessions (tenures_in terms.now.rows) }
     requires placed { ArePlaced rules.now served.old.sessions }
-    requires room { length outs.old.items < vec_capacity outs.old }
+    requires room { length outs.old.items < outs.old.room }
     requires came { IsCorePacket rules.now.core_peer (arrival_of item.now) header }
     ensures does { DoesWith (λ e d. HearsPacket rules.now (whole served.old terms.now) e header d) 1 (whole served.old terms.now) (whole served.new terms.now) outs.old.items outs.new.items at now item.now result }
-    ensures capacity { vec_capacity outs.new ≡ vec_capacity outs.old }
+    ensures capacity { outs.new.room ≡ outs.old.room }
 {
     let holder = served.holder_of(header.dst);
-    let mut packet = copied(&item.frame);
+    let mut packet = Frame::new();
+    packet.copy_from(&item.frame);
     let fate = down(holder_view(holder, terms, header.dst), header, &mut packet);
     let Fate::Forwarded = fate else {
         return fate;
@@ -173,7 +165,7 @@ fn hear_packet(
     let charge = charge_of(session, lease, false, header.total);
     let role = Role::Access(session.port);
     served.note_passed(charge.term.session, now);
-    push_out(outs, at, role, port.peer, packet, Some(charge));
+    push_out(outs, at, role, port.peer, &packet, Some(charge));
     Fate::Forwarded
 }
 
@@ -185,16 +177,16 @@ pub(crate) fn hear_core(
     at: At,
     now: u64,
     item: &Item,
-    outs: &mut Vec<OutRecord>,
+    outs: &mut Batch<OutRecord>,
 ) -> Fate
     requires moment { now < 2 ^ 60 }
     requires whole { item.now.frame.headroom ≡ 64 }
     requires here { at.shard ≡ served.old.sessions.shard }
     requires tied { AreTied served.old.sessions (tenures_in terms.now.rows) }
     requires placed { ArePlaced rules.now served.old.sessions }
-    requires room { length outs.old.items < vec_capacity outs.old }
+    requires room { length outs.old.items < outs.old.room }
     ensures does { DoesWith (λ e d. HearsCore rules.now (whole served.old terms.now) e d) 1 (whole served.old terms.now) (whole served.new terms.now) outs.old.items outs.new.items at now item.now result }
-    ensures capacity { vec_capacity outs.new ≡ vec_capacity outs.old }
+    ensures capacity { outs.new.room ≡ outs.old.room }
 {
     let arrived = Arrived {
         from: item.from,

@@ -1,5 +1,5 @@
 //! Frames of the discovery stage (RFC 2516 section 5).
-ghost use Rattle.std.specs.Prelude.{◌≡◌, ◌<◌, ◌≤◌, ◌+◌, ◌^◌, List, Some, IfSome, length, option_map, vec_capacity};
+ghost use Rattle.std.specs.Prelude.{◌≡◌, ◌<◌, ◌≤◌, ◌+◌, ◌^◌, List, Some, IfSome, length, option_map};
 ghost use Rattle.bng_base.specs.declared.settings.AccessPort.{AccessPort as Port};
 ghost use Rattle.bng_base.specs.PppoeGrammar.{PppoeTag, AreTags, IsDiscovery};
 ghost use Rattle.bng_pppoe_wire.specs.View.{frame_of};
@@ -24,7 +24,7 @@ use crate::sending::At;
 use crate::served::Served;
 use crate::session::{Made, Service, Session};
 use arrayvec::ArrayVec;
-use bng_base::{Fate, Item, Mac, OutRecord, SessionNo};
+use bng_base::{Batch, Fate, Item, Mac, OutRecord, SessionNo};
 use bng_ppp::{LinkKind, WholeInput, WholeLink};
 use bng_pppoe_wire::Pppoe;
 
@@ -86,17 +86,17 @@ fn make(
     frame: &Pppoe<'_>,
     session: SessionNo,
     random: &[u8; 16],
-    outs: &mut Vec<OutRecord>,
+    outs: &mut Batch<OutRecord>,
 )
     requires moment { now < 2 ^ 60 }
     requires auth { 0 < length rules.now.link.auth.items }
-    requires room { length outs.old.items + 5 ≤ vec_capacity outs.old }
+    requires room { length outs.old.items + 5 ≤ outs.old.room }
     requires vacant { IsLowestVacant served.old.sessions session.0 }
     requires offers { length rules.now.offers ≡ length rules.now.access }
     requires placed { (port : Port) × (port_at rules.now.access number ≡ Some port) }
     requires tags { (ts : List PppoeTag) × AreTags ts frame.now.payload.now × (length ts ≤ 64) × IfSome (host_uniq_of ts) (λ h. length h ≤ 64) }
     ensures made { (ts : List PppoeTag) → AreTags ts frame.now.payload.now → (new : Seen) × (x : Seen) × (cause : Maybe ℕ) × (asked : ℕ) × IsNewSession session.0 number frame.now.src (host_uniq_of ts) random.now new × Driven rules.now at (PppSteps rules.now.link WholeInput.Start now random.now) served.old.asked new cause x asked outs.old.items outs.new.items × ((t : TermsView) → whole served.new t ≡ with_driven (whole served.old t) session.0 Nothing cause x asked) }
-    ensures capacity { vec_capacity outs.new ≡ vec_capacity outs.old }
+    ensures capacity { outs.new.room ≡ outs.old.room }
     ensures few { length outs.new.items ≤ length outs.old.items + 5 }
 {
     let wanted = host_uniq(frame);
@@ -124,18 +124,18 @@ pub(crate) fn hear_discovery(
     number: u8,
     frame: &Pppoe<'_>,
     item: &Item,
-    outs: &mut Vec<OutRecord>,
+    outs: &mut Batch<OutRecord>,
 ) -> Fate
     requires moment { now < 2 ^ 60 }
     requires auth { 0 < length rules.now.link.auth.items }
     requires offers { length rules.now.offers ≡ length rules.now.access }
     requires here { at.shard ≡ served.old.sessions.shard }
-    requires room { length outs.old.items + 6 ≤ vec_capacity outs.old }
+    requires room { length outs.old.items + 6 ≤ outs.old.room }
     requires port { (port : Port) × (port_at rules.now.access number ≡ Some port) }
     requires is { IsDiscovery (frame_of frame.now) }
     requires few { (ts : List PppoeTag) × AreTags ts frame.now.payload.now × (length ts ≤ 64) }
     ensures does { (t : TermsView) → DoesWith (λ e d. Discovers rules.now (whole served.old t) e number (frame_of frame.now) d) 6 (whole served.old t) (whole served.new t) outs.old.items outs.new.items at now item.now result }
-    ensures capacity { vec_capacity outs.new ≡ vec_capacity outs.old }
+    ensures capacity { outs.new.room ≡ outs.old.room }
 {
     let Some(port) = port_of(rules, number) else {
         unreachable!();

@@ -1,5 +1,5 @@
 //! What a step of a session's link sends.
-ghost use Rattle.std.specs.Prelude.{◌≡◌, List, Some, true, ◌+◌, ◌<◌, ◌≤◌, ◌^◌, ◌++◌, IfSome, IfNone, None as Nothing, length, vec_capacity};
+ghost use Rattle.std.specs.Prelude.{◌≡◌, List, Some, true, ◌+◌, ◌<◌, ◌≤◌, ◌^◌, ◌++◌, IfSome, IfNone, None as Nothing, length};
 ghost use Rattle.bng_base.specs.PppoeGrammar.{PppoeFrame, pppoe_text};
 ghost use Rattle.bng_pppoe_wire.specs.View.{frame_of};
 ghost use Rattle.bng_ppp.specs.PppRelation.{PppSteps};
@@ -16,7 +16,7 @@ ghost use Rattle.bng_shard.specs.Driven.{Driven, LastsOver};
 use crate::rules::Rules;
 use crate::sending::{At, push_out};
 use crate::session::Session;
-use bng_base::{AccessPort, Frame, HEADROOM, LONGEST, Mac, OutRecord, Role, Written};
+use bng_base::{AccessPort, Batch, Frame, HEADROOM, LONGEST, Mac, OutRecord, Role, Written};
 use bng_discovery::{PortRules, terminate};
 use bng_ppp::{WholeInput, WholeSteps};
 use bng_pppoe_wire::{Pppoe, code};
@@ -53,16 +53,16 @@ pub(crate) fn between(_dst: Mac, _src: Mac)
 
 /// Appends a frame that was written, to a host of the port with this number.
 pub(crate) fn push_written(
-    outs: &mut Vec<OutRecord>,
+    outs: &mut Batch<OutRecord>,
     at: At,
     number: u8,
     port: &AccessPort,
-    frame: Frame,
+    frame: &Frame,
 )
-    requires room { length outs.old.items < vec_capacity outs.old }
-    requires whole { frame.headroom ≡ HEADROOM }
-    ensures items { (p : PppoeFrame) → frame.payload ≡ pppoe_text p → has_macs p ≡ true → outs.new.items ≡ outs.old.items ++ frame_outs at number port.now p }
-    ensures capacity { vec_capacity outs.new ≡ vec_capacity outs.old }
+    requires room { length outs.old.items < outs.old.room }
+    requires whole { frame.now.headroom ≡ HEADROOM }
+    ensures items { (p : PppoeFrame) → frame.now.payload ≡ pppoe_text p → has_macs p ≡ true → outs.new.items ≡ outs.old.items ++ frame_outs at number port.now p }
+    ensures capacity { outs.new.room ≡ outs.old.room }
     ensures few { length outs.new.items ≤ length outs.old.items + 1 }
 {
     let octets = frame.payload().len();
@@ -72,21 +72,21 @@ pub(crate) fn push_written(
 
 /// Appends a frame to a host of the port with this number, where a datagram holds it.
 pub(crate) fn push_frame(
-    outs: &mut Vec<OutRecord>,
+    outs: &mut Batch<OutRecord>,
     at: At,
     number: u8,
     port: &AccessPort,
     frame: &Pppoe<'_>,
 )
-    requires room { length outs.old.items < vec_capacity outs.old }
+    requires room { length outs.old.items < outs.old.room }
     ensures items { outs.new.items ≡ outs.old.items ++ frame_outs at number port.now (frame_of frame.now) }
-    ensures capacity { vec_capacity outs.new ≡ vec_capacity outs.old }
+    ensures capacity { outs.new.room ≡ outs.old.room }
     ensures few { length outs.new.items ≤ length outs.old.items + 1 }
 {
     between(frame.dst, frame.src);
     let mut fresh = Frame::new();
     match frame.write(&mut fresh) {
-        Written::Done => push_written(outs, at, number, port, fresh),
+        Written::Done => push_written(outs, at, number, port, &fresh),
         Written::Full => {}
     }
 }
@@ -97,13 +97,13 @@ fn send_frames(
     at: At,
     session: &Session,
     frames: &[Frame],
-    outs: &mut Vec<OutRecord>,
+    outs: &mut Batch<OutRecord>,
 )
     requires few { length frames.now ≤ 4 }
     requires placed { (port : Port) × (port_at rules.now.access session.now.port ≡ Some port) }
-    requires room { length outs.old.items + 4 ≤ vec_capacity outs.old }
+    requires room { length outs.old.items + 4 ≤ outs.old.room }
     ensures items { (port : Port) → port_at rules.now.access session.now.port ≡ Some port → outs.new.items ≡ outs.old.items ++ ppp_outs at session.now port (payloads frames.now) }
-    ensures capacity { vec_capacity outs.new ≡ vec_capacity outs.old }
+    ensures capacity { outs.new.room ≡ outs.old.room }
     ensures few { length outs.new.items ≤ length outs.old.items + 4 }
 {
     let Some(port) = port_of(rules, session.port) else {
@@ -124,30 +124,30 @@ fn send_frames(
 
 // Appends the PADT of a session to a host of the port (RFC 2516 section 5.5).
 fn push_padt(
-    outs: &mut Vec<OutRecord>,
+    outs: &mut Batch<OutRecord>,
     at: At,
     session: &Session,
     port: &AccessPort,
     offers: &PortRules,
 )
-    requires room { length outs.old.items < vec_capacity outs.old }
+    requires room { length outs.old.items < outs.old.room }
     ensures items { outs.new.items ≡ outs.old.items ++ frame_outs at session.now.port port.now (padt_of offers.now session.now.mac session.now.number.0) }
-    ensures capacity { vec_capacity outs.new ≡ vec_capacity outs.old }
+    ensures capacity { outs.new.room ≡ outs.old.room }
     ensures few { length outs.new.items ≤ length outs.old.items + 1 }
 {
     between(session.mac, offers.mac);
     let mut padt = Frame::new();
     terminate(session.mac, offers, session.number, &mut padt);
-    push_written(outs, at, session.port, port, padt);
+    push_written(outs, at, session.port, port, &padt);
 }
 
 /// Appends the PADT of a session (RFC 2516 section 5.5).
-pub(crate) fn send_padt(rules: &Rules, at: At, session: &Session, outs: &mut Vec<OutRecord>)
+pub(crate) fn send_padt(rules: &Rules, at: At, session: &Session, outs: &mut Batch<OutRecord>)
     requires offers { length rules.now.offers ≡ length rules.now.access }
     requires placed { (port : Port) × (port_at rules.now.access session.now.port ≡ Some port) }
-    requires room { length outs.old.items < vec_capacity outs.old }
+    requires room { length outs.old.items < outs.old.room }
     ensures items { (padt : List OutRecordOf) × EndsWith rules.now at session.now padt × (outs.new.items ≡ outs.old.items ++ padt) }
-    ensures capacity { vec_capacity outs.new ≡ vec_capacity outs.old }
+    ensures capacity { outs.new.room ≡ outs.old.room }
     ensures few { length outs.new.items ≤ length outs.old.items + 1 }
 {
     let Some(port) = port_of(rules, session.port) else {
@@ -170,7 +170,7 @@ pub(crate) fn drive(
     input: WholeInput<'_>,
     now: u64,
     random: &[u8; 16],
-    outs: &mut Vec<OutRecord>,
+    outs: &mut Batch<OutRecord>,
 ) -> (u64, Option<u8>)
     requires moment { now < 2 ^ 60 }
     requires auth { 0 < length rules.now.link.auth.items }
@@ -179,11 +179,11 @@ pub(crate) fn drive(
     requires made { made_one session.old.service ≡ 1 }
     requires leased { KeepsLease session.old.service session.old.lease }
     requires lasts { LastsOver input session.old.lease }
-    requires room { length outs.old.items + 5 ≤ vec_capacity outs.old }
+    requires room { length outs.old.items + 5 ≤ outs.old.room }
     ensures driven { Driven rules.now at (PppSteps rules.now.link input.entry now random.now) asked session.old result.1 session.new result.0 outs.old.items outs.new.items }
     ensures leased { KeepsLease session.new.service session.new.lease }
     ensures number { session.new.number ≡ session.old.number }
-    ensures capacity { vec_capacity outs.new ≡ vec_capacity outs.old }
+    ensures capacity { outs.new.room ≡ outs.old.room }
     ensures few { length outs.new.items ≤ length outs.old.items + 5 }
 {
     let mut steps = WholeSteps::new();

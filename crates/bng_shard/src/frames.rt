@@ -1,5 +1,5 @@
 //! Frames that name a session and carry no IPv4 packet: other frames of the session stage, and PADTs.
-ghost use Rattle.std.specs.Prelude.{◌≡◌, ◌<◌, ◌≤◌, ◌+◌, ◌^◌, true, false, length, Some, vec_capacity};
+ghost use Rattle.std.specs.Prelude.{◌≡◌, ◌<◌, ◌≤◌, ◌+◌, ◌^◌, true, false, length, Some};
 ghost use Rattle.bng_pppoe_wire.specs.View.{frame_of};
 ghost use Rattle.bng_shard.specs.declared.session.Session.{Session as Seen};
 ghost use Rattle.bng_shard.specs.Controlling.{IsControl};
@@ -20,7 +20,7 @@ use crate::rules::Rules;
 use crate::sending::At;
 use crate::served::Served;
 use crate::terms::Terms;
-use bng_base::{DropCause, Fate, Item, OutRecord, SessionNo};
+use bng_base::{Batch, DropCause, Fate, Item, OutRecord, SessionNo};
 use bng_ppp::WholeInput;
 use bng_pppoe_wire::Pppoe;
 
@@ -49,7 +49,7 @@ pub(crate) fn drive_at(
     input: WholeInput<'_>,
     now: u64,
     random: &[u8; 16],
-    outs: &mut Vec<OutRecord>,
+    outs: &mut Batch<OutRecord>,
 )
     requires moment { now < 2 ^ 60 }
     requires auth { 0 < length rules.now.link.auth.items }
@@ -57,10 +57,10 @@ pub(crate) fn drive_at(
     requires placed { ArePlaced rules.now served.old.sessions }
     requires lives { lives_at served.old number.0 ≡ true }
     requires lasts { (x : Seen) → value_at served.old.sessions number.0 ≡ Some x → LastsOver input x.lease }
-    requires room { length outs.old.items + 5 ≤ vec_capacity outs.old }
+    requires room { length outs.old.items + 5 ≤ outs.old.room }
     ensures sums { KeepSums terms.old terms.new }
     ensures driven { (x : Seen) → value_at served.old.sessions number.0 ≡ Some x → (x' : Seen) × (cause : Maybe ℕ) × (asked : ℕ) × Driven rules.now at (PppSteps rules.now.link input.entry now random.now) served.old.asked x cause x' asked outs.old.items outs.new.items × (whole served.new terms.new ≡ with_driven (whole served.old terms.old) number.0 x.lease cause x' asked) }
-    ensures capacity { vec_capacity outs.new ≡ vec_capacity outs.old }
+    ensures capacity { outs.new.room ≡ outs.old.room }
     ensures few { length outs.new.items ≤ length outs.old.items + 5 }
 {
     let mut session = served.take(number);
@@ -116,18 +116,18 @@ pub(crate) fn hear_control(
     number: u8,
     frame: &Pppoe<'_>,
     item: &Item,
-    outs: &mut Vec<OutRecord>,
+    outs: &mut Batch<OutRecord>,
 ) -> Fate
     requires moment { now < 2 ^ 60 }
     requires auth { 0 < length rules.now.link.auth.items }
     requires offers { length rules.now.offers ≡ length rules.now.access }
     requires placed { ArePlaced rules.now served.old.sessions }
     requires here { at.shard ≡ served.old.sessions.shard }
-    requires room { length outs.old.items + 5 ≤ vec_capacity outs.old }
+    requires room { length outs.old.items + 5 ≤ outs.old.room }
     requires ppp { frame.now.discovery ≡ false → 2 ≤ length frame.now.payload.now }
     ensures sums { KeepSums terms.old terms.new }
     ensures does { DoesWith (λ e d. HearsIn (session_of served.old number frame.now.src frame.now.session) rules.now (whole served.old terms.old) e (frame_of frame.now) d) 5 (whole served.old terms.old) (whole served.new terms.new) outs.old.items outs.new.items at now item.now result }
-    ensures capacity { vec_capacity outs.new ≡ vec_capacity outs.old }
+    ensures capacity { outs.new.room ≡ outs.old.room }
 {
     let session = SessionNo(frame.session);
     match control_of(served, number, frame) {

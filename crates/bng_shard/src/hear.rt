@@ -1,5 +1,5 @@
 //! One item, by its kind.
-ghost use Rattle.std.specs.Prelude.{◌≡◌, ◌<◌, ◌≤◌, ◌+◌, ◌^◌, length, vec_capacity};
+ghost use Rattle.std.specs.Prelude.{◌≡◌, ◌<◌, ◌≤◌, ◌+◌, ◌^◌, length};
 ghost use Rattle.bng_base.specs.FateOf.{arrival_of};
 ghost use Rattle.bng_pppoe_wire.specs.View.{frame_of};
 ghost use Rattle.bng_forward.specs.Fates.{IsFrame};
@@ -22,7 +22,7 @@ use crate::served::Served;
 use crate::terms::Terms;
 use crate::timers::{end, tick};
 use crate::verdicts::hear_verdict;
-use bng_base::{Claim, DropCause, Fate, Item, ItemKind, OutRecord};
+use bng_base::{Batch, Claim, DropCause, Fate, Item, ItemKind, OutRecord};
 use bng_forward::{Arrived, carried, frame_at, names_session};
 use bng_pppoe_wire::Pppoe;
 
@@ -36,7 +36,7 @@ fn hear_frame(
     number: u8,
     frame: &Pppoe<'_>,
     item: &Item,
-    outs: &mut Vec<OutRecord>,
+    outs: &mut Batch<OutRecord>,
 ) -> Fate
     requires moment { now < 2 ^ 60 }
     requires auth { 0 < length rules.now.link.auth.items }
@@ -45,11 +45,11 @@ fn hear_frame(
     requires tied { AreTied served.old.sessions (tenures_in terms.old.rows) }
     requires whole { item.now.frame.headroom ≡ 64 }
     requires here { at.shard ≡ served.old.sessions.shard }
-    requires room { length outs.old.items + 10 ≤ vec_capacity outs.old }
+    requires room { length outs.old.items + 10 ≤ outs.old.room }
     requires came { IsFrame rules.now.access number (arrival_of item.now) (frame_of frame.now) }
     ensures sums { KeepSums terms.old terms.new }
     ensures does { DoesWith (λ e d. HearsFrame rules.now (whole served.old terms.old) e number (frame_of frame.now) d) 10 (whole served.old terms.old) (whole served.new terms.new) outs.old.items outs.new.items at now item.now result }
-    ensures capacity { vec_capacity outs.new ≡ vec_capacity outs.old }
+    ensures capacity { outs.new.room ≡ outs.old.room }
 {
     if !names_session(frame) {
         return hear_discovery(served, rules, at, now, number, frame, item, outs);
@@ -80,7 +80,7 @@ fn hear_access(
     now: u64,
     number: u8,
     item: &Item,
-    outs: &mut Vec<OutRecord>,
+    outs: &mut Batch<OutRecord>,
 ) -> Fate
     requires moment { now < 2 ^ 60 }
     requires auth { 0 < length rules.now.link.auth.items }
@@ -89,10 +89,10 @@ fn hear_access(
     requires tied { AreTied served.old.sessions (tenures_in terms.old.rows) }
     requires whole { item.now.frame.headroom ≡ 64 }
     requires here { at.shard ≡ served.old.sessions.shard }
-    requires room { length outs.old.items + 10 ≤ vec_capacity outs.old }
+    requires room { length outs.old.items + 10 ≤ outs.old.room }
     ensures sums { KeepSums terms.old terms.new }
     ensures does { DoesWith (λ e d. HearsAccess rules.now (whole served.old terms.old) e number d) 10 (whole served.old terms.old) (whole served.new terms.new) outs.old.items outs.new.items at now item.now result }
-    ensures capacity { vec_capacity outs.new ≡ vec_capacity outs.old }
+    ensures capacity { outs.new.room ≡ outs.old.room }
 {
     let arrived = Arrived {
         from: item.from,
@@ -116,7 +116,7 @@ pub(crate) fn hear(
     item: &Item,
     claim: Claim,
     limited: bool,
-    outs: &mut Vec<OutRecord>,
+    outs: &mut Batch<OutRecord>,
 ) -> Fate
     requires moment { now < 2 ^ 60 }
     requires auth { 0 < length rules.now.link.auth.items }
@@ -128,10 +128,10 @@ pub(crate) fn hear(
     requires place { at.shard ≡ served.old.sessions.shard }
     requires asked { IsAnswered rules.now served.old item.now limited claim }
     requires begins { (a : Address) → claim ≡ Claim.Claimed a → MayBegin a served.old terms.old }
-    requires room { length outs.old.items + outs_most item.now.kind + 3 ≤ vec_capacity outs.old }
+    requires room { length outs.old.items + outs_most item.now.kind + 3 ≤ outs.old.room }
     ensures sums { SumsStay terms.old terms.new }
     ensures does { Does (Step rules.now (whole served.old terms.old) limited) (outs_most item.now.kind) (whole served.old terms.old) (whole served.new terms.new) outs.old.items outs.new.items (entry_with claim at.seat at.place now item.now) result }
-    ensures capacity { vec_capacity outs.new ≡ vec_capacity outs.old }
+    ensures capacity { outs.new.room ≡ outs.old.room }
 {
     match item.kind {
         ItemKind::Access(number) => hear_access(served, terms, rules, at, now, number, item, outs),

@@ -25,6 +25,7 @@ mod sending;
 mod served;
 mod session;
 mod shard;
+mod showing;
 mod sums;
 mod term;
 mod term_rows;

@@ -3,17 +3,21 @@ ghost use Rattle.std.specs.Prelude.{◌≡◌, ◌<◌, ◌^◌};
 ghost use Rattle.bng_shard.specs.Live.{live_in};
 ghost use Rattle.bng_shard.specs.Running.{rows_in};
 
-use crate::sums::Traffic;
 use crate::terms::Running;
+use bng_base::Book;
 
-/// The octets of all these rows together, in each direction.
-pub(crate) fn live(rows: &[Running]) -> Traffic
+/// The octets and the packets of all these rows together, in each direction.
+pub(crate) fn live(rows: &[Running]) -> Book
     requires input { (live_in (rows_in rows.now)).input < 2 ^ 64 }
     requires output { (live_in (rows_in rows.now)).output < 2 ^ 64 }
+    requires input_packets { (live_in (rows_in rows.now)).input_packets < 2 ^ 64 }
+    requires output_packets { (live_in (rows_in rows.now)).output_packets < 2 ^ 64 }
     ensures { result ≡ live_in (rows_in rows.now) }
 {
-    Traffic {
+    Book {
         input: rows.iter().map(|row| row.carried.input).sum(),
         output: rows.iter().map(|row| row.carried.output).sum(),
+        input_packets: rows.iter().map(|row| row.carried.input_packets).sum(),
+        output_packets: rows.iter().map(|row| row.carried.output_packets).sum(),
     }
 }

@@ -1,5 +1,5 @@
 //! The sessions of a shard.
-ghost use Rattle.std.specs.Prelude.{◌≡◌, ◌≢◌, ◌+◌, ◌<◌, ◌≤◌, ◌^◌, ◌∷◌, [], ℕ, IsSome, Some, None as Nothing, true, IfOk, IfSome, IfNone, option_map};
+ghost use Rattle.std.specs.Prelude.{◌≡◌, ◌≢◌, ◌+◌, ◌<◌, ◌≤◌, ◌^◌, ◌∷◌, [], ℕ, List, IsSome, Some, None as Nothing, true, false, IfOk, IfSome, IfNone, option_map};
 ghost use Rattle.std.specs.List.{AllPairs, All};
 ghost use Rattle.std.specs.Option.{option_and_then, option_copied};
 ghost use Rattle.bng_slots.specs.Sessions.{value_at, without, IsNumberOf};
@@ -232,6 +232,14 @@ impl Served {
         })
     }
 
+    /// Whether a session has an open question, handed out or not.
+    pub(crate) fn has_open(&self) -> bool
+        ensures none { result ≡ false → (handed : List ℕ) → waiting self.now handed ≡ [] }
+        ensures some { result ≡ true → (n : ℕ) × IsSome (open_ask_at self.now n) }
+    {
+        !self.asking.as_slice().is_empty()
+    }
+
     /// The session with this number.
     pub(crate) fn get(&self, number: SessionNo) -> Option<&Session>
         ensures { option_copied result ≡ value_at self.now.sessions number.0 }
@@ -366,6 +374,14 @@ impl Served {
         list(&mut self.asking, &session);
         list_young(&mut self.young, &session);
         self.sessions.put(number, session);
+    }
+
+    /// Whether a session has ended that is still there.
+    pub(crate) fn has_leaving(&self) -> bool
+        ensures none { result ≡ false → (reaped self.now).sessions ≡ self.now.sessions }
+        ensures some { result ≡ true → (reaped self.now).sessions ≢ self.now.sessions }
+    {
+        !self.leaving.as_slice().is_empty()
     }
 
     /// Lets the sessions that ended leave.

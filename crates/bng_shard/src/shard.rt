@@ -1,13 +1,11 @@
 //! One shard.
-ghost use Rattle.std.specs.Prelude.{ℕ, Some, IsSome, ◌⊎◌, drop, slice_get, IfSome, IfNone, ◌≡◌, ◌≢◌, ◌≤◌, ◌<◌, ◌+◌, ◌*◌, ◌^◌, [], true, IfOk, OnOk, length, option_map, vec_capacity};
-ghost use Rattle.bng_engine.specs.Books.{book_at};
+ghost use Rattle.std.specs.Prelude.{ℕ, Some, IsSome, ◌⊎◌, drop, slice_get, IfSome, IfNone, ◌≡◌, ◌≢◌, ◌≤◌, ◌<◌, ◌+◌, ◌*◌, ◌^◌, [], true, IfOk, OnOk, length, option_map};
 ghost use Rattle.bng_engine.specs.Calls.{Kept, IsReady};
 ghost use Rattle.bng_engine.specs.Protocol.{IsOwned};
 ghost use Rattle.bng_engine.specs.Showing.{ChargesShown};
 ghost use Rattle.bng_engine.specs.Terms.{keys};
 ghost use Rattle.bng_engine.specs.Views.{row_keys};
-ghost use Rattle.bng_shard.specs.Protocol.{AreHeld, Handles, HasPools, Leaves, SaysOf, TellsNew, deadline_of, ended_terms, entry_of, key_of, opened, pppoe, profiles_there, row_at, sessions_of, stop_of, terms_of};
-ghost use Rattle.bng_shard.specs.Questions.{asking_from, handed_after, waiting};
+ghost use Rattle.bng_shard.specs.Protocol.{AreHeld, Handles, HasPools, Leaves, SaysOf, TellsNew, ended_terms, entry_of, key_of, opened, pppoe, profiles_there, sessions_of, stop_of, terms_of};
 ghost use Rattle.bng_shard.specs.Room.{Admits};
 ghost use Rattle.bng_shard.specs.declared.session.Session.{Session};
 ghost use Rattle.bng_shard.specs.Interims.{AwaitsInterims, owed, row_in, row_told, with_report};
@@ -15,26 +13,23 @@ ghost use Rattle.bng_slots.specs.Sessions.{IsNumberOf, value_at};
 ghost use Rattle.std.specs.List.{All, AllPairs};
 ghost use Rattle.bng_engine.specs.Lists.{AnyOf};
 ghost use Rattle.bng_pool.specs.Tables.{TableFrees};
-ghost use Rattle.bng_shard.specs.Live.{live_in};
 ghost use Rattle.bng_shard.specs.State.{reaped};
 ghost use Rattle.bng_shard.specs.Tenures.{LeavesTerms, Tenure};
-ghost use Rattle.bng_shard.specs.Sums.{charged_as, traffic_in, AreCovered, AreLow, IsLow, RowsAreLow};
+ghost use Rattle.bng_shard.specs.Sums.{charged_as, AreCovered, AreLow, IsLow, RowsAreLow};
 
 use crate::claim::{ask, left_after};
 use crate::hear::hear;
 use crate::interims::Reports;
-use crate::questions::Handed;
 use crate::rules::Rules;
 use crate::sending::At;
 use crate::served::{Served, Survey};
-use crate::sums::{Charged, Traffic, book, charged_as, tally};
+use crate::sums::{Charged, book, charged_as, tally};
 use crate::term::{EndedTerm, LiveTerm, ReportedTerm};
 use crate::term_rows::stop_from;
 use crate::terms::Terms;
 use crate::wish::wish_for;
-use bng_base::{Book, Entry, Fate, Ip4, Item, LONGEST, OutRecord, SessionNo, Static};
+use bng_base::{Batch, Book, Entry, Fate, Item, LONGEST, OutRecord, SessionNo, Static};
 use bng_pool::PlainPool;
-use bng_verdict::AuthAsk;
 use std::alloc::{AllocError, Global};
 use std::marker::Model;
 use std::mem;
@@ -51,14 +46,14 @@ pub enum ShardError {
 #[derive(Drop)]
 pub struct Shard {
     rules: Rules,
-    served: Served,
-    terms: Terms,
-    passed: Book,
-    allowance: u32,
+    pub(crate) served: Served,
+    pub(crate) terms: Terms,
+    pub(crate) passed: Book,
+    pub(crate) allowance: u32,
     // how many terms may still begin in the round
     left: u32,
-    journal: Vec<Entry>,
-    outs: Vec<OutRecord>,
+    journal: Batch<Entry>,
+    outs: Batch<OutRecord>,
     room: usize,
 }
 
@@ -92,12 +87,12 @@ const TIMED_OUTS: usize = 643;
 const ITEMS_AT_FIRST: usize = 512;
 
 // Makes room for a round of so many items in lists that are empty, and says whether there is.
-fn reserve(journal: &mut Vec<Entry>, outs: &mut Vec<OutRecord>, items: usize) -> bool
+fn reserve(journal: &mut Batch<Entry>, outs: &mut Batch<OutRecord>, items: usize) -> bool
     requires few { items < 2 ^ 16 }
     requires none { (journal.old.items ≡ []) × (outs.old.items ≡ []) }
     ensures none_still { (journal.new.items ≡ []) × (outs.new.items ≡ []) }
-    ensures journal { result ≡ true → items ≤ vec_capacity journal.new }
-    ensures outs { result ≡ true → 10 * items + 643 ≤ vec_capacity outs.new }
+    ensures journal { result ≡ true → items ≤ journal.new.room }
+    ensures outs { result ≡ true → 10 * items + 643 ≤ outs.new.room }
 {
     if journal.reserve(items).is_err() {
         return false;
@@ -106,12 +101,12 @@ fn reserve(journal: &mut Vec<Entry>, outs: &mut Vec<OutRecord>, items: usize) ->
 }
 
 // The same, with room for a full round where there is memory for that.
-fn reserve_amply(journal: &mut Vec<Entry>, outs: &mut Vec<OutRecord>, items: usize) -> bool
+fn reserve_amply(journal: &mut Batch<Entry>, outs: &mut Batch<OutRecord>, items: usize) -> bool
     requires few { items < 2 ^ 16 }
     requires none { (journal.old.items ≡ []) × (outs.old.items ≡ []) }
     ensures none_still { (journal.new.items ≡ []) × (outs.new.items ≡ []) }
-    ensures journal { result ≡ true → items ≤ vec_capacity journal.new }
-    ensures outs { result ≡ true → 10 * items + 643 ≤ vec_capacity outs.new }
+    ensures journal { result ≡ true → items ≤ journal.new.room }
+    ensures outs { result ≡ true → 10 * items + 643 ≤ outs.new.room }
 {
     if items < ITEMS_AT_FIRST && reserve(journal, outs, ITEMS_AT_FIRST) {
         return true;
@@ -157,8 +152,8 @@ impl Shard {
             passed: Book::empty(),
             allowance: 0,
             left: 0,
-            journal: Vec::new(alloc),
-            outs: Vec::new(alloc),
+            journal: Batch::new(alloc),
+            outs: Batch::new(alloc),
             room: 0,
         })
     }
@@ -201,19 +196,19 @@ impl Shard {
         seat: u16,
         place: u16,
         now: u64,
-        item: Item,
+        item: &Item,
         ledger: &mut Book,
     ) -> Fate
         requires room { 0 < self.old.room }
-        requires once { Admits self.old item.kind }
+        requires once { Admits self.old item.now.kind }
         requires moment { now < 2 ^ 60 }
-        requires whole { item.frame.headroom ≡ 64 }
+        requires whole { item.now.frame.headroom ≡ 64 }
         requires low_books { AreLow (2 ^ 63) self.old.books }
         requires low_ledger { IsLow (2 ^ 63) ledger.old }
         requires pools { HasPools self.old.state.rules.pools pool.old.ranges }
         requires shards { self.old.number < pool.old.shards }
         requires held { AreHeld self.old.number (terms_of self.old.state) pool.old.table }
-        ensures { Handles self.old self.new pool.old pool.new (entry_of seat place now item) result ledger.old ledger.new }
+        ensures { Handles self.old self.new pool.old pool.new (entry_of seat place now item.now) result ledger.old ledger.new }
     {
         prove!(item.frame.payload().len() <= LONGEST);
         let at = At {
@@ -223,7 +218,7 @@ impl Shard {
         };
         let before = self.outs.as_slice().len();
         let limited = self.left == 0;
-        let wish = wish_for(&self.served, &self.rules, &item, limited);
+        let wish = wish_for(&self.served, &self.rules, item, limited);
         let claim = ask(pool, &self.rules, at.shard, wish);
         self.terms.are_rising();
         let fate = hear(
@@ -232,7 +227,7 @@ impl Shard {
             &self.rules,
             at,
             now,
-            &item,
+            item,
             claim,
             limited,
             &mut self.outs,
@@ -241,34 +236,21 @@ impl Shard {
         let sends = &self.outs.as_slice()[before..];
         book(&mut self.passed, sends);
         tally(ledger, sends);
-        self.journal.push_reserved(Entry {
-            seat,
-            place,
-            moment: now,
-            item,
-            claim,
-        });
+        self.journal.push_entry(seat, place, now, item, claim);
         self.room -= 1;
         fate
     }
 
-    /// How many terms may begin in the round that is going on, or was held last.
-    pub fn allowance(&self) -> u32
-        ensures { result ≡ self.now.allowance }
-    {
-        self.allowance
-    }
-
     /// Hands out the journal of the round and what is to be sent for it.
-    pub fn drain(&mut self) -> (Vec<Entry>, Vec<OutRecord>)
+    pub fn drain(&mut self) -> (Batch<Entry>, Batch<OutRecord>)
         ensures journal { result.0.items ≡ self.old.journal }
         ensures outs { result.1.items ≡ self.old.outs }
         ensures after { self.new ≡ record self.old { journal = []; outs = []; room = 0 } }
     {
-        let alloc = *self.journal.allocator();
+        let alloc = self.terms.allocator();
         self.room = 0;
-        let journal = mem::replace(&mut self.journal, Vec::new(alloc));
-        let outs = mem::replace(&mut self.outs, Vec::new(alloc));
+        let journal = mem::replace(&mut self.journal, Batch::new(alloc));
+        let outs = mem::replace(&mut self.outs, Batch::new(alloc));
         (journal, outs)
     }
 
@@ -357,9 +339,9 @@ impl Shard {
         told
     }
 
-    /// Keeps an empty list for the journals of the rounds to come, as one that `drain` handed out: its room serves again. No round
+    /// Keeps an empty list for the journals of the rounds to come, as one that `drain` handed out: its places serve again. No round
     /// may be going on.
-    pub fn keep_journal(&mut self, list: Vec<Entry>)
+    pub fn keep_journal(&mut self, list: Batch<Entry>)
         requires empty { list.items ≡ [] }
         requires journal { self.old.journal ≡ [] }
         ensures { self.new ≡ record self.old { room = 0 } }
@@ -369,7 +351,7 @@ impl Shard {
     }
 
     /// The same for what is to be sent.
-    pub fn keep_outs(&mut self, list: Vec<OutRecord>)
+    pub fn keep_outs(&mut self, list: Batch<OutRecord>)
         requires empty { list.items ≡ [] }
         requires outs { self.old.outs ≡ [] }
         ensures { self.new ≡ record self.old { room = 0 } }
@@ -389,76 +371,5 @@ impl Shard {
     {
         self.terms.settle(&mut self.passed, out);
         charged_as(out.charge)
-    }
-
-    /// The earliest deadline of its sessions, in milliseconds; none exactly where no session has one.
-    pub fn due(&self) -> Option<u64>
-        ensures { result ≡ deadline_of self.now.state }
-    {
-        self.served.due()
-    }
-
-    /// Hands out the open question of the lowest session number that was not handed out yet; none exactly where there is none. Which
-    /// were handed out is kept in `handed`, which is this shard's alone.
-    pub fn asked(&self, handed: &mut Handed) -> Option<AuthAsk>
-        ensures first { option_map asking_from result ≡ slice_get (waiting self.now.state.slots handed.old) 0 }
-        ensures own { IfSome result (λ a. IsNumberOf self.now.number a.number.session.0) }
-        ensures rest { waiting self.now.state.slots handed.new ≡ drop 1 (waiting self.now.state.slots handed.old) }
-        ensures handed { IfSome result (λ a. handed.new ≡ handed_after handed.old a.number) }
-        ensures kept { IfNone result (handed.new ≡ handed.old) }
-    {
-        let ask = self.served.first_waiting(handed)?;
-        handed.note(ask.number);
-        Some(ask)
-    }
-
-    /// How many terms began, from the opening on.
-    pub fn begun(&self) -> u64
-        ensures { result ≡ self.now.state.slots.begun }
-    {
-        self.served.begun()
-    }
-
-    /// How many sessions there are, provisioned circuits among them.
-    pub fn sessions(&self) -> u32
-        ensures { result ≡ sessions_of self.now.state }
-    {
-        self.served.count()
-    }
-
-    /// What passed under this profile, from 0, and was not taken off. There is one profile.
-    pub fn book(&self, profile: u8) -> Book
-        requires { profile < profiles_there }
-        ensures book { result ≡ book_at profile self.now.books }
-        ensures number { length self.now.books ≡ profiles_there }
-    {
-        prove!(profile == 0);
-        self.passed
-    }
-
-    /// What the term that has this address carried; none exactly where no term has it.
-    pub fn carried(&self, address: Ip4) -> Option<Traffic>
-        ensures { result ≡ option_map traffic_in (row_at self.now.rows address) }
-    {
-        self.terms.carried_by(address)
-    }
-
-    /// The octets that the terms that are there, those of which no Stop was handed out yet, carried together: from their subscribers
-    /// (input) and towards them (output). Each sum is below 2^64.
-    pub fn live(&self) -> Traffic
-        requires input { (live_in self.now.rows).input < 2 ^ 64 }
-        requires output { (live_in self.now.rows).output < 2 ^ 64 }
-        ensures { result ≡ live_in self.now.rows }
-    {
-        self.terms.live()
-    }
-
-    /// The term at this place, from 0, of those that are there, by their numbers: which it is, its circuit and its address. One that
-    /// has ended is there until it is handed out by `reap`. None exactly past the last.
-    pub fn term(&self, place: usize) -> Option<LiveTerm>
-        ensures keys { option_map key_of result ≡ slice_get (row_keys self.now.rows) place }
-        ensures says { IfSome result (λ t. AnyOf (SaysOf t.user.items t.class.items t.began (key_of t)) self.now.state.slots.terms) }
-    {
-        self.terms.term_at(place)
     }
 }

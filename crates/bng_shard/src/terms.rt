@@ -142,6 +142,11 @@ impl Terms {
         })
     }
 
+    /// What its memory comes from.
+    pub(crate) fn allocator(&self) -> Global {
+        *self.rows.allocator()
+    }
+
     /// Makes room for so many terms more, and says whether there is; there is none where not.
     pub(crate) fn reserve(&mut self, items: usize) -> bool
         ensures kept { self.new ≡ record self.old { room = self.new.room } }
@@ -214,6 +219,22 @@ impl Terms {
         Some(row)
     }
 
+    /// Whether a term has ended that is still there.
+    pub(crate) fn has_over(&self) -> bool
+        ensures none { result ≡ false → filter has_ended self.now.rows ≡ [] }
+        ensures some { result ≡ true → filter has_ended self.now.rows ≢ [] }
+    {
+        self.over > 0
+    }
+
+    /// Whether there is a term of whose beginning no Start was formed yet.
+    pub(crate) fn has_news(&self) -> bool
+        ensures none { result ≡ false → self.now.news ≡ [] }
+        ensures some { result ≡ true → self.now.news ≢ [] }
+    {
+        !self.news.is_empty()
+    }
+
     /// Takes out the first in order of those of whose beginning no Start was formed yet; none exactly where there is none.
     pub(crate) fn take_first_new(&mut self) -> Option<Running>
         ensures one { IfSome result (λ r. TakesFirst false self.old.news r self.new.news × (self.new ≡ record self.old { news = self.new.news })) }
@@ -246,9 +267,11 @@ impl Terms {
     }
 
     /// What the terms carried that have no Stop yet, in all.
-    pub(crate) fn live(&self) -> Traffic
+    pub(crate) fn live(&self) -> Book
         requires input { (live_in (rows_in self.now.rows)).input < 2 ^ 64 }
         requires output { (live_in (rows_in self.now.rows)).output < 2 ^ 64 }
+        requires input_packets { (live_in (rows_in self.now.rows)).input_packets < 2 ^ 64 }
+        requires output_packets { (live_in (rows_in self.now.rows)).output_packets < 2 ^ 64 }
         ensures { result ≡ live_in (rows_in self.now.rows) }
     {
         live(&self.rows)

@@ -244,10 +244,10 @@ impl Bench {
         assert!(rt; self.shard.prepare(alloc, 1, 1).is_ok());
         assert!(rt; has_low_book(&self.shard));
         assert!(rt; is_low(tally));
-        let fate = self.shard.step(&mut self.pool, 0, 0, now, item, tally);
+        let fate = self.shard.step(&mut self.pool, 0, 0, now, &item, tally);
         let (journal, outs) = self.shard.drain();
         assert_eq!(rt; journal.len(), 1);
-        (fate, outs)
+        (fate, outs.into_vec())
     }
 
     // The first term of whose beginning no Start was formed yet.

@@ -1,5 +1,5 @@
 //! Ticks and Ends.
-ghost use Rattle.std.specs.Prelude.{◌≡◌, ◌+◌, ◌<◌, ◌≤◌, ◌^◌, ◌++◌, ℕ, List, Option as Maybe, Some, length, vec_capacity};
+ghost use Rattle.std.specs.Prelude.{◌≡◌, ◌+◌, ◌<◌, ◌≤◌, ◌^◌, ◌++◌, ℕ, List, Option as Maybe, Some, length};
 ghost use Rattle.bng_ppp.specs.PppRelation.{PppSteps};
 ghost use Rattle.bng_ppp.specs.declared.whole_input.WholeInput.TheVariants.{Timer};
 ghost use Rattle.bng_base.specs.declared.item.OutRecord.{OutRecord as Out};
@@ -19,7 +19,7 @@ use crate::sending::At;
 use crate::served::Served;
 use crate::session::{Service, Session};
 use crate::terms::Terms;
-use bng_base::OutRecord;
+use bng_base::{Batch, OutRecord};
 use bng_ppp::WholeInput;
 
 /// The cause of an end by the gateway's own stop (RFC 2866 section 5.10, NAS Request).
@@ -37,7 +37,7 @@ fn remind(
     at: At,
     now: u64,
     random: &[u8; 16],
-    outs: &mut Vec<OutRecord>,
+    outs: &mut Batch<OutRecord>,
 ) -> u64
     requires moment { now < 2 ^ 60 }
     requires auth { 0 < length rules.now.link.auth.items }
@@ -45,12 +45,12 @@ fn remind(
     requires placed { (port : Port) × (port_at rules.now.access session.old.port ≡ Some port) }
     requires made { made_one session.old.service ≡ 1 }
     requires leased { KeepsLease session.old.service session.old.lease }
-    requires room { length outs.old.items + 5 ≤ vec_capacity outs.old }
+    requires room { length outs.old.items + 5 ≤ outs.old.room }
     ensures driven { (cause : Maybe ℕ) × Driven rules.now at (PppSteps rules.now.link Timer now random.now) asked session.old cause session.new result outs.old.items outs.new.items
         × (terms.new ≡ record terms.old { rows = closed_rows session.old.lease cause terms.old.rows }) }
     ensures leased { KeepsLease session.new.service session.new.lease }
     ensures number { session.new.number ≡ session.old.number }
-    ensures capacity { vec_capacity outs.new ≡ vec_capacity outs.old }
+    ensures capacity { outs.new.room ≡ outs.old.room }
     ensures few { length outs.new.items ≤ length outs.old.items + 3 }
 {
     let lease = session.lease();
@@ -79,7 +79,7 @@ fn look_at(
     at: At,
     now: u64,
     random: &[u8; 16],
-    outs: &mut Vec<OutRecord>,
+    outs: &mut Batch<OutRecord>,
 ) -> u64
     requires moment { now < 2 ^ 60 }
     requires low { passed < 2 ^ 60 }
@@ -88,11 +88,11 @@ fn look_at(
     requires placed { (port : Port) × (port_at rules.now.access session.old.port ≡ Some port) }
     requires made { made_one session.old.service ≡ 1 }
     requires leased { KeepsLease session.old.service session.old.lease }
-    requires room { length outs.old.items + 5 ≤ vec_capacity outs.old }
+    requires room { length outs.old.items + 5 ≤ outs.old.room }
     ensures looked { LookedOnce (cause_at passed session.old.lease now) rules.now at now random.now passed asked session.old session.new result terms.old terms.new outs.old.items outs.new.items }
     ensures leased { KeepsLease session.new.service session.new.lease }
     ensures number { session.new.number ≡ session.old.number }
-    ensures capacity { vec_capacity outs.new ≡ vec_capacity outs.old }
+    ensures capacity { outs.new.room ≡ outs.old.room }
     ensures few { length outs.new.items ≤ length outs.old.items + 2 }
 {
     let Some(cause) = session.look(passed, now) else {
@@ -121,17 +121,17 @@ fn tick_once(
     at: At,
     now: u64,
     random: &[u8; 16],
-    outs: &mut Vec<OutRecord>,
+    outs: &mut Batch<OutRecord>,
 ) -> bool
     requires moment { now < 2 ^ 60 }
     requires auth { 0 < length rules.now.link.auth.items }
     requires offers { length rules.now.offers ≡ length rules.now.access }
     requires placed { ArePlaced rules.now served.old.sessions }
-    requires room { length outs.old.items + 8 ≤ vec_capacity outs.old }
+    requires room { length outs.old.items + 8 ≤ outs.old.room }
     ensures sums { KeepSums terms.old terms.new }
     ensures ticked { TickedOnce result rules.now at now random.now (whole served.old terms.old) (whole served.new terms.new) outs.old.items outs.new.items }
     ensures placed { ArePlaced rules.now served.new.sessions }
-    ensures capacity { vec_capacity outs.new ≡ vec_capacity outs.old }
+    ensures capacity { outs.new.room ≡ outs.old.room }
     ensures few { length outs.new.items ≤ length outs.old.items + 5 }
 {
     let Some(number) = served.first_due(now) else {
@@ -158,12 +158,12 @@ fn tick_once(
 }
 
 // Tells a session that it ends: one that discovery made by a PADT; a provisioned circuit is told nothing.
-fn tell_end(rules: &Rules, at: At, session: &Session, outs: &mut Vec<OutRecord>)
+fn tell_end(rules: &Rules, at: At, session: &Session, outs: &mut Batch<OutRecord>)
     requires offers { length rules.now.offers ≡ length rules.now.access }
     requires placed { (port : Port) × (port_at rules.now.access session.now.port ≡ Some port) }
-    requires room { length outs.old.items < vec_capacity outs.old }
+    requires room { length outs.old.items < outs.old.room }
     ensures told { (padt : List Out) × TellsEnd session.now.service rules.now at session.now padt × (outs.new.items ≡ outs.old.items ++ padt) }
-    ensures capacity { vec_capacity outs.new ≡ vec_capacity outs.old }
+    ensures capacity { outs.new.room ≡ outs.old.room }
     ensures few { length outs.new.items ≤ length outs.old.items + 1 }
 {
     match &session.service {
@@ -178,15 +178,15 @@ fn end_once(
     terms: &mut Terms,
     rules: &Rules,
     at: At,
-    outs: &mut Vec<OutRecord>,
+    outs: &mut Batch<OutRecord>,
 ) -> bool
     requires offers { length rules.now.offers ≡ length rules.now.access }
     requires placed { ArePlaced rules.now served.old.sessions }
-    requires room { length outs.old.items < vec_capacity outs.old }
+    requires room { length outs.old.items < outs.old.room }
     ensures sums { KeepSums terms.old terms.new }
     ensures ended { EndedOnce result rules.now at (whole served.old terms.old) (whole served.new terms.new) outs.old.items outs.new.items }
     ensures placed { ArePlaced rules.now served.new.sessions }
-    ensures capacity { vec_capacity outs.new ≡ vec_capacity outs.old }
+    ensures capacity { outs.new.room ≡ outs.old.room }
     ensures few { length outs.new.items ≤ length outs.old.items + 1 }
 {
     let Some(number) = served.lowest_staying() else {
@@ -210,16 +210,16 @@ pub(crate) fn tick(
     at: At,
     now: u64,
     random: &[u8; 16],
-    outs: &mut Vec<OutRecord>,
+    outs: &mut Batch<OutRecord>,
 )
     requires moment { now < 2 ^ 60 }
     requires auth { 0 < length rules.now.link.auth.items }
     requires offers { length rules.now.offers ≡ length rules.now.access }
     requires placed { ArePlaced rules.now served.old.sessions }
-    requires room { length outs.old.items + 323 ≤ vec_capacity outs.old }
+    requires room { length outs.old.items + 323 ≤ outs.old.room }
     ensures sums { KeepSums terms.old terms.new }
     ensures ticked { Ticked at_once rules.now at now random.now (whole served.old terms.old) (whole served.new terms.new) outs.old.items outs.new.items }
-    ensures capacity { vec_capacity outs.new ≡ vec_capacity outs.old }
+    ensures capacity { outs.new.room ≡ outs.old.room }
 {
     for _ in 0..AT_ONCE {
         if !tick_once(served, terms, rules, at, now, random, outs) {
@@ -234,14 +234,14 @@ pub(crate) fn end(
     terms: &mut Terms,
     rules: &Rules,
     at: At,
-    outs: &mut Vec<OutRecord>,
+    outs: &mut Batch<OutRecord>,
 )
     requires offers { length rules.now.offers ≡ length rules.now.access }
     requires placed { ArePlaced rules.now served.old.sessions }
-    requires room { length outs.old.items + 320 ≤ vec_capacity outs.old }
+    requires room { length outs.old.items + 320 ≤ outs.old.room }
     ensures sums { KeepSums terms.old terms.new }
     ensures ended { Ended at_once rules.now at (whole served.old terms.old) (whole served.new terms.new) outs.old.items outs.new.items }
-    ensures capacity { vec_capacity outs.new ≡ vec_capacity outs.old }
+    ensures capacity { outs.new.room ≡ outs.old.room }
 {
     for _ in 0..AT_ONCE {
         if !end_once(served, terms, rules, at, outs) {

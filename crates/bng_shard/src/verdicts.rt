@@ -1,5 +1,5 @@
 //! Verdicts on the questions of sessions.
-ghost use Rattle.std.specs.Prelude.{◌≡◌, ◌<◌, ◌≤◌, ◌+◌, ◌^◌, ◌++◌, ◌∷◌, [], ℕ, true, Option as Maybe, Some, None as Nothing, length, vec_capacity};
+ghost use Rattle.std.specs.Prelude.{◌≡◌, ◌<◌, ◌≤◌, ◌+◌, ◌^◌, ◌++◌, ◌∷◌, [], ℕ, true, Option as Maybe, Some, None as Nothing, length};
 ghost use Rattle.std.specs.List.{All};
 ghost use Rattle.bng_base.specs.declared.address.Ip4.{Ip4 as Address};
 ghost use Rattle.bng_base.specs.declared.item.ItemKind.TheVariants.{Verdict as VerdictKind};
@@ -31,7 +31,7 @@ use crate::term_rows::copied;
 use crate::terms::{Running, Terms};
 use crate::wish::pool_for;
 use arrayvec::ArrayVec;
-use bng_base::{Book, Claim, Fate, Ip4, Item, NamedRange, OutRecord, SessionNo, TermId};
+use bng_base::{Batch, Book, Claim, Fate, Ip4, Item, NamedRange, OutRecord, SessionNo, TermId};
 use bng_grant::{Grant, grant_of};
 use bng_ppp::WholeInput;
 use bng_term::{Lifetime, Limits};
@@ -213,7 +213,7 @@ fn settle_question(
     told: Told,
     now: u64,
     random: &[u8; 16],
-    outs: &mut Vec<OutRecord>,
+    outs: &mut Batch<OutRecord>,
 )
     requires moment { now < 2 ^ 60 }
     requires auth { 0 < length rules.now.link.auth.items }
@@ -221,12 +221,12 @@ fn settle_question(
     requires placed { ArePlaced rules.now served.old.sessions }
     requires asks { (x : Seen) × (q : Asked) × (value_at served.old.sessions number.0 ≡ Some x) × (open_of x ≡ Some q) }
     requires begins { (a : Address) → told.lease ≡ Some a → (told.yes ≡ true) × MayBegin a served.old terms.old }
-    requires room { length outs.old.items + 5 ≤ vec_capacity outs.old }
+    requires room { length outs.old.items + 5 ≤ outs.old.room }
     ensures settled { (x : Seen) (q : Asked) → value_at served.old.sessions number.0 ≡ Some x → open_of x ≡ Some q → (x' : Seen) × (cause : Maybe ℕ) × (asked : ℕ)
         × Driven rules.now at (IsToldVerdict rules.now.link told now random.now) served.old.asked x cause x' asked outs.old.items outs.new.items
         × (x.lease ≡ Nothing) × (whole served.new terms.new ≡ settled_by (whole served.old terms.old) number.0 x q told now x' asked told.lease) }
     ensures sums { SumsStay terms.old terms.new }
-    ensures capacity { vec_capacity outs.new ≡ vec_capacity outs.old }
+    ensures capacity { outs.new.room ≡ outs.old.room }
     ensures few { length outs.new.items ≤ length outs.old.items + 5 }
 {
     let mut session = served.take(number);
@@ -278,7 +278,7 @@ pub(crate) fn hear_verdict(
     item: &Item,
     claim: Claim,
     limited: bool,
-    outs: &mut Vec<OutRecord>,
+    outs: &mut Batch<OutRecord>,
 ) -> Fate
     requires moment { now < 2 ^ 60 }
     requires auth { 0 < length rules.now.link.auth.items }
@@ -289,10 +289,10 @@ pub(crate) fn hear_verdict(
     requires kind { item.now.kind ≡ VerdictKind }
     requires asked { IsAnswered rules.now served.old item.now limited claim }
     requires begins { (a : Address) → claim ≡ Claim.Claimed a → MayBegin a served.old terms.old }
-    requires room { length outs.old.items + 5 ≤ vec_capacity outs.old }
+    requires room { length outs.old.items + 5 ≤ outs.old.room }
     ensures does { Does (HearsVerdict rules.now (whole served.old terms.old) (entry_with claim at.seat at.place now item.now) limited) 5 (whole served.old terms.old) (whole served.new terms.new) outs.old.items outs.new.items (entry_with claim at.seat at.place now item.now) result }
     ensures sums { SumsStay terms.old terms.new }
-    ensures capacity { vec_capacity outs.new ≡ vec_capacity outs.old }
+    ensures capacity { outs.new.room ≡ outs.old.room }
 {
     let number = SessionNo(item.target);
     if served.open_ask(number) != Some(item.ask) {

@@ -12,7 +12,7 @@ const FORWARDED: [u8; 20] = [
 ];
 
 /// The same from 10.0.0.3.
-const SPOOFED: [u8; 20] = [
+pub(super) const SPOOFED: [u8; 20] = [
     0x45, 0, 0, 0x54, 0, 1, 0, 0, 0x40, 1, 0xae, 0xa4, 10, 0, 0, 3, 0xc0, 0, 2, 1,
 ];
 
@@ -31,7 +31,7 @@ const PACKET_IN: &[u8] = b"\x2a\x06\x00\x00\x00\x54";
 const NOTHING_OUT: &[u8] = b"\x2b\x06\x00\x00\x00\x00";
 
 /// A packet of 20 octets from 10.0.0.2 with TTL 2 in a frame of the circuit, padded to 60 octets.
-const PADDED: [u8; 60] = [
+pub(super) const PADDED: [u8; 60] = [
     0x02, 0, 0, 0, 0, 0xfe, 0x02, 0, 0, 0, 0, 0x01, 0x88, 0x64, 0x11, 0x00, 0x04, 0x01, 0x00, 0x16,
     0x00, 0x21, 0x45, 0, 0, 0x14, 0, 2, 0, 0, 2, 0x11, 0xec, 0xd4, 10, 0, 0, 2, 0xc0, 0, 2, 1, 0,
     0, 0, 0, 0, 0, 0, 0, 0, 0, 0, 0, 0, 0, 0, 0, 0, 0,

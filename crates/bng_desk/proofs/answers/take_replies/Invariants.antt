@@ -1,4 +1,4 @@
-use Rattle.std.proofs.Common.{◌≡◌, ◌+◌, ◌≤◌, List, length, vec_capacity}
+use Rattle.std.proofs.Common.{◌≡◌, ◌+◌, ◌≤◌, List, length}
 use Rattle.bng_desk.specs.Logins.{Answered}
 use Rattle.bng_desk.proofs.LoginLaws.{HeardSome}
 use Rattle.bng_desk.proofs.answers.take_replies.Given as goal
@@ -13,5 +13,5 @@ invariant-loop-taken g l =
       heard : HeardSome (told l.fn.plant) (told l.plant) l.fn.lane l.lane l.fn.draws l.draws l.fn.items.items l.items.items l.quiet answers;
       number : length l.items.items ≤ length l.fn.items.items + l._taken;
       drawn : l.draws.drawn ≤ l.fn.draws.drawn + l._taken;
-      capacity : vec_capacity l.items ≡ vec_capacity l.fn.items;
+      capacity : l.items.room ≡ l.fn.items.room;
     }

@@ -1,4 +1,4 @@
-use Rattle.std.proofs.Common.{◌≡◌, ◌+◌, ◌++◌, length, vec_capacity}
+use Rattle.std.proofs.Common.{◌≡◌, ◌+◌, ◌++◌, length}
 use Rattle.bng_desk.specs.Items.{ends_of, drawn_from}
 use Rattle.bng_desk.proofs.due.add_ends.Given as goal
 
@@ -9,5 +9,5 @@ invariant-loop-number l =
       items : l.items.items ≡ l.fn.items.items ++ drawn_from l.fn.draws.seed l.fn.draws.drawn (ends_of l.number);
       count : length l.items.items ≡ length l.fn.items.items + l.number;
       draws : l.draws ≡ record l.fn.draws { drawn = l.fn.draws.drawn + l.number };
-      capacity : vec_capacity l.items ≡ vec_capacity l.fn.items;
+      capacity : l.items.room ≡ l.fn.items.room;
     }

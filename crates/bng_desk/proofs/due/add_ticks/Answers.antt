@@ -1,4 +1,4 @@
-use Rattle.std.proofs.Common.{◌≡◌, ◌+◌, ◌<◌, ◌≤◌, ◌^◌, ◌++◌, ℕ, List, [], ◌∷◌, length, take, vec_capacity, length-append, refl, sym, ap, ◌∙◌, arith}
+use Rattle.std.proofs.Common.{◌≡◌, ◌+◌, ◌<◌, ◌≤◌, ◌^◌, ◌++◌, ℕ, List, [], ◌∷◌, length, take, length-append, refl, sym, ap, ◌∙◌, arith}
 use Rattle.std.proofs.lemmas.List.{take_more, length-take-le}
 use Rattle.bng_base.specs.declared.item.Entry.{Entry}
 use Rattle.bng_base.specs.declared.item.Item.{Item}
@@ -20,7 +20,7 @@ add_tick-requires-clause-room c =
     let so_far = c.loop-number.invariant in
     let ticks = ticks_of c.args.now (take k vs) in
     let drawn = drawn_from c.args.draws.now.seed c.args.draws.now.drawn ticks in
-    let room : length c.loop-number.items.items < vec_capacity c.loop-number.items =
+    let room : length c.loop-number.items.items < c.loop-number.items.room =
     omega (arith, few c.args.now k vs c.loop-number-test.true, c.loop-number-test.true, ap (λ (is : List Item). length is) so_far.items, length-append c.args.items.now.items drawn, drawn_length c.args.draws.now.seed c.args.draws.now.drawn ticks, so_far.capacity, c.requires.room) in
     room
 

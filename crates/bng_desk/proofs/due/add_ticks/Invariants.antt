@@ -1,4 +1,4 @@
-use Rattle.std.proofs.Common.{◌≡◌, ◌+◌, ◌++◌, length, take, vec_capacity}
+use Rattle.std.proofs.Common.{◌≡◌, ◌+◌, ◌++◌, length, take}
 use Rattle.bng_desk.specs.Items.{ticks_of, drawn_from}
 use Rattle.bng_desk.proofs.due.add_ticks.Given as goal
 
@@ -9,5 +9,5 @@ invariant-loop-number l =
     record {
       items : l.items.items ≡ l.fn.items.items ++ drawn_from l.fn.draws.seed l.fn.draws.drawn ticks;
       draws : l.draws ≡ record l.fn.draws { drawn = l.fn.draws.drawn + length ticks };
-      capacity : vec_capacity l.items ≡ vec_capacity l.fn.items;
+      capacity : l.items.room ≡ l.fn.items.room;
     }

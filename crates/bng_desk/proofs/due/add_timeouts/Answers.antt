@@ -1,5 +1,6 @@
-use Rattle.std.proofs.Common.{ℕ, false, ◌≡◌, ◌+◌, ◌++◌, List, [], ◌∷◌, length, length-append, sym, ap, ◌∙◌, arith}
+use Rattle.std.proofs.Common.{ℕ, false, ◌≡◌, ◌+◌, ◌++◌, List, [], ◌∷◌, None, length, length-append, append-nil, refl, sym, ap, ◌∙◌, arith}
 use Rattle.bng_base.specs.declared.item.Item.{Item}
+use Rattle.bng_base.specs.Batches.{Batch}
 use Rattle.bng_base.specs.Packet.{Packet}
 use Rattle.bng_desk.specs.Items.{drawn_from, nobody}
 use Rattle.bng_desk.specs.Logins.{timeout_items, verdict_item, silence}
@@ -7,6 +8,16 @@ use Rattle.bng_desk.specs.Random.{Drawn, draw}
 use Rattle.bng_desk.proofs.Drawing.{drawn_more}
 use Rattle.bng_desk.proofs.LoginLaws.{gave_up_more, gave_up_all, draws_one, timeouts_length, timeouts_more, verdict_drawn}
 use Rattle.bng_desk.proofs.due.add_timeouts.Goals as goal
+
+pub returns-then-not-is_due-clause-adds : goal.returns-then-not-is_due-clause-adds
+returns-then-not-is_due-clause-adds c =
+    let l = c.args.lane.now in
+    record {
+      timed = [];
+      times_out = gave_up_all c.args.now c.args.most l l l [] None refl (c.if-not-is_due.ensures.given_up refl) refl (omega arith);
+      items_are = sym (append-nil c.args.items.now.items);
+      draws_are = ap (λ (n : ℕ). record c.args.draws.now { drawn = n }) (omega arith);
+    }
 
 pub returns-in_default-clause-adds : goal.returns-in_default-clause-adds
 returns-in_default-clause-adds c =
@@ -18,8 +29,8 @@ returns-in_default-clause-adds c =
       draws_are = so_far.draws;
     }
 
-pub push_reserved-requires : goal.push_reserved-requires
-push_reserved-requires c = omega (arith, c.loop-given_up-test.true, c.loop-given_up.invariant.number, c.loop-given_up.invariant.capacity, c.requires.room)
+pub push-requires : goal.push-requires
+push-requires c = record { room = omega (arith, c.loop-given_up-test.true, c.loop-given_up.invariant.number, c.loop-given_up.invariant.capacity, c.requires.room) }
 
 pub loop-given_up-preserved : goal.loop-given_up-preserved
 loop-given_up-preserved c =
@@ -37,13 +48,13 @@ loop-given_up-preserved c =
       timed = so_far.timed ++ q ∷ [];
       count = omega (arith, so_far.count, length-append so_far.timed (q ∷ []));
       given_up = gave_up_more c.args.now c.args.lane.now c.loop-given_up.lane c.give_up.new.self so_far.timed c.give_up.result q so_far.given_up c.give_up.ensures c.in-Some.is;
-      items = drawn_more seed n old c.loop-given_up.items.items c.push_reserved.new.self.items before here c.loop-given_up.draws so_far.items drawn_so_far
-          (verdict_drawn c.loop-given_up.items.items c.push_reserved.new.self.items c.verdict.result nobody false q c.new.result.payload [] c.sixteen-random.result (draw c.loop-given_up.draws.seed c.loop-given_up.draws.drawn)
-          c.push_reserved.ensures.items c.verdict.ensures (ap (λ (p : Packet). p.payload) c.new.ensures) c.sixteen-random.ensures.octets)
+      items = drawn_more seed n old c.loop-given_up.items.items c.push.new.self.items before here c.loop-given_up.draws so_far.items drawn_so_far
+          (verdict_drawn c.loop-given_up.items.items c.push.new.self.items c.verdict.result nobody false q c.new.result.payload [] c.sixteen-random.result (draw c.loop-given_up.draws.seed c.loop-given_up.draws.drawn)
+          (ap (λ (b : Batch Item). b.items) c.push.ensures) c.verdict.ensures (ap (λ (p : Packet). p.payload) c.new.ensures) c.sixteen-random.ensures.octets)
           ∙ ap (λ (is : List Item). old ++ drawn_from seed n is) (sym (timeouts_more so_far.timed q));
       draws = draws_one c.args.draws.now c.loop-given_up.draws c.sixteen-random.new.self so_far.timed q so_far.draws c.sixteen-random.ensures.counted;
-      number = omega (arith, ap (λ (is : List Item). length is) c.push_reserved.ensures.items, length-append c.loop-given_up.items.items (c.verdict.result ∷ []), so_far.number);
-      capacity = c.push_reserved.ensures.capacity ∙ so_far.capacity;
+      number = omega (arith, ap (λ (b : Batch Item). length b.items) c.push.ensures, length-append c.loop-given_up.items.items (c.verdict.result ∷ []), so_far.number);
+      capacity = ap (λ (b : Batch Item). b.room) c.push.ensures ∙ so_far.capacity;
     }
 
 pub returns-in_default-clause-few : goal.returns-in_default-clause-few

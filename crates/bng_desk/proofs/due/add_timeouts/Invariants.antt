@@ -1,4 +1,4 @@
-use Rattle.std.proofs.Common.{◌≡◌, ◌+◌, ◌++◌, List, length, vec_capacity}
+use Rattle.std.proofs.Common.{◌≡◌, ◌+◌, ◌++◌, List, length}
 use Rattle.std.specs.Prelude.{Some}
 use Rattle.bng_base.specs.Chain.{Chain}
 use Rattle.bng_lane.specs.Due.{GivesUp}
@@ -16,5 +16,5 @@ invariant-loop-given_up l = record {
   items : l.items.items ≡ l.fn.items.items ++ drawn_from l.fn.draws.seed l.fn.draws.drawn (timeout_items timed);
   draws : l.draws ≡ record l.fn.draws { drawn = l.fn.draws.drawn + length timed };
   number : length l.items.items ≡ length l.fn.items.items + l._given_up;
-  capacity : vec_capacity l.items ≡ vec_capacity l.fn.items;
+  capacity : l.items.room ≡ l.fn.items.room;
 }

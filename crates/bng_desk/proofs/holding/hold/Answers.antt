@@ -1,5 +1,6 @@
-use Rattle.std.proofs.Common.{◌≡◌, inl, ℕ, ◌≤◌, ◌+◌, ◌^◌, List, map, refl, Vec, Global, length, ap, sym, subst, ◌∙◌, arith}
+use Rattle.std.proofs.Common.{◌≡◌, inl, ℕ, ◌≤◌, ◌+◌, ◌^◌, List, map, refl, length, ap, sym, subst, ◌∙◌, arith}
 use Rattle.std.proofs.lemmas.List.Sums.{count_by-le-length, length-filter}
+use Rattle.bng_base.specs.Batches.{Batch}
 use Rattle.bng_base.specs.declared.item.Item.{Item}
 use Rattle.std.specs.List.{AllZip}
 use Rattle.bng_engine.specs.Calls.{Kept}
@@ -18,7 +19,7 @@ use Rattle.bng_desk.proofs.OneMore.{low_more}
 use Rattle.bng_desk.proofs.Readying.{WorksBy, all_onward, order_kept}
 use Rattle.bng_desk.proofs.Shares.{allowed_sum, shares_few}
 use Rattle.bng_desk.proofs.Returning.{held_kept}
-use Rattle.bng_desk.proofs.SameTerms.{MadeReady, allowed_as, kept_keys, knows_held, ready_each, terms_held}
+use Rattle.bng_desk.proofs.SameTerms.{MadeReady, allowed_as, kept_keys, knows_held, numbers_each, ready_each, terms_held}
 use Rattle.bng_desk.proofs.Tallied.{lines_kept, sum_kept}
 use Rattle.bng_desk.proofs.holding.hold.Goals as goal
 
@@ -46,6 +47,10 @@ opened-requires-clause-one_rule g c = all_onward Kept (WorksBy c.args.rules.now)
 pub opened-requires-clause-terms : goal.opened-requires-clause-terms
 opened-requires-clause-terms g c = terms_held c.args.named.moment c.args.shards.now c.prepare_all.new.shards c.prepare_all.ensures.kept c.requires.terms
 
+pub opened-requires-clause-serials : goal.opened-requires-clause-serials
+opened-requires-clause-serials g c =
+    numbers_each c.args.named.moment _ c.free-free.result (length c.args.shards.now) c.args.shards.now c.prepare_all.new.shards c.prepare_all.ensures.kept (c.prepare_all.ensures.ready c.if-prepare_all.true) c.requires.terms
+
 pub opened-requires-clause-knows : goal.opened-requires-clause-knows
 opened-requires-clause-knows g c = knows_held c.args.shards.now c.prepare_all.new.shards c.args.accounts.now.billing c.prepare_all.ensures.kept c.requires.knows
 
@@ -58,7 +63,7 @@ opened-requires-clause-ready g c =
     let ready = c.prepare_all.new.shards in
     let free = c.free-free.result in
     ready_each (length c.args.lists.items.items) free (length shards) shards ready
-    (subst (λ (n : ℕ). AllZip (MadeReady n free (length shards)) shards ready) (c.len-count.ensures ∙ c.args.lists.items.ok.0) (c.prepare_all.ensures.ready c.if-prepare_all.true))
+    (subst (λ (n : ℕ). AllZip (MadeReady n free (length shards)) shards ready) (c.len-count.ensures) (c.prepare_all.ensures.ready c.if-prepare_all.true))
 
 pub opened-requires-clause-free : goal.opened-requires-clause-free
 opened-requires-clause-free g c =
@@ -141,7 +146,7 @@ returns-clause-within g c most within =
       c.len.ensures,
       c.part-outside.result.ok.0,
       ap (λ (is : List Item). length is) c.part-outside.ensures.refused,
-      ap (λ (is : List Item). length (refused_of is)) (ap (λ (v : Vec Item Global). v.items) c.replace-items.ensures.value),
+      ap (λ (is : List Item). length (refused_of is)) (c.into_vec.ensures ∙ ap (λ (b : Batch Item). b.items) c.replace-items.ensures.value),
       length-filter (λ (i : Item). is_from_outside i.kind) items,
       count_by-le-length (λ (i : Item). is_from_outside i.kind) items,
       c.requires.items.few,

@@ -1,8 +1,10 @@
-use Rattle.std.proofs.Common.{◌≡◌, ℕ, ◌+◌, ◌*◌, ◌^◌, Bool, List, length, map, sum_by, sym, ap, subst, arith, ◌∙◌}
+use Rattle.std.proofs.Common.{◌≡◌, ℕ, ◌+◌, ◌*◌, ◌^◌, ◌≤◌, Bool, List, length, map, sum_by, sym, ap, subst, arith, ◌∙◌}
 use Rattle.std.specs.List.{All, AllZip}
 use Rattle.std.proofs.lemmas.List.{length-replicate}
-use Rattle.std.proofs.lemmas.List.Elements.{recursion_from_All}
+use Rattle.std.proofs.lemmas.List.Elements.{length_all_zip, recursion_from_All}
+use Rattle.bng_base.specs.Batches.{Batch}
 use Rattle.bng_base.specs.declared.item.Entry.{Entry}
+use Rattle.bng_base.specs.declared.item.Item.{Item}
 use Rattle.bng_engine.specs.Quantities.{Octets, in_book}
 use Rattle.bng_engine.specs.Views.{ShardView}
 use Rattle.bng_shard.specs.Interims.{Reports}
@@ -11,17 +13,17 @@ use Rattle.bng_shard.specs.Protocol.{ShardState, key_in}
 use Rattle.bng_desk.specs.Accounting.{AreSettling}
 use Rattle.bng_desk.specs.Interims.{AreAwaited}
 use Rattle.bng_desk.specs.Kept.{octets_most, drops_most}
-use Rattle.bng_desk.specs.Model.{keys_in}
+use Rattle.bng_desk.specs.Model.{begun_in, keys_in}
 use Rattle.bng_desk.specs.Round.{news_in}
-use Rattle.bng_desk.specs.Taking.{AddsUp, AllTurn, AreTallied, BegunTo, HasFewSessions, IsEmpty, KeepsTerms, OwesNone, ReapedTo, SentTo, Shown, states_of}
+use Rattle.bng_desk.specs.Taking.{AddsUp, AllTurn, AreTallied, BegunTo, HasFewSessions, HasNumbers, IsEmpty, KeepsTerms, OwesNone, ReapedTo, SentTo, Shown, states_of}
 use Rattle.bng_desk.proofs.Dealt.{dealt_books, dealt_count, dealt_rows}
 use Rattle.bng_desk.proofs.DropLaws.{within_wider}
 use Rattle.bng_desk.proofs.Awaited.{awaited_over, knows_as}
-use Rattle.bng_desk.proofs.Growing.{Grown, Worked, all_grown, all_worked, moments_dealt}
+use Rattle.bng_desk.proofs.Growing.{Grown, Worked, all_grown, all_worked, few_begun, moments_dealt, terms_grew}
 use Rattle.bng_desk.proofs.Joining.{HasLow, HasLowBooks, all_turn, all_turning, allowances_in, books_wider, dealt_covered, round_held, told_as}
 use Rattle.bng_desk.proofs.Newcomers.{are_settling}
 use Rattle.bng_desk.proofs.OneMore.{low_more}
-use Rattle.bng_desk.proofs.Overs.{all_started, grown_tenures, round_knows, started, started_order, started_same, started_within, terms_kept}
+use Rattle.bng_desk.proofs.Overs.{all_started, grown_tenures, round_knows, settled_adds_up, started, started_order, started_within, terms_kept}
 use Rattle.bng_desk.proofs.Reaping.{all_empty as reaped_empty, all_few as reaped_few, all_low as reaped_low, all_books as reaped_books, in_order as reaped_order}
 use Rattle.bng_desk.proofs.Returning.{HoldsOwn}
 use Rattle.bng_desk.proofs.Settling.{all_empty as sent_empty, all_held as sent_held, all_low as sent_low, all_books as sent_books, in_order as sent_order}
@@ -69,22 +71,11 @@ module _ (g : Over) (c : After-send_all g) where
       sent_tallied c.args.rules.now c.args.pool.now c.deal_all.new.pool c.args.named.moment c.args.lists.items.items c.args.shards.now c.deal_all.new.shards c.send_all.new.shards c.deal_all.new.loose.items c.args.drops.now c.deal_all.new.drops c.send_all.new.drops c.args.tally.now c.deal_all.new.tally c.send_all.new.tally
       (g.P.Plant.told c.args.plant.now) (g.P.Plant.told c.send_all.new.plant) c.send_all.new.outs.items c.send_all.new.journals.items c.args.accounts.now.lines c.deal_all.ensures.deals c.send_all.ensures.sends c.requires.lines
 
-  adds_up : AddsUp c.send_all.new.tally c.send_all.new.shards c.args.accounts.now.stopped
-  adds_up =
-      sent_sum_up c.args.rules.now c.args.pool.now c.deal_all.new.pool c.args.named.moment c.args.lists.items.items c.args.shards.now c.deal_all.new.shards c.send_all.new.shards c.deal_all.new.loose.items c.args.drops.now c.deal_all.new.drops c.send_all.new.drops c.args.tally.now c.deal_all.new.tally c.send_all.new.tally
-      (g.P.Plant.told c.args.plant.now) (g.P.Plant.told c.send_all.new.plant) c.send_all.new.outs.items c.send_all.new.journals.items c.args.accounts.now.stopped c.deal_all.ensures.deals c.send_all.ensures.sends c.requires.adds_up
-
 pub reap_all-requires-clause-low : goal.reap_all-requires-clause-low
 reap_all-requires-clause-low g c =
     let n = length c.args.lists.items.items in
     lines_far (2 ^ 62 + 2 ^ 61 + 4160 * n) c.send_all.new.tally c.send_all.new.shards c.args.accounts.now.lines (omega (arith, c.requires.items.few))
     (c.send_all.ensures.tally (2 ^ 62 + 2 ^ 61 + 4160 * n) (c.deal_all.ensures.tally (2 ^ 62 + 2 ^ 61) c.requires.low_tally)) (tallied g (goal.at.reap_all-requires-clause-low g c).After-send_all)
-
-pub reap_all-requires-clause-low_in_all : goal.reap_all-requires-clause-low_in_all
-reap_all-requires-clause-low_in_all g c =
-    let n = length c.args.lists.items.items in
-    sum_far (2 ^ 62 + 2 ^ 61 + 4160 * n) c.send_all.new.tally c.send_all.new.shards c.args.accounts.now.stopped (omega (arith, c.requires.items.few))
-    (c.send_all.ensures.tally (2 ^ 62 + 2 ^ 61 + 4160 * n) (c.deal_all.ensures.tally (2 ^ 62 + 2 ^ 61) c.requires.low_tally)) (adds_up g (goal.at.reap_all-requires-clause-low_in_all g c).After-send_all)
 
 -- what the shards are once all was sent
 module _ (g : Over) (c : After-send_all g) where
@@ -103,13 +94,29 @@ module _ (g : Over) (c : After-send_all g) where
 
   -- each has grown by what its journal claimed
   all_grow : AllZip (Grown c.args.named.moment) c.args.shards.now c.send_all.new.shards
-  all_grow = all_grown c.args.named.moment c.args.shards.now c.send_all.new.shards (recursion_from_All (KeepsTerms c.args.named.moment) c.args.shards.now c.requires.terms) all_ran
+  all_grow = all_grown c.args.named.moment c.args.shards.now c.send_all.new.shards (recursion_from_All (KeepsTerms c.args.named.moment) c.args.shards.now c.requires.terms) (recursion_from_All HasNumbers c.args.shards.now c.requires.serials) all_ran
 
   terms_there : All (λ (v : Shown). AreTenures c.args.named.moment v.state.slots) c.send_all.new.shards
   terms_there k d lt = (grown_tenures c.args.named.moment c.args.shards.now c.send_all.new.shards all_grow k d lt).tenures
 
   settling : AreSettling (keys_in c.send_all.new.shards) (map key_in (news_in (states_of c.send_all.new.shards))) c.args.accounts.now.billing
   settling = are_settling c.args.named.moment c.args.shards.now c.send_all.new.shards c.args.accounts.now.billing all_grow c.requires.numbers c.requires.billed c.requires.knows c.requires.free
+
+  adds_up : AddsUp c.send_all.new.tally c.send_all.new.shards c.args.accounts.now.stopped
+  adds_up =
+      sent_sum_up c.args.rules.now c.args.pool.now c.deal_all.new.pool c.args.named.moment c.args.lists.items.items c.args.shards.now c.deal_all.new.shards c.send_all.new.shards c.deal_all.new.loose.items c.args.drops.now c.deal_all.new.drops c.send_all.new.drops c.args.tally.now c.deal_all.new.tally c.send_all.new.tally
+      (g.P.Plant.told c.args.plant.now) (g.P.Plant.told c.send_all.new.plant) c.send_all.new.outs.items c.send_all.new.journals.items c.args.accounts.now.stopped c.deal_all.ensures.deals c.send_all.ensures.sends (terms_grew c.args.named.moment c.args.shards.now c.send_all.new.shards all_grow) c.requires.adds_up
+
+  begun_low : begun_in c.send_all.new.shards ≤ 2 ^ 63
+  begun_low =
+      omega (arith, few_begun c.args.named.moment c.args.shards.now c.send_all.new.shards all_grow, length_all_zip (Grown c.args.named.moment) c.args.shards.now c.send_all.new.shards all_grow, c.requires.count, c.requires.few)
+
+pub reap_all-requires-clause-low_in_all : goal.reap_all-requires-clause-low_in_all
+reap_all-requires-clause-low_in_all g c =
+    let b = (goal.at.reap_all-requires-clause-low_in_all g c).After-send_all in
+    let n = length c.args.lists.items.items in
+    sum_far (2 ^ 62 + 2 ^ 61 + 4160 * n) c.send_all.new.tally c.send_all.new.shards c.args.accounts.now.stopped (omega (arith, c.requires.items.few))
+    (c.send_all.ensures.tally (2 ^ 62 + 2 ^ 61 + 4160 * n) (c.deal_all.ensures.tally (2 ^ 62 + 2 ^ 61) c.requires.low_tally)) (begun_low g b) (adds_up g b)
 
 pub reap_all-requires-clause-terms : goal.reap_all-requires-clause-terms
 reap_all-requires-clause-terms g c = terms_there g (goal.at.reap_all-requires-clause-terms g c).After-send_all
@@ -180,7 +187,7 @@ returns-clause-round g c =
     c.deal_all.ensures.deals c.send_all.ensures.sends c.reap_all.ensures.reaps c.begin_all.ensures.begins
     (recursion_from_All OwesNone c.args.shards.now (λ k d lt. (c.requires.terms k d lt).owes_none)) c.report_all.new.self c.report_all.ensures.reports c.recorded.result
     (c.recorded.ensures
-    ∙ told_as c.args.named c.note.new.allowances.items (allowances_in c.begin_all.new.shards) c.send_all.new.journals.items c.deal_all.new.loose.items c.send_all.new.outs.items c.args.lists.refused.items c.note.ensures c.requires.refused)
+    ∙ told_as c.args.named c.note.new.allowances.items (allowances_in c.begin_all.new.shards) c.send_all.new.journals.items c.deal_all.new.loose.items c.send_all.new.outs.items c.clear.new.self.items c.note.ensures (ap (λ (b : Batch Item). b.items) c.clear.ensures))
 
 pub returns-clause-empty : goal.returns-clause-empty
 returns-clause-empty g c =
@@ -234,10 +241,11 @@ returns-clause-lines g c =
     (c.reap_all.ensures.within most (tallied g (goal.at.returns-clause-lines g c).After-send_all))
 
 pub returns-clause-adds_up : goal.returns-clause-adds_up
-returns-clause-adds_up g c input =
+returns-clause-adds_up g c =
+    let reaped = c.reap_all.ensures.reaps in
     let begun = c.begin_all.ensures.begins in
-    started_same input c.reap_all.new.shards c.begin_all.new.shards begun.starts c.reap_all.new.accounts.stopped c.report_all.new.self.stopped begun.each (c.report_all.ensures.reports.stopped_is ∙ begun.booked.stopped_is) ∙ c.reap_all.ensures.same input
-    ∙ adds_up g (goal.at.returns-clause-adds_up g c).After-send_all input
+    settled_adds_up c.send_all.new.tally c.send_all.new.shards c.reap_all.new.shards c.begin_all.new.shards reaped.stops begun.starts c.args.accounts.now.stopped c.reap_all.new.accounts.stopped c.report_all.new.self.stopped reaped.each c.reap_all.ensures.same begun.each
+    (c.report_all.ensures.reports.stopped_is ∙ begun.booked.stopped_is) (adds_up g (goal.at.returns-clause-adds_up g c).After-send_all)
 
 pub returns-clause-knows : goal.returns-clause-knows
 returns-clause-knows g c =

@@ -1,4 +1,4 @@
-use Rattle.std.proofs.Common.{◌≡◌, ◌+◌, ◌*◌, ◌/◌, ◌^◌, ◌≤◌, ◌<◌, ℕ, Bool, ◌&&◌, List, [], ◌∷◌, ◌++◌, length, suc, vec_capacity, arith, refl, sym, ap, subst, ◌∙◌}
+use Rattle.std.proofs.Common.{◌≡◌, ◌+◌, ◌*◌, ◌/◌, ◌^◌, ◌≤◌, ◌<◌, ℕ, Bool, ◌&&◌, List, [], ◌∷◌, ◌++◌, length, suc, arith, refl, sym, ap, subst, ◌∙◌}
 use Rattle.std.proofs.Math.Nat.{mul-suc, div-mul-le_self, mul-le-mul_left}
 use Rattle.std.proofs.lemmas.List.FromFn.{map-range_with_len_more}
 use Rattle.bng_base.specs.declared.outside.Role.{Role}
@@ -29,7 +29,7 @@ take_role-read-requires-clause-room g c =
     let ports = length c.as_slice-ports.result.now in
     let place = c.loop-place.place in
     let so_far = c.loop-place.invariant in
-    let room : length c.loop-place.items.items + 224 / ports ≤ vec_capacity c.loop-place.items =
+    let room : length c.loop-place.items.items + 224 / ports ≤ c.loop-place.items.room =
     omega (
       arith,
       c.requires.room,

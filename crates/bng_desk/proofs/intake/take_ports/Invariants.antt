@@ -1,4 +1,4 @@
-use Rattle.std.proofs.Common.{◌≡◌, ◌*◌, vec_capacity}
+use Rattle.std.proofs.Common.{◌≡◌, ◌*◌}
 use Rattle.bng_desk.specs.Intake.{Takes}
 use Rattle.bng_desk.specs.Turn.{most_of, ports_up_to}
 use Rattle.bng_desk.proofs.intake.take_ports.Given as goal
@@ -9,5 +9,5 @@ invariant-loop-place g l =
     let told = g.P.Plant.told in
     record {
       takes : Takes (ports_up_to l.place) (most_of l.rules) (l.most * l.place) (told l.fn.plant) (told l.plant) l.fn.draws l.draws l.fn.items.items l.items.items l.quiet;
-      capacity : vec_capacity l.items ≡ vec_capacity l.fn.items;
+      capacity : l.items.room ≡ l.fn.items.room;
     }

@@ -1,8 +1,8 @@
-use Rattle.std.proofs.Common.{◌≡◌, ◌<◌, List, [], ◌∷◌, ◌++◌, length, length-append, ap, ◌∙◌, arith}
+use Rattle.std.proofs.Common.{◌≡◌, ◌<◌, [], ◌∷◌, ◌++◌, length, length-append, ap, ◌∙◌, arith}
 use Rattle.std.proofs.lemmas.List.{length_push}
 use Rattle.bng_base.specs.declared.item.Item.{Item}
+use Rattle.bng_base.specs.Batches.{Batch}
 use Rattle.bng_base.specs.FateOf.{Arrival}
-use Rattle.bng_base.specs.Packet.{Packet}
 use Rattle.bng_base.proofs.StretchLaws.{plant_stays}
 use Rattle.bng_desk.specs.declared.reading.Ended.TheVariants.{Full}
 use Rattle.bng_desk.specs.Random.{draw}
@@ -27,17 +27,15 @@ loop-taken-preserved g c =
     let so_far = c.loop-taken.invariant in
     let a : Arrival = record { from = c.in-Got.from; cut = c.in-Got.cut; octets = c.receive.new.into.payload } in
     let item = item_is c.args.role c.args.kind a.from a.cut c.receive.new.into c.sixteen-random.result (draw c.loop-taken.draws.seed c.loop-taken.draws.drawn) c.requires.kind c.in-Got.ensures.filled c.sixteen-random.ensures.octets in
-    let as_item : Packet → Item = λ f. record { kind = c.args.kind; from = c.in-Got.from; frame = f; cut = c.in-Got.cut; random = c.sixteen-random.result; target = 0; ask = 0 } in
-    let same : as_item c.replace.result ≡ as_item c.receive.new.into = ap as_item c.replace.ensures.value in
-    let with_item : Item → List Item = λ i. c.loop-taken.items.items ++ i ∷ [] in
+    let arrived : Item = record { kind = c.args.kind; from = c.in-Got.from; frame = c.receive.new.into; cut = c.in-Got.cut; random = c.sixteen-random.result; target = 0; ask = 0 } in
     record {
       arrivals = so_far.arrivals ++ a ∷ [];
       count = omega (arith, so_far.count, length-append so_far.arrivals (a ∷ []));
       taken = taken_more c.args.role (told c.args.plant.now) (told c.loop-taken.plant) (told c.receive.new.plant) c.args.draws.now c.loop-taken.draws c.sixteen-random.new.self
-          c.args.items.now.items c.loop-taken.items.items c.push_reserved.new.self.items c.loop-taken.quiet so_far.arrivals a so_far.taken c.in-Got.ensures.told
-          (c.push_reserved.ensures.items ∙ ap with_item (same ∙ item)) c.sixteen-random.ensures.counted;
-      number = omega (arith, ap (λ (is : List Item). length is) c.push_reserved.ensures.items, length_push c.loop-taken.items.items (as_item c.replace.result), so_far.number);
-      capacity = c.push_reserved.ensures.capacity ∙ so_far.capacity;
+          c.args.items.now.items c.loop-taken.items.items c.push_datagram.new.self.items c.loop-taken.quiet so_far.arrivals a so_far.taken c.in-Got.ensures.told
+          (ap (λ (b : Batch Item). b.items) c.push_datagram.ensures ∙ ap (λ (i : Item). c.loop-taken.items.items ++ i ∷ []) item) c.sixteen-random.ensures.counted;
+      number = omega (arith, ap (λ (b : Batch Item). length b.items) c.push_datagram.ensures, length_push c.loop-taken.items.items arrived, so_far.number);
+      capacity = ap (λ (b : Batch Item). b.room) c.push_datagram.ensures ∙ so_far.capacity;
     }
 
 pub returns-clause-takes : goal.returns-clause-takes

@@ -1,4 +1,4 @@
-use Rattle.std.proofs.Common.{◌≡◌, ◌+◌, List, length, vec_capacity}
+use Rattle.std.proofs.Common.{◌≡◌, ◌+◌, List, length}
 use Rattle.bng_base.specs.FateOf.{Arrival}
 use Rattle.bng_desk.proofs.TakeLaws.{Taken}
 use Rattle.bng_desk.proofs.intake.take_role.Given as goal
@@ -12,5 +12,5 @@ invariant-loop-taken g l =
       count : length arrivals ≡ l._taken;
       taken : Taken l.role (told l.fn.plant) (told l.plant) l.fn.draws l.draws l.fn.items.items l.items.items l.quiet arrivals;
       number : length l.items.items ≡ length l.fn.items.items + l._taken;
-      capacity : vec_capacity l.items ≡ vec_capacity l.fn.items;
+      capacity : l.items.room ≡ l.fn.items.room;
     }

@@ -2,13 +2,28 @@ use Rattle.std.proofs.lemmas.List.Elements.{recursion_from_All}
 use Rattle.bng_acct.specs.Roster.{of_term}
 use Rattle.bng_acct.specs.Spool.{is_live}
 use Rattle.bng_engine.specs.Terms.{Key}
-use Rattle.std.proofs.Common.{◌≡◌, true}
+use Rattle.std.proofs.Common.{◌≡◌, true, List, slice_get, refl, sym, ap}
+use Rattle.bng_engine.specs.Views.{Row}
 use Rattle.bng_shard.specs.Interims.{row_told}
 use Rattle.bng_shard.specs.Protocol.{key_of}
-use Rattle.bng_desk.proofs.Reporting.{live_still, live_told, owed_fewer, reports_all, reports_more, reports_none, soon_still}
+use Rattle.bng_desk.proofs.Reporting.{held_none, live_still, live_told, owed_fewer, reports_all, reports_more, reports_none, soon_still}
 use Rattle.bng_desk.proofs.ShardKeys.{keys_of}
 use Rattle.bng_desk.proofs.TermsLeft.{says_began, says_classes}
 use Rattle.bng_desk.proofs.interims.report.Goals as goal
+
+pub may_report-requires-clause-awaits : goal.may_report-requires-clause-awaits
+may_report-requires-clause-awaits c = c.requires.awaited.awaits
+
+pub returns-then-not-may_report-clause-reports : goal.returns-then-not-may_report-clause-reports
+returns-then-not-may_report-clause-reports c =
+    let v = c.args.shard.now in
+    let r = c.args.reports.now in
+    let b = c.args.billing.now in
+    reports_all c.args.moment c.args.wall v r r r b b (reports_none c.args.moment c.args.wall v r b c.requires.awaited)
+    (sym (ap (λ (rows : List Row). slice_get rows 0) (c.if-not-may_report.ensures.none refl))) refl
+
+pub returns-then-not-may_report-clause-held : goal.returns-then-not-may_report-clause-held
+returns-then-not-may_report-clause-held c = held_none c.args.billing.now
 
 pub loop-due-init : goal.loop-due-init
 loop-due-init c = reports_none c.args.moment c.args.wall c.args.shard.now c.args.reports.now c.args.billing.now c.requires.awaited

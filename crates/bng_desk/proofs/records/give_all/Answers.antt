@@ -1,6 +1,13 @@
+use Rattle.std.proofs.Common.{refl}
 use Rattle.bng_base.proofs.StretchLaws.{plant_stays}
 use Rattle.bng_desk.proofs.RecordLaws.{all_given, fewer_wait, given_more, given_none}
 use Rattle.bng_desk.proofs.records.give_all.Goals as goal
+
+pub returns-then-not-waits : goal.returns-then-not-waits
+returns-then-not-waits g c =
+    let p = g.P.Plant.told c.args.plant.now in
+    let b = c.args.billing.now in
+    all_given c.args.now p p b b b (given_none c.args.now p b (plant_stays p)) (c.if-not-waits.ensures.0 refl) refl
 
 pub loop-number-init : goal.loop-number-init
 loop-number-init g c = let p = g.P.Plant.told c.args.plant.now in given_none c.args.now p c.args.billing.now (plant_stays p)

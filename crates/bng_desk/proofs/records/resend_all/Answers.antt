@@ -1,9 +1,12 @@
-use Rattle.std.proofs.Common.{ap, arith}
+use Rattle.std.proofs.Common.{[], refl, ap, arith}
 use Rattle.bng_base.proofs.StretchLaws.{plant_stays}
 use Rattle.bng_billing.specs.Due.{due_count}
 use Rattle.bng_billing.specs.State.{BillingState}
 use Rattle.bng_desk.proofs.RecordLaws.{all_resent, resent_more, resent_none, resent_size}
 use Rattle.bng_desk.proofs.records.resend_all.Goals as goal
+
+pub returns-then-not-is_due : goal.returns-then-not-is_due
+returns-then-not-is_due g c = record { again = []; resends = refl; none_due = c.if-not-is_due.ensures.again refl; told = plant_stays (g.P.Plant.told c.args.plant.now) }
 
 pub loop-id-init : goal.loop-id-init
 loop-id-init g c = let p = g.P.Plant.told c.args.plant.now in resent_none c.args.now p c.args.billing.now (plant_stays p)

@@ -8,6 +8,9 @@ use Rattle.bng_desk.proofs.RadiusSends.{sent_more}
 use Rattle.bng_desk.proofs.RequestLaws.{all_resent, resent_more, resent_server, resent_size}
 use Rattle.bng_desk.proofs.requests.send_again.Goals as goal
 
+pub returns-then-not-is_due : goal.returns-then-not-is_due
+returns-then-not-is_due g c = record { resent = []; resends = (refl, c.if-not-is_due.ensures.again refl); told = plant_stays (g.P.Plant.told c.args.plant.now) }
+
 pub loop-id-init : goal.loop-id-init
 loop-id-init g c = record { resent = []; sends = refl; told = plant_stays (g.P.Plant.told c.args.plant.now); server = refl }
 

@@ -1,4 +1,4 @@
-use Rattle.std.proofs.Common.{◌+◌, ◌*◌, ◌^◌, List, [], length, take, get_or, refl, sym, ap, subst, arith}
+use Rattle.std.proofs.Common.{◌∙◌, ◌+◌, ◌*◌, ◌^◌, List, [], length, take, get_or, refl, sym, ap, subst, arith}
 use Rattle.std.specs.List.{count_by, sum_by}
 use Rattle.std.proofs.lemmas.List.Sums.{count_by-le-length, sum_by_more_le}
 use Rattle.bng_base.specs.declared.item.Entry.{Entry}
@@ -77,8 +77,8 @@ loop-shard-preserved g c =
           c.loop-shard.outs.items c.send_outs-journal.new.outs.items c.loop-shard.journals.items c.push_reserved.new.self.items c.send_outs-journal.result.items c.args.drops.now c.loop-shard.drops c.send_outs-journal.new.drops
           c.args.tally.now c.loop-shard.tally c.send_outs-journal.new.tally
           c.loop-shard-test.true c.loop-shard.auto.shards c.send_outs-journal.new.shard c.loop-shard.invariant.settles c.send_outs-journal.ensures.sends
-          c.of.result c.push_reserved.ensures.items c.of.ensures;
-      outs_room = omega (arith, c.send_outs-journal.ensures.capacity, c.loop-shard.invariant.outs_room);
+          c.of_batch.result c.push_reserved.ensures.items c.of_batch.ensures;
+      outs_room = c.send_outs-journal.ensures.capacity ∙ c.loop-shard.invariant.outs_room;
       journals_room = omega (arith, c.push_reserved.ensures.capacity, c.loop-shard.invariant.journals_room);
     }
 

@@ -2,8 +2,8 @@ use Rattle.std.proofs.Common.{◌≡◌, ℕ, ◌+◌, ◌*◌, ◌^◌, ◌≤�
 use Rattle.std.specs.List.{All}
 use Rattle.std.specs.Vec.{with_items}
 use Rattle.std.proofs.lemmas.List.{with_items_is}
-use Rattle.bng_shard.specs.declared.sums.Traffic.{Traffic}
 use Rattle.bng_shard.specs.Interims.{Reports}
+use Rattle.bng_desk.specs.declared.accounts.Stopped.{Stopped}
 use Rattle.bng_desk.specs.declared.line.Line.{Line}
 use Rattle.bng_desk.specs.Accounting.{AreBilled, KnowsBegun}
 use Rattle.bng_desk.specs.Intake.{SendsRequests}
@@ -127,7 +127,7 @@ returns-clause-keeps g c =
       tally = c.hold-record.ensures.tally;
       tallied = subst (λ (ls : List Line). AreTallied c.hold-record.new.tally (with_items w.shards ws).items ls) (sym (ap (λ (a : Accounts). a.lines) c.send.ensures.others))
           (subst (λ (vs : Shards). AreTallied c.hold-record.new.tally vs c.hold-record.new.accounts.lines) behind c.hold-record.ensures.lines);
-      adds_up = subst (λ (t : Traffic). AddsUp c.hold-record.new.tally (with_items w.shards ws).items t) (sym (ap (λ (a : Accounts). a.stopped) c.send.ensures.others))
+      adds_up = subst (λ (t : Stopped). AddsUp c.hold-record.new.tally (with_items w.shards ws).items t) (sym (ap (λ (a : Accounts). a.stopped) c.send.ensures.others))
           (subst (λ (vs : Shards). AddsUp c.hold-record.new.tally vs c.hold-record.new.accounts.stopped) behind c.hold-record.ensures.adds_up);
       billed = subst (λ (vs : Shards). AreBilled (keys_in vs) c.send.new.self.billing) behind
           (billed_kept (keys_in ws) booked c.send.new.self.billing (settled_keeps c.args.named.moment booked c.send.new.self.billing bills.requests bills.settles) c.hold-record.ensures.billed);

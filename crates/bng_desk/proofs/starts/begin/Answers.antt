@@ -1,4 +1,4 @@
-use Rattle.std.proofs.Common.{[], sym, subst, arith}
+use Rattle.std.proofs.Common.{[], refl, sym, subst, arith}
 use Rattle.bng_base.specs.declared.item.Entry.{Entry}
 use Rattle.bng_engine.specs.Views.{ShardView}
 use Rattle.bng_shard.specs.Lasting.{IsTenureOf}
@@ -8,6 +8,18 @@ use Rattle.bng_desk.proofs.Begun.{begins_begin, begins_on, begins_shard, begun_a
 use Rattle.bng_desk.proofs.Booking.{leaver_says}
 use Rattle.bng_desk.proofs.TermsLeft.{it_was, its_classes}
 use Rattle.bng_desk.proofs.starts.begin.Goals as goal
+
+pub returns-then-not-has_news-clause-begins : goal.returns-then-not-has_news-clause-begins
+returns-then-not-has_news-clause-begins c =
+    let v = c.args.shard.now in
+    let a = c.args.accounts.now in
+    begins_shard c.args.moment c.args.wall v v a a (begins_begin c.args.moment c.args.wall v a c.requires.terms) (c.if-not-has_news.ensures.none refl)
+
+pub returns-then-not-has_news-clause-settling : goal.returns-then-not-has_news-clause-settling
+returns-then-not-has_news-clause-settling c terms front back settling =
+    let v = c.args.shard.now in
+    let a = c.args.accounts.now in
+    begun_settling c.args.moment c.args.wall v v a a (begins_begin c.args.moment c.args.wall v a c.requires.terms) (c.if-not-has_news.ensures.none refl) terms front back settling
 
 pub loop-term-init : goal.loop-term-init
 loop-term-init c = begins_begin c.args.moment c.args.wall c.args.shard.now c.args.accounts.now c.requires.terms

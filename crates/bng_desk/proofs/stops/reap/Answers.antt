@@ -1,15 +1,26 @@
-use Rattle.std.proofs.Common.{[], ◌∷◌, sym, subst, arith}
+use Rattle.std.proofs.Common.{[], ◌∷◌, refl, sym, subst, arith}
 use Rattle.bng_pool.specs.Plain.{PlainView}
 use Rattle.bng_shard.specs.Lasting.{IsTenureOf}
 use Rattle.bng_shard.specs.Protocol.{AreHeld, stop_of}
 use Rattle.bng_desk.specs.Round.{IsReturned}
 use Rattle.bng_desk.specs.Taking.{far}
-use Rattle.bng_desk.proofs.Booking.{leaver_says}
-use Rattle.bng_desk.proofs.InAll.{room_for}
-use Rattle.bng_desk.proofs.Reaping.{fewer_ended, leaves_all, left_admitted, left_once, over_settling, over_tenures, reaps_begin, reaps_on, takes_in}
-use Rattle.bng_desk.proofs.Returning.{held_key}
+use Rattle.bng_desk.proofs.Booking.{books_none, leaver_says}
+use Rattle.bng_desk.proofs.InAll.{room_for, within_same}
+use Rattle.bng_desk.proofs.Reaping.{fewer_ended, leaves_all, leaves_none, left_admitted, left_once, one_less, over_settling, over_tenures, reaps_begin, reaps_on, settled_is, takes_in}
+use Rattle.bng_desk.proofs.Returning.{held_key, returned_none}
 use Rattle.bng_desk.proofs.TermsLeft.{it_was, its_classes}
 use Rattle.bng_desk.proofs.stops.reap.Goals as goal
+
+pub returns-then-is_settled-clause-reaps : goal.returns-then-is_settled-clause-reaps
+returns-then-is_settled-clause-reaps c =
+    let v = c.args.shard.now in
+    let settled = c.if-is_settled.ensures.settled refl in
+    record {
+      stops = [];
+      reaped = leaves_all v v v.room settled.0 (settled_is v settled.1) v [] (leaves_none v) c.if-is_settled.ensures.few;
+      returned = returned_none c.args.pool.now;
+      booked = books_none v.state.slots.terms c.args.moment c.args.wall c.args.accounts.now;
+    }
 
 pub loop-ended-init : goal.loop-ended-init
 loop-ended-init c = reaps_begin c.args.moment c.args.wall c.args.shard.now c.args.pool.now c.args.accounts.now c.requires.terms c.requires.held
@@ -46,8 +57,11 @@ stop-requires-clause-room c = takes_in c.loop-ended.shard c.reap.new.self (stop_
 
 pub stop-requires-clause-room_in_all : goal.stop-requires-clause-room_in_all
 stop-requires-clause-room_in_all c =
-    let so_far = c.loop-ended.invariant in
-    room_for c.loop-ended.shard c.reap.new.self (stop_of c.in-Some.ended ∷ []) c.loop-ended.accounts.stopped c.in-Some.ensures.one.0.rows (λ input. omega (arith, c.requires.low_in_all input, so_far.same input))
+    let told = c.in-Some.ensures.says in
+    let w = c.loop-ended.shard in
+    let w' = c.reap.new.self in
+    room_for w w' (stop_of c.in-Some.ended ∷ []) c.loop-ended.accounts.stopped c.in-Some.ensures.one.0.rows (one_less w w' told.0 told.2)
+    (within_same (c.args.shard.now ∷ []) (w ∷ []) c.args.accounts.now.stopped c.loop-ended.accounts.stopped c.requires.low_in_all c.loop-ended.invariant.same)
 
 pub loop-ended-preserved : goal.loop-ended-preserved
 loop-ended-preserved c =
@@ -72,7 +86,7 @@ returns-clause-reaps c =
     let last = c.in_default.ensures.none in
     record {
       stops = so_far.stops;
-      reaped = leaves_all c.loop-ended.shard c.reap.new.self last.0 last.2 c.args.shard.now so_far.stops so_far.some c.reap.ensures.few;
+      reaped = leaves_all c.loop-ended.shard c.reap.new.self 0 last.0 last.2 c.args.shard.now so_far.stops so_far.some c.reap.ensures.few;
       returned = subst (λ (p : PlainView). IsReturned so_far.stops c.args.pool.now p) (sym last.1) so_far.returned;
       booked = so_far.booked;
     }
@@ -80,12 +94,12 @@ returns-clause-reaps c =
 pub returns-clause-settling : goal.returns-clause-settling
 returns-clause-settling c front back began settling =
     let last = c.in_default.ensures.none in
-    over_settling c.loop-ended.shard c.reap.new.self last.0 last.2 front back began c.loop-ended.accounts.billing (c.loop-ended.invariant.settling front back began settling)
+    over_settling c.loop-ended.shard c.reap.new.self 0 last.0 last.2 front back began c.loop-ended.accounts.billing (c.loop-ended.invariant.settling front back began settling)
 
 pub returns-clause-terms : goal.returns-clause-terms
 returns-clause-terms c =
     let last = c.in_default.ensures.none in
-    over_tenures c.loop-ended.shard c.reap.new.self last.0 last.2 c.args.moment c.loop-ended.invariant.tenures
+    over_tenures c.loop-ended.shard c.reap.new.self 0 last.0 last.2 c.args.moment c.loop-ended.invariant.tenures
 
 pub returns-clause-held : goal.returns-clause-held
 returns-clause-held c = c.reap.ensures.held

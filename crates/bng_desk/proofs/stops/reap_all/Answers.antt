@@ -3,7 +3,7 @@ use Rattle.bng_shard.specs.Protocol.{key_in}
 use Rattle.bng_desk.specs.Model.{keys_in}
 use Rattle.bng_desk.specs.Round.{news_in}
 use Rattle.bng_desk.specs.Taking.{far, states_of}
-use Rattle.bng_desk.proofs.InAll.{within_one as one_in_all}
+use Rattle.bng_desk.proofs.InAll.{within_one as one_in_all, within_same}
 use Rattle.bng_desk.proofs.Lines.{within_one}
 use Rattle.bng_desk.proofs.Reaping.{reaps_more, reaps_none, reaps_them, settles_them, settling_at}
 use Rattle.bng_desk.proofs.stops.reap_all.Goals as goal
@@ -20,7 +20,7 @@ reap-requires c =
     let lt : i < length shards = omega (arith, c.loop-shard-test.true, c.loop-shard.auto.shards) in
     record {
       low = within_one far shards i d c.loop-shard.accounts.lines lt (c.loop-shard.invariant.within far c.requires.low);
-      low_in_all = one_in_all shards i d c.loop-shard.accounts.stopped lt (λ input. omega (arith, c.requires.low_in_all input, c.loop-shard.invariant.same input));
+      low_in_all = one_in_all shards i d c.loop-shard.accounts.stopped lt (within_same c.args.shards.now shards c.args.accounts.now.stopped c.loop-shard.accounts.stopped c.requires.low_in_all c.loop-shard.invariant.same);
       terms = c.loop-shard.invariant.tenures i d lt;
       settling = (keys_in (take i shards), keys_in (drop (i + 1) shards), began, settling_at shards i d began c.loop-shard.accounts.billing lt c.loop-shard.invariant.settling);
       held = c.loop-shard.invariant.held i d lt;
@@ -39,7 +39,7 @@ pub returns-clause-within : goal.returns-clause-within
 returns-clause-within c most within = c.loop-shard.invariant.within most within
 
 pub returns-clause-same : goal.returns-clause-same
-returns-clause-same c input = c.loop-shard.invariant.same input
+returns-clause-same c = c.loop-shard.invariant.same
 
 pub returns-clause-settling : goal.returns-clause-settling
 returns-clause-settling c =

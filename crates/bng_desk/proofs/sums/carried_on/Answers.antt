@@ -1,6 +1,6 @@
 use Rattle.std.proofs.Common.{◌/◌, true, false, ap, arith}
-use Rattle.bng_desk.specs.Taking.{far, octets_of}
-use Rattle.bng_desk.proofs.Tallied.{told_within}
+use Rattle.bng_desk.specs.Taking.{far}
+use Rattle.bng_desk.proofs.Tallied.{octets_of, told_within}
 use Rattle.bng_desk.proofs.sums.carried_on.Goals as goal
 
 pub plus-requires-clause-input : goal.plus-requires-clause-input

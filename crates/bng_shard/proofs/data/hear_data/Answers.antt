@@ -1,4 +1,5 @@
 use Rattle.std.proofs.Common.{◌≡◌, ℕ, List, [], ◌∷◌, ◌++◌, Option, Some, length, option_map, ap, subst, sym, ◌∙◌}
+use Rattle.bng_base.specs.Packet.{Packet}
 use Rattle.bng_base.specs.declared.fate.Fate.TheVariants.{Forwarded}
 use Rattle.bng_base.specs.declared.item.Charge.{Charge}
 use Rattle.bng_base.specs.declared.outside.Role.TheVariants.{Core}
@@ -27,7 +28,7 @@ found c = c.view_of.ensures ∙ ap (λ (o : Option Session). option_map view_of 
 carried : (c : After-up-fate) (info : List ℕ) → Carries (frame_of c.args.frame.now) info → c.take_from_frame.new.frame.payload ≡ info
 carried c info carries =
     c.take_from_frame.ensures.packet info
-    (subst (λ (octets : List ℕ). IsFrameWith info octets) (sym c.copied-packet.ensures.payload) (frame_with c.args.rules.now.access c.args.number c.args.item.now (frame_of c.args.frame.now) info c.requires.came carries))
+    (subst (λ (octets : List ℕ). IsFrameWith info octets) (sym (ap (λ (f : Packet). f.payload) c.copy_from.ensures)) (frame_with c.args.rules.now.access c.args.number c.args.item.now (frame_of c.args.frame.now) info c.requires.came carries))
 
 pub returns-in_default-clause-does : goal.returns-in_default-clause-does
 returns-in_default-clause-does c info carries =

@@ -1,5 +1,6 @@
 use Rattle.std.proofs.Common.{◌≡◌, ℕ, List, [], ◌∷◌, ◌++◌, Option, Some, ap, subst, sym, ◌∙◌}
 use Rattle.std.specs.List.{list_any}
+use Rattle.bng_base.specs.Packet.{Packet}
 use Rattle.bng_base.specs.declared.fate.Fate.{Fate}
 use Rattle.bng_base.specs.declared.fate.Fate.TheVariants.{Forwarded}
 use Rattle.bng_base.specs.declared.item.Charge.{Charge}
@@ -25,7 +26,7 @@ found c = c.holder_view.ensures ∙ ap (λ (o : Option Session). found_among o (
 
 fated : (c : After-down-fate) → DownFate (found_down (whole c.args.served.now c.args.terms.now)) c.args.item.now.frame.payload c.down-fate.result
 fated c =
-    subst (λ (octets : List ℕ). DownFate (found_down (whole c.args.served.now c.args.terms.now)) octets c.down-fate.result) c.copied-packet.ensures.payload (c.down-fate.ensures.fate (found_down (whole c.args.served.now c.args.terms.now)) (sym (found c)))
+    subst (λ (octets : List ℕ). DownFate (found_down (whole c.args.served.now c.args.terms.now)) octets c.down-fate.result) (ap (λ (f : Packet). f.payload) c.copy_from.ensures) (c.down-fate.ensures.fate (found_down (whole c.args.served.now c.args.terms.now)) (sym (found c)))
 
 pub unreachable-requires-in_default-port_of : goal.unreachable-requires-in_default-port_of
 unreachable-requires-in_default-port_of c =
@@ -54,5 +55,5 @@ returns-clause-does c =
     subst (λ (t : State). DoesWith (λ e d. HearsPacket r s e v d) 1 s (whole t c.args.terms.now) c.args.outs.now.items c.push_out.new.outs.items c.args.at c.args.now c.args.item.now Forwarded) (sym next)
     (goes_down r s c.args.at c.args.item.now c.args.outs.now.items c.requires.here v c.down-fate.new.packet.payload c.put_in_frame.new.frame.payload x l port c.push_out.new.outs.items
     (sym c.in-Some.ensures) (sym c.in-Some-lease.ensures) (c.requires.tied n x l at (sym c.in-Some-lease.ensures)) (sym c.in-Some-port_of.ensures)
-    (subst (λ (f : Fate). DownFate (found_down s) c.args.item.now.frame.payload f) on (fated d)) (subst (λ (octets : List ℕ). IsPassedOn v octets c.down-fate.new.packet.payload) c.copied-packet.ensures.payload passed) c.put_in_frame.ensures.framed c.put_in_frame.ensures.again
+    (subst (λ (f : Fate). DownFate (found_down s) c.args.item.now.frame.payload f) on (fated d)) (subst (λ (octets : List ℕ). IsPassedOn v octets c.down-fate.new.packet.payload) (ap (λ (f : Packet). f.payload) c.copy_from.ensures) passed) c.put_in_frame.ensures.framed c.put_in_frame.ensures.again
     (c.push_out.ensures.items ∙ ap (λ (y : Charge). c.args.outs.now.items ++ out c.args.at (Access x.port) port.peer c.put_in_frame.new.frame.payload (Some y) ∷ []) c.charge_of-charge.ensures) c.args.now)

@@ -1,4 +1,4 @@
-use Rattle.std.proofs.Common.{◌≡◌, ◌+◌, ◌≤◌, ◌++◌, length, take, vec_capacity}
+use Rattle.std.proofs.Common.{◌≡◌, ◌+◌, ◌≤◌, ◌++◌, length, take}
 use Rattle.std.specs.List.{flat_map}
 use Rattle.bng_ppp.specs.Said.{payloads}
 use Rattle.bng_forward.specs.Framed.{session_frame}
@@ -8,6 +8,6 @@ use Rattle.bng_shard.proofs.drive.send_frames.Given as goal
 abbrev pub invariant-loop-frame : goal.invariant-loop-frame
 invariant-loop-frame l = record {
   sent : l.outs.items ≡ l.fn.outs.items ++ flat_map (λ f. frame_outs l.at l.session.port l.port (session_frame l.session.mac l.port.mac l.session.number.0 f)) (payloads (take l.frame-index l.frames));
-  capacity : vec_capacity l.outs ≡ vec_capacity l.fn.outs;
+  capacity : l.outs.room ≡ l.fn.outs.room;
   few : length l.outs.items ≤ length l.fn.outs.items + l.frame-index;
 }

@@ -1,4 +1,4 @@
-use Rattle.std.proofs.Common.{◌≡◌, ◌+◌, ◌*◌, ◌≤◌, length, vec_capacity}
+use Rattle.std.proofs.Common.{◌≡◌, ◌+◌, ◌*◌, ◌≤◌, length}
 use Rattle.bng_shard.specs.Fits.{ArePlaced}
 use Rattle.bng_shard.specs.Running.{KeepSums, whole}
 use Rattle.bng_shard.proofs.Timing.{TicksOn}
@@ -9,6 +9,6 @@ invariant-loop l = record {
   on : TicksOn l.counter l.rules l.at l.now l.random (whole l.fn.served l.fn.terms) (whole l.served l.terms) l.fn.outs.items l.outs.items;
   sums : KeepSums l.fn.terms l.terms;
   placed : ArePlaced l.rules l.served.sessions;
-  capacity : vec_capacity l.outs ≡ vec_capacity l.fn.outs;
+  capacity : l.outs.room ≡ l.fn.outs.room;
   few : length l.outs.items ≤ length l.fn.outs.items + 5 * l.counter;
 }

@@ -34,7 +34,8 @@ module _ (g : Over) (c : After-to_end g) where
   desk = record {
     rules = c.self.inside.rules;
     lines = works.accounts.lines;
-    stopped_traffic = works.accounts.stopped;
+    stopped_book = works.accounts.stopped.carried;
+    stops = works.accounts.stopped.stops;
     rounds = c.self.inside.rounds;
     turns = c.self.inside.turns;
     stopped = c.self.inside.stopped;
@@ -164,7 +165,6 @@ settle-noted-requires g c =
             outs = taken.outs.0;
             outs_room = omega (arith, taken.outs.1, shards_count g b);
             allowances = taken.allowances ∙ ap (λ (m : ℕ). replicate m 0) (shards_count g b);
-            refused = taken.refused;
           });
     }
 

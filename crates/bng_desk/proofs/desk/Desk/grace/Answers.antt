@@ -17,13 +17,14 @@ use Rattle.bng_desk.proofs.desk.Desk.grace.Goals.{After-wait_if}
 
 module _ (g : Over) (c : After-wait_if g) where
   abbrev works : Works
-  works = c.self.inside.works
+  works = record c.self.inside.works { frame = c.hear-unacknowledged.new.frame }
 
   abbrev desk : Desk
   desk = record {
     rules = c.self.inside.rules;
     lines = works.accounts.lines;
-    stopped_traffic = works.accounts.stopped;
+    stopped_book = works.accounts.stopped.carried;
+    stops = works.accounts.stopped.stops;
     rounds = c.self.inside.rounds;
     turns = c.self.inside.turns;
     stopped = c.self.inside.stopped;

@@ -1,4 +1,4 @@
-use Rattle.std.proofs.Common.{◌≡◌, ℕ, ◌+◌, ◌==◌, false, List, [], ◌∷◌, length, map, filter, refl, sym, ap, subst, arith, ◌∙◌}
+use Rattle.std.proofs.Common.{◌≡◌, ℕ, ◌+◌, ◌^◌, ◌<◌, ◌==◌, false, List, [], ◌∷◌, length, map, filter, refl, sym, ap, subst, arith, ◌∙◌}
 use Rattle.std.specs.List.{All, AllPairs, AllZip, range_with_len}
 use Rattle.std.proofs.lemmas.List.{length-map}
 use Rattle.bng_base.specs.declared.book.Book.{Book}
@@ -17,31 +17,31 @@ use Rattle.bng_engine.specs.Terms.{Key, keys}
 use Rattle.bng_engine.specs.Views.{ShardView}
 use Rattle.bng_discovery.specs.declared.port.PortRules.{PortRules}
 use Rattle.bng_shard.specs.declared.rules.Rules.{Rules}
-use Rattle.bng_shard.specs.declared.sums.Traffic.{Traffic}
 use Rattle.bng_shard.specs.Interims.{Reports, no_reports}
 use Rattle.bng_shard.specs.Lasting.{AreTenures}
 use Rattle.bng_shard.specs.Protocol.{HasPools, ShardState, opened, terms_of}
 use Rattle.bng_shard.proofs.RowLaws.{new_keys}
 use Rattle.bng_shard.specs.Questions.{none_handed}
+use Rattle.bng_desk.specs.declared.accounts.Stopped.{Stopped}
 use Rattle.bng_desk.specs.declared.line.Line.{Line}
 use Rattle.bng_desk.specs.Accounting.{AreBilled, IsStartOf, KnowsBegun}
 use Rattle.bng_desk.specs.Counting.{no_drops}
 use Rattle.bng_desk.specs.Kept.{rested}
-use Rattle.bng_desk.specs.Model.{Desk, keys_in, no_traffic}
+use Rattle.bng_desk.specs.Model.{Desk, begun_in, keys_in, live_terms}
 use Rattle.bng_desk.specs.Opening.{AreOffersOf, AreRules, AreServed, IsOpenedPool, OpensAccounts, line_of, shard_of, opened_shards, dns_of}
 use Rattle.bng_desk.specs.Random.{Drawn, draw}
 use Rattle.bng_desk.specs.Round.{terms_in}
-use Rattle.bng_desk.specs.Taking.{AreInOrder, HasRows, KeepsTerms, states_of}
+use Rattle.bng_desk.specs.Taking.{AreInOrder, HasRows, KeepsTerms, no_stops, states_of}
 use Rattle.bng_desk.proofs.Beginning.{IsTermOf}
 use Rattle.bng_desk.proofs.Fresh.{fresh_all, fresh_order, fresh_rested, kept_fresh}
 use Rattle.bng_desk.proofs.Leases.{opened_holds}
-use Rattle.bng_desk.proofs.OpenedTerms.{are_served, few_terms, knows_there, opened_keeps, terms_apart}
+use Rattle.bng_desk.proofs.OpenedTerms.{are_served, few_terms, knows_there, opened_keeps, terms_apart, terms_opened}
 use Rattle.bng_desk.proofs.Outfit.{of_shard, offers_count, ranges_of}
 use Rattle.bng_desk.proofs.Returning.{HoldsOwn}
 use Rattle.bng_desk.proofs.desk.Desk.open.Goals as goal
-use Rattle.bng_desk.proofs.desk.Desk.open.Goals.{After-as_slice-2, After-new-2}
+use Rattle.bng_desk.proofs.desk.Desk.open.Goals.{After-as_slice-2, After-new-3}
 
-module _ (c : After-new-2) where
+module _ (c : After-new-3) where
   abbrev statics : ℕ → List Static
   statics n = filter (λ (s : Static). shard_of s == n) c.args.config.statics
 
@@ -66,7 +66,7 @@ module _ (c : After-new-2) where
   lines_are : c.in_ok-accounts.accounts.lines ≡ map line_of c.args.config.statics
   lines_are = opens_accounts.booked.lines_are ∙ circuits_named
 
-  stopped_is : c.in_ok-accounts.accounts.stopped ≡ no_traffic
+  stopped_is : c.in_ok-accounts.accounts.stopped ≡ no_stops
   stopped_is = opens_accounts.booked.stopped_is
 
   keys_are : keys_in c.as_slice-2.result.now ≡ keys_in c.in_ok-opens.opens.items
@@ -121,10 +121,17 @@ module _ (c : After-new-2) where
   held = subst (λ (vs : List (ShardView ShardState Entry)). All (HoldsOwn c.in_ok-pool.pool.table) vs) (sym shards_are)
       (fresh_all made statics c.args.now (HoldsOwn c.in_ok-pool.pool.table) made.shards (λ n lt. opened_holds c.args.config.statics c.in_ok-pool.pool.table served.addresses is_pool.table made c.args.now n))
 
+  few_circuits : length c.args.config.statics < 2 ^ 48
+  few_circuits = omega (arith, c.requires.rules.few_terms, c.requires.rules.enough_terms)
+
+  -- each term that began is there
+  counts : live_terms c.in_ok-opens.opens.items ≡ begun_in c.in_ok-opens.opens.items
+  counts = subst (λ (vs : List (ShardView ShardState Entry)). live_terms vs ≡ begun_in vs) (sym shards_are) (terms_opened made c.args.config.statics c.args.now served 0 made.shards)
+
   -- its terms have numbers that it gave, and a Start each
   terms : All (KeepsTerms c.args.now) c.in_ok-opens.opens.items
   terms = subst (λ (vs : List (ShardView ShardState Entry)). All (KeepsTerms c.args.now) vs) (sym shards_are)
-      (fresh_all made statics c.args.now (KeepsTerms c.args.now) made.shards (λ n lt. opened_keeps made c.args.config.statics c.args.now served n (omega (arith, lt, are_rules.shards, c.requires.rules.few_shards))))
+      (fresh_all made statics c.args.now (KeepsTerms c.args.now) made.shards (λ n lt. opened_keeps made c.args.config.statics c.args.now served few_circuits n (omega (arith, lt, are_rules.shards, c.requires.rules.few_shards))))
 
   -- and accounting knows of no other
   knows : KnowsBegun c.in_ok-opens.opens.items c.in_ok-accounts.accounts.billing
@@ -138,7 +145,7 @@ module _ (c : After-new-2) where
 pub invariant_of-result : goal.invariant_of-result
 invariant_of-result c =
     let rules = are_rules c in (
-      kept_fresh _ (statics c) c.args.now c.args.config.statics (shards_are c) c.in_ok-opens.ensures.sessions (lines_are c) (stopped_is c)
+      kept_fresh _ (statics c) c.args.now c.args.config.statics (shards_are c) c.in_ok-opens.ensures.sessions (lines_are c) (stopped_is c) (counts c)
           (omega (arith, c.requires.rules.some_port, ap (λ (ps : List AccessPort). length ps) rules.access)) (omega (arith, c.requires.rules.few_ports, ap (λ (ps : List AccessPort). length ps) rules.access))
           (omega (arith, c.requires.rules.some_shard, rules.shards)) (omega (arith, c.requires.rules.few_shards, rules.shards))
           (pools c) ((is_pool c).shards ∙ sym rules.shards) (held c) (terms c)
@@ -149,13 +156,14 @@ invariant_of-result c =
 
 pub returns : goal.returns
 returns c =
-    let b = (goal.at.returns c).After-new-2 in
+    let b = (goal.at.returns c).After-new-3 in
     let config = c.args.config in
     let r = made b in
-    let desk = λ (tallies : List Book) (lines : List Line) (stopped : Traffic) (shards : List (ShardView ShardState Entry)) (draws : Drawn) (handed : List (List ℕ)) (reports : List Reports) (kept : List Item). let x : Desk = record {
+    let desk = λ (tallies : List Book) (lines : List Line) (stopped : Stopped) (shards : List (ShardView ShardState Entry)) (draws : Drawn) (handed : List (List ℕ)) (reports : List Reports) (kept : List Item). let x : Desk = record {
       rules = r;
       lines = lines;
-      stopped_traffic = stopped;
+      stopped_book = stopped.carried;
+      stops = stopped.stops;
       rounds = c.args.rounds;
       turns = 0;
       stopped = false;
@@ -201,12 +209,12 @@ returns c =
       desk =
           ap (λ (bs : List Book). desk bs c.in_ok-accounts.accounts.lines c.in_ok-accounts.accounts.stopped (map rested c.in_ok-opens.opens.items) c.sixteen-key.new.self c.in_ok-handed.handed.items c.in_ok-accounts.accounts.reports c.in_ok-kept.kept.items) (tallies_are b)
           ∙ ap (λ (ls : List Line). desk (empty_book ∷ []) ls c.in_ok-accounts.accounts.stopped (map rested c.in_ok-opens.opens.items) c.sixteen-key.new.self c.in_ok-handed.handed.items c.in_ok-accounts.accounts.reports c.in_ok-kept.kept.items) (lines_are b)
-          ∙ ap (λ (t : Traffic). desk (empty_book ∷ []) (map line_of config.statics) t (map rested c.in_ok-opens.opens.items) c.sixteen-key.new.self c.in_ok-handed.handed.items c.in_ok-accounts.accounts.reports c.in_ok-kept.kept.items) (stopped_is b)
-          ∙ ap (λ (xs : List (ShardView ShardState Entry)). desk (empty_book ∷ []) (map line_of config.statics) no_traffic xs c.sixteen-key.new.self c.in_ok-handed.handed.items c.in_ok-accounts.accounts.reports c.in_ok-kept.kept.items) shards
-          ∙ ap (λ (x : Drawn). desk (empty_book ∷ []) (map line_of config.statics) no_traffic opens x c.in_ok-handed.handed.items c.in_ok-accounts.accounts.reports c.in_ok-kept.kept.items) (draws_are b)
-          ∙ ap (λ (ls : List (List ℕ)). desk (empty_book ∷ []) (map line_of config.statics) no_traffic opens first ls c.in_ok-accounts.accounts.reports c.in_ok-kept.kept.items) c.in_ok-handed.ensures.handed
-          ∙ ap (λ (rs : List Reports). desk (empty_book ∷ []) (map line_of config.statics) no_traffic opens first (map (λ n. none_handed) (range_with_len 0 config.shards)) rs c.in_ok-kept.kept.items) (reports_are b)
-          ∙ ap (λ (is : List Item). desk (empty_book ∷ []) (map line_of config.statics) no_traffic opens first (map (λ n. none_handed) (range_with_len 0 config.shards)) (map (λ n. no_reports) (range_with_len 0 config.shards)) is) c.in_ok-kept.ensures.0;
+          ∙ ap (λ (t : Stopped). desk (empty_book ∷ []) (map line_of config.statics) t (map rested c.in_ok-opens.opens.items) c.sixteen-key.new.self c.in_ok-handed.handed.items c.in_ok-accounts.accounts.reports c.in_ok-kept.kept.items) (stopped_is b)
+          ∙ ap (λ (xs : List (ShardView ShardState Entry)). desk (empty_book ∷ []) (map line_of config.statics) no_stops xs c.sixteen-key.new.self c.in_ok-handed.handed.items c.in_ok-accounts.accounts.reports c.in_ok-kept.kept.items) shards
+          ∙ ap (λ (x : Drawn). desk (empty_book ∷ []) (map line_of config.statics) no_stops opens x c.in_ok-handed.handed.items c.in_ok-accounts.accounts.reports c.in_ok-kept.kept.items) (draws_are b)
+          ∙ ap (λ (ls : List (List ℕ)). desk (empty_book ∷ []) (map line_of config.statics) no_stops opens first ls c.in_ok-accounts.accounts.reports c.in_ok-kept.kept.items) c.in_ok-handed.ensures.handed
+          ∙ ap (λ (rs : List Reports). desk (empty_book ∷ []) (map line_of config.statics) no_stops opens first (map (λ n. none_handed) (range_with_len 0 config.shards)) rs c.in_ok-kept.kept.items) (reports_are b)
+          ∙ ap (λ (is : List Item). desk (empty_book ∷ []) (map line_of config.statics) no_stops opens first (map (λ n. none_handed) (range_with_len 0 config.shards)) (map (λ n. no_reports) (range_with_len 0 config.shards)) is) c.in_ok-kept.ensures.0;
     }
 
 pub shards-requires-clause-circuits : goal.shards-requires-clause-circuits
@@ -255,7 +263,7 @@ accounts-requires-clause-terms c =
     let made = c.in_ok-rules.rules in
     let low = ap (λ (r : Rules). r.shards) c.in_ok-rules.ensures in
     subst (λ (vs : List (ShardView ShardState Entry)). All (λ v. AreTenures c.args.now v.state.slots) vs) (sym (there b))
-    (fresh_all made (of_shard c.args.config.statics) c.args.now (λ v. AreTenures c.args.now v.state.slots) made.shards (λ n lt. (opened_keeps made c.args.config.statics c.args.now (served_by b) n (omega (arith, lt, low, c.requires.rules.few_shards))).tenures))
+    (fresh_all made (of_shard c.args.config.statics) c.args.now (λ v. AreTenures c.args.now v.state.slots) made.shards (λ n lt. (opened_keeps made c.args.config.statics c.args.now (served_by b) (omega (arith, c.requires.rules.few_terms, c.requires.rules.enough_terms)) n (omega (arith, lt, low, c.requires.rules.few_shards))).tenures))
 
 pub pool-requires-clause-inside : goal.pool-requires-clause-inside
 pool-requires-clause-inside c k d lt = (c.requires.rules.sharded k d lt).shard

@@ -1,13 +1,13 @@
 use Rattle.std.proofs.Common.{◌≡◌, ℕ, ◌+◌, ◌*◌, List, [], ◌∷◌, ◌++◌, map, sym, ap, subst, ◌∙◌, arith}
 use Rattle.bng_shard.specs.declared.sums.Traffic.{Traffic}
 use Rattle.bng_desk.specs.declared.line.Line.{Line}
+use Rattle.bng_desk.specs.declared.sums.Sums.{Sums}
 use Rattle.bng_desk.specs.Kept.{octets_most, rested}
-use Rattle.bng_desk.specs.declared.sums.Totals.{Totals}
-use Rattle.bng_desk.specs.Model.{Desk, carried_on, all_carried, live_of, plus_traffic, total_of, totals_of, traffic_by}
-use Rattle.bng_desk.specs.Report.{by_number, report_text}
+use Rattle.bng_desk.specs.Model.{Desk, carried_on, all_carried, sums_of, total_of, traffic_by}
+use Rattle.bng_desk.specs.Report.{report_text}
 use Rattle.bng_desk.proofs.Readying.{Shards}
-use Rattle.bng_desk.proofs.InAll.{told_sum}
-use Rattle.bng_desk.proofs.Resting.{all_carried_rested, live_rested}
+use Rattle.bng_desk.proofs.Counted.{seen_adds_up}
+use Rattle.bng_desk.proofs.Resting.{all_carried_rested}
 use Rattle.bng_desk.specs.Taking.{LinesWithin, far}
 use Rattle.bng_desk.proofs.Tallied.{lines_far}
 use Rattle.bng_desk.proofs.desk.Desk.report.Goals as goal
@@ -25,12 +25,10 @@ all_carried-requires c =
 
 -- the total of what the Stops and the terms that are left carried is that of the tally
 module _ (c : After-as_slice) where
-  adds_up : plus_traffic c.args.self.now.stopped_traffic (live_of c.args.self.now.shards) ≡ total_of c.args.self.now.tallies
+  adds_up : (sums_of c.args.self.now).total ≡ total_of c.args.self.now.tallies
   adds_up =
       let inside = c.self.inside in
-      let vs = inside.works.shards.items in
-      subst (λ (d : Desk). plus_traffic d.stopped_traffic (live_of d.shards) ≡ total_of d.tallies) c.self.view_is
-      (ap (plus_traffic inside.works.accounts.stopped) (live_rested vs) ∙ told_sum inside.works.tally vs inside.works.accounts.stopped c.self.invariant.0.adds_up)
+      subst (λ (d : Desk). (sums_of d).total ≡ total_of d.tallies) c.self.view_is (seen_adds_up inside.works.tally inside.works.shards.items inside.works.accounts.stopped c.self.invariant.0.adds_up)
 
 pub returns-in_default-clause-adds_up : goal.returns-in_default-clause-adds_up
 returns-in_default-clause-adds_up c = adds_up (goal.at.returns-in_default-clause-adds_up c).After-as_slice
@@ -53,13 +51,11 @@ returns-in-Ok-extend_from_slice-clause-appended c =
     c.as_slice-2.ensures.value ∙ c.in-Ok.ensures ∙ ap (λ (xs : Shards). map (carried_on xs) c.lines-lines.result.now) c.as_slice.ensures.value ∙ ap (λ (ls : List Line). map (carried_on vs) ls) c.lines-lines.ensures ∙ all_carried_rested vs lines in
     let all : c.as_slice-2.result.now ≡ all_carried seen = carried ∙ ap (λ (d : Desk). all_carried d) c.self.view_is in
     let named : c.lines-lines.result.now ≡ seen.lines = c.lines-lines.ensures ∙ ap (λ (d : Desk). d.lines) c.self.view_is in
-    let dropped : c.by_number-drops.result ≡ by_number seen.drops = c.by_number-drops.ensures ∙ ap (λ (d : Desk). by_number d.drops) c.self.view_is in
     let one = λ (t : Traffic). let ts : List Traffic = t ∷ [] in ts in
-    let passed : one c.passed_by.result ≡ map traffic_by seen.tallies = ap one c.passed_by.ensures ∙ ap (λ (d : Desk). map traffic_by d.tallies) c.self.view_is in
-    let text = λ (t : Totals) (ws : List Traffic) (ls : List Line) (ts : List Traffic) (ds : List ℕ). c.args.out.now.items ++ report_text t ws ls ts ds in
+    let passed : one c.octets_of.result ≡ map traffic_by seen.tallies = ap one c.octets_of.ensures ∙ ap (λ (d : Desk). map traffic_by d.tallies) c.self.view_is in
+    let text = λ (s : Sums) (ws : List Traffic) (ls : List Line) (ts : List Traffic). c.args.out.now.items ++ report_text s.stopped s.live s.total ws ls ts s.drops in
     c.in-Ok-extend_from_slice.ensures.items ∙ ap (λ (bs : List ℕ). c.args.out.now.items ++ bs) (c.as_bytes.ensures.value ∙ c.in-Ok-report.ensures)
-    ∙ ap (λ (t : Totals). text t (one c.passed_by.result) c.lines-lines.result.now c.as_slice-2.result.now c.by_number-drops.result) c.totals-totals.ensures.totals
-    ∙ ap (λ (ws : List Traffic). text (totals_of seen) ws c.lines-lines.result.now c.as_slice-2.result.now c.by_number-drops.result) passed
-    ∙ ap (λ (ls : List Line). text (totals_of seen) (map traffic_by seen.tallies) ls c.as_slice-2.result.now c.by_number-drops.result) named
-    ∙ ap (λ (ts : List Traffic). text (totals_of seen) (map traffic_by seen.tallies) seen.lines ts c.by_number-drops.result) all
-    ∙ ap (λ (ds : List ℕ). text (totals_of seen) (map traffic_by seen.tallies) seen.lines (all_carried seen) ds) dropped
+    ∙ ap (λ (s : Sums). text s (one c.octets_of.result) c.lines-lines.result.now c.as_slice-2.result.now) c.sums-sums.ensures.sums
+    ∙ ap (λ (ws : List Traffic). text (sums_of seen) ws c.lines-lines.result.now c.as_slice-2.result.now) passed
+    ∙ ap (λ (ls : List Line). text (sums_of seen) (map traffic_by seen.tallies) ls c.as_slice-2.result.now) named
+    ∙ ap (λ (ts : List Traffic). text (sums_of seen) (map traffic_by seen.tallies) seen.lines ts) all

@@ -32,13 +32,14 @@ use Rattle.bng_desk.proofs.desk.Desk.serve.Goals.{After-answer, After-gather-qui
 -- the desk before, what its turn gathered, and what may stay of that
 module _ (g : Over) (c : After-gather-quiet g) where
   abbrev works : Works
-  works = c.self.inside.works
+  works = record c.self.inside.works { frame = c.gather-quiet.new.frame }
 
   abbrev desk : Desk
   desk = record {
     rules = c.self.inside.rules;
     lines = works.accounts.lines;
-    stopped_traffic = works.accounts.stopped;
+    stopped_book = works.accounts.stopped.carried;
+    stops = works.accounts.stopped.stops;
     rounds = c.self.inside.rounds;
     turns = c.self.inside.turns;
     stopped = c.self.inside.stopped;
@@ -126,7 +127,6 @@ settle-noted-requires g c =
             outs = taken.outs.0;
             outs_room = omega (arith, taken.outs.1, shards_count g b);
             allowances = taken.allowances ∙ ap (λ (m : ℕ). replicate m 0) (shards_count g b);
-            refused = taken.refused;
           }));
     }
 

@@ -1,4 +1,5 @@
-use Rattle.std.proofs.Common.{ap, arith, length, Vec, Global}
+use Rattle.std.proofs.Common.{ap, arith, length}
+use Rattle.bng_base.specs.Batches.{Batch}
 use Rattle.bng_base.specs.declared.item.Entry.{Entry}
 use Rattle.bng_shard.proofs.shard.Shard.drain.Goals as goal
 
@@ -16,7 +17,7 @@ invariant_of-self c =
       few_pools = was.few_pools;
       auth = was.auth;
       offers = was.offers;
-      journal_room = omega (arith, ap (λ (v : Vec Entry Global). length v.items) c.replace-journal.ensures.after, ap length c.new.ensures.items);
+      journal_room = omega (arith, ap (λ (b : Batch Entry). length b.items) c.replace-journal.ensures.after, ap length c.new.ensures);
       outs_room = λ some. absurd (omega (arith, some));
       terms_room = omega arith;
     }

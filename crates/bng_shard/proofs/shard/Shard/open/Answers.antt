@@ -16,7 +16,7 @@ invariant_of-result c =
     let served = c.in-Ok.served in
     let sessions : served.sessions ≡ (opened_slots c.args.number cs 0).sessions = ap (λ (s : State). s.sessions) c.in-Ok.ensures.opened in
     let begun : served.begun ≡ length cs = ap (λ (s : State). s.begun) c.in-Ok.ensures.opened in
-    let none : begun_in c.new.result.items ≡ 0 = ap (λ (es : List Entry). begun_in es) c.new.ensures.items in
+    let none : begun_in c.new.result.items ≡ 0 = ap (λ (es : List Entry). begun_in es) c.new.ensures in
     record {
       numbered = opened_numbered c.args.number c.args.now served.begun cs rows c.requires.own begun c.in-Ok-open.ensures.terms;
       numbered_news = subst (All (λ (r : Running). r.term.serial ≤ served.begun)) (sym c.in-Ok-open.ensures.none.0) (λ i d lt. absurd (omega (arith, lt)));
@@ -28,7 +28,7 @@ invariant_of-result c =
       auth = c.requires.auth;
       offers = c.requires.offers;
       few_pools = c.requires.few_pools;
-      journal_room = omega (arith, ap length c.new.ensures.items);
+      journal_room = omega (arith, ap length c.new.ensures);
       outs_room = λ some. omega (arith, some);
       terms_room = omega arith;
     }
@@ -38,4 +38,4 @@ returns-clause-opened c =
     let cs = c.args.circuits.now in
     let opened = opened_whole c.args.number c.args.now cs c.in-Ok.served c.in-Ok-open.terms c.in-Ok.ensures.opened c.in-Ok-open.ensures.terms c.in-Ok-open.ensures.none.0 in
     opened_view c.args.rules c.args.number cs c.args.now (whole c.in-Ok.served c.in-Ok-open.terms) (rows_in c.in-Ok-open.terms.rows) c.empty.result c.new.result.items c.new-2.result.items opened c.in-Ok-open.ensures.rows
-    c.empty.ensures c.new.ensures.items c.new-2.ensures.items
+    c.empty.ensures c.new.ensures c.new-2.ensures

@@ -1,5 +1,6 @@
 use Rattle.std.proofs.Common.{◌≡◌, ◌≤◌, ◌<◌, ◌-◌, ◌^◌, ◌==◌, ◌∷◌, [], ℕ, ap, sym, subst, refl, ◌∙◌, arith, length, length-append, true, false, List}
 use Rattle.std.proofs.lemmas.Bool.Decides.{nat_tests}
+use Rattle.bng_base.specs.Batches.{Batch}
 use Rattle.bng_base.specs.declared.item.Claim.{Claim}
 use Rattle.bng_base.specs.declared.item.Entry.{Entry}
 use Rattle.bng_base.specs.declared.item.OutRecord.{OutRecord}
@@ -30,7 +31,7 @@ pub ask-claim-requires-clause-pools : goal.ask-claim-requires-clause-pools
 ask-claim-requires-clause-pools c = subst (λ (v : ShardView ShardState Entry). HasPools v.state.rules.pools c.args.pool.now.ranges) (sym c.self.view_is) c.requires.pools
 
 pub ask-claim-requires-clause-may : goal.ask-claim-requires-clause-may
-ask-claim-requires-clause-may c = wished_may c.self.inside.rules c.self.inside.served c.args.item (c.self.inside.left == 0) c.wish_for-wish.result c.wish_for-wish.ensures
+ask-claim-requires-clause-may c = wished_may c.self.inside.rules c.self.inside.served c.args.item.now (c.self.inside.left == 0) c.wish_for-wish.result c.wish_for-wish.ensures
 
 pub hear-fate-requires-clause-asked : goal.hear-fate-requires-clause-asked
 hear-fate-requires-clause-asked c = record { wish = c.wish_for-wish.result; is_wished = c.wish_for-wish.ensures; answers = c.ask-claim.ensures.answer }
@@ -39,8 +40,8 @@ pub hear-fate-requires-clause-begins : goal.hear-fate-requires-clause-begins
 hear-fate-requires-clause-begins c x is =
     let a = c.self.inside in
     let was = c.self.invariant in
-    let asked : IsAnswered c.self.inside.rules c.self.inside.served c.args.item (c.self.inside.left == 0) c.ask-claim.result = record { wish = c.wish_for-wish.result; is_wished = c.wish_for-wish.ensures; answers = c.ask-claim.ensures.answer } in
-    let some = some_left a.left (claimed_within a.rules a.served c.args.item (a.left == 0) c.ask-claim.result asked x is) in
+    let asked : IsAnswered c.self.inside.rules c.self.inside.served c.args.item.now (c.self.inside.left == 0) c.ask-claim.result = record { wish = c.wish_for-wish.result; is_wished = c.wish_for-wish.ensures; answers = c.ask-claim.ensures.answer } in
+    let some = some_left a.left (claimed_within a.rules a.served c.args.item.now (a.left == 0) c.ask-claim.result asked x is) in
     let numbers = was.numbers some in
     let room = ap (λ (v : ShardView ShardState Entry). v.room) c.self.view_is in
     let held = subst (λ (v : ShardView ShardState Entry). AreHeld v.number (terms_of v.state) c.args.pool.now.table) (sym c.self.view_is) c.requires.held in
@@ -58,8 +59,8 @@ hear-fate-requires-clause-begins c x is =
 pub left_after-self-inside-requires : goal.left_after-self-inside-requires
 left_after-self-inside-requires c =
     let a = c.self.inside in
-    let asked : IsAnswered c.self.inside.rules c.self.inside.served c.args.item (c.self.inside.left == 0) c.ask-claim.result = record { wish = c.wish_for-wish.result; is_wished = c.wish_for-wish.ensures; answers = c.ask-claim.ensures.answer } in
-    record { left = λ x is. some_left a.left (claimed_within a.rules a.served c.args.item (a.left == 0) c.ask-claim.result asked x is) }
+    let asked : IsAnswered c.self.inside.rules c.self.inside.served c.args.item.now (c.self.inside.left == 0) c.ask-claim.result = record { wish = c.wish_for-wish.result; is_wished = c.wish_for-wish.ensures; answers = c.ask-claim.ensures.answer } in
+    record { left = λ x is. some_left a.left (claimed_within a.rules a.served c.args.item.now (a.left == 0) c.ask-claim.result asked x is) }
 
 pub book-requires-clause-low : goal.book-requires-clause-low
 book-requires-clause-low c =
@@ -71,7 +72,7 @@ invariant_of-self c =
     let was = c.self.invariant in
     let a = c.self.inside in
     let claim = c.ask-claim.result in
-    let e = entry_with claim c.args.seat c.args.place c.args.now c.args.item in
+    let e = entry_with claim c.args.seat c.args.place c.args.now c.args.item.now in
     let s = whole a.served a.terms in
     let s' = whole c.hear-fate.new.served c.hear-fate.new.terms in
     let limited = a.left == 0 in
@@ -79,7 +80,7 @@ invariant_of-self c =
     let outs' = c.hear-fate.new.outs.items in
     let fate = c.hear-fate.result in
     let does = c.hear-fate.ensures.does in
-    let items = c.push_reserved.ensures.items in
+    let items = ap (λ (b : Batch Entry). b.items) c.push_entry.ensures in
     let room = ap (λ (v : ShardView ShardState Entry). v.room) c.self.view_is in
     let once = subst (λ (v : ShardView ShardState Entry). (is_tick e.item.kind ≡ true → has_tick v.journal ≡ false) × (is_end e.item.kind ≡ true → has_end v.journal ≡ false)) (sym c.self.view_is) (c.requires.once.tick, c.requires.once.end) in
     let spent = owed_more a.journal.items e once.0 once.1 in
@@ -102,7 +103,7 @@ invariant_of-self c =
       few_pools = was.few_pools;
       auth = was.auth;
       offers = was.offers;
-      journal_room = omega (arith, was.journal_room, ap length items, length-append a.journal.items (e ∷ []), room, c.requires.room, c.push_reserved.ensures.capacity);
+      journal_room = omega (arith, was.journal_room, ap length items, length-append a.journal.items (e ∷ []), room, c.requires.room, ap (λ (b : Batch Entry). b.room) c.push_entry.ensures);
       outs_room = λ some. omega (arith, was.outs_room (omega (arith, some)), ap length does.outs_are, length-append outs does.deed.outs, does.few, ap owed items, spent, c.hear-fate.ensures.capacity);
       terms_room = omega (arith, was.terms_room, c.hear-fate.ensures.sums.room);
     }
@@ -112,8 +113,8 @@ returns c =
     let was = c.self.invariant in
     let a = c.self.inside in
     let claim = c.ask-claim.result in
-    let e0 = entry_of c.args.seat c.args.place c.args.now c.args.item in
-    let e = entry_with claim c.args.seat c.args.place c.args.now c.args.item in
+    let e0 = entry_of c.args.seat c.args.place c.args.now c.args.item.now in
+    let e = entry_with claim c.args.seat c.args.place c.args.now c.args.item.now in
     let s = whole a.served a.terms in
     let s' = whole c.hear-fate.new.served c.hear-fate.new.terms in
     let limited = a.left == 0 in
@@ -127,13 +128,13 @@ returns c =
     let rows = rows_in a.terms.rows in
     let rows' = rows_in c.hear-fate.new.terms.rows in
     let short : length e.item.frame.payload ≤ 4096 = omega (arith, c.requires.whole, c.payload.ensures.fits) in
-    let next : ShardView ShardState Entry = view a.rules s' rows' c.book.new.book a.allowance c.push_reserved.new.self.items outs' (a.room - 1) in
-    let sends = slice_after outs does.deed.outs c.as_slice.result.now _ (ap length c.as_slice-before.ensures.value) (c.as_slice.ensures.value ∙ does.outs_are) in
+    let next : ShardView ShardState Entry = view a.rules s' rows' c.book.new.book a.allowance c.push_entry.new.self.items outs' (a.room - 1) in
+    let sends = slice_after outs does.deed.outs c.as_slice.result.now _ (ap length c.as_slice-before.ensures) (c.as_slice.ensures ∙ does.outs_are) in
     let booked = subst (λ (os : List OutRecord). BooksRise (a.passed ∷ []) os (c.book.new.book ∷ [])) sends c.book.ensures in
     let tallied = subst (λ (os : List OutRecord). Rises c.args.ledger.now os c.tally.new.tally) sends c.tally.ensures in
     let held = subst (λ (v : ShardView ShardState Entry). AreHeld v.number (terms_of v.state) pool.table) (sym c.self.view_is) c.requires.held in
     let answers = subst (λ (n : ℕ). AnswersClaim n claim pool pool') c.shard.ensures.number c.ask-claim.ensures.table in
     let holds = held_after a.rules s s' outs outs' e limited fate does s.sessions.shard pool pool' answers held in
     subst (λ (v : ShardView ShardState Entry). Handles v next pool pool' e0 fate c.args.ledger.now c.tally.new.tally) c.self.view_is
-    (handles a.rules s s' outs outs' e limited fate does rows rows' a.passed c.book.new.book a.allowance a.left a.room a.journal.items c.push_reserved.new.self.items (was.left (omega (arith, room, c.requires.room))) refl (keys_of_rows c.hear-fate.new.terms.rows) c.hear-fate.ensures.sums.sums
-    e0 claim refl pool pool' answers (moved_held a.rules s s' outs outs' e limited fate does pool' holds) c.args.ledger.now c.tally.new.tally c.push_reserved.ensures.items short booked tallied does.few)
+    (handles a.rules s s' outs outs' e limited fate does rows rows' a.passed c.book.new.book a.allowance a.left a.room a.journal.items c.push_entry.new.self.items (was.left (omega (arith, room, c.requires.room))) refl (keys_of_rows c.hear-fate.new.terms.rows) c.hear-fate.ensures.sums.sums
+    e0 claim refl pool pool' answers (moved_held a.rules s s' outs outs' e limited fate does pool' holds) c.args.ledger.now c.tally.new.tally (ap (λ (b : Batch Entry). b.items) c.push_entry.ensures) short booked tallied does.few)
