@@ -21,3 +21,9 @@ pub struct Peer {
     pub ip: Ip4,
     pub port: u16,
 }
+
+/// The other end where there is none: 0.0.0.0:0.
+pub const NOBODY: Peer = Peer {
+    ip: Ip4(0),
+    port: 0,
+};

@@ -66,6 +66,14 @@ pub struct Loose {
     pub fate: Fate,
 }
 
+/// Whose an out is: the shard, and where its entry stood among its seat's items.
+#[derive(Clone, Copy, PartialEq, Eq, Debug)]
+pub struct At {
+    pub shard: u16,
+    pub seat: u16,
+    pub place: u16,
+}
+
 /// Whose packet a datagram carries: its term and the place of that term's profile, from 0, the term's circuit and its
 /// address, whether it is from the subscriber, and the packet's total length in octets.
 #[derive(Clone, Copy, PartialEq, Eq, Debug)]

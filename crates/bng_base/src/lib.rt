@@ -19,7 +19,7 @@ mod round;
 mod settings;
 mod tunnel_step;
 
-pub use crate::address::{Ip4, Mac, Peer, SessionNo, TunnelNo};
+pub use crate::address::{Ip4, Mac, NOBODY, Peer, SessionNo, TunnelNo};
 pub use crate::batch::Batch;
 pub use crate::book::{Book, Profile, Range, Rate};
 pub use crate::circuit::{Circuit, TermId};
@@ -27,7 +27,7 @@ pub use crate::codec::{ReadError, Written};
 pub use crate::fate::{DropCause, Fate};
 pub use crate::frame::{Frame, HEADROOM, LONGEST, ROOM};
 pub use crate::ipv4::Ipv4;
-pub use crate::item::{Charge, Claim, Entry, Item, ItemKind, Loose, OutRecord};
+pub use crate::item::{At, Charge, Claim, Entry, Item, ItemKind, Loose, OutRecord};
 pub use crate::listed::Listed;
 pub use crate::octets::Octets;
 pub use crate::outside::{Bind, ClockAnswer, Datagram, Heard, Received, Role};

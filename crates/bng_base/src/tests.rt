@@ -1,6 +1,6 @@
 ghost use Rattle.std.specs.Prelude.{◌≡◌, ◌≤◌, length};
 
-use crate::{Batch, Claim, Entry, Frame, Ip4, Item, ItemKind, OutRecord, Peer, Role};
+use crate::{At, Batch, Claim, Entry, Frame, Ip4, Item, ItemKind, OutRecord, Peer, Role};
 use std::process::Abort;
 use std::test::Fail;
 
@@ -63,7 +63,12 @@ fn a_cleared_batch_writes_over_its_places(rt: HostRuntime) -> Result<(), Fail> {
     assert_eq!(rt; entry.claim, Claim::Claimed(Ip4(1)));
     let mut outs: Batch<OutRecord> = Batch::new(rt.alloc());
     outs.reserve(1)?;
-    outs.push_out(0, 0, 3, Role::Core, peer(5), &entry.item.frame, None);
+    let at = At {
+        shard: 0,
+        seat: 0,
+        place: 3,
+    };
+    outs.push_out(at, Role::Core, peer(5), &entry.item.frame, None);
     let mut sent: Batch<OutRecord> = Batch::new(rt.alloc());
     sent.reserve(1)?;
     sent.push_sent(&outs.as_slice()[0], true);

@@ -10,7 +10,7 @@ use Rattle.bng_rad_client.specs.Table.{request_of}
 use Rattle.bng_acct.specs.declared.sheet.Sheet.{Sheet}
 use Rattle.bng_acct.specs.Queue.{sheet_at}
 use Rattle.bng_acct.specs.Spool.{State as Spool, only_stop}
-use Rattle.bng_billing.specs.declared.rules.TheConstants.{NOBODY}
+use Rattle.bng_base.specs.declared.address.TheConstants.{NOBODY}
 use Rattle.bng_billing.specs.declared.rules.BillingRules.{BillingRules}
 use Rattle.bng_billing.specs.State.{BillingState, IsNewBilling, places_of, owner_of}
 use Rattle.bng_billing.specs.Invariant.{IsBilling}

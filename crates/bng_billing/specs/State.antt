@@ -5,7 +5,7 @@ use Rattle.bng_rad_client.specs.declared.rules.Owner.{Owner}
 use Rattle.bng_rad_client.specs.declared.rules.Owner.TheVariants.{Record as OfRecord}
 use Rattle.bng_rad_client.specs.State.{State as Client, IsOpened as IsNewClient}
 use Rattle.bng_acct.specs.Spool.{State as Spool, IsOpened as IsNewSpool}
-use Rattle.bng_billing.specs.declared.rules.TheConstants.{NOBODY}
+use Rattle.bng_base.specs.declared.address.TheConstants.{NOBODY}
 use Rattle.bng_billing.specs.declared.rules.BillingRules.{BillingRules}
 
 -- the requests that are out, the records that are open, and for each identifier, 0 to 255, whether the request that has it was

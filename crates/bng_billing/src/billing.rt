@@ -14,10 +14,10 @@ ghost use Rattle.bng_billing.specs.Due.{IsResentBy, NoneToResend, due_count};
 ghost use Rattle.bng_billing.specs.Sending.{IsSentBy, NoneToSend};
 ghost use Rattle.bng_billing.specs.Stopping.{StopsOnly};
 
-use crate::rules::{BillingError, BillingRules, NOBODY};
+use crate::rules::{BillingError, BillingRules};
 use crate::withdrawing::withdraw_lost;
 use bng_acct::{Moment, RecordNo, Spool, StatusType, TermFacts};
-use bng_base::{Frame, Peer, TermId};
+use bng_base::{Frame, NOBODY, Peer, TermId};
 use bng_rad_client::{
     Asked, Client, DueRequest, Lane as Kind, Owner, RadiusRules, RecordNo as Number, Replied,
 };

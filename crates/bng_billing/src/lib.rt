@@ -18,4 +18,4 @@ pub use crate::laws::{
     records_stay_out_until_acknowledged, records_wait_or_are_out, requests_say_their_records,
     stops_are_acknowledged,
 };
-pub use crate::rules::{BillingError, BillingRules, NOBODY};
+pub use crate::rules::{BillingError, BillingRules};

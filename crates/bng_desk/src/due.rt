@@ -9,15 +9,9 @@ ghost use Rattle.bng_ppp.specs.LinkRelation.{earliest as first_of};
 
 use crate::answers::verdict;
 use crate::random::Draws;
-use bng_base::{Batch, Frame, Ip4, Item, ItemKind, Peer};
+use bng_base::{Batch, Frame, Item, ItemKind, NOBODY};
 use bng_lane::Lane;
 use bng_shard::Shard;
-
-/// The sender of what no datagram brought.
-const NOBODY: Peer = Peer {
-    ip: Ip4(0),
-    port: 0,
-};
 
 /// The milliseconds of a wait before which nothing is due.
 const WAIT_MOST: u64 = 100;

@@ -23,9 +23,7 @@ use crate::lists::Lists;
 use crate::round::{deal_all, prepare_all, send_all};
 use crate::starts::begin_all;
 use crate::stops::reap_all;
-use bng_base::{
-    Batch, Book, Entry, Frame, Ip4, Item, ItemKind, Listed, Loose, OutRecord, Peer, RoundRecord,
-};
+use bng_base::{Batch, Book, Entry, Item, ItemKind, Listed, Loose, OutRecord, RoundRecord};
 use bng_plant::{Noted, Plant, Trace};
 use bng_pool::PlainPool;
 use bng_shard::{Rules, Shard};
@@ -176,24 +174,6 @@ pub(crate) fn refused(
     recorded(named, allowances, journals, loose, outs, Batch::of(refused))
 }
 
-// An item in the place of one that was taken off a list.
-fn nothing() -> Item
-    ensures { result.kind ≡ ItemKind.Tick }
-{
-    Item {
-        kind: ItemKind::Tick,
-        from: Peer {
-            ip: Ip4(0),
-            port: 0,
-        },
-        frame: Frame::new(),
-        cut: false,
-        random: [0; 16],
-        target: 0,
-        ask: 0,
-    }
-}
-
 // Whether an item of this kind stands first in the next round where its own could not be opened.
 fn stays(kind: ItemKind) -> bool
     ensures { result ≡ stays kind }
@@ -221,7 +201,7 @@ fn keep_one(item: &mut Item, kept: &mut Vec<Item>)
     ensures others { refused_of (item.new ∷ []) ≡ refused_of (item.old ∷ []) }
 {
     if stays(item.kind) {
-        kept.push_reserved(mem::replace(item, nothing()));
+        kept.push_reserved(mem::replace(item, Item::blank()));
     }
 }
 

@@ -86,20 +86,10 @@ pub(crate) fn prepare_all(
 fn loose_of(place: u16, item: &Item, fate: Fate) -> Loose
     ensures { result ≡ record { seat = 0; place = place; item = item.now; fate = fate } }
 {
-    let mut frame = Frame::new();
-    frame.copy_from(&item.frame);
     Loose {
         seat: 0,
         place,
-        item: Item {
-            kind: item.kind,
-            from: item.from,
-            frame,
-            cut: item.cut,
-            random: item.random,
-            target: item.target,
-            ask: item.ask,
-        },
+        item: item.copied(),
         fate,
     }
 }

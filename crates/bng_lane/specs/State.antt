@@ -3,7 +3,7 @@ use Rattle.std.specs.Prelude.{◌≡◌, ℕ, Bool, true, false, List, Option, N
 use Rattle.bng_access.specs.declared.rules.NasRules.{NasRules}
 use Rattle.bng_rad_client.specs.declared.pending.Pending.{Pending}
 use Rattle.bng_rad_client.specs.State.{State}
-use Rattle.bng_lane.specs.declared.rules.TheConstants.{NOBODY}
+use Rattle.bng_base.specs.declared.address.TheConstants.{NOBODY}
 use Rattle.bng_lane.specs.declared.rules.LaneRules.{LaneRules}
 use Rattle.bng_rad_client.specs.State.{IsOpened}
 

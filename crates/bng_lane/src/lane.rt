@@ -9,9 +9,9 @@ ghost use Rattle.bng_lane.specs.Replies.{Takes};
 ghost use Rattle.bng_lane.specs.Due.{GivesUp, IsResentBy, NoneToResend, due_count};
 ghost use Rattle.bng_lane.specs.Asking.{IsAskedBy};
 
-use crate::rules::{LaneError, LaneRules, NOBODY};
+use crate::rules::{LaneError, LaneRules};
 use bng_access::{NasRules, write};
-use bng_base::{Frame, Peer};
+use bng_base::{Frame, NOBODY, Peer};
 use bng_rad_client::{Asked, Client, DueRequest, Lane as Kind, Owner, RadiusRules, Replied};
 use bng_verdict::{AuthAsk, QuestionNo};
 use std::alloc::Global;

@@ -13,4 +13,4 @@ mod tests;
 
 pub use crate::lane::Lane;
 pub use crate::laws::{pending_stays, replies_answer_requests, requests_say_their_questions};
-pub use crate::rules::{LaneError, LaneRules, NOBODY};
+pub use crate::rules::{LaneError, LaneRules};

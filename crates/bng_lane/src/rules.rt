@@ -1,12 +1,6 @@
 use arrayvec::ArrayVec;
 use bng_access::NasRules;
-use bng_base::{Ip4, Peer};
-
-/// No server: a lane has no server for accounting.
-pub const NOBODY: Peer = Peer {
-    ip: Ip4(0),
-    port: 0,
-};
+use bng_base::Peer;
 
 /// What a lane is opened with: what its requests say of the gateway, the server and the secret that it shares, and how
 /// often a request is sent in all.

@@ -12,35 +12,8 @@ use bng_automaton::Event;
 use bng_base::Ip4;
 
 impl WholeLink {
-    /// Takes a verdict, which counts while a question is open. It ends no live term.
-    pub(crate) fn settle(
-        &mut self,
-        rules: &LinkRules,
-        yes: bool,
-        lease: Option<Ip4>,
-        text: &[u8],
-        now: u64,
-        random: &[u8; 16],
-        steps: &mut WholeSteps,
-    ) -> Option<u8>
-        requires moment { now < 2 ^ 60 }
-        requires text { length text.now ≤ 253 }
-        requires fresh { IsFresh self.old steps.old }
-        ensures settles { Settles (open_in self.old.auth) yes rules.now lease text.now now random.now self.old (turn_of self.new steps.new) }
-        ensures none { result ≡ None }
-    {
-        if self.auth.is_open() {
-            if yes {
-                self.accept(rules, lease, text, now, steps);
-            } else {
-                self.refuse(rules, text, now, random, steps);
-            }
-        }
-        None
-    }
-
-    // The peer is accepted: the reply goes out, and a term begins where there is a lease.
-    fn accept(
+    /// The peer is accepted: the reply goes out, and a term begins where there is a lease.
+    pub(crate) fn accept(
         &mut self,
         rules: &LinkRules,
         lease: Option<Ip4>,

@@ -115,7 +115,15 @@ impl WholeLink {
             WholeInput::Frame(octets) => self.hear_counted(rules, octets, now, random, steps),
             WholeInput::Timer => self.remind_counted(rules, now, random, steps),
             WholeInput::Verdict { yes, lease, text } => {
-                self.settle(rules, yes, lease, text.as_slice(), now, random, steps)
+                // A verdict counts while the question is open. It ends no live term.
+                if self.auth.is_open() {
+                    if yes {
+                        self.accept(rules, lease, text.as_slice(), now, steps);
+                    } else {
+                        self.refuse(rules, text.as_slice(), now, random, steps);
+                    }
+                }
+                None
             }
             WholeInput::Close => self.tell_lcp(rules, Input::Close, now, random, steps),
             WholeInput::Lost => self.tell_lcp(rules, Input::Lost, now, random, steps),

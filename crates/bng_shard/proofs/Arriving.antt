@@ -10,7 +10,7 @@ use Rattle.bng_base.specs.PppoeGrammar.{PppoeFrame}
 use Rattle.bng_forward.specs.Fates.{NamesSession, Carries, IsFrame}
 use Rattle.bng_forward.specs.Framed.{IsFrameWith}
 use Rattle.bng_shard.specs.declared.rules.Rules.{Rules}
-use Rattle.bng_shard.specs.declared.sending.At.{At}
+use Rattle.bng_base.specs.declared.item.At.{At}
 use Rattle.bng_shard.specs.State.{State, session_of}
 use Rattle.bng_shard.specs.Deed.{Deed}
 use Rattle.bng_shard.specs.Discovery.{Discovers}

@@ -6,7 +6,7 @@ use Rattle.bng_ppp.specs.declared.whole_input.WholeInput.TheVariants.{Close}
 use Rattle.bng_term.specs.declared.limits.Limits.{Limits}
 use Rattle.bng_term.specs.Lifetimes.{HasAllowedInterval, seconds_after}
 use Rattle.bng_shard.specs.declared.rules.Rules.{Rules}
-use Rattle.bng_shard.specs.declared.sending.At.{At}
+use Rattle.bng_base.specs.declared.item.At.{At}
 use Rattle.bng_shard.specs.declared.session.Lease.{Lease}
 use Rattle.bng_shard.specs.declared.session.Session.{Session}
 use Rattle.bng_shard.specs.Deed.{Deed, at_of}

@@ -21,7 +21,7 @@ use Rattle.bng_forward.specs.Framed.{circuit_frame, IsFrameTo}
 use Rattle.bng_forward.specs.Packets.{IsPassedOn, MayPassUp}
 use Rattle.bng_slots.specs.Listed.{values}
 use Rattle.bng_shard.specs.declared.rules.Rules.{Rules}
-use Rattle.bng_shard.specs.declared.sending.At.{At}
+use Rattle.bng_base.specs.declared.item.At.{At}
 use Rattle.bng_shard.specs.declared.session.Lease.{Lease}
 use Rattle.bng_shard.specs.declared.session.Session.{Session}
 use Rattle.bng_shard.specs.State.{State, IsTermOf, port_at, session_of, holder_of, passes_in, view_of, leases}

@@ -14,7 +14,7 @@ use Rattle.bng_ppp.specs.PppState.{PppState}
 use Rattle.bng_slots.specs.Sessions.{value_at}
 use Rattle.bng_shard.specs.declared.frames.Control.TheVariants.{Unknown, Ignored, Heard}
 use Rattle.bng_shard.specs.declared.rules.Rules.{Rules}
-use Rattle.bng_shard.specs.declared.sending.At.{At}
+use Rattle.bng_base.specs.declared.item.At.{At}
 use Rattle.bng_shard.specs.declared.session.Service.{Service}
 use Rattle.bng_shard.specs.declared.session.Service.TheVariants.{Provisioned, Discovered}
 use Rattle.bng_shard.specs.declared.session.Session.{Session}

@@ -17,7 +17,7 @@ use Rattle.bng_pppoe_wire.specs.declared.code.TheConstants.{PADR}
 use Rattle.bng_ppp.specs.declared.whole_input.WholeInput.TheVariants.{Start}
 use Rattle.bng_ppp.specs.PppRelation.{PppSteps}
 use Rattle.bng_shard.specs.declared.rules.Rules.{Rules}
-use Rattle.bng_shard.specs.declared.sending.At.{At}
+use Rattle.bng_base.specs.declared.item.At.{At}
 use Rattle.bng_shard.specs.declared.session.Session.{Session}
 use Rattle.bng_shard.specs.State.{State, port_at, offers_at, with_driven}
 use Rattle.bng_shard.specs.Deed.{Deed, at_of, frame_outs, handled, ignored}

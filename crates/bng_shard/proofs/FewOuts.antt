@@ -40,7 +40,7 @@ use Rattle.bng_ppp.specs.Said.{Said, quiet}
 use Rattle.bng_ppp.specs.Timers.{Reminds}
 use Rattle.bng_ppp.specs.WholeTimers.{AboveReminds, AuthReminds}
 use Rattle.bng_shard.specs.declared.rules.Rules.{Rules}
-use Rattle.bng_shard.specs.declared.sending.At.{At}
+use Rattle.bng_base.specs.declared.item.At.{At}
 use Rattle.bng_shard.specs.declared.session.Session.{Session}
 use Rattle.bng_shard.specs.Deed.{frame_outs, has_macs, out}
 use Rattle.bng_shard.specs.Link.{Drives, padt_outs, ppp_outs, said_outs}

@@ -8,7 +8,7 @@ use Rattle.bng_base.specs.declared.item.OutRecord.{OutRecord}
 use Rattle.bng_base.specs.declared.outside.Role.TheVariants.{Access}
 use Rattle.bng_base.specs.declared.settings.AccessPort.{AccessPort}
 use Rattle.bng_base.specs.PppoeGrammar.{PppoeFrame, pppoe_text}
-use Rattle.bng_shard.specs.declared.sending.At.{At}
+use Rattle.bng_base.specs.declared.item.At.{At}
 use Rattle.bng_shard.specs.Deed.{out, has_macs, frame_outs}
 
 fits : (n : ℕ) → ¬ (LONGEST < n) → nat_le n LONGEST ≡ true

@@ -18,7 +18,7 @@ use Rattle.bng_ppp.specs.PppRelation.{PppSaid}
 use Rattle.bng_ppp.proofs.OneOutcome.{frame_one}
 use Rattle.bng_pppoe_wire.proofs.Judging.{one_layout}
 use Rattle.bng_pppoe_wire.proofs.Spelled.{six, laid_text, length-pppoe_text}
-use Rattle.bng_shard.specs.declared.sending.At.{At}
+use Rattle.bng_base.specs.declared.item.At.{At}
 use Rattle.bng_shard.specs.declared.session.Session.{Session}
 use Rattle.bng_shard.specs.Deed.{out, frame_outs}
 use Rattle.bng_shard.specs.Granting.{IsYesOn}

@@ -11,7 +11,7 @@ use Rattle.bng_ppp.specs.PppState.{PppState}
 use Rattle.bng_ppp.specs.WholeTimers.{IsLossCause}
 use Rattle.bng_term.specs.Lifetimes.{is_over}
 use Rattle.bng_shard.specs.declared.rules.Rules.{Rules}
-use Rattle.bng_shard.specs.declared.sending.At.{At}
+use Rattle.bng_base.specs.declared.item.At.{At}
 use Rattle.bng_shard.specs.declared.session.Lease.{Lease}
 use Rattle.bng_shard.specs.declared.session.Session.{Session}
 use Rattle.bng_shard.specs.Lasting.{IsCause}

@@ -24,7 +24,7 @@ use Rattle.bng_ppp.specs.declared.whole_input.WholeInput.TheVariants.{Start, Tim
 use Rattle.bng_ppp.proofs.WholeOuts.{ppp_steps_written}
 use Rattle.bng_shard.specs.Made.{Made}
 use Rattle.bng_shard.specs.declared.rules.Rules.{Rules}
-use Rattle.bng_shard.specs.declared.sending.At.{At}
+use Rattle.bng_base.specs.declared.item.At.{At}
 use Rattle.bng_shard.specs.declared.session.Lease.{Lease}
 use Rattle.bng_shard.specs.declared.session.Service.{Service}
 use Rattle.bng_shard.specs.declared.session.Service.TheVariants.{Provisioned, Discovered}

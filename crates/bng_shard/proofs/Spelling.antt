@@ -19,7 +19,7 @@ use Rattle.byteorder.specs.Numbers.{big_number-reads_back}
 use Rattle.bng_ppp.specs.Messages.{is_written}
 use Rattle.bng_ppp.specs.PppRelation.{PppSaid}
 use Rattle.bng_pppoe_wire.proofs.Spelled.{six}
-use Rattle.bng_shard.specs.declared.sending.At.{At}
+use Rattle.bng_base.specs.declared.item.At.{At}
 use Rattle.bng_shard.specs.declared.session.Session.{Session}
 use Rattle.bng_shard.specs.Deed.{out, frame_outs}
 use Rattle.bng_shard.specs.Link.{ppp_outs, padt_outs, said_outs}

@@ -19,7 +19,7 @@ use Rattle.bng_slots.specs.Sessions.{Sessions, NoneShares, value_at, without, re
 use Rattle.bng_slots.proofs.SessionLaws.{value_at-without, value_at-without_other, with_value-without}
 use Rattle.bng_shard.specs.Made.{Made, Question}
 use Rattle.bng_shard.specs.declared.rules.Rules.{Rules}
-use Rattle.bng_shard.specs.declared.sending.At.{At}
+use Rattle.bng_base.specs.declared.item.At.{At}
 use Rattle.bng_shard.specs.declared.session.Lease.{Lease}
 use Rattle.bng_shard.specs.declared.session.Service.{Service}
 use Rattle.bng_shard.specs.declared.session.Service.TheVariants.{Provisioned, Discovered}

@@ -14,7 +14,7 @@ use Rattle.bng_term.specs.declared.limits.Limits.{Limits}
 use Rattle.bng_shard.specs.Made.{Question}
 use Rattle.bng_shard.specs.Passing.{looked}
 use Rattle.bng_shard.specs.Serving.{AreOwn}
-use Rattle.bng_shard.specs.declared.sending.At.{At}
+use Rattle.bng_base.specs.declared.item.At.{At}
 use Rattle.bng_shard.specs.declared.rules.Rules.{Rules}
 use Rattle.bng_shard.specs.declared.session.Lease.{Lease}
 use Rattle.bng_shard.specs.declared.session.Session.{Session}

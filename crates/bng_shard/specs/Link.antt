@@ -20,7 +20,7 @@ use Rattle.bng_ppp.specs.WholeFrame.{HearsOctets}
 use Rattle.bng_term.specs.declared.limits.Limits.{Limits}
 use Rattle.bng_shard.specs.Made.{Made, Question}
 use Rattle.bng_shard.specs.declared.rules.Rules.{Rules}
-use Rattle.bng_shard.specs.declared.sending.At.{At}
+use Rattle.bng_base.specs.declared.item.At.{At}
 use Rattle.bng_shard.specs.declared.session.Service.{Service}
 use Rattle.bng_shard.specs.declared.session.Service.TheVariants.{Provisioned, Discovered}
 use Rattle.bng_shard.specs.declared.session.Session.{Session}

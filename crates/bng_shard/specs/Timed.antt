@@ -6,7 +6,7 @@ use Rattle.bng_ppp.specs.declared.whole_input.WholeInput.TheVariants.{Close}
 use Rattle.bng_ppp.specs.PppRelation.{PppSteps}
 use Rattle.bng_slots.specs.Sessions.{value_at}
 use Rattle.bng_shard.specs.declared.rules.Rules.{Rules}
-use Rattle.bng_shard.specs.declared.sending.At.{At}
+use Rattle.bng_base.specs.declared.item.At.{At}
 use Rattle.bng_shard.specs.declared.session.Session.{Session}
 use Rattle.bng_shard.specs.State.{State, with_ended}
 use Rattle.bng_shard.specs.Deed.{at_of}

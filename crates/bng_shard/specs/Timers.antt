@@ -13,7 +13,7 @@ use Rattle.bng_shard.specs.declared.session.Lease.{Lease}
 use Rattle.bng_shard.specs.declared.session.Service.{Service}
 use Rattle.bng_shard.specs.declared.session.Service.TheVariants.{Provisioned, Discovered}
 use Rattle.bng_shard.specs.declared.session.Session.{Session}
-use Rattle.bng_shard.specs.declared.sending.At.{At}
+use Rattle.bng_base.specs.declared.item.At.{At}
 use Rattle.bng_shard.specs.State.{State, leaves, with_session, with_ended, with_driven}
 use Rattle.bng_shard.specs.Deed.{Deed, at_of, handled}
 use Rattle.bng_shard.specs.Link.{Drives, EndsWith, ended, nas_request, told}

@@ -14,13 +14,13 @@ ghost use Rattle.bng_shard.specs.Tenures.{has_kept};
 
 use crate::drive::port_of;
 use crate::rules::Rules;
-use crate::sending::{At, push_out};
+use crate::sending::push_out;
 use crate::served::Served;
 use crate::session::{Lease, Session};
 use crate::terms::Terms;
 use bng_base::{
-    Batch, Charge, Circuit, DropCause, Fate, Frame, Ip4, Ipv4, Item, OutRecord, Role, SessionNo,
-    TermId,
+    At, Batch, Charge, Circuit, DropCause, Fate, Frame, Ip4, Ipv4, Item, OutRecord, Role,
+    SessionNo, TermId,
 };
 use bng_forward::{Arrived, TermView, down, packet_from, put_in_frame, take_from_frame, up};
 use bng_pppoe_wire::Pppoe;

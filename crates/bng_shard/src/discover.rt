@@ -20,11 +20,10 @@ use crate::drive::{drive, offers_of, port_of};
 use crate::host_uniq::host_uniq;
 use crate::replies::{send_offer, send_refusal, send_session};
 use crate::rules::Rules;
-use crate::sending::At;
 use crate::served::Served;
 use crate::session::{Made, Service, Session};
 use arrayvec::ArrayVec;
-use bng_base::{Batch, Fate, Item, Mac, OutRecord, SessionNo};
+use bng_base::{At, Batch, Fate, Item, Mac, OutRecord, SessionNo};
 use bng_ppp::{LinkKind, WholeInput, WholeLink};
 use bng_pppoe_wire::Pppoe;
 

@@ -14,9 +14,9 @@ ghost use Rattle.bng_discovery.specs.Reply.{padt_of};
 ghost use Rattle.bng_shard.specs.Driven.{Driven, LastsOver};
 
 use crate::rules::Rules;
-use crate::sending::{At, push_out};
+use crate::sending::push_out;
 use crate::session::Session;
-use bng_base::{AccessPort, Batch, Frame, HEADROOM, LONGEST, Mac, OutRecord, Role, Written};
+use bng_base::{AccessPort, At, Batch, Frame, HEADROOM, LONGEST, Mac, OutRecord, Role, Written};
 use bng_discovery::{PortRules, terminate};
 use bng_ppp::{WholeInput, WholeSteps};
 use bng_pppoe_wire::{Pppoe, code};

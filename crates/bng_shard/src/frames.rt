@@ -17,10 +17,9 @@ ghost use Rattle.bng_slots.specs.Sessions.{value_at};
 
 use crate::drive::drive;
 use crate::rules::Rules;
-use crate::sending::At;
 use crate::served::Served;
 use crate::terms::Terms;
-use bng_base::{Batch, DropCause, Fate, Item, OutRecord, SessionNo};
+use bng_base::{At, Batch, DropCause, Fate, Item, OutRecord, SessionNo};
 use bng_ppp::WholeInput;
 use bng_pppoe_wire::Pppoe;
 

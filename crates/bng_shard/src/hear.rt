@@ -17,12 +17,11 @@ use crate::data::{hear_core, hear_data};
 use crate::discover::hear_discovery;
 use crate::frames::hear_control;
 use crate::rules::Rules;
-use crate::sending::At;
 use crate::served::Served;
 use crate::terms::Terms;
 use crate::timers::{end, tick};
 use crate::verdicts::hear_verdict;
-use bng_base::{Batch, Claim, DropCause, Fate, Item, ItemKind, OutRecord};
+use bng_base::{At, Batch, Claim, DropCause, Fate, Item, ItemKind, OutRecord};
 use bng_forward::{Arrived, carried, frame_at, names_session};
 use bng_pppoe_wire::Pppoe;
 

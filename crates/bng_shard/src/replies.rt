@@ -5,8 +5,8 @@ ghost use Rattle.bng_discovery.specs.Reply.{pado_of, pads_of, refusal_of};
 ghost use Rattle.bng_shard.specs.Deed.{frame_outs};
 
 use crate::drive::between;
-use crate::sending::{At, push_out};
-use bng_base::{AccessPort, Batch, Frame, OutRecord, Role, SessionNo, Written};
+use crate::sending::push_out;
+use bng_base::{AccessPort, At, Batch, Frame, OutRecord, Role, SessionNo, Written};
 use bng_discovery::{ErrorTag, PortRules, confirm, offer, refuse};
 use bng_pppoe_wire::Pppoe;
 

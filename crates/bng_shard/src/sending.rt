@@ -1,15 +1,7 @@
 ghost use Rattle.std.specs.Prelude.{◌≡◌, ◌+◌, ◌<◌, ◌≤◌, ◌++◌, ◌∷◌, [], length, vec_len};
 ghost use Rattle.bng_shard.specs.Deed.{out};
 
-use bng_base::{Batch, Charge, Frame, OutRecord, Peer, Role};
-
-/// Whose outs they are: the shard, and where its entry stood among its seat's items.
-#[derive(Clone, Copy, PartialEq, Eq, Debug)]
-pub struct At {
-    pub shard: u16,
-    pub seat: u16,
-    pub place: u16,
-}
+use bng_base::{At, Batch, Charge, Frame, OutRecord, Peer, Role};
 
 /// Appends a datagram that an entry has to send.
 pub(crate) fn push_out(
@@ -24,5 +16,5 @@ pub(crate) fn push_out(
     ensures items { outs.new.items ≡ outs.old.items ++ out at role to frame.now.payload charge ∷ [] }
     ensures capacity { outs.new.room ≡ outs.old.room }
 {
-    outs.push_out(at.shard, at.seat, at.place, role, to, frame, charge);
+    outs.push_out(at, role, to, frame, charge);
 }

@@ -15,11 +15,10 @@ ghost use Rattle.bng_shard.specs.Timers.{TellsEnd, at_once};
 
 use crate::drive::{drive, send_padt};
 use crate::rules::Rules;
-use crate::sending::At;
 use crate::served::Served;
 use crate::session::{Service, Session};
 use crate::terms::Terms;
-use bng_base::{Batch, OutRecord};
+use bng_base::{At, Batch, OutRecord};
 use bng_ppp::WholeInput;
 
 /// The cause of an end by the gateway's own stop (RFC 2866 section 5.10, NAS Request).
