@@ -17,7 +17,7 @@ ghost use Rattle.bng_desk.specs.Taking.{Shown, IsEmpty, HasRows, AreInOrder, Are
 use crate::allowing::allowance;
 use crate::calls::send;
 use crate::drops::{Drops, count};
-use bng_base::{Batch, Book, DropCause, Entry, Fate, Frame, Item, Listed, Loose, OutRecord};
+use bng_base::{Batch, Book, DropCause, Entry, Fate, Item, Listed, Loose, OutRecord};
 use bng_plant::Plant;
 use bng_pool::PlainPool;
 use bng_shard::{Charged, Rules, Shard, Whose, whose_is};
