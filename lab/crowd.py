@@ -76,8 +76,16 @@ class Crowd:
             self.say(mac, session, ANY_ADDRESS)
         elif (packet.protocol, packet.code) == (IPCP, CONFIGURE_ACK):
             self.addresses[mac] = socket.inet_ntoa(dict(read_options(packet.data))[3])
+            self.has_address(mac)
         elif (packet.protocol, packet.code) == (IPCP, CONFIGURE_NAK):
             self.say(mac, session, packet._replace(code=CONFIGURE_REQUEST, identifier=packet.identifier + 1))
+
+    def has_address(self, mac):
+        """What a host does once it has its address: nothing."""
+
+    def are_done(self, macs):
+        """Whether these hosts came as far as is waited for: they were let in."""
+        return self.accepted.issuperset(macs)
 
     def accept(self, octets):
         """Accepts the user of an Access-Request."""
@@ -99,9 +107,9 @@ class Crowd:
         """Lets these hosts log in."""
         for mac in macs:
             self.begin(mac)
-        while not self.accepted.issuperset(macs):
+        while not self.are_done(macs):
             if not self.take(5):
-                raise RuntimeError(f"{len(set(macs) - self.accepted)} of {len(macs)} hosts heard nothing for five seconds")
+                raise RuntimeError(f"the {len(macs)} hosts heard nothing for five seconds, {len(set(macs) - self.accepted)} of them before a Success")
 
 
 def open_sessions(lab, count, first=0):

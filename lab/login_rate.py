@@ -1,7 +1,7 @@
-"""Measures how many subscribers log in a second at the real gateway, from the PADI to the Success of CHAP, with a RADIUS
-server that accepts them all, beside a bare loop in Python that answers the same packets without keeping or checking
-anything. The subscribers and the server are the same script for both, which takes most of the time: the ratio and the
-gateway's own processor time a login say more than the rate."""
+"""Measures how many subscribers log in a second at the real gateway, from the PADI to their first packet in the core, with
+a RADIUS server that accepts them all, beside a bare loop in Python that answers the same packets without keeping or checking
+anything. The subscribers, the core and the server are the same script for both, which takes most of the time: the ratio and
+the gateway's own processor time a login say more than the rate."""
 
 import hashlib
 import os
@@ -16,13 +16,36 @@ import radius
 from bench import BUILDING, Spent
 from crowd import AT_ONCE, Crowd, mac_of, open_sessions
 from gateway import HOME, LOOPBACK, Lab
-from pppoe import AC_COOKIE, AC_NAME, CHALLENGE, CHAP, CONFIGURE_ACK, CONFIGURE_REQUEST, DATA, DISCOVERY, LCP, PADI, PADO, PADR
-from pppoe import PADS, RESPONSE, SESSION, SUCCESS, Frame, Packet, frame_octets, packet_octets, read_frame, read_packet, tags_octets
+from gateway import packet as ipv4_packet
+from pppoe import AC_COOKIE, AC_NAME, CHALLENGE, CHAP, CONFIGURE_ACK, CONFIGURE_NAK, CONFIGURE_REQUEST, DATA, DISCOVERY, IPCP, IPV4
+from pppoe import LCP, PADI, PADO, PADR, PADS, RESPONSE, SESSION, SUCCESS, Frame, Packet, frame_octets, number_at, options_octets
+from pppoe import packet_octets, read_frame, read_options, read_packet, tags_octets, two
 from subscriber import PORT
 
 LOGINS = 1000
 BEFORE = (10, 10000)
 ASKED = bytes.fromhex("010405d4 0305c22305 0506a1b2c3d4")
+ADDRESS = 3
+
+
+class Sending(Crowd):
+    """Hosts each of which sends a packet to the core once it has its address."""
+
+    def __init__(self, lab):
+        super().__init__(lab)
+        self.passed = set()
+
+    def has_address(self, mac):
+        self.send(Frame(PORT, mac, SESSION, DATA, self.sessions[mac], two(IPV4) + ipv4_packet(self.addresses[mac])))
+
+    def are_done(self, macs):
+        return all(self.addresses.get(mac) in self.passed for mac in macs)
+
+    def take(self, patience):
+        ready, _, _ = select.select([self.lab.access, self.lab.radius, self.lab.core], [], [], patience)
+        if self.lab.core in ready:
+            self.passed.add(socket.inet_ntoa(self.lab.core.recv(65535)[12:16]))
+        return super().take(0) or bool(ready)
 
 
 class Bare(threading.Thread):
@@ -31,7 +54,7 @@ class Bare(threading.Thread):
     def __init__(self, lab):
         super().__init__(daemon=True)
         self.lab, self.asked, self.count = lab, {}, 0
-        self.access, self.auth = (self.end(lab.ports[name]) for name in ("access", "auth"))
+        self.access, self.auth, self.core = (self.end(lab.ports[name]) for name in ("access", "auth", "core"))
 
     @staticmethod
     def end(port):
@@ -53,6 +76,8 @@ class Bare(threading.Thread):
             self.count += 1
             self.send(Frame(mac, PORT, DISCOVERY, PADS, self.count, b""))
             self.say(mac, self.count, Packet(LCP, CONFIGURE_REQUEST, 1, ASKED))
+        elif number_at(frame.payload, 0) == IPV4:
+            self.core.sendto(frame.payload[2:], self.lab.core.getsockname())
         elif frame.code == DATA:
             self.hear_packet(mac, frame.session, read_packet(frame.payload))
 
@@ -67,6 +92,10 @@ class Bare(threading.Thread):
             fields = [(radius.USER_NAME, packet.data[17:]), (radius.CHAP_PASSWORD, b"\x01" + packet.data[1:17])]
             octets = radius.spell(radius.Radius(radius.ACCESS_REQUEST, number, hashlib.md5(packet.data).digest(), fields))
             self.auth.sendto(octets, self.lab.radius.getsockname())
+        elif (packet.protocol, packet.code) == (IPCP, CONFIGURE_REQUEST):
+            own = b"\x0a\x00" + two(session)
+            is_own = dict(read_options(packet.data))[ADDRESS] == own
+            self.say(mac, session, Packet(IPCP, CONFIGURE_ACK if is_own else CONFIGURE_NAK, packet.identifier, options_octets([(ADDRESS, own)])))
 
     def run(self):
         while True:
@@ -76,11 +105,12 @@ class Bare(threading.Thread):
             if self.auth in ready:
                 mac, session = self.asked[self.auth.recv(65535)[1]]
                 self.say(mac, session, Packet(CHAP, SUCCESS, 1, b""))
+                self.say(mac, session, Packet(IPCP, CONFIGURE_REQUEST, 1, options_octets([(ADDRESS, bytes([10, 0, 255, 1]))])))
 
 
 def logins(lab, first):
-    """Lets a thousand hosts log in, and gives the seconds that they took."""
-    crowd = Crowd(lab)
+    """Lets a thousand hosts log in and send a packet, and gives the seconds that they took."""
+    crowd = Sending(lab)
     macs = [mac_of(number) for number in range(first, first + LOGINS)]
     begun = time.monotonic()
     for at in range(0, LOGINS, AT_ONCE):
