@@ -13,14 +13,13 @@ ghost use Rattle.bng_shard.specs.State.{view_of as viewed};
 ghost use Rattle.bng_shard.specs.Tenures.{has_kept};
 
 use crate::drive::port_of;
-use crate::rules::Rules;
+use crate::incoming::Incoming;
 use crate::sending::push_out;
 use crate::served::Served;
 use crate::session::{Lease, Session};
 use crate::terms::Terms;
 use bng_base::{
-    At, Batch, Charge, Circuit, DropCause, Fate, Frame, Ip4, Ipv4, Item, OutRecord, Role,
-    SessionNo, TermId,
+    Batch, Charge, Circuit, DropCause, Fate, Frame, Ip4, Ipv4, OutRecord, Role, SessionNo, TermId,
 };
 use bng_forward::{Arrived, TermView, down, packet_from, put_in_frame, take_from_frame, up};
 use bng_pppoe_wire::Pppoe;
@@ -80,32 +79,29 @@ fn kept_view(terms: &Terms, address: Ip4) -> Option<TermView>
     }
 }
 
-/// Handles a frame that came at this moment to the port with this number and carries an IPv4 packet of so many octets.
+/// Handles a frame that came to the port with this number and carries an IPv4 packet of so many octets.
 pub(crate) fn hear_data(
     served: &mut Served,
     terms: &Terms,
-    rules: &Rules,
-    at: At,
-    now: u64,
+    incoming: &Incoming<'_>,
     number: u8,
     frame: &Pppoe<'_>,
     size: usize,
-    item: &Item,
     outs: &mut Batch<OutRecord>,
 ) -> Fate
-    requires moment { now < 2 ^ 60 }
-    requires whole { item.now.frame.headroom ≡ 64 }
-    requires here { at.shard ≡ served.old.sessions.shard }
+    requires moment { incoming.now.moment < 2 ^ 60 }
+    requires whole { incoming.now.item.now.frame.headroom ≡ 64 }
+    requires here { incoming.now.at.shard ≡ served.old.sessions.shard }
     requires tied { AreTied served.old.sessions (tenures_in terms.now.rows) }
     requires room { length outs.old.items < outs.old.room }
-    requires came { IsFrame rules.now.access number (arrival_of item.now) (frame_of frame.now) }
+    requires came { IsFrame incoming.now.rules.now.access number (arrival_of incoming.now.item.now) (frame_of frame.now) }
     requires carries { (info : List ℕ) × Carries (frame_of frame.now) info × (length info ≡ size) }
-    ensures does { (info : List ℕ) → Carries (frame_of frame.now) info → DoesWith (λ e d. HearsData rules.now (whole served.old terms.now) e number (frame_of frame.now) info d) 1 (whole served.old terms.now) (whole served.new terms.now) outs.old.items outs.new.items at now item.now result }
+    ensures does { (info : List ℕ) → Carries (frame_of frame.now) info → DoesWith (λ e d. HearsData incoming.now.rules.now (whole served.old terms.now) e number (frame_of frame.now) info d) 1 (whole served.old terms.now) (whole served.new terms.now) outs.old.items outs.new.items incoming.now.at incoming.now.moment incoming.now.item.now result }
     ensures capacity { outs.new.room ≡ outs.old.room }
 {
     let session = served.session_of(number, frame.src, SessionNo(frame.session));
     let mut packet = Frame::new();
-    packet.copy_from(&item.frame);
+    packet.copy_from(&incoming.item.frame);
     take_from_frame(&mut packet, size);
     let fate = up(view_of(session), &mut packet);
     let Fate::Forwarded = fate else {
@@ -119,35 +115,33 @@ pub(crate) fn hear_data(
     };
     let octets = packet.payload().len() as u16;
     let charge = charge_of(session, lease, true, octets);
-    served.note_passed(charge.term.session, now);
-    push_out(outs, at, Role::Core, rules.core_peer, &packet, Some(charge));
+    served.note_passed(charge.term.session, incoming.moment);
+    let core = incoming.rules.core_peer;
+    push_out(outs, incoming.at, Role::Core, core, &packet, Some(charge));
     Fate::Forwarded
 }
 
-// Handles a packet of the core that says this, at this moment.
+// Handles a packet of the core that says this.
 fn hear_packet(
     served: &mut Served,
     terms: &Terms,
-    rules: &Rules,
-    at: At,
-    now: u64,
+    incoming: &Incoming<'_>,
     header: Ipv4,
-    item: &Item,
     outs: &mut Batch<OutRecord>,
 ) -> Fate
-    requires moment { now < 2 ^ 60 }
-    requires whole { item.now.frame.headroom ≡ 64 }
-    requires here { at.shard ≡ served.old.sessions.shard }
+    requires moment { incoming.now.moment < 2 ^ 60 }
+    requires whole { incoming.now.item.now.frame.headroom ≡ 64 }
+    requires here { incoming.now.at.shard ≡ served.old.sessions.shard }
     requires tied { AreTied served.old.sessions (tenures_in terms.now.rows) }
-    requires placed { ArePlaced rules.now served.old.sessions }
+    requires placed { ArePlaced incoming.now.rules.now served.old.sessions }
     requires room { length outs.old.items < outs.old.room }
-    requires came { IsCorePacket rules.now.core_peer (arrival_of item.now) header }
-    ensures does { DoesWith (λ e d. HearsPacket rules.now (whole served.old terms.now) e header d) 1 (whole served.old terms.now) (whole served.new terms.now) outs.old.items outs.new.items at now item.now result }
+    requires came { IsCorePacket incoming.now.rules.now.core_peer (arrival_of incoming.now.item.now) header }
+    ensures does { DoesWith (λ e d. HearsPacket incoming.now.rules.now (whole served.old terms.now) e header d) 1 (whole served.old terms.now) (whole served.new terms.now) outs.old.items outs.new.items incoming.now.at incoming.now.moment incoming.now.item.now result }
     ensures capacity { outs.new.room ≡ outs.old.room }
 {
     let holder = served.holder_of(header.dst);
     let mut packet = Frame::new();
-    packet.copy_from(&item.frame);
+    packet.copy_from(&incoming.item.frame);
     let fate = down(holder_view(holder, terms, header.dst), header, &mut packet);
     let Fate::Forwarded = fate else {
         return fate;
@@ -158,43 +152,41 @@ fn hear_packet(
     let Some(lease) = session.lease() else {
         unreachable!();
     };
-    let Some(port) = port_of(rules, session.port) else {
+    let Some(port) = port_of(incoming.rules, session.port) else {
         unreachable!();
     };
     put_in_frame(&port, session.mac, session.number, &mut packet);
     let charge = charge_of(session, lease, false, header.total);
     let role = Role::Access(session.port);
-    served.note_passed(charge.term.session, now);
-    push_out(outs, at, role, port.peer, &packet, Some(charge));
+    served.note_passed(charge.term.session, incoming.moment);
+    push_out(outs, incoming.at, role, port.peer, &packet, Some(charge));
     Fate::Forwarded
 }
 
-/// Handles a datagram of the core, at this moment.
+/// Handles a datagram of the core.
 pub(crate) fn hear_core(
     served: &mut Served,
     terms: &Terms,
-    rules: &Rules,
-    at: At,
-    now: u64,
-    item: &Item,
+    incoming: &Incoming<'_>,
     outs: &mut Batch<OutRecord>,
 ) -> Fate
-    requires moment { now < 2 ^ 60 }
-    requires whole { item.now.frame.headroom ≡ 64 }
-    requires here { at.shard ≡ served.old.sessions.shard }
+    requires moment { incoming.now.moment < 2 ^ 60 }
+    requires whole { incoming.now.item.now.frame.headroom ≡ 64 }
+    requires here { incoming.now.at.shard ≡ served.old.sessions.shard }
     requires tied { AreTied served.old.sessions (tenures_in terms.now.rows) }
-    requires placed { ArePlaced rules.now served.old.sessions }
+    requires placed { ArePlaced incoming.now.rules.now served.old.sessions }
     requires room { length outs.old.items < outs.old.room }
-    ensures does { DoesWith (λ e d. HearsCore rules.now (whole served.old terms.now) e d) 1 (whole served.old terms.now) (whole served.new terms.now) outs.old.items outs.new.items at now item.now result }
+    ensures does { DoesWith (λ e d. HearsCore incoming.now.rules.now (whole served.old terms.now) e d) 1 (whole served.old terms.now) (whole served.new terms.now) outs.old.items outs.new.items incoming.now.at incoming.now.moment incoming.now.item.now result }
     ensures capacity { outs.new.room ≡ outs.old.room }
 {
+    let item = incoming.item;
     let arrived = Arrived {
         from: item.from,
         cut: item.cut,
         octets: item.frame.payload(),
     };
-    match packet_from(rules.core_peer, &arrived) {
-        Some(header) => hear_packet(served, terms, rules, at, now, header, item, outs),
+    match packet_from(incoming.rules.core_peer, &arrived) {
+        Some(header) => hear_packet(served, terms, incoming, header, outs),
         None => Fate::Dropped(DropCause::Malformed),
     }
 }

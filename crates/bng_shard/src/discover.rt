@@ -18,12 +18,12 @@ ghost use Rattle.bng_slots.specs.Sessions.{IsLowestVacant};
 use crate::answering::{Reply, reply_to};
 use crate::drive::{drive, offers_of, port_of};
 use crate::host_uniq::host_uniq;
+use crate::incoming::Incoming;
 use crate::replies::{send_offer, send_refusal, send_session};
-use crate::rules::Rules;
 use crate::served::Served;
 use crate::session::{Made, Service, Session};
 use arrayvec::ArrayVec;
-use bng_base::{At, Batch, Fate, Item, Mac, OutRecord, SessionNo};
+use bng_base::{Batch, Fate, Mac, OutRecord, SessionNo};
 use bng_ppp::{LinkKind, WholeInput, WholeLink};
 use bng_pppoe_wire::Pppoe;
 
@@ -78,38 +78,27 @@ fn new_session(
 // Makes a session, and tells its link Open and Up.
 fn make(
     served: &mut Served,
-    rules: &Rules,
-    at: At,
-    now: u64,
+    incoming: &Incoming<'_>,
     number: u8,
     frame: &Pppoe<'_>,
     session: SessionNo,
-    random: &[u8; 16],
     outs: &mut Batch<OutRecord>,
 )
-    requires moment { now < 2 ^ 60 }
-    requires auth { 0 < length rules.now.link.auth.items }
+    requires moment { incoming.now.moment < 2 ^ 60 }
+    requires auth { 0 < length incoming.now.rules.now.link.auth.items }
     requires room { length outs.old.items + 5 ≤ outs.old.room }
     requires vacant { IsLowestVacant served.old.sessions session.0 }
-    requires offers { length rules.now.offers ≡ length rules.now.access }
-    requires placed { (port : Port) × (port_at rules.now.access number ≡ Some port) }
+    requires offers { length incoming.now.rules.now.offers ≡ length incoming.now.rules.now.access }
+    requires placed { (port : Port) × (port_at incoming.now.rules.now.access number ≡ Some port) }
     requires tags { (ts : List PppoeTag) × AreTags ts frame.now.payload.now × (length ts ≤ 64) × IfSome (host_uniq_of ts) (λ h. length h ≤ 64) }
-    ensures made { (ts : List PppoeTag) → AreTags ts frame.now.payload.now → (new : Seen) × (x : Seen) × (cause : Maybe ℕ) × (asked : ℕ) × IsNewSession session.0 number frame.now.src (host_uniq_of ts) random.now new × Driven rules.now at (PppSteps rules.now.link WholeInput.Start now random.now) served.old.asked new cause x asked outs.old.items outs.new.items × ((t : TermsView) → whole served.new t ≡ with_driven (whole served.old t) session.0 Nothing cause x asked) }
+    ensures made { (ts : List PppoeTag) → AreTags ts frame.now.payload.now → (new : Seen) × (x : Seen) × (cause : Maybe ℕ) × (asked : ℕ) × IsNewSession session.0 number frame.now.src (host_uniq_of ts) incoming.now.item.now.random new × Driven incoming.now.rules.now incoming.now.at (PppSteps incoming.now.rules.now.link WholeInput.Start incoming.now.moment incoming.now.item.now.random) served.old.asked new cause x asked outs.old.items outs.new.items × ((t : TermsView) → whole served.new t ≡ with_driven (whole served.old t) session.0 Nothing cause x asked) }
     ensures capacity { outs.new.room ≡ outs.old.room }
     ensures few { length outs.new.items ≤ length outs.old.items + 5 }
 {
     let wanted = host_uniq(frame);
-    let mut made = new_session(session, number, frame.src, wanted, random, now);
-    let (asked, _cause) = drive(
-        &mut made,
-        served.asked(),
-        rules,
-        at,
-        WholeInput::Start,
-        now,
-        random,
-        outs,
-    );
+    let random = &incoming.item.random;
+    let mut made = new_session(session, number, frame.src, wanted, random, incoming.moment);
+    let (asked, _cause) = drive(&mut made, served.asked(), incoming, WholeInput::Start, outs);
     served.put(made);
     served.count_asked(asked);
 }
@@ -117,29 +106,27 @@ fn make(
 /// Handles a frame of the discovery stage that is no PADT and came to the port with this number.
 pub(crate) fn hear_discovery(
     served: &mut Served,
-    rules: &Rules,
-    at: At,
-    now: u64,
+    incoming: &Incoming<'_>,
     number: u8,
     frame: &Pppoe<'_>,
-    item: &Item,
     outs: &mut Batch<OutRecord>,
 ) -> Fate
-    requires moment { now < 2 ^ 60 }
-    requires auth { 0 < length rules.now.link.auth.items }
-    requires offers { length rules.now.offers ≡ length rules.now.access }
-    requires here { at.shard ≡ served.old.sessions.shard }
+    requires moment { incoming.now.moment < 2 ^ 60 }
+    requires auth { 0 < length incoming.now.rules.now.link.auth.items }
+    requires offers { length incoming.now.rules.now.offers ≡ length incoming.now.rules.now.access }
+    requires here { incoming.now.at.shard ≡ served.old.sessions.shard }
     requires room { length outs.old.items + 6 ≤ outs.old.room }
-    requires port { (port : Port) × (port_at rules.now.access number ≡ Some port) }
+    requires port { (port : Port) × (port_at incoming.now.rules.now.access number ≡ Some port) }
     requires is { IsDiscovery (frame_of frame.now) }
     requires few { (ts : List PppoeTag) × AreTags ts frame.now.payload.now × (length ts ≤ 64) }
-    ensures does { (t : TermsView) → DoesWith (λ e d. Discovers rules.now (whole served.old t) e number (frame_of frame.now) d) 6 (whole served.old t) (whole served.new t) outs.old.items outs.new.items at now item.now result }
+    ensures does { (t : TermsView) → DoesWith (λ e d. Discovers incoming.now.rules.now (whole served.old t) e number (frame_of frame.now) d) 6 (whole served.old t) (whole served.new t) outs.old.items outs.new.items incoming.now.at incoming.now.moment incoming.now.item.now result }
     ensures capacity { outs.new.room ≡ outs.old.room }
 {
-    let Some(port) = port_of(rules, number) else {
+    let at = incoming.at;
+    let Some(port) = port_of(incoming.rules, number) else {
         unreachable!();
     };
-    let Some(offers) = offers_of(rules, number) else {
+    let Some(offers) = offers_of(incoming.rules, number) else {
         unreachable!();
     };
     match reply_to(served, number, offers, frame) {
@@ -149,17 +136,7 @@ pub(crate) fn hear_discovery(
         }
         Reply::Make(session) => {
             send_session(outs, at, number, &port, offers, frame, session);
-            make(
-                served,
-                rules,
-                at,
-                now,
-                number,
-                frame,
-                session,
-                &item.random,
-                outs,
-            );
+            make(served, incoming, number, frame, session, outs);
             Fate::Consumed
         }
         Reply::Again(session) => {

@@ -13,6 +13,7 @@ ghost use Rattle.bng_shard.specs.Link.{ppp_outs, EndsWith};
 ghost use Rattle.bng_discovery.specs.Reply.{padt_of};
 ghost use Rattle.bng_shard.specs.Driven.{Driven, LastsOver};
 
+use crate::incoming::Incoming;
 use crate::rules::Rules;
 use crate::sending::push_out;
 use crate::session::Session;
@@ -165,32 +166,38 @@ pub(crate) fn send_padt(rules: &Rules, at: At, session: &Session, outs: &mut Bat
 pub(crate) fn drive(
     session: &mut Session,
     asked: u64,
-    rules: &Rules,
-    at: At,
+    incoming: &Incoming<'_>,
     input: WholeInput<'_>,
-    now: u64,
-    random: &[u8; 16],
     outs: &mut Batch<OutRecord>,
 ) -> (u64, Option<u8>)
-    requires moment { now < 2 ^ 60 }
-    requires auth { 0 < length rules.now.link.auth.items }
-    requires offers { length rules.now.offers ≡ length rules.now.access }
-    requires placed { (port : Port) × (port_at rules.now.access session.old.port ≡ Some port) }
+    requires moment { incoming.now.moment < 2 ^ 60 }
+    requires auth { 0 < length incoming.now.rules.now.link.auth.items }
+    requires offers { length incoming.now.rules.now.offers ≡ length incoming.now.rules.now.access }
+    requires placed { (port : Port) × (port_at incoming.now.rules.now.access session.old.port ≡ Some port) }
     requires made { made_one session.old.service ≡ 1 }
     requires leased { KeepsLease session.old.service session.old.lease }
     requires lasts { LastsOver input session.old.lease }
     requires room { length outs.old.items + 5 ≤ outs.old.room }
-    ensures driven { Driven rules.now at (PppSteps rules.now.link input.entry now random.now) asked session.old result.1 session.new result.0 outs.old.items outs.new.items }
+    ensures driven { Driven incoming.now.rules.now incoming.now.at (PppSteps incoming.now.rules.now.link input.entry incoming.now.moment incoming.now.item.now.random) asked session.old result.1 session.new result.0 outs.old.items outs.new.items }
     ensures leased { KeepsLease session.new.service session.new.lease }
     ensures number { session.new.number ≡ session.old.number }
     ensures capacity { outs.new.room ≡ outs.old.room }
     ensures few { length outs.new.items ≤ length outs.old.items + 5 }
 {
     let mut steps = WholeSteps::new();
-    let asked = session.step(asked, &rules.link, input, now, random, &mut steps);
-    send_frames(rules, at, session, steps.outs(), outs);
+    let rules = incoming.rules;
+    let random = &incoming.item.random;
+    let asked = session.step(
+        asked,
+        &rules.link,
+        input,
+        incoming.moment,
+        random,
+        &mut steps,
+    );
+    send_frames(rules, incoming.at, session, steps.outs(), outs);
     if steps.finished {
-        send_padt(rules, at, session, outs);
+        send_padt(rules, incoming.at, session, outs);
     }
     (asked, steps.term_ended)
 }

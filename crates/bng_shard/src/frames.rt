@@ -16,10 +16,10 @@ ghost use Rattle.bng_shard.specs.Timers.{lives_at};
 ghost use Rattle.bng_slots.specs.Sessions.{value_at};
 
 use crate::drive::drive;
-use crate::rules::Rules;
+use crate::incoming::Incoming;
 use crate::served::Served;
 use crate::terms::Terms;
-use bng_base::{At, Batch, DropCause, Fate, Item, OutRecord, SessionNo};
+use bng_base::{Batch, DropCause, Fate, OutRecord, SessionNo};
 use bng_ppp::WholeInput;
 use bng_pppoe_wire::Pppoe;
 
@@ -43,37 +43,25 @@ pub(crate) fn drive_at(
     served: &mut Served,
     terms: &mut Terms,
     number: SessionNo,
-    rules: &Rules,
-    at: At,
+    incoming: &Incoming<'_>,
     input: WholeInput<'_>,
-    now: u64,
-    random: &[u8; 16],
     outs: &mut Batch<OutRecord>,
 )
-    requires moment { now < 2 ^ 60 }
-    requires auth { 0 < length rules.now.link.auth.items }
-    requires offers { length rules.now.offers ≡ length rules.now.access }
-    requires placed { ArePlaced rules.now served.old.sessions }
+    requires moment { incoming.now.moment < 2 ^ 60 }
+    requires auth { 0 < length incoming.now.rules.now.link.auth.items }
+    requires offers { length incoming.now.rules.now.offers ≡ length incoming.now.rules.now.access }
+    requires placed { ArePlaced incoming.now.rules.now served.old.sessions }
     requires lives { lives_at served.old number.0 ≡ true }
     requires lasts { (x : Seen) → value_at served.old.sessions number.0 ≡ Some x → LastsOver input x.lease }
     requires room { length outs.old.items + 5 ≤ outs.old.room }
     ensures sums { KeepSums terms.old terms.new }
-    ensures driven { (x : Seen) → value_at served.old.sessions number.0 ≡ Some x → (x' : Seen) × (cause : Maybe ℕ) × (asked : ℕ) × Driven rules.now at (PppSteps rules.now.link input.entry now random.now) served.old.asked x cause x' asked outs.old.items outs.new.items × (whole served.new terms.new ≡ with_driven (whole served.old terms.old) number.0 x.lease cause x' asked) }
+    ensures driven { (x : Seen) → value_at served.old.sessions number.0 ≡ Some x → (x' : Seen) × (cause : Maybe ℕ) × (asked : ℕ) × Driven incoming.now.rules.now incoming.now.at (PppSteps incoming.now.rules.now.link input.entry incoming.now.moment incoming.now.item.now.random) served.old.asked x cause x' asked outs.old.items outs.new.items × (whole served.new terms.new ≡ with_driven (whole served.old terms.old) number.0 x.lease cause x' asked) }
     ensures capacity { outs.new.room ≡ outs.old.room }
     ensures few { length outs.new.items ≤ length outs.old.items + 5 }
 {
     let mut session = served.take(number);
     let lease = session.lease();
-    let (asked, cause) = drive(
-        &mut session,
-        served.asked(),
-        rules,
-        at,
-        input,
-        now,
-        random,
-        outs,
-    );
+    let (asked, cause) = drive(&mut session, served.asked(), incoming, input, outs);
     terms.close(lease, cause);
     served.put(session);
     served.count_asked(asked);
@@ -109,23 +97,20 @@ fn control_of(served: &Served, number: u8, frame: &Pppoe<'_>) -> Control
 pub(crate) fn hear_control(
     served: &mut Served,
     terms: &mut Terms,
-    rules: &Rules,
-    at: At,
-    now: u64,
+    incoming: &Incoming<'_>,
     number: u8,
     frame: &Pppoe<'_>,
-    item: &Item,
     outs: &mut Batch<OutRecord>,
 ) -> Fate
-    requires moment { now < 2 ^ 60 }
-    requires auth { 0 < length rules.now.link.auth.items }
-    requires offers { length rules.now.offers ≡ length rules.now.access }
-    requires placed { ArePlaced rules.now served.old.sessions }
-    requires here { at.shard ≡ served.old.sessions.shard }
+    requires moment { incoming.now.moment < 2 ^ 60 }
+    requires auth { 0 < length incoming.now.rules.now.link.auth.items }
+    requires offers { length incoming.now.rules.now.offers ≡ length incoming.now.rules.now.access }
+    requires placed { ArePlaced incoming.now.rules.now served.old.sessions }
+    requires here { incoming.now.at.shard ≡ served.old.sessions.shard }
     requires room { length outs.old.items + 5 ≤ outs.old.room }
     requires ppp { frame.now.discovery ≡ false → 2 ≤ length frame.now.payload.now }
     ensures sums { KeepSums terms.old terms.new }
-    ensures does { DoesWith (λ e d. HearsIn (session_of served.old number frame.now.src frame.now.session) rules.now (whole served.old terms.old) e (frame_of frame.now) d) 5 (whole served.old terms.old) (whole served.new terms.new) outs.old.items outs.new.items at now item.now result }
+    ensures does { DoesWith (λ e d. HearsIn (session_of served.old number frame.now.src frame.now.session) incoming.now.rules.now (whole served.old terms.old) e (frame_of frame.now) d) 5 (whole served.old terms.old) (whole served.new terms.new) outs.old.items outs.new.items incoming.now.at incoming.now.moment incoming.now.item.now result }
     ensures capacity { outs.new.room ≡ outs.old.room }
 {
     let session = SessionNo(frame.session);
@@ -137,17 +122,8 @@ pub(crate) fn hear_control(
                 end_session(served, terms, session);
                 return Fate::Consumed;
             }
-            drive_at(
-                served,
-                terms,
-                session,
-                rules,
-                at,
-                WholeInput::Frame(frame.payload),
-                now,
-                &item.random,
-                outs,
-            );
+            let input = WholeInput::Frame(frame.payload);
+            drive_at(served, terms, session, incoming, input, outs);
             Fate::Consumed
         }
     }

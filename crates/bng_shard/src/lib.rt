@@ -13,6 +13,7 @@ mod drive;
 mod frames;
 mod hear;
 mod host_uniq;
+mod incoming;
 mod interims;
 mod laws;
 mod leaving;

@@ -19,6 +19,7 @@ ghost use Rattle.bng_shard.specs.Sums.{charged_as, AreCovered, AreLow, IsLow, Ro
 
 use crate::claim::{ask, left_after};
 use crate::hear::hear;
+use crate::incoming::Incoming;
 use crate::interims::Reports;
 use crate::rules::Rules;
 use crate::served::{Served, Survey};
@@ -220,13 +221,16 @@ impl Shard {
         let wish = wish_for(&self.served, &self.rules, item, limited);
         let claim = ask(pool, &self.rules, at.shard, wish);
         self.terms.are_rising();
+        let incoming = Incoming {
+            rules: &self.rules,
+            at,
+            moment: now,
+            item,
+        };
         let fate = hear(
             &mut self.served,
             &mut self.terms,
-            &self.rules,
-            at,
-            now,
-            item,
+            &incoming,
             claim,
             limited,
             &mut self.outs,

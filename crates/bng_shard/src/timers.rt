@@ -14,6 +14,7 @@ ghost use Rattle.bng_shard.specs.State.{made_one, port_at};
 ghost use Rattle.bng_shard.specs.Timers.{TellsEnd, at_once};
 
 use crate::drive::{drive, send_padt};
+use crate::incoming::Incoming;
 use crate::rules::Rules;
 use crate::served::Served;
 use crate::session::{Service, Session};
@@ -32,20 +33,17 @@ fn remind(
     session: &mut Session,
     terms: &mut Terms,
     asked: u64,
-    rules: &Rules,
-    at: At,
-    now: u64,
-    random: &[u8; 16],
+    incoming: &Incoming<'_>,
     outs: &mut Batch<OutRecord>,
 ) -> u64
-    requires moment { now < 2 ^ 60 }
-    requires auth { 0 < length rules.now.link.auth.items }
-    requires offers { length rules.now.offers ≡ length rules.now.access }
-    requires placed { (port : Port) × (port_at rules.now.access session.old.port ≡ Some port) }
+    requires moment { incoming.now.moment < 2 ^ 60 }
+    requires auth { 0 < length incoming.now.rules.now.link.auth.items }
+    requires offers { length incoming.now.rules.now.offers ≡ length incoming.now.rules.now.access }
+    requires placed { (port : Port) × (port_at incoming.now.rules.now.access session.old.port ≡ Some port) }
     requires made { made_one session.old.service ≡ 1 }
     requires leased { KeepsLease session.old.service session.old.lease }
     requires room { length outs.old.items + 5 ≤ outs.old.room }
-    ensures driven { (cause : Maybe ℕ) × Driven rules.now at (PppSteps rules.now.link Timer now random.now) asked session.old cause session.new result outs.old.items outs.new.items
+    ensures driven { (cause : Maybe ℕ) × Driven incoming.now.rules.now incoming.now.at (PppSteps incoming.now.rules.now.link Timer incoming.now.moment incoming.now.item.now.random) asked session.old cause session.new result outs.old.items outs.new.items
         × (terms.new ≡ record terms.old { rows = closed_rows session.old.lease cause terms.old.rows }) }
     ensures leased { KeepsLease session.new.service session.new.lease }
     ensures number { session.new.number ≡ session.old.number }
@@ -53,16 +51,7 @@ fn remind(
     ensures few { length outs.new.items ≤ length outs.old.items + 3 }
 {
     let lease = session.lease();
-    let (asked, cause) = drive(
-        session,
-        asked,
-        rules,
-        at,
-        WholeInput::Timer,
-        now,
-        random,
-        outs,
-    );
+    let (asked, cause) = drive(session, asked, incoming, WholeInput::Timer, outs);
     terms.close(lease, cause);
     asked
 }
@@ -74,41 +63,29 @@ fn look_at(
     terms: &mut Terms,
     asked: u64,
     passed: u64,
-    rules: &Rules,
-    at: At,
-    now: u64,
-    random: &[u8; 16],
+    incoming: &Incoming<'_>,
     outs: &mut Batch<OutRecord>,
 ) -> u64
-    requires moment { now < 2 ^ 60 }
+    requires moment { incoming.now.moment < 2 ^ 60 }
     requires low { passed < 2 ^ 60 }
-    requires auth { 0 < length rules.now.link.auth.items }
-    requires offers { length rules.now.offers ≡ length rules.now.access }
-    requires placed { (port : Port) × (port_at rules.now.access session.old.port ≡ Some port) }
+    requires auth { 0 < length incoming.now.rules.now.link.auth.items }
+    requires offers { length incoming.now.rules.now.offers ≡ length incoming.now.rules.now.access }
+    requires placed { (port : Port) × (port_at incoming.now.rules.now.access session.old.port ≡ Some port) }
     requires made { made_one session.old.service ≡ 1 }
     requires leased { KeepsLease session.old.service session.old.lease }
     requires room { length outs.old.items + 5 ≤ outs.old.room }
-    ensures looked { LookedOnce (cause_at passed session.old.lease now) rules.now at now random.now passed asked session.old session.new result terms.old terms.new outs.old.items outs.new.items }
+    ensures looked { LookedOnce (cause_at passed session.old.lease incoming.now.moment) incoming.now.rules.now incoming.now.at incoming.now.moment incoming.now.item.now.random passed asked session.old session.new result terms.old terms.new outs.old.items outs.new.items }
     ensures leased { KeepsLease session.new.service session.new.lease }
     ensures number { session.new.number ≡ session.old.number }
     ensures capacity { outs.new.room ≡ outs.old.room }
     ensures few { length outs.new.items ≤ length outs.old.items + 2 }
 {
-    let Some(cause) = session.look(passed, now) else {
+    let Some(cause) = session.look(passed, incoming.moment) else {
         return asked;
     };
     terms.close(session.lease(), Some(cause));
     session.lapse();
-    let (asked, _) = drive(
-        session,
-        asked,
-        rules,
-        at,
-        WholeInput::Close,
-        now,
-        random,
-        outs,
-    );
+    let (asked, _) = drive(session, asked, incoming, WholeInput::Close, outs);
     asked
 }
 
@@ -116,41 +93,28 @@ fn look_at(
 fn tick_once(
     served: &mut Served,
     terms: &mut Terms,
-    rules: &Rules,
-    at: At,
-    now: u64,
-    random: &[u8; 16],
+    incoming: &Incoming<'_>,
     outs: &mut Batch<OutRecord>,
 ) -> bool
-    requires moment { now < 2 ^ 60 }
-    requires auth { 0 < length rules.now.link.auth.items }
-    requires offers { length rules.now.offers ≡ length rules.now.access }
-    requires placed { ArePlaced rules.now served.old.sessions }
+    requires moment { incoming.now.moment < 2 ^ 60 }
+    requires auth { 0 < length incoming.now.rules.now.link.auth.items }
+    requires offers { length incoming.now.rules.now.offers ≡ length incoming.now.rules.now.access }
+    requires placed { ArePlaced incoming.now.rules.now served.old.sessions }
     requires room { length outs.old.items + 8 ≤ outs.old.room }
     ensures sums { KeepSums terms.old terms.new }
-    ensures ticked { TickedOnce result rules.now at now random.now (whole served.old terms.old) (whole served.new terms.new) outs.old.items outs.new.items }
-    ensures placed { ArePlaced rules.now served.new.sessions }
+    ensures ticked { TickedOnce result incoming.now.rules.now incoming.now.at incoming.now.moment incoming.now.item.now.random (whole served.old terms.old) (whole served.new terms.new) outs.old.items outs.new.items }
+    ensures placed { ArePlaced incoming.now.rules.now served.new.sessions }
     ensures capacity { outs.new.room ≡ outs.old.room }
     ensures few { length outs.new.items ≤ length outs.old.items + 5 }
 {
-    let Some(number) = served.first_due(now) else {
+    let Some(number) = served.first_due(incoming.moment) else {
         return false;
     };
     let passed = served.passed_at(number);
     let mut session = served.take(number);
     let asked = served.asked();
-    let asked = remind(&mut session, terms, asked, rules, at, now, random, outs);
-    let asked = look_at(
-        &mut session,
-        terms,
-        asked,
-        passed,
-        rules,
-        at,
-        now,
-        random,
-        outs,
-    );
+    let asked = remind(&mut session, terms, asked, incoming, outs);
+    let asked = look_at(&mut session, terms, asked, passed, incoming, outs);
     served.put(session);
     served.count_asked(asked);
     true
@@ -199,29 +163,26 @@ fn end_once(
     true
 }
 
-/// Handles the deadlines that are due at this moment in milliseconds, the earliest first, and of equal ones that of the lower
-/// session number first: at most 64. Each time the session's link takes Timer, and then its live term is looked at: where one of its
+/// Handles the deadlines that are due at a Tick's moment, the earliest first, and of equal ones that of the lower session number
+/// first: at most 64. Each time the session's link takes Timer, and then its live term is looked at: where one of its
 /// timeouts is over it ends (RFC 2865 sections 5.27 and 5.28), and the link takes Close.
 pub(crate) fn tick(
     served: &mut Served,
     terms: &mut Terms,
-    rules: &Rules,
-    at: At,
-    now: u64,
-    random: &[u8; 16],
+    incoming: &Incoming<'_>,
     outs: &mut Batch<OutRecord>,
 )
-    requires moment { now < 2 ^ 60 }
-    requires auth { 0 < length rules.now.link.auth.items }
-    requires offers { length rules.now.offers ≡ length rules.now.access }
-    requires placed { ArePlaced rules.now served.old.sessions }
+    requires moment { incoming.now.moment < 2 ^ 60 }
+    requires auth { 0 < length incoming.now.rules.now.link.auth.items }
+    requires offers { length incoming.now.rules.now.offers ≡ length incoming.now.rules.now.access }
+    requires placed { ArePlaced incoming.now.rules.now served.old.sessions }
     requires room { length outs.old.items + 323 ≤ outs.old.room }
     ensures sums { KeepSums terms.old terms.new }
-    ensures ticked { Ticked at_once rules.now at now random.now (whole served.old terms.old) (whole served.new terms.new) outs.old.items outs.new.items }
+    ensures ticked { Ticked at_once incoming.now.rules.now incoming.now.at incoming.now.moment incoming.now.item.now.random (whole served.old terms.old) (whole served.new terms.new) outs.old.items outs.new.items }
     ensures capacity { outs.new.room ≡ outs.old.room }
 {
     for _ in 0..AT_ONCE {
-        if !tick_once(served, terms, rules, at, now, random, outs) {
+        if !tick_once(served, terms, incoming, outs) {
             return;
         }
     }

@@ -22,15 +22,15 @@ ghost use Rattle.bng_slots.specs.Sessions.{value_at};
 ghost use Rattle.bng_term.specs.Lifetimes.{HasAllowedInterval};
 
 use crate::drive::drive;
+use crate::incoming::Incoming;
 use crate::limited::{NO_LIMITS, limits_of};
-use crate::rules::Rules;
 use crate::served::Served;
 use crate::session::{Lease, Session};
 use crate::term_rows::copied;
 use crate::terms::{Running, Terms};
 use crate::wish::pool_for;
 use arrayvec::ArrayVec;
-use bng_base::{At, Batch, Book, Claim, Fate, Ip4, Item, NamedRange, OutRecord, SessionNo, TermId};
+use bng_base::{Batch, Book, Claim, Fate, Ip4, NamedRange, OutRecord, SessionNo, TermId};
 use bng_grant::{Grant, grant_of};
 use bng_ppp::WholeInput;
 use bng_term::{Lifetime, Limits};
@@ -156,29 +156,41 @@ fn name_of(session: &Session) -> ArrayVec<u8, 128>
     copied(&question.credentials.name)
 }
 
-// A term of the session begins, with this address, within these limits.
-fn begin_term(
-    served: &mut Served,
-    terms: &mut Terms,
-    session: &mut Session,
+/// What a term begins with: its address, the User-Name and the Class attributes of its records, and how long it may last.
+#[derive(Drop)]
+struct TermGrant {
     address: Ip4,
     user: ArrayVec<u8, 128>,
     class: ArrayVec<u8, 512>,
     limits: Limits,
+}
+
+// A term of the session begins.
+fn begin_term(
+    served: &mut Served,
+    terms: &mut Terms,
+    session: &mut Session,
+    grant: TermGrant,
     now: u64,
 )
     requires moment { now < 2 ^ 60 }
-    requires interval { HasAllowedInterval limits }
+    requires interval { HasAllowedInterval grant.limits }
     requires few { served.old.begun + 1 < 2 ^ 48 }
     requires room { 0 < terms.old.room }
     requires numbered { All (λ r. r.term.serial ≤ served.old.begun) terms.old.rows }
     requires numbered_news { All (λ r. r.term.serial ≤ served.old.begun) terms.old.news }
-    ensures session { session.new ≡ record session.old { lease = Some (next_lease served.old limits now address) } }
+    ensures session { session.new ≡ record session.old { lease = Some (next_lease served.old grant.limits now grant.address) } }
     ensures served { served.new ≡ record served.old { begun = served.old.begun + 1 } }
-    ensures terms { (q : Asked) → q.claim.name ≡ user.items → tenures_in terms.new.rows ≡ tenures_in terms.old.rows ++ next_term served.old session.old q class.items now address ∷ [] }
+    ensures terms { (q : Asked) → q.claim.name ≡ grant.user.items → tenures_in terms.new.rows ≡ tenures_in terms.old.rows ++ next_term served.old session.old q grant.class.items now grant.address ∷ [] }
     ensures sums { SumsStay terms.old terms.new }
-    ensures news { (q : Asked) → q.claim.name ≡ user.items → tenures_in terms.new.news ≡ tenures_in terms.old.news ++ next_term served.old session.old q class.items now address ∷ [] }
+    ensures news { (q : Asked) → q.claim.name ≡ grant.user.items → tenures_in terms.new.news ≡ tenures_in terms.old.news ++ next_term served.old session.old q grant.class.items now grant.address ∷ [] }
 {
+    let TermGrant {
+        address,
+        user,
+        class,
+        limits,
+    } = grant;
     let serial = served.count_begun();
     session.lease = Some(Lease {
         serial,
@@ -207,23 +219,20 @@ fn settle_question(
     served: &mut Served,
     terms: &mut Terms,
     number: SessionNo,
-    rules: &Rules,
-    at: At,
+    incoming: &Incoming<'_>,
     told: Told,
-    now: u64,
-    random: &[u8; 16],
     outs: &mut Batch<OutRecord>,
 )
-    requires moment { now < 2 ^ 60 }
-    requires auth { 0 < length rules.now.link.auth.items }
-    requires offers { length rules.now.offers ≡ length rules.now.access }
-    requires placed { ArePlaced rules.now served.old.sessions }
+    requires moment { incoming.now.moment < 2 ^ 60 }
+    requires auth { 0 < length incoming.now.rules.now.link.auth.items }
+    requires offers { length incoming.now.rules.now.offers ≡ length incoming.now.rules.now.access }
+    requires placed { ArePlaced incoming.now.rules.now served.old.sessions }
     requires asks { (x : Seen) × (q : Asked) × (value_at served.old.sessions number.0 ≡ Some x) × (open_of x ≡ Some q) }
     requires begins { (a : Address) → told.lease ≡ Some a → (told.yes ≡ true) × MayBegin a served.old terms.old }
     requires room { length outs.old.items + 5 ≤ outs.old.room }
     ensures settled { (x : Seen) (q : Asked) → value_at served.old.sessions number.0 ≡ Some x → open_of x ≡ Some q → (x' : Seen) × (cause : Maybe ℕ) × (asked : ℕ)
-        × Driven rules.now at (IsToldVerdict rules.now.link told now random.now) served.old.asked x cause x' asked outs.old.items outs.new.items
-        × (x.lease ≡ Nothing) × (whole served.new terms.new ≡ settled_by (whole served.old terms.old) number.0 x q told now x' asked told.lease) }
+        × Driven incoming.now.rules.now incoming.now.at (IsToldVerdict incoming.now.rules.now.link told incoming.now.moment incoming.now.item.now.random) served.old.asked x cause x' asked outs.old.items outs.new.items
+        × (x.lease ≡ Nothing) × (whole served.new terms.new ≡ settled_by (whole served.old terms.old) number.0 x q told incoming.now.moment x' asked told.lease) }
     ensures sums { SumsStay terms.old terms.new }
     ensures capacity { outs.new.room ≡ outs.old.room }
     ensures few { length outs.new.items ≤ length outs.old.items + 5 }
@@ -238,31 +247,19 @@ fn settle_question(
         limits,
     } = told;
     let input = WholeInput::Verdict { yes, lease, text };
-    let (asked, _) = drive(
-        &mut session,
-        served.asked(),
-        rules,
-        at,
-        input,
-        now,
-        random,
-        outs,
-    );
+    let (asked, _) = drive(&mut session, served.asked(), incoming, input, outs);
     served.count_asked(asked);
     let Some(address) = lease else {
         served.put(session);
         return;
     };
-    begin_term(
-        served,
-        terms,
-        &mut session,
+    let grant = TermGrant {
         address,
         user,
         class,
         limits,
-        now,
-    );
+    };
+    begin_term(served, terms, &mut session, grant, incoming.moment);
     served.put(session);
 }
 
@@ -271,46 +268,34 @@ fn settle_question(
 pub(crate) fn hear_verdict(
     served: &mut Served,
     terms: &mut Terms,
-    rules: &Rules,
-    at: At,
-    now: u64,
-    item: &Item,
+    incoming: &Incoming<'_>,
     claim: Claim,
     limited: bool,
     outs: &mut Batch<OutRecord>,
 ) -> Fate
-    requires moment { now < 2 ^ 60 }
-    requires auth { 0 < length rules.now.link.auth.items }
-    requires offers { length rules.now.offers ≡ length rules.now.access }
-    requires few_pools { length rules.now.pools ≤ 16 }
-    requires placed { ArePlaced rules.now served.old.sessions }
-    requires here { at.shard ≡ served.old.sessions.shard }
-    requires kind { item.now.kind ≡ VerdictKind }
-    requires asked { IsAnswered rules.now served.old item.now limited claim }
+    requires moment { incoming.now.moment < 2 ^ 60 }
+    requires auth { 0 < length incoming.now.rules.now.link.auth.items }
+    requires offers { length incoming.now.rules.now.offers ≡ length incoming.now.rules.now.access }
+    requires few_pools { length incoming.now.rules.now.pools ≤ 16 }
+    requires placed { ArePlaced incoming.now.rules.now served.old.sessions }
+    requires here { incoming.now.at.shard ≡ served.old.sessions.shard }
+    requires kind { incoming.now.item.now.kind ≡ VerdictKind }
+    requires asked { IsAnswered incoming.now.rules.now served.old incoming.now.item.now limited claim }
     requires begins { (a : Address) → claim ≡ Claim.Claimed a → MayBegin a served.old terms.old }
     requires room { length outs.old.items + 5 ≤ outs.old.room }
-    ensures does { Does (HearsVerdict rules.now (whole served.old terms.old) (entry_with claim at.seat at.place now item.now) limited) 5 (whole served.old terms.old) (whole served.new terms.new) outs.old.items outs.new.items (entry_with claim at.seat at.place now item.now) result }
+    ensures does { Does (HearsVerdict incoming.now.rules.now (whole served.old terms.old) (entry_with claim incoming.now.at.seat incoming.now.at.place incoming.now.moment incoming.now.item.now) limited) 5 (whole served.old terms.old) (whole served.new terms.new) outs.old.items outs.new.items (entry_with claim incoming.now.at.seat incoming.now.at.place incoming.now.moment incoming.now.item.now) result }
     ensures sums { SumsStay terms.old terms.new }
     ensures capacity { outs.new.room ≡ outs.old.room }
 {
+    let item = incoming.item;
     let number = SessionNo(item.target);
     if served.open_ask(number) != Some(item.ask) {
         return Fate::Consumed;
     }
-    let pools = rules.pools.as_slice();
+    let pools = incoming.rules.pools.as_slice();
     let Some(told) = told_for(pools, limited, item.frame.payload(), claim) else {
         return Fate::Consumed;
     };
-    settle_question(
-        served,
-        terms,
-        number,
-        rules,
-        at,
-        told,
-        now,
-        &item.random,
-        outs,
-    );
+    settle_question(served, terms, number, incoming, told, outs);
     Fate::Consumed
 }

@@ -28,18 +28,18 @@ found c = c.view_of.ensures ∙ ap (λ (o : Option Session). option_map view_of 
 carried : (c : After-up-fate) (info : List ℕ) → Carries (frame_of c.args.frame.now) info → c.take_from_frame.new.frame.payload ≡ info
 carried c info carries =
     c.take_from_frame.ensures.packet info
-    (subst (λ (octets : List ℕ). IsFrameWith info octets) (sym (ap (λ (f : Packet). f.payload) c.copy_from.ensures)) (frame_with c.args.rules.now.access c.args.number c.args.item.now (frame_of c.args.frame.now) info c.requires.came carries))
+    (subst (λ (octets : List ℕ). IsFrameWith info octets) (sym (ap (λ (f : Packet). f.payload) c.copy_from.ensures)) (frame_with c.args.incoming.now.rules.now.access c.args.number c.args.incoming.now.item.now (frame_of c.args.frame.now) info c.requires.came carries))
 
 pub returns-in_default-clause-does : goal.returns-in_default-clause-does
 returns-in_default-clause-does c info carries =
     let d = (goal.at.returns-in_default-clause-does c).After-up-fate in
-    drops_up c.args.rules.now (whole c.args.served.now c.args.terms.now) c.args.at c.args.item.now c.args.outs.now.items c.requires.here c.args.number (frame_of c.args.frame.now) info c.view_of.result c.up-fate.result (found d)
-    (subst (λ (octets : List ℕ). UpFate c.view_of.result octets c.up-fate.result) (carried d info carries) c.up-fate.ensures.fate) c.in_default.not-Forwarded c.args.now
+    drops_up c.args.incoming.now.rules.now (whole c.args.served.now c.args.terms.now) c.args.incoming.now.at c.args.incoming.now.item.now c.args.outs.now.items c.requires.here c.args.number (frame_of c.args.frame.now) info c.view_of.result c.up-fate.result (found d)
+    (subst (λ (octets : List ℕ). UpFate c.view_of.result octets c.up-fate.result) (carried d info carries) c.up-fate.ensures.fate) c.in_default.not-Forwarded c.args.incoming.now.moment
 
 pub returns-clause-does : goal.returns-clause-does
 returns-clause-does c info carries =
     let d = (goal.at.returns-clause-does c).After-up-fate in
-    let r = c.args.rules.now in
+    let r = c.args.incoming.now.rules.now in
     let s = whole c.args.served.now c.args.terms.now in
     let p = frame_of c.args.frame.now in
     let x = c.in-Some.session.now in
@@ -47,11 +47,11 @@ returns-clause-does c info carries =
     let on : c.up-fate.result ≡ Forwarded = c.in-Forwarded.is in
     let (v, may, passed) = c.up-fate.ensures.forwarded on in
     let up = subst (λ (octets : List ℕ). UpFate c.view_of.result octets Forwarded) (carried d info carries) (subst (λ f. UpFate c.view_of.result c.take_from_frame.new.frame.payload f) on c.up-fate.ensures.fate) in
-    let next : c.note_passed.new.self ≡ with_passed c.args.served.now x.number c.args.now =
-    c.note_passed.ensures ∙ ap (λ (y : Charge). with_passed c.args.served.now y.term.session c.args.now) c.charge_of-charge.ensures in
-    subst (λ (t : State). DoesWith (λ e d. HearsData r s e c.args.number p info d) 1 s (whole t c.args.terms.now) c.args.outs.now.items c.push_out.new.outs.items c.args.at c.args.now c.args.item.now Forwarded) (sym next)
-    (goes_up r s c.args.at c.args.item.now c.args.outs.now.items c.requires.here c.args.number p info c.up-fate.new.packet.payload c.view_of.result x l (length c.payload.result.now) c.push_out.new.outs.items
+    let next : c.note_passed.new.self ≡ with_passed c.args.served.now x.number c.args.incoming.now.moment =
+    c.note_passed.ensures ∙ ap (λ (y : Charge). with_passed c.args.served.now y.term.session c.args.incoming.now.moment) c.charge_of-charge.ensures in
+    subst (λ (t : State). DoesWith (λ e d. HearsData r s e c.args.number p info d) 1 s (whole t c.args.terms.now) c.args.outs.now.items c.push_out.new.outs.items c.args.incoming.now.at c.args.incoming.now.moment c.args.incoming.now.item.now Forwarded) (sym next)
+    (goes_up r s c.args.incoming.now.at c.args.incoming.now.item.now c.args.outs.now.items c.requires.here c.args.number p info c.up-fate.new.packet.payload c.view_of.result x l (length c.payload.result.now) c.push_out.new.outs.items
     (found d) (sym c.in-Some.ensures) (sym c.in-Some-lease.ensures)
     (c.requires.tied c.args.frame.now.session x l (stands_at c.args.served.now c.args.number c.args.frame.now.src c.args.frame.now.session x (sym c.in-Some.ensures)) (sym c.in-Some-lease.ensures)) up
     (v, may, subst (λ (octets : List ℕ). IsPassedOn v octets c.up-fate.new.packet.payload) (carried d info carries) passed) (ap length (sym c.payload.ensures.octets))
-    (c.push_out.ensures.items ∙ ap (λ (y : Charge). c.args.outs.now.items ++ out c.args.at Core r.core_peer c.up-fate.new.packet.payload (Some y) ∷ []) c.charge_of-charge.ensures) c.args.now)
+    (c.push_out.ensures.items ∙ ap (λ (y : Charge). c.args.outs.now.items ++ out c.args.incoming.now.at Core r.core_peer c.up-fate.new.packet.payload (Some y) ∷ []) c.charge_of-charge.ensures) c.args.incoming.now.moment)

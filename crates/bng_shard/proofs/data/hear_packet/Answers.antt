@@ -24,7 +24,7 @@ use Rattle.bng_shard.proofs.data.hear_packet.Goals.{After-down-fate}
 found : (c : After-down-fate) → c.holder_view.result ≡ found_down (whole c.args.served.now c.args.terms.now) c.args.header.dst
 found c = c.holder_view.ensures ∙ ap (λ (o : Option Session). found_among o (list_any (has_kept c.args.header.dst) (tenures_in c.args.terms.now.rows)) c.args.header.dst) c.holder_of-holder.ensures
 
-fated : (c : After-down-fate) → DownFate (found_down (whole c.args.served.now c.args.terms.now)) c.args.item.now.frame.payload c.down-fate.result
+fated : (c : After-down-fate) → DownFate (found_down (whole c.args.served.now c.args.terms.now)) c.args.incoming.now.item.now.frame.payload c.down-fate.result
 fated c =
     subst (λ (octets : List ℕ). DownFate (found_down (whole c.args.served.now c.args.terms.now)) octets c.down-fate.result) (ap (λ (f : Packet). f.payload) c.copy_from.ensures) (c.down-fate.ensures.fate (found_down (whole c.args.served.now c.args.terms.now)) (sym (found c)))
 
@@ -36,12 +36,12 @@ unreachable-requires-in_default-port_of c =
 
 pub returns-in_default-clause-does : goal.returns-in_default-clause-does
 returns-in_default-clause-does c =
-    drops_down c.args.rules.now (whole c.args.served.now c.args.terms.now) c.args.at c.args.item.now c.args.outs.now.items c.requires.here c.args.header c.down-fate.result (fated (goal.at.returns-in_default-clause-does c).After-down-fate) c.in_default.not-Forwarded c.args.now
+    drops_down c.args.incoming.now.rules.now (whole c.args.served.now c.args.terms.now) c.args.incoming.now.at c.args.incoming.now.item.now c.args.outs.now.items c.requires.here c.args.header c.down-fate.result (fated (goal.at.returns-in_default-clause-does c).After-down-fate) c.in_default.not-Forwarded c.args.incoming.now.moment
 
 pub returns-clause-does : goal.returns-clause-does
 returns-clause-does c =
     let d = (goal.at.returns-clause-does c).After-down-fate in
-    let r = c.args.rules.now in
+    let r = c.args.incoming.now.rules.now in
     let s = whole c.args.served.now c.args.terms.now in
     let v = c.args.header in
     let on : c.down-fate.result ≡ Forwarded = c.in-Forwarded.is in
@@ -50,10 +50,10 @@ returns-clause-does c =
     let l = c.in-Some-lease.lease in
     let (n, at, passes) = found_at (leases c.args.header.dst) c.args.served.now.sessions x (sym c.in-Some.ensures) in
     let (may, passed) = c.down-fate.ensures.forwarded on in
-    let next : c.note_passed.new.self ≡ with_passed c.args.served.now x.number c.args.now =
-    c.note_passed.ensures ∙ ap (λ (y : Charge). with_passed c.args.served.now y.term.session c.args.now) c.charge_of-charge.ensures in
-    subst (λ (t : State). DoesWith (λ e d. HearsPacket r s e v d) 1 s (whole t c.args.terms.now) c.args.outs.now.items c.push_out.new.outs.items c.args.at c.args.now c.args.item.now Forwarded) (sym next)
-    (goes_down r s c.args.at c.args.item.now c.args.outs.now.items c.requires.here v c.down-fate.new.packet.payload c.put_in_frame.new.frame.payload x l port c.push_out.new.outs.items
+    let next : c.note_passed.new.self ≡ with_passed c.args.served.now x.number c.args.incoming.now.moment =
+    c.note_passed.ensures ∙ ap (λ (y : Charge). with_passed c.args.served.now y.term.session c.args.incoming.now.moment) c.charge_of-charge.ensures in
+    subst (λ (t : State). DoesWith (λ e d. HearsPacket r s e v d) 1 s (whole t c.args.terms.now) c.args.outs.now.items c.push_out.new.outs.items c.args.incoming.now.at c.args.incoming.now.moment c.args.incoming.now.item.now Forwarded) (sym next)
+    (goes_down r s c.args.incoming.now.at c.args.incoming.now.item.now c.args.outs.now.items c.requires.here v c.down-fate.new.packet.payload c.put_in_frame.new.frame.payload x l port c.push_out.new.outs.items
     (sym c.in-Some.ensures) (sym c.in-Some-lease.ensures) (c.requires.tied n x l at (sym c.in-Some-lease.ensures)) (sym c.in-Some-port_of.ensures)
-    (subst (λ (f : Fate). DownFate (found_down s) c.args.item.now.frame.payload f) on (fated d)) (subst (λ (octets : List ℕ). IsPassedOn v octets c.down-fate.new.packet.payload) (ap (λ (f : Packet). f.payload) c.copy_from.ensures) passed) c.put_in_frame.ensures.framed c.put_in_frame.ensures.again
-    (c.push_out.ensures.items ∙ ap (λ (y : Charge). c.args.outs.now.items ++ out c.args.at (Access x.port) port.peer c.put_in_frame.new.frame.payload (Some y) ∷ []) c.charge_of-charge.ensures) c.args.now)
+    (subst (λ (f : Fate). DownFate (found_down s) c.args.incoming.now.item.now.frame.payload f) on (fated d)) (subst (λ (octets : List ℕ). IsPassedOn v octets c.down-fate.new.packet.payload) (ap (λ (f : Packet). f.payload) c.copy_from.ensures) passed) c.put_in_frame.ensures.framed c.put_in_frame.ensures.again
+    (c.push_out.ensures.items ∙ ap (λ (y : Charge). c.args.outs.now.items ++ out c.args.incoming.now.at (Access x.port) port.peer c.put_in_frame.new.frame.payload (Some y) ∷ []) c.charge_of-charge.ensures) c.args.incoming.now.moment)

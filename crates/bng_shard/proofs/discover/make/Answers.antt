@@ -17,7 +17,7 @@ use Rattle.bng_shard.proofs.discover.make.Goals as goal
 pub drive-asked-requires-clause-placed : goal.drive-asked-requires-clause-placed
 drive-asked-requires-clause-placed c =
     let (port, is) = c.requires.placed in
-    (port, ap (λ (y : Session). port_at c.args.rules.now.access y.port) c.new_session-made.ensures.is.2 ∙ is)
+    (port, ap (λ (y : Session). port_at c.args.incoming.now.rules.now.access y.port) c.new_session-made.ensures.is.2 ∙ is)
 
 pub drive-asked-requires-clause-made : goal.drive-asked-requires-clause-made
 drive-asked-requires-clause-made c = ap (λ (y : Session). made_one y.service) c.new_session-made.ensures.is.2
@@ -49,8 +49,8 @@ returns-clause-made c ts are =
       c.drive-asked.new.session,
       cause,
       count,
-      subst (λ (u : Option (List ℕ)). IsNewSession c.args.session.0 c.args.number c.args.frame.now.src u c.args.random.now c.new_session-made.result) (c.host_uniq-wanted.ensures ts are) c.new_session-made.ensures.is,
-      subst (λ (n : ℕ). Driven c.args.rules.now c.args.at (PppSteps c.args.rules.now.link Start c.args.now c.args.random.now) n c.new_session-made.result cause c.drive-asked.new.session count c.args.outs.now.items c.drive-asked.new.outs.items) c.asked.ensures
+      subst (λ (u : Option (List ℕ)). IsNewSession c.args.session.0 c.args.number c.args.frame.now.src u c.args.incoming.now.item.now.random c.new_session-made.result) (c.host_uniq-wanted.ensures ts are) c.new_session-made.ensures.is,
+      subst (λ (n : ℕ). Driven c.args.incoming.now.rules.now c.args.incoming.now.at (PppSteps c.args.incoming.now.rules.now.link Start c.args.incoming.now.moment c.args.incoming.now.item.now.random) n c.new_session-made.result cause c.drive-asked.new.session count c.args.outs.now.items c.drive-asked.new.outs.items) c.asked.ensures
           c.drive-asked.ensures.driven,
       λ t. ap (λ (q : State). whole q t) next,
     )

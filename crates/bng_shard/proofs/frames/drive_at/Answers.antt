@@ -41,7 +41,7 @@ drive-asked-requires-clause-lasts c = c.requires.lasts c.take-session.result (sy
 
 pub returns-clause-driven : goal.returns-clause-driven
 returns-clause-driven c x is =
-    let r = c.args.rules.now in
+    let r = c.args.incoming.now.rules.now in
     let x' = c.drive-asked.new.session in
     let count = c.drive-asked.result.0 in
     let cause = c.drive-asked.result.1 in
@@ -54,8 +54,8 @@ returns-clause-driven c x is =
       x',
       cause,
       count,
-      subst (λ (n : ℕ). Driven r c.args.at (PppSteps r.link c.args.input c.args.now c.args.random.now) n x cause x' count c.args.outs.now.items c.drive-asked.new.outs.items) before
-          (subst (λ (y : Session). Driven r c.args.at (PppSteps r.link c.args.input c.args.now c.args.random.now) c.asked.result y cause x' count c.args.outs.now.items c.drive-asked.new.outs.items) it
+      subst (λ (n : ℕ). Driven r c.args.incoming.now.at (PppSteps r.link c.args.input c.args.incoming.now.moment c.args.incoming.now.item.now.random) n x cause x' count c.args.outs.now.items c.drive-asked.new.outs.items) before
+          (subst (λ (y : Session). Driven r c.args.incoming.now.at (PppSteps r.link c.args.input c.args.incoming.now.moment c.args.incoming.now.item.now.random) c.asked.result y cause x' count c.args.outs.now.items c.drive-asked.new.outs.items) it
           c.drive-asked.ensures.driven),
       whole_driven c.args.served.now c.count_asked.new.self c.args.number.0 x x' c.lease-lease.result c.args.terms.now c.close.new.self (c.lease-lease.ensures ∙ ap (λ (y : Session). y.lease) it) cause count next c.close.ensures,
     )

@@ -8,42 +8,42 @@ use Rattle.bng_shard.proofs.hear.hear.Goals as goal
 
 pub returns-in-Access-clause-does : goal.returns-in-Access-clause-does
 returns-in-Access-clause-does c =
-    let none = unasked c.args.rules.now c.args.served.now c.args.item.now c.args.limited c.args.claim (Access c.in-Access.number) c.in-Access.is (λ w e. e) c.requires.asked in
-    stepped c.args.rules.now (whole c.args.served.now c.args.terms.now) (whole c.hear_access.new.served c.hear_access.new.terms) c.args.outs.now.items c.hear_access.new.outs.items c.args.at c.args.now c.args.item.now c.args.limited c.args.claim none c.hear_access.result (Access c.in-Access.number) c.in-Access.is refl
+    let none = unasked c.args.incoming.now.rules.now c.args.served.now c.args.incoming.now.item.now c.args.limited c.args.claim (Access c.in-Access.number) c.in-Access.is (λ w e. e) c.requires.asked in
+    stepped c.args.incoming.now.rules.now (whole c.args.served.now c.args.terms.now) (whole c.hear_access.new.served c.hear_access.new.terms) c.args.outs.now.items c.hear_access.new.outs.items c.args.incoming.now.at c.args.incoming.now.moment c.args.incoming.now.item.now c.args.limited c.args.claim none c.hear_access.result (Access c.in-Access.number) c.in-Access.is refl
     c.hear_access.ensures.does
 
 pub returns-in-Core-clause-does : goal.returns-in-Core-clause-does
 returns-in-Core-clause-does c =
     let s = whole c.args.served.now c.args.terms.now in
     let s' = whole c.hear_core.new.served c.args.terms.now in
-    let none = unasked c.args.rules.now c.args.served.now c.args.item.now c.args.limited c.args.claim Core c.in-Core.is (λ w e. e) c.requires.asked in
-    stepped c.args.rules.now s s' c.args.outs.now.items c.hear_core.new.outs.items c.args.at c.args.now c.args.item.now c.args.limited c.args.claim none c.hear_core.result Core c.in-Core.is refl
-    (does_more s s' c.args.outs.now.items c.hear_core.new.outs.items c.args.at c.args.now c.args.item.now c.hear_core.result (λ e d. HearsCore c.args.rules.now s e d) (λ e d. HearsCore c.args.rules.now s e d) 1 10 (omega arith)
+    let none = unasked c.args.incoming.now.rules.now c.args.served.now c.args.incoming.now.item.now c.args.limited c.args.claim Core c.in-Core.is (λ w e. e) c.requires.asked in
+    stepped c.args.incoming.now.rules.now s s' c.args.outs.now.items c.hear_core.new.outs.items c.args.incoming.now.at c.args.incoming.now.moment c.args.incoming.now.item.now c.args.limited c.args.claim none c.hear_core.result Core c.in-Core.is refl
+    (does_more s s' c.args.outs.now.items c.hear_core.new.outs.items c.args.incoming.now.at c.args.incoming.now.moment c.args.incoming.now.item.now c.hear_core.result (λ e d. HearsCore c.args.incoming.now.rules.now s e d) (λ e d. HearsCore c.args.incoming.now.rules.now s e d) 1 10 (omega arith)
     (λ d says. says) c.hear_core.ensures.does)
 
 pub returns-in-Tunnel-clause-does : goal.returns-in-Tunnel-clause-does
 returns-in-Tunnel-clause-does c =
-    let none = unasked c.args.rules.now c.args.served.now c.args.item.now c.args.limited c.args.claim Tunnel c.in-Tunnel.is (λ w e. e) c.requires.asked in
-    passed_over c.args.rules.now (whole c.args.served.now c.args.terms.now) c.args.outs.now.items c.args.at c.args.now c.args.item.now c.args.limited c.args.claim none c.requires.place Tunnel c.in-Tunnel.is refl (λ e. refl)
+    let none = unasked c.args.incoming.now.rules.now c.args.served.now c.args.incoming.now.item.now c.args.limited c.args.claim Tunnel c.in-Tunnel.is (λ w e. e) c.requires.asked in
+    passed_over c.args.incoming.now.rules.now (whole c.args.served.now c.args.terms.now) c.args.outs.now.items c.args.incoming.now.at c.args.incoming.now.moment c.args.incoming.now.item.now c.args.limited c.args.claim none c.requires.place Tunnel c.in-Tunnel.is refl (λ e. refl)
 
 pub returns-in-Verdict-clause-does : goal.returns-in-Verdict-clause-does
 returns-in-Verdict-clause-does c =
     let h = c.hear_verdict.ensures.does in
     let few = h.few in
-    stepped_with c.args.rules.now (whole c.args.served.now c.args.terms.now) (whole c.hear_verdict.new.served c.hear_verdict.new.terms) c.args.outs.now.items c.hear_verdict.new.outs.items c.args.at c.args.now c.args.item.now c.args.limited c.args.claim c.hear_verdict.result Verdict c.in-Verdict.is tt
+    stepped_with c.args.incoming.now.rules.now (whole c.args.served.now c.args.terms.now) (whole c.hear_verdict.new.served c.hear_verdict.new.terms) c.args.outs.now.items c.hear_verdict.new.outs.items c.args.incoming.now.at c.args.incoming.now.moment c.args.incoming.now.item.now c.args.limited c.args.claim c.hear_verdict.result Verdict c.in-Verdict.is tt
     (record { deed = h.deed; entry = h.entry; fate_is = h.fate_is; next = h.next; says = h.says; outs_are = h.outs_are; few = omega (arith, few) })
 
 pub returns-in-Change-clause-does : goal.returns-in-Change-clause-does
 returns-in-Change-clause-does c =
-    let none = unasked c.args.rules.now c.args.served.now c.args.item.now c.args.limited c.args.claim Change c.in-Change.is (λ w e. e) c.requires.asked in
-    passed_over c.args.rules.now (whole c.args.served.now c.args.terms.now) c.args.outs.now.items c.args.at c.args.now c.args.item.now c.args.limited c.args.claim none c.requires.place Change c.in-Change.is refl (λ e. refl)
+    let none = unasked c.args.incoming.now.rules.now c.args.served.now c.args.incoming.now.item.now c.args.limited c.args.claim Change c.in-Change.is (λ w e. e) c.requires.asked in
+    passed_over c.args.incoming.now.rules.now (whole c.args.served.now c.args.terms.now) c.args.outs.now.items c.args.incoming.now.at c.args.incoming.now.moment c.args.incoming.now.item.now c.args.limited c.args.claim none c.requires.place Change c.in-Change.is refl (λ e. refl)
 
 pub returns-in-Tick-clause-does : goal.returns-in-Tick-clause-does
 returns-in-Tick-clause-does c =
-    let none = unasked c.args.rules.now c.args.served.now c.args.item.now c.args.limited c.args.claim Tick c.in-Tick.is (λ w e. e) c.requires.asked in
-    ticked c.args.rules.now (whole c.args.served.now c.args.terms.now) (whole c.tick.new.served c.tick.new.terms) c.args.outs.now.items c.tick.new.outs.items c.args.at c.args.now c.args.item.now c.args.limited c.args.claim none c.requires.place c.in-Tick.is c.tick.ensures.ticked
+    let none = unasked c.args.incoming.now.rules.now c.args.served.now c.args.incoming.now.item.now c.args.limited c.args.claim Tick c.in-Tick.is (λ w e. e) c.requires.asked in
+    ticked c.args.incoming.now.rules.now (whole c.args.served.now c.args.terms.now) (whole c.tick.new.served c.tick.new.terms) c.args.outs.now.items c.tick.new.outs.items c.args.incoming.now.at c.args.incoming.now.moment c.args.incoming.now.item.now c.args.limited c.args.claim none c.requires.place c.in-Tick.is c.tick.ensures.ticked
 
 pub returns-in-End-clause-does : goal.returns-in-End-clause-does
 returns-in-End-clause-does c =
-    let none = unasked c.args.rules.now c.args.served.now c.args.item.now c.args.limited c.args.claim End c.in-End.is (λ w e. e) c.requires.asked in
-    ended c.args.rules.now (whole c.args.served.now c.args.terms.now) (whole c.end.new.served c.end.new.terms) c.args.outs.now.items c.end.new.outs.items c.args.at c.args.now c.args.item.now c.args.limited c.args.claim none c.requires.place c.in-End.is c.end.ensures.ended
+    let none = unasked c.args.incoming.now.rules.now c.args.served.now c.args.incoming.now.item.now c.args.limited c.args.claim End c.in-End.is (λ w e. e) c.requires.asked in
+    ended c.args.incoming.now.rules.now (whole c.args.served.now c.args.terms.now) (whole c.end.new.served c.end.new.terms) c.args.outs.now.items c.end.new.outs.items c.args.incoming.now.at c.args.incoming.now.moment c.args.incoming.now.item.now c.args.limited c.args.claim none c.requires.place c.in-End.is c.end.ensures.ended

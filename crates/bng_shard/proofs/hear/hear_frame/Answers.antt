@@ -9,15 +9,15 @@ hear_data-requires-clause-carries c = (c.in-Some.info.now, c.in-Some.ensures.fou
 
 pub returns-then-not-names_session-clause-does : goal.returns-then-not-names_session-clause-does
 returns-then-not-names_session-clause-does c =
-    by_discovery (whole c.args.served.now c.args.terms.now) (whole c.hear_discovery.new.served c.args.terms.now) c.args.outs.now.items c.hear_discovery.new.outs.items c.args.at c.args.now c.args.item.now c.hear_discovery.result c.args.rules.now c.args.number (frame_of c.args.frame.now)
+    by_discovery (whole c.args.served.now c.args.terms.now) (whole c.hear_discovery.new.served c.args.terms.now) c.args.outs.now.items c.hear_discovery.new.outs.items c.args.incoming.now.at c.args.incoming.now.moment c.args.incoming.now.item.now c.hear_discovery.result c.args.incoming.now.rules.now c.args.number (frame_of c.args.frame.now)
     (c.names_session.ensures.no c.if-not-names_session.true) (c.hear_discovery.ensures.does c.args.terms.now)
 
 pub returns-in-Some-clause-does : goal.returns-in-Some-clause-does
 returns-in-Some-clause-does c =
-    by_data (whole c.args.served.now c.args.terms.now) (whole c.hear_data.new.served c.args.terms.now) c.args.outs.now.items c.hear_data.new.outs.items c.args.at c.args.now c.args.item.now c.hear_data.result c.args.rules.now c.args.number (frame_of c.args.frame.now)
+    by_data (whole c.args.served.now c.args.terms.now) (whole c.hear_data.new.served c.args.terms.now) c.args.outs.now.items c.hear_data.new.outs.items c.args.incoming.now.at c.args.incoming.now.moment c.args.incoming.now.item.now c.hear_data.result c.args.incoming.now.rules.now c.args.number (frame_of c.args.frame.now)
     c.in-Some.info.now c.in-Some.ensures.found (c.hear_data.ensures.does c.in-Some.info.now c.in-Some.ensures.found)
 
 pub returns-in-None-clause-does : goal.returns-in-None-clause-does
 returns-in-None-clause-does c =
-    by_control (whole c.args.served.now c.args.terms.now) (whole c.hear_control.new.served c.hear_control.new.terms) c.args.outs.now.items c.hear_control.new.outs.items c.args.at c.args.now c.args.item.now c.hear_control.result c.args.rules.now c.args.number (frame_of c.args.frame.now)
+    by_control (whole c.args.served.now c.args.terms.now) (whole c.hear_control.new.served c.hear_control.new.terms) c.args.outs.now.items c.hear_control.new.outs.items c.args.incoming.now.at c.args.incoming.now.moment c.args.incoming.now.item.now c.hear_control.result c.args.incoming.now.rules.now c.args.number (frame_of c.args.frame.now)
     (c.names_session.ensures.yes c.if-not-names_session.false) c.in-None.ensures.none c.hear_control.ensures.does

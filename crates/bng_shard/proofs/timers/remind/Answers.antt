@@ -12,6 +12,6 @@ returns-clause-driven c =
 pub returns-clause-few : goal.returns-clause-few
 returns-clause-few c =
     let d = c.drive-asked.ensures.driven in
-    let most = drives_by_timer c.args.rules.now c.args.at c.args.now c.args.random.now c.args.asked c.args.session.now d.more c.drive-asked.result.1 c.drive-asked.new.session c.drive-asked.result.0 d.drives in
+    let most = drives_by_timer c.args.incoming.now.rules.now c.args.incoming.now.at c.args.incoming.now.moment c.args.incoming.now.item.now.random c.args.asked c.args.session.now d.more c.drive-asked.result.1 c.drive-asked.new.session c.drive-asked.result.0 d.drives in
     let all = length-append c.args.outs.now.items d.more in
     omega (arith, most, all, ap length d.outs_are)

@@ -6,9 +6,9 @@ use Rattle.bng_shard.proofs.timers.tick.Given as goal
 
 abbrev pub invariant-loop : goal.invariant-loop
 invariant-loop l = record {
-  on : TicksOn l.counter l.rules l.at l.now l.random (whole l.fn.served l.fn.terms) (whole l.served l.terms) l.fn.outs.items l.outs.items;
+  on : TicksOn l.counter l.incoming.rules.now l.incoming.at l.incoming.moment l.incoming.item.now.random (whole l.fn.served l.fn.terms) (whole l.served l.terms) l.fn.outs.items l.outs.items;
   sums : KeepSums l.fn.terms l.terms;
-  placed : ArePlaced l.rules l.served.sessions;
+  placed : ArePlaced l.incoming.rules.now l.served.sessions;
   capacity : l.outs.room ≡ l.fn.outs.room;
   few : length l.outs.items ≤ length l.fn.outs.items + 5 * l.counter;
 }

@@ -28,8 +28,8 @@ put-requires-clause-apart c =
     let (cause, driven, closes) = c.remind-asked.ensures.driven in
     let x = c.remind-asked.new.session in
     let others = c.take-session.new.self.sessions in
-    looked_apart c.args.rules.now c.args.at c.args.now c.args.random.now c.passed_at-passed.result c.remind-asked.result x c.look_at-asked.new.session c.look_at-asked.result c.remind-asked.new.terms c.look_at-asked.new.terms c.remind-asked.new.outs.items c.look_at-asked.new.outs.items
-    (cause_at c.passed_at-passed.result x.lease c.args.now) others c.look_at-asked.ensures.looked
+    looked_apart c.args.incoming.now.rules.now c.args.incoming.now.at c.args.incoming.now.moment c.args.incoming.now.item.now.random c.passed_at-passed.result c.remind-asked.result x c.look_at-asked.new.session c.look_at-asked.result c.remind-asked.new.terms c.look_at-asked.new.terms c.remind-asked.new.outs.items c.look_at-asked.new.outs.items
+    (cause_at c.passed_at-passed.result x.lease c.args.incoming.now.moment) others c.look_at-asked.ensures.looked
     (shares_kept others c.take-session.result x driven.drives.says.term_ended (ap (λ (y : Session). y.lease) driven.drives.session) c.take-session.ensures.apart)
 
 pub returns-clause-sums : goal.returns-clause-sums
@@ -37,15 +37,15 @@ returns-clause-sums c =
     let (cause, driven, closes) = c.remind-asked.ensures.driven in
     let x = c.remind-asked.new.session in
     keeps_then c.args.terms.now c.remind-asked.new.terms c.look_at-asked.new.terms (closed_keeps c.args.terms.now c.remind-asked.new.terms c.take-session.result.lease cause closes)
-    (looked_sums c.args.rules.now c.args.at c.args.now c.args.random.now c.passed_at-passed.result c.remind-asked.result x c.look_at-asked.new.session c.look_at-asked.result c.remind-asked.new.terms c.look_at-asked.new.terms c.remind-asked.new.outs.items c.look_at-asked.new.outs.items
-    (cause_at c.passed_at-passed.result x.lease c.args.now) c.look_at-asked.ensures.looked)
+    (looked_sums c.args.incoming.now.rules.now c.args.incoming.now.at c.args.incoming.now.moment c.args.incoming.now.item.now.random c.passed_at-passed.result c.remind-asked.result x c.look_at-asked.new.session c.look_at-asked.result c.remind-asked.new.terms c.look_at-asked.new.terms c.remind-asked.new.outs.items c.look_at-asked.new.outs.items
+    (cause_at c.passed_at-passed.result x.lease c.args.incoming.now.moment) c.look_at-asked.ensures.looked)
 
 pub returns-clause-ticked : goal.returns-clause-ticked
 returns-clause-ticked c =
     let d = (goal.at.returns-clause-ticked c).After-look_at-asked in
     let first = c.in-Some.ensures.found in
     let (cause, driven, closes) = c.remind-asked.ensures.driven in
-    let r = c.args.rules.now in
+    let r = c.args.incoming.now.rules.now in
     let s = c.args.served.now in
     let n = c.in-Some.number.0 in
     let x = c.take-session.result in
@@ -54,12 +54,12 @@ returns-clause-ticked c =
     let count = c.look_at-asked.result in
     let outs = c.args.outs.now.items in
     let before = c.asked-asked.ensures ∙ ap (λ (t : State). t.asked) c.take-session.ensures.after in
-    let timer = subst (λ (k : ℕ). Driven r c.args.at (PppSteps r.link Timer c.args.now c.args.random.now) k x cause after c.remind-asked.result outs c.remind-asked.new.outs.items) before driven in
+    let timer = subst (λ (k : ℕ). Driven r c.args.incoming.now.at (PppSteps r.link Timer c.args.incoming.now.moment c.args.incoming.now.item.now.random) k x cause after c.remind-asked.result outs c.remind-asked.new.outs.items) before driven in
     let passed : c.passed_at-passed.result ≡ passed_at s.passed after.number = c.passed_at-passed.ensures.moment ∙ ap (passed_at s.passed) (sym (c.remind-asked.ensures.number ∙ c.take-session.ensures.number)) in
-    let once = subst (λ (k : ℕ). LookedOnce (cause_at k after.lease c.args.now) r c.args.at c.args.now c.args.random.now k c.remind-asked.result after last count c.remind-asked.new.terms c.look_at-asked.new.terms c.remind-asked.new.outs.items c.look_at-asked.new.outs.items) passed c.look_at-asked.ensures.looked in
+    let once = subst (λ (k : ℕ). LookedOnce (cause_at k after.lease c.args.incoming.now.moment) r c.args.incoming.now.at c.args.incoming.now.moment c.args.incoming.now.item.now.random k c.remind-asked.result after last count c.remind-asked.new.terms c.look_at-asked.new.terms c.remind-asked.new.outs.items c.look_at-asked.new.outs.items) passed c.look_at-asked.ensures.looked in
     let next = c.count_asked.ensures
     ∙ ap (λ (t : State). let u : State = record t { asked = count } in u) (put_back s c.take-session.new.self n last.number.0 c.take-session.ensures.after (same_number d) c.put.new.self last c.put.ensures) in
-    let (more, is_timed, sent) = timed r c.args.at c.args.now c.args.random.now s c.count_asked.new.self c.args.terms.now c.remind-asked.new.terms c.look_at-asked.new.terms n x after last cause c.remind-asked.result count outs c.remind-asked.new.outs.items c.look_at-asked.new.outs.items timer closes next
+    let (more, is_timed, sent) = timed r c.args.incoming.now.at c.args.incoming.now.moment c.args.incoming.now.item.now.random s c.count_asked.new.self c.args.terms.now c.remind-asked.new.terms c.look_at-asked.new.terms n x after last cause c.remind-asked.result count outs c.remind-asked.new.outs.items c.look_at-asked.new.outs.items timer closes next
     (sym c.take-session.ensures.value) once in
     (n, record { deadline = first.deadline; is = first.is; due = first.due; first = first.first }, more, is_timed, sent)
 
@@ -69,9 +69,9 @@ returns-clause-placed c =
     let (cause, driven, closes) = c.remind-asked.ensures.driven in
     let x = c.remind-asked.new.session in
     let last = c.look_at-asked.new.session in
-    let port = looked_port c.args.rules.now c.args.at c.args.now c.args.random.now c.passed_at-passed.result c.remind-asked.result x last c.look_at-asked.result c.remind-asked.new.terms c.look_at-asked.new.terms c.remind-asked.new.outs.items c.look_at-asked.new.outs.items
-    (cause_at c.passed_at-passed.result x.lease c.args.now) c.look_at-asked.ensures.looked
+    let port = looked_port c.args.incoming.now.rules.now c.args.incoming.now.at c.args.incoming.now.moment c.args.incoming.now.item.now.random c.passed_at-passed.result c.remind-asked.result x last c.look_at-asked.result c.remind-asked.new.terms c.look_at-asked.new.terms c.remind-asked.new.outs.items c.look_at-asked.new.outs.items
+    (cause_at c.passed_at-passed.result x.lease c.args.incoming.now.moment) c.look_at-asked.ensures.looked
     ∙ ap (λ (y : Session). y.port) driven.drives.session in
     let next = put_back c.args.served.now c.take-session.new.self c.in-Some.number.0 last.number.0 c.take-session.ensures.after (same_number d) c.put.new.self last c.put.ensures in
-    subst (λ (t : State). ArePlaced c.args.rules.now t.sessions) (sym (c.count_asked.ensures ∙ ap (λ (t : State). let u : State = record t { asked = c.look_at-asked.result } in u) next))
-    (placed_with c.args.rules.now c.args.served.now c.in-Some.number.0 c.take-session.result last (sym c.take-session.ensures.value) port c.requires.placed)
+    subst (λ (t : State). ArePlaced c.args.incoming.now.rules.now t.sessions) (sym (c.count_asked.ensures ∙ ap (λ (t : State). let u : State = record t { asked = c.look_at-asked.result } in u) next))
+    (placed_with c.args.incoming.now.rules.now c.args.served.now c.in-Some.number.0 c.take-session.result last (sym c.take-session.ensures.value) port c.requires.placed)

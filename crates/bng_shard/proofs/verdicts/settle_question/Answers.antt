@@ -23,7 +23,7 @@ put-requires-clause-vacant c =
 
 pub returns-in_default-clause-settled : goal.returns-in_default-clause-settled
 returns-in_default-clause-settled c x q found asks =
-    let r = c.args.rules.now in
+    let r = c.args.incoming.now.rules.now in
     let s = c.args.served.now in
     let inside = c.told.inside in
     let t : Told = record { yes = inside.yes; lease = inside.lease; text = inside.text.items; class = inside.class.items; limits = inside.limits } in
@@ -35,18 +35,18 @@ returns-in_default-clause-settled c x q found asks =
     let it : c.take-session.result ≡ x = same c.take-session.result x (c.take-session.ensures.value ∙ found) in
     let before = c.asked.ensures ∙ ap (λ (u : State). u.asked) c.take-session.ensures.after in
     let number = ap (λ n. n.0) (c.drive-asked.ensures.number ∙ c.take-session.ensures.number) in
-    let Told_ = IsToldVerdict r.link t c.args.now c.args.random.now in
-    let driven = driven_so r c.args.at (PppSteps r.link (Verdict inside.yes inside.lease inside.text) c.args.now c.args.random.now) Told_ c.asked.result c.take-session.result cause x' asked outs outs'
-    (λ old says new h. judged r.link t h.turn h.cause c.args.now c.args.random.now old says new h.goes h.said h.state) c.drive-asked.ensures.driven in
-    let its = subst (λ (n : ℕ). Driven r c.args.at Told_ n x cause x' asked outs outs') before (subst (λ (y : Session). Driven r c.args.at Told_ c.asked.result y cause x' asked outs outs') it driven) in
+    let Told_ = IsToldVerdict r.link t c.args.incoming.now.moment c.args.incoming.now.item.now.random in
+    let driven = driven_so r c.args.incoming.now.at (PppSteps r.link (Verdict inside.yes inside.lease inside.text) c.args.incoming.now.moment c.args.incoming.now.item.now.random) Told_ c.asked.result c.take-session.result cause x' asked outs outs'
+    (λ old says new h. judged r.link t h.turn h.cause c.args.incoming.now.moment c.args.incoming.now.item.now.random old says new h.goes h.said h.state) c.drive-asked.ensures.driven in
+    let its = subst (λ (n : ℕ). Driven r c.args.incoming.now.at Told_ n x cause x' asked outs outs') before (subst (λ (y : Session). Driven r c.args.incoming.now.at Told_ c.asked.result y cause x' asked outs outs') it driven) in
     let next = back s c.take-session.new.self c.count_asked.new.self c.put.new.self c.args.number.0 x'.number.0 asked x' c.take-session.ensures.after c.count_asked.ensures number c.put.ensures in
-    subst (λ (u : Told). SettledFor r c.args.at s c.args.terms.now c.put.new.self c.args.terms.now c.args.number.0 x q u c.args.now c.args.random.now outs outs') c.told.view_is (
+    subst (λ (u : Told). SettledFor r c.args.incoming.now.at s c.args.terms.now c.put.new.self c.args.terms.now c.args.number.0 x q u c.args.incoming.now.moment c.args.incoming.now.item.now.random outs outs') c.told.view_is (
       x',
       cause,
       asked,
       its,
       no_lease x q asks (subst (λ (y : Session). KeepsLease y.service y.lease) it c.take-session.ensures.leased),
-      none_begins s c.put.new.self c.args.terms.now c.args.number.0 x q t c.args.now x' asked c.in_default.is next,
+      none_begins s c.put.new.self c.args.terms.now c.args.number.0 x q t c.args.incoming.now.moment x' asked c.in_default.is next,
     )
 
 pub put-requires-2-clause-vacant : goal.put-requires-2-clause-vacant
@@ -62,12 +62,12 @@ put-requires-2-clause-apart c =
     let s = c.args.served.now in
     let may = (c.requires.begins c.in-Some.address (ap (λ (t : Told). t.lease) (sym c.told.view_is) ∙ c.in-Some.is)).1 in
     let sessions = ap (λ (u : State). u.sessions) c.begin_term.ensures.served ∙ ap (λ (u : State). u.sessions) c.count_asked.ensures ∙ ap (λ (u : State). u.sessions) c.take-session.ensures.after in
-    shares_begun s.sessions c.begin_term.new.served.sessions c.args.number.0 c.in-Some.address c.args.terms.now.rows c.begin_term.new.session (next_lease c.count_asked.new.self c.told.inside.limits c.args.now c.in-Some.address) sessions
+    shares_begun s.sessions c.begin_term.new.served.sessions c.args.number.0 c.in-Some.address c.args.terms.now.rows c.begin_term.new.session (next_lease c.count_asked.new.self c.told.inside.limits c.args.incoming.now.moment c.in-Some.address) sessions
     (ap (λ (y : Session). y.lease) c.begin_term.ensures.session) refl may.tied may.free
 
 pub put-requires-2-clause-leased : goal.put-requires-2-clause-leased
 put-requires-2-clause-leased c =
-    let r = c.args.rules.now in
+    let r = c.args.incoming.now.rules.now in
     let inside = c.told.inside in
     let t : Told = record { yes = inside.yes; lease = inside.lease; text = inside.text.items; class = inside.class.items; limits = inside.limits } in
     let x' = c.drive-asked.new.session in
@@ -78,15 +78,15 @@ put-requires-2-clause-leased c =
     let accepted = ap (λ (u : Told). u.yes) c.told.view_is ∙ (c.requires.begins c.in-Some.address (ap (λ (u : Told). u.lease) (sym c.told.view_is) ∙ c.in-Some.is)).0 in
     let (x, q, found, asks) = c.requires.asks in
     let it : c.take-session.result ≡ x = same c.take-session.result x (c.take-session.ensures.value ∙ found) in
-    let driven = driven_so r c.args.at (PppSteps r.link (Verdict inside.yes inside.lease inside.text) c.args.now c.args.random.now) (IsToldVerdict r.link t c.args.now c.args.random.now) c.asked.result
-    c.take-session.result cause x' asked outs outs' (λ old says new h. judged r.link t h.turn h.cause c.args.now c.args.random.now old says new h.goes h.said h.state) c.drive-asked.ensures.driven in
+    let driven = driven_so r c.args.incoming.now.at (PppSteps r.link (Verdict inside.yes inside.lease inside.text) c.args.incoming.now.moment c.args.incoming.now.item.now.random) (IsToldVerdict r.link t c.args.incoming.now.moment c.args.incoming.now.item.now.random) c.asked.result
+    c.take-session.result cause x' asked outs outs' (λ old says new h. judged r.link t h.turn h.cause c.args.incoming.now.moment c.args.incoming.now.item.now.random old says new h.goes h.said h.state) c.drive-asked.ensures.driven in
     subst (λ (y : Session). KeepsLease y.service y.lease) (sym c.begin_term.ensures.session)
-    (begun_keeps r c.args.at t c.args.now c.args.random.now c.asked.result c.take-session.result cause x' asked outs outs' driven q c.in-Some.address (ap open_of it ∙ asks) accepted c.in-Some.is c.drive-asked.ensures.leased
-    (next_lease c.count_asked.new.self c.told.inside.limits c.args.now c.in-Some.address))
+    (begun_keeps r c.args.incoming.now.at t c.args.incoming.now.moment c.args.incoming.now.item.now.random c.asked.result c.take-session.result cause x' asked outs outs' driven q c.in-Some.address (ap open_of it ∙ asks) accepted c.in-Some.is c.drive-asked.ensures.leased
+    (next_lease c.count_asked.new.self c.told.inside.limits c.args.incoming.now.moment c.in-Some.address))
 
 pub returns-clause-settled : goal.returns-clause-settled
 returns-clause-settled c x q found asks =
-    let r = c.args.rules.now in
+    let r = c.args.incoming.now.rules.now in
     let s = c.args.served.now in
     let inside = c.told.inside in
     let t : Told = record { yes = inside.yes; lease = inside.lease; text = inside.text.items; class = inside.class.items; limits = inside.limits } in
@@ -99,24 +99,24 @@ returns-clause-settled c x q found asks =
     let it : c.take-session.result ≡ x = same c.take-session.result x (c.take-session.ensures.value ∙ found) in
     let before = c.asked.ensures ∙ ap (λ (u : State). u.asked) c.take-session.ensures.after in
     let number = ap (λ n. n.0) (c.drive-asked.ensures.number ∙ c.take-session.ensures.number) in
-    let Told_ = IsToldVerdict r.link t c.args.now c.args.random.now in
-    let driven = driven_so r c.args.at (PppSteps r.link (Verdict inside.yes inside.lease inside.text) c.args.now c.args.random.now) Told_ c.asked.result c.take-session.result cause x' asked outs outs'
-    (λ old says new h. judged r.link t h.turn h.cause c.args.now c.args.random.now old says new h.goes h.said h.state) c.drive-asked.ensures.driven in
-    let its = subst (λ (n : ℕ). Driven r c.args.at Told_ n x cause x' asked outs outs') before (subst (λ (y : Session). Driven r c.args.at Told_ c.asked.result y cause x' asked outs outs') it driven) in
+    let Told_ = IsToldVerdict r.link t c.args.incoming.now.moment c.args.incoming.now.item.now.random in
+    let driven = driven_so r c.args.incoming.now.at (PppSteps r.link (Verdict inside.yes inside.lease inside.text) c.args.incoming.now.moment c.args.incoming.now.item.now.random) Told_ c.asked.result c.take-session.result cause x' asked outs outs'
+    (λ old says new h. judged r.link t h.turn h.cause c.args.incoming.now.moment c.args.incoming.now.item.now.random old says new h.goes h.said h.state) c.drive-asked.ensures.driven in
+    let its = subst (λ (n : ℕ). Driven r c.args.incoming.now.at Told_ n x cause x' asked outs outs') before (subst (λ (y : Session). Driven r c.args.incoming.now.at Told_ c.asked.result y cause x' asked outs outs') it driven) in
     let counted = c.count_asked.ensures ∙ ap (λ (u : State). let v : State = record u { asked = asked } in v) c.take-session.ensures.after in
     let begun = c.begin_term.ensures.served ∙ ap (λ (u : State). let v : State = record u { begun = u.begun + 1 } in v) counted in
-    let leased = c.begin_term.ensures.session ∙ ap (λ (u : State). let y : Session = record x' { lease = Some (next_lease u inside.limits c.args.now a) } in y) counted in
+    let leased = c.begin_term.ensures.session ∙ ap (λ (u : State). let y : Session = record x' { lease = Some (next_lease u inside.limits c.args.incoming.now.moment a) } in y) counted in
     let named = sym (c.name_of-user.ensures q (ap open_of it ∙ asks)) in
-    let term = ap (λ (u : State). next_term u x' q t.class c.args.now a) counted ∙ next_same r c.args.at t c.args.now c.args.random.now s.asked x cause x' asked outs outs' its s q t.class c.args.now a in
+    let term = ap (λ (u : State). next_term u x' q t.class c.args.incoming.now.moment a) counted ∙ next_same r c.args.incoming.now.at t c.args.incoming.now.moment c.args.incoming.now.item.now.random s.asked x cause x' asked outs outs' its s q t.class c.args.incoming.now.moment a in
     let rows = c.begin_term.ensures.terms q named ∙ ap (λ (u : Tenure). tenures_in c.args.terms.now.rows ++ u ∷ []) term in
     let news = c.begin_term.ensures.news q named ∙ ap (λ (u : Tenure). tenures_in c.args.terms.now.news ++ u ∷ []) term in
     let same_number = ap (λ (y : Session). y.number.0) c.begin_term.ensures.session ∙ number in
-    subst (λ (u : Told). SettledFor r c.args.at s c.args.terms.now c.put-2.new.self c.begin_term.new.terms c.args.number.0 x q u c.args.now c.args.random.now outs outs') c.told.view_is (
+    subst (λ (u : Told). SettledFor r c.args.incoming.now.at s c.args.terms.now c.put-2.new.self c.begin_term.new.terms c.args.number.0 x q u c.args.incoming.now.moment c.args.incoming.now.item.now.random outs outs') c.told.view_is (
       x',
       cause,
       asked,
       its,
       no_lease x q asks (subst (λ (y : Session). KeepsLease y.service y.lease) it c.take-session.ensures.leased),
-      one_begins s c.begin_term.new.served c.put-2.new.self c.args.terms.now c.begin_term.new.terms c.args.number.0 c.begin_term.new.session.number.0 x q t c.args.now x' c.begin_term.new.session asked a c.in-Some.is begun same_number
+      one_begins s c.begin_term.new.served c.put-2.new.self c.args.terms.now c.begin_term.new.terms c.args.number.0 c.begin_term.new.session.number.0 x q t c.args.incoming.now.moment x' c.begin_term.new.session asked a c.in-Some.is begun same_number
           c.put-2.ensures leased rows news,
     )
