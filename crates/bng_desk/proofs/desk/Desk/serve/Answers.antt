@@ -226,16 +226,15 @@ returns g c =
     let after = c.settle-noted.new.works in
     let clock = g.C.Clock.told in
     let before_is : Outside = record { plant = told c.args.plant.now; clock = clock c.args.clock.now; trace = g.T.Trace.told c.args.trace.now } in
-    let behind_is : Outside = record { plant = told c.wait_if.new.plant; clock = clock c.wall-wall.new.self; trace = g.T.Trace.told c.settle-noted.new.trace } in
+    let behind_is : Outside = record { plant = told c.wait_for_work.new.plant; clock = clock c.wall-wall.new.self; trace = g.T.Trace.told c.settle-noted.new.trace } in
     let due = c.deadline.result in
     let record_due = c.deadline-2.result in
     let made = served d w after (heard g b) c.gather-quiet.new.lane c.gather-quiet.new.draws c.gather-quiet.new.kept c.take.new.self (named g b) c.heed-heeding.result c.hear-unacknowledged.result c.gather-quiet.result c.gather-quiet.new.items.items c.settle-noted.result due record_due
-    (told c.args.plant.now) (told c.heed-heeding.new.plant) (told c.hear-unacknowledged.new.plant) (told c.gather-quiet.new.plant) (told c.settle-noted.new.plant) (told c.wait_if.new.plant) (g.T.Trace.told c.args.trace.now) (g.T.Trace.told c.settle-noted.new.trace)
+    (told c.args.plant.now) (told c.heed-heeding.new.plant) (told c.hear-unacknowledged.new.plant) (told c.gather-quiet.new.plant) (told c.settle-noted.new.plant) (told c.wait_for_work.new.plant) (g.T.Trace.told c.args.trace.now) (g.T.Trace.told c.settle-noted.new.trace)
     refl c.heed-heeding.ensures c.hear-unacknowledged.ensures.takes (gathers g b) (settles g c) c.deadline.ensures c.deadline-2.ensures
-    c.both-2.result c.wait_until.result c.wait_if.ensures (c.both-2.ensures ∙ ap (λ (x : Bool). x && c.settle-noted.result.noted) (c.both-silent.ensures ∙ ap (λ (x : Bool). x && c.gather-quiet.result) c.both.ensures))
-    (c.wait_until.ensures
-    ∙ ap (λ (x : Option ℕ). wait_for x c.now-now.result)
-    (c.earlier-due.ensures ∙ ap (λ (x : Option ℕ). earliest x c.earlier-asked.result) (c.deadline_of.ensures ∙ ap (λ (xs : Shards). deadline_in xs) c.as_slice-2.ensures.value) ∙ ap (λ (x : Option ℕ). earliest (deadline_in after.shards.items) x) c.earlier-asked.ensures))
+    c.both-idle.result (wait_for (earliest (deadline_in c.as_slice-2.result.now) c.earlier-asked.result) c.now-now.result) c.wait_for_work.ensures (c.both-idle.ensures ∙ ap (λ (x : Bool). x && c.settle-noted.result.noted) (c.both-silent.ensures ∙ ap (λ (x : Bool). x && c.gather-quiet.result) c.both.ensures))
+    (ap (λ (x : Option ℕ). wait_for x c.now-now.result)
+    (ap (λ (xs : Shards). earliest (deadline_in xs) c.earlier-asked.result) c.as_slice-2.ensures.value ∙ ap (λ (x : Option ℕ). earliest (deadline_in after.shards.items) x) c.earlier-asked.ensures))
     (later g b) (clock c.args.clock.now) (clock c.now-now.new.self) (clock c.wall-wall.new.self) c.now-now.ensures.answers c.wall-wall.ensures.answers (c.wall-wall.ensures.last ∙ c.now-now.ensures.last)
     c.answer.result c.answer.ensures c.either-self-inside.result c.either-self-inside.ensures c.told_after-self-inside.result c.told_after-self-inside.ensures in
     subst (λ (x : Desk). MakesTurn x (after_turn (seen_with d after) c.either-self-inside.result c.now-now.result c.told_after-self-inside.result) before_is behind_is c.answer.result) c.self.view_is made
