@@ -105,17 +105,7 @@ impl Desk {
         let wall = clock.wall();
         let heeding = heed(plant, &mut self.works.frame);
         let unacknowledged = self.works.accounts.hear(plant, &mut self.works.frame);
-        let quiet = gather(
-            &self.rules,
-            self.works.shards.as_slice(),
-            plant,
-            &mut self.works.frame,
-            now,
-            &mut self.works.draws,
-            &mut self.works.lane,
-            &mut self.works.kept,
-            &mut lists.items,
-        );
+        let quiet = gather(&self.rules, &mut self.works, plant, now, &mut lists.items);
         let named = Named {
             number: self.told + 1,
             moment: now,
