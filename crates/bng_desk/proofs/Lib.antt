@@ -38,6 +38,7 @@ pub mod Awaited
 pub mod Tallied
 pub mod SameTerms
 pub mod Knowing
+pub mod Prepared
 pub mod Growing
 pub mod Settles
 pub mod Newcomers

@@ -10,6 +10,7 @@ pub mod Interims
 pub mod Round
 pub mod Allowing
 pub mod Settlement
+pub mod Holding
 pub mod Report
 pub mod Turn
 pub mod Opening

@@ -12,10 +12,11 @@ use crate::flags::both;
 use crate::intake::take_data;
 use crate::lists::move_all;
 use crate::random::Draws;
+use crate::settlement::Works;
 use bng_base::{Batch, Frame, Item};
 use bng_lane::Lane;
 use bng_plant::Plant;
-use bng_shard::{Rules, Shard};
+use bng_shard::Rules;
 
 fn is_none(items: &[Item]) -> bool
     ensures { result ≡ is_empty items.now }
@@ -49,66 +50,64 @@ fn take_if<P: Plant>(
 
 // Puts the items that stay of the round before on the list, and where there is none the replies of the server. Says whether none was
 // taken.
-fn begin<P: Plant>(
-    plant: &mut P,
-    frame: &mut Frame,
-    draws: &mut Draws,
-    lane: &mut Lane,
-    kept: &mut Vec<Item>,
-    items: &mut Batch<Item>,
-) -> bool
+fn begin<P: Plant>(plant: &mut P, works: &mut Works, items: &mut Batch<Item>) -> bool
     requires empty { items.old.items ≡ [] }
     requires room { 1024 ≤ items.old.room }
-    requires drawn { draws.old.drawn < 2 ^ 59 }
-    requires few_kept { length kept.old.items ≤ 128 }
-    ensures takes { TakesAuth (is_empty kept.old.items) (P.told plant.old) (P.told plant.new) lane.old lane.new draws.old draws.new kept.old.items items.new.items result }
+    requires drawn { works.old.draws.drawn < 2 ^ 59 }
+    requires few_kept { length works.old.kept.items ≤ 128 }
+    ensures takes { TakesAuth (is_empty works.old.kept.items) (P.told plant.old) (P.told plant.new) works.old.lane works.new.lane works.old.draws works.new.draws works.old.kept.items items.new.items result }
     ensures few { length items.new.items ≤ 128 }
-    ensures few_drawn { draws.new.drawn ≤ draws.old.drawn + 128 }
+    ensures few_drawn { works.new.draws.drawn ≤ works.old.draws.drawn + 128 }
     ensures room { 1024 ≤ items.new.room }
-    ensures none_kept { kept.new.items ≡ [] }
-    ensures kept_room { vec_capacity kept.new ≡ vec_capacity kept.old }
+    ensures none_kept { works.new.kept.items ≡ [] }
+    ensures kept_room { vec_capacity works.new.kept ≡ vec_capacity works.old.kept }
+    ensures rest { works.new ≡ record works.old { draws = works.new.draws; lane = works.new.lane; kept = works.new.kept; frame = works.new.frame } }
 {
-    let reads = is_none(kept.as_slice());
-    move_all(kept, items);
-    take_if(reads, plant, frame, lane, draws, items)
+    let reads = is_none(works.kept.as_slice());
+    move_all(&mut works.kept, items);
+    take_if(
+        reads,
+        plant,
+        &mut works.frame,
+        &mut works.lane,
+        &mut works.draws,
+        items,
+    )
 }
 
 /// Puts the items that stay of the round before on the list. Where there is none it takes what came from the RADIUS server. Then it
 /// takes what came on the access ports and from the core, gives up the questions whose server was silent, as long as there are fewer
-/// than 128 verdicts, and adds a Tick for each shard that has a due deadline. It receives into the frame. Says whether nothing was
-/// taken.
+/// than 128 verdicts, and adds a Tick for each shard that has a due deadline. Says whether nothing was taken.
 pub(crate) fn gather<P: Plant>(
     rules: &Rules,
-    shards: &[Shard],
+    works: &mut Works,
     plant: &mut P,
-    frame: &mut Frame,
     now: u64,
-    draws: &mut Draws,
-    lane: &mut Lane,
-    kept: &mut Vec<Item>,
     items: &mut Batch<Item>,
 ) -> bool
     requires some { 1 ≤ length rules.now.access }
     requires few { length rules.now.access ≤ 16 }
-    requires numbers { AreInOrder shards.now }
-    requires few_shards { length shards.now ≤ 64 }
+    requires numbers { AreInOrder works.old.shards.items }
+    requires few_shards { length works.old.shards.items ≤ 64 }
     requires empty { items.old.items ≡ [] }
     requires room { 1024 ≤ items.old.room }
-    requires drawn { draws.old.drawn < 2 ^ 59 }
-    requires verdicts { All is_verdict kept.old.items }
-    requires few_kept { length kept.old.items ≤ 128 }
-    requires kept { AreItems kept.old.items }
-    ensures gathers { Gathers rules.now shards.now now kept.old.items (P.told plant.old) (P.told plant.new) lane.old lane.new draws.old draws.new items.new.items result }
+    requires drawn { works.old.draws.drawn < 2 ^ 59 }
+    requires verdicts { All is_verdict works.old.kept.items }
+    requires few_kept { length works.old.kept.items ≤ 128 }
+    requires kept { AreItems works.old.kept.items }
+    ensures gathers { Gathers rules.now works.old.shards.items now works.old.kept.items (P.told plant.old) (P.told plant.new) works.old.lane works.new.lane works.old.draws works.new.draws items.new.items result }
     ensures items { AreItems items.new.items }
-    ensures few_outs { outs_of_items items.new.items ≤ 5760 + 320 * length shards.now }
-    ensures few_drawn { draws.new.drawn ≤ draws.old.drawn + 640 }
-    ensures none_kept { kept.new.items ≡ [] }
-    ensures kept_room { vec_capacity kept.new ≡ vec_capacity kept.old }
+    ensures few_outs { outs_of_items items.new.items ≤ 5760 + 320 * length works.old.shards.items }
+    ensures few_drawn { works.new.draws.drawn ≤ works.old.draws.drawn + 640 }
+    ensures none_kept { works.new.kept.items ≡ [] }
+    ensures kept_room { vec_capacity works.new.kept ≡ vec_capacity works.old.kept }
+    ensures rest { works.new ≡ record works.old { draws = works.new.draws; lane = works.new.lane; kept = works.new.kept; frame = works.new.frame } }
 {
-    let silent = begin(plant, frame, draws, lane, kept, items);
+    let silent = begin(plant, works, items);
     let verdicts = items.len();
-    let quiet = take_data(rules, plant, frame, draws, items);
-    add_timeouts(lane, now, VERDICTS_MOST - verdicts, draws, items);
-    add_ticks(shards, now, draws, items);
+    let quiet = take_data(rules, plant, &mut works.frame, &mut works.draws, items);
+    let most = VERDICTS_MOST - verdicts;
+    add_timeouts(&mut works.lane, now, most, &mut works.draws, items);
+    add_ticks(works.shards.as_slice(), now, &mut works.draws, items);
     both(silent, quiet)
 }

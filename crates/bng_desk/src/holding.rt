@@ -1,32 +1,24 @@
 //! A round of given items: opened and settled, or refused for want of memory.
-ghost use Rattle.std.specs.Prelude.{◌≡◌, ◌+◌, ◌*◌, ◌^◌, ◌≤◌, ◌<◌, ◌++◌, ◌∷◌, [], ℕ, true, false, length, replicate, sum_by, vec_capacity};
-ghost use Rattle.std.specs.List.{All};
+ghost use Rattle.std.specs.Prelude.{◌≡◌, ◌+◌, ◌≤◌, ◌++◌, ◌∷◌, [], true, false, length, replicate, vec_capacity};
 ghost use Rattle.bng_base.specs.Causes.{HasCause};
 ghost use Rattle.bng_base.specs.Told.{Grows};
-ghost use Rattle.bng_engine.specs.Calls.{IsReady};
-ghost use Rattle.bng_shard.specs.Protocol.{AreHeld, HasPools, terms_of};
-ghost use Rattle.bng_shard.specs.Sums.{IsLow, AreLow, RowsAreLow};
-ghost use Rattle.bng_desk.specs.Accounting.{AreBilled, KnowsBegun};
-ghost use Rattle.bng_desk.specs.Counting.{Within};
-ghost use Rattle.bng_desk.specs.Interims.{AreAwaited};
+ghost use Rattle.bng_desk.specs.Holding.{IsPrepared};
 ghost use Rattle.bng_desk.specs.Items.{stays, kept_of, is_from_outside};
-ghost use Rattle.bng_desk.specs.Kept.{octets_most, drops_most};
-ghost use Rattle.bng_desk.specs.Model.{keys_in};
-ghost use Rattle.bng_desk.specs.Taking.{IsEmpty, HasFewSessions, HasNumbers, HasRows, KeepsTerms, AreInOrder, AreItems, RoundHeld, Holds, AddsUp, AreTallied, outs_of_items};
 ghost use Rattle.bng_desk.specs.Round.{refused_of};
+ghost use Rattle.bng_desk.specs.Settlement.{IsReady, KeepsWorks};
+ghost use Rattle.bng_desk.specs.Taking.{RoundHeld, Holds};
 ghost use Rattle.bng_desk.specs.Turn.{told_if};
 
-use crate::accounts::Accounts;
 use crate::allowing::note as note_allowances;
-use crate::drops::{Drops, count_refused};
+use crate::drops::count_refused;
 use crate::lists::Lists;
 use crate::round::{deal_all, prepare_all, send_all};
+use crate::settlement::Works;
 use crate::starts::begin_all;
 use crate::stops::reap_all;
-use bng_base::{Batch, Book, Entry, Item, ItemKind, Listed, Loose, OutRecord, RoundRecord};
+use bng_base::{Batch, Item, ItemKind, Listed, RoundRecord};
 use bng_plant::{Noted, Plant, Trace};
-use bng_pool::PlainPool;
-use bng_shard::{Rules, Shard};
+use bng_shard::Rules;
 use std::alloc::Global;
 use std::mem;
 
@@ -38,17 +30,17 @@ pub(crate) struct Named {
     pub(crate) wall: u64,
 }
 
-// What the trace is told of a round, from its lists.
-fn recorded(
-    named: Named,
-    allowances: Vec<u32>,
-    journals: Vec<Listed<Entry>>,
-    loose: Vec<Loose>,
-    outs: Batch<OutRecord>,
-    refused: Batch<Item>,
-) -> RoundRecord
-    ensures { result ≡ record { number = named.number; moment = named.moment; wall = named.wall; allowances = allowances.items; journals = journals.items; loose = loose.items; outs = outs.items; refused = refused.items } }
+// What the trace is told of a round, from its lists. Its items are those that were refused.
+fn recorded(named: Named, lists: Lists) -> RoundRecord
+    ensures { result ≡ record { number = named.number; moment = named.moment; wall = named.wall; allowances = lists.allowances.items; journals = lists.journals.items; loose = lists.loose.items; outs = lists.outs.items; refused = lists.items.items } }
 {
+    let Lists {
+        items,
+        loose,
+        allowances,
+        journals,
+        outs,
+    } = lists;
     RoundRecord {
         number: named.number,
         moment: named.moment,
@@ -57,94 +49,55 @@ fn recorded(
         journals: Listed::of(journals),
         loose: Listed::of(loose),
         outs: Listed::of_batch(outs),
-        refused: Listed::of_batch(refused),
+        refused: Listed::of_batch(items),
     }
 }
 
-// Deals the items to the shards, and settles.
+// Deals the items to the shards, which were made ready for them, and settles.
 pub(crate) fn opened<P: Plant>(
     rules: &Rules,
-    shards: &mut [Shard],
-    pool: &mut PlainPool,
-    accounts: &mut Accounts,
+    works: &mut Works,
     plant: &mut P,
     named: Named,
-    lists: Lists,
-    drops: &mut Drops,
-    tally: &mut Book,
+    mut lists: Lists,
 ) -> RoundRecord
-    requires numbers { AreInOrder shards.old }
-    requires count { length shards.old ≡ rules.now.shards }
-    requires some { 1 ≤ rules.now.shards }
-    requires few { rules.now.shards ≤ 64 }
-    requires one_rule { All (λ v. v.state.rules ≡ rules.now) shards.old }
-    requires pools { HasPools rules.now.pools pool.old.ranges }
-    requires terms { All (KeepsTerms named.moment) shards.old }
-    requires places { pool.old.shards ≡ rules.now.shards }
-    requires held { All (λ v. AreHeld v.number (terms_of v.state) pool.old.table) shards.old }
-    requires moment { named.moment < 2 ^ 60 }
-    requires items { AreItems lists.items.items }
-    requires ready { All (λ v. IsReady (length lists.items.items) v.allowance v) shards.old }
-    requires rows { All HasRows shards.old }
-    requires low { All (λ v. RowsAreLow (2 ^ 62 + 2 ^ 61) v.rows) shards.old }
-    requires low_books { All (λ v. AreLow (2 ^ 62 + 2 ^ 61) v.books) shards.old }
-    requires low_tally { IsLow (2 ^ 62 + 2 ^ 61) tally.old }
-    requires lines { AreTallied tally.old shards.old accounts.old.lines }
-    requires adds_up { AddsUp tally.old shards.old accounts.old.stopped }
-    requires billed { AreBilled (keys_in shards.old) accounts.old.billing }
-    requires knows { KnowsBegun shards.old accounts.old.billing }
-    requires serials { All HasNumbers shards.old }
-    requires awaited { AreAwaited named.moment shards.old accounts.old.reports }
-    requires free { length accounts.old.billing.spool.held + sum_by (λ v. v.allowance) shards.old ≤ accounts.old.billing.spool.rules.terms }
-    requires few_outs { outs_of_items lists.items.items ≤ 5760 + 320 * length shards.old }
-    requires loose { (lists.loose.items ≡ []) × (1024 ≤ vec_capacity lists.loose) }
-    requires journals { (lists.journals.items ≡ []) × (length shards.old ≤ vec_capacity lists.journals) }
-    requires outs { (lists.outs.items ≡ []) × (5760 + 320 * length shards.old ≤ lists.outs.room) }
-    requires allowances { lists.allowances.items ≡ replicate (length shards.old) 0 }
-    requires drops { Within (2 ^ 61) drops.old }
-    ensures round { RoundHeld rules.now pool.old pool.new accounts.old accounts.new named lists.items.items (P.told plant.old) (P.told plant.new) shards.old shards.new drops.old drops.new tally.old tally.new result }
-    ensures empty { All IsEmpty shards.new }
-    ensures sessions { All HasFewSessions shards.new }
-    ensures numbers { AreInOrder shards.new }
-    ensures low { (most : ℕ) → All (λ v. RowsAreLow most v.rows) shards.old → All (λ v. RowsAreLow (most + octets_most) v.rows) shards.new }
-    ensures books { (most : ℕ) → All (λ v. AreLow most v.books) shards.old → All (λ v. AreLow (most + octets_most) v.books) shards.new }
-    ensures tally { (most : ℕ) → IsLow most tally.old → IsLow (most + octets_most) tally.new }
-    ensures lines { AreTallied tally.new shards.new accounts.new.lines }
-    ensures adds_up { AddsUp tally.new shards.new accounts.new.stopped }
-    ensures billed { AreBilled (keys_in shards.new) accounts.new.billing }
-    ensures knows { KnowsBegun shards.new accounts.new.billing }
-    ensures awaited { AreAwaited named.moment shards.new accounts.new.reports }
-    ensures terms { All (KeepsTerms named.moment) shards.new }
-    ensures held { All (λ v. AreHeld v.number (terms_of v.state) pool.new.table) shards.new }
-    ensures places { pool.new.shards ≡ pool.old.shards }
-    ensures ranges { pool.new.ranges ≡ pool.old.ranges }
-    ensures within { (most : ℕ) → Within most drops.old → Within (most + drops_most) drops.new }
+    requires ready { IsReady rules.now named lists works.old }
+    requires prepared { IsPrepared (length lists.items.items) works.old }
+    ensures round { RoundHeld rules.now works.old.pool works.new.pool works.old.accounts works.new.accounts named lists.items.items (P.told plant.old) (P.told plant.new) works.old.shards.items works.new.shards.items works.old.drops works.new.drops works.old.tally works.new.tally result }
+    ensures keeps { KeepsWorks named.moment works.old works.new }
+    ensures rest { works.new ≡ record works.old { shards = works.new.shards; pool = works.new.pool; accounts = works.new.accounts; tally = works.new.tally; drops = works.new.drops } }
 {
-    let Lists {
-        mut items,
-        mut loose,
-        mut allowances,
-        mut journals,
-        mut outs,
-    } = lists;
+    let shards = works.shards.as_mut_slice();
     deal_all(
         rules,
         shards,
-        pool,
+        &mut works.pool,
         named.moment,
-        &items,
-        &mut loose,
-        drops,
-        tally,
+        &mut lists,
+        &mut works.drops,
+        &mut works.tally,
     );
-    send_all(shards, plant, &mut outs, &mut journals, drops, tally);
-    reap_all(shards, pool, accounts, named.moment, named.wall);
-    begin_all(shards, accounts, named.moment, named.wall);
-    accounts.report_all(shards, named.moment, named.wall);
-    note_allowances(shards, &mut allowances);
+    send_all(
+        shards,
+        plant,
+        &mut lists.outs,
+        &mut lists.journals,
+        &mut works.drops,
+        &mut works.tally,
+    );
+    reap_all(
+        shards,
+        &mut works.pool,
+        &mut works.accounts,
+        named.moment,
+        named.wall,
+    );
+    begin_all(shards, &mut works.accounts, named.moment, named.wall);
+    works.accounts.report_all(shards, named.moment, named.wall);
+    note_allowances(shards, &mut lists.allowances);
     // The emptied batch goes back with the record, so that its places serve the next turn.
-    items.clear();
-    recorded(named, allowances, journals, loose, outs, items)
+    lists.items.clear();
+    recorded(named, lists)
 }
 
 // The record of a round that was not opened, with the items of the outside that it refused.
@@ -171,7 +124,16 @@ pub(crate) fn refused(
     for _shard in 0..shards {
         journals.push_reserved(Listed::of(Vec::new(alloc)));
     }
-    recorded(named, allowances, journals, loose, outs, Batch::of(refused))
+    recorded(
+        named,
+        Lists {
+            items: Batch::of(refused),
+            loose,
+            allowances,
+            journals,
+            outs,
+        },
+    )
 }
 
 // Whether an item of this kind stands first in the next round where its own could not be opened.
@@ -231,79 +193,30 @@ pub(crate) struct Held {
 pub(crate) fn hold<P: Plant>(
     alloc: Global,
     rules: &Rules,
-    shards: &mut [Shard],
-    pool: &mut PlainPool,
-    accounts: &mut Accounts,
+    works: &mut Works,
     plant: &mut P,
     named: Named,
     mut lists: Lists,
-    kept: &mut Vec<Item>,
-    spare: &mut Vec<Batch<Entry>>,
-    drops: &mut Drops,
-    tally: &mut Book,
 ) -> Held
-    requires numbers { AreInOrder shards.old }
-    requires count { length shards.old ≡ rules.now.shards }
-    requires some { 1 ≤ rules.now.shards }
-    requires few { rules.now.shards ≤ 64 }
-    requires one_rule { All (λ v. v.state.rules ≡ rules.now) shards.old }
-    requires pools { HasPools rules.now.pools pool.old.ranges }
-    requires terms { All (KeepsTerms named.moment) shards.old }
-    requires places { pool.old.shards ≡ rules.now.shards }
-    requires held { All (λ v. AreHeld v.number (terms_of v.state) pool.old.table) shards.old }
-    requires moment { named.moment < 2 ^ 60 }
-    requires items { AreItems lists.items.items }
-    requires empty_before { All IsEmpty shards.old }
-    requires low { All (λ v. RowsAreLow (2 ^ 62 + 2 ^ 61) v.rows) shards.old }
-    requires low_books { All (λ v. AreLow (2 ^ 62 + 2 ^ 61) v.books) shards.old }
-    requires low_tally { IsLow (2 ^ 62 + 2 ^ 61) tally.old }
-    requires lines { AreTallied tally.old shards.old accounts.old.lines }
-    requires adds_up { AddsUp tally.old shards.old accounts.old.stopped }
-    requires billed { AreBilled (keys_in shards.old) accounts.old.billing }
-    requires knows { KnowsBegun shards.old accounts.old.billing }
-    requires awaited { AreAwaited named.moment shards.old accounts.old.reports }
-    requires few_outs { outs_of_items lists.items.items ≤ 5760 + 320 * length shards.old }
-    requires loose { (lists.loose.items ≡ []) × (1024 ≤ vec_capacity lists.loose) }
-    requires journals { (lists.journals.items ≡ []) × (length shards.old ≤ vec_capacity lists.journals) }
-    requires outs { (lists.outs.items ≡ []) × (5760 + 320 * length shards.old ≤ lists.outs.room) }
-    requires allowances { lists.allowances.items ≡ replicate (length shards.old) 0 }
-    requires none_kept { kept.old.items ≡ [] }
-    requires kept_room { length (kept_of lists.items.items) ≤ vec_capacity kept.old }
-    requires drops { Within (2 ^ 61) drops.old }
-    ensures round { Holds rules.now pool.old pool.new accounts.old accounts.new named lists.items.items (P.told plant.old) (P.told plant.new) shards.old shards.new drops.old drops.new tally.old tally.new result.record result.is_opened kept.new.items }
-    ensures kept_room { vec_capacity kept.new ≡ vec_capacity kept.old }
-    ensures empty { All IsEmpty shards.new }
-    ensures sessions { All HasFewSessions shards.old → All HasFewSessions shards.new }
-    ensures numbers { AreInOrder shards.new }
-    ensures low { (most : ℕ) → All (λ v. RowsAreLow most v.rows) shards.old → All (λ v. RowsAreLow (most + octets_most) v.rows) shards.new }
-    ensures books { (most : ℕ) → All (λ v. AreLow most v.books) shards.old → All (λ v. AreLow (most + octets_most) v.books) shards.new }
-    ensures tally { (most : ℕ) → IsLow most tally.old → IsLow (most + octets_most) tally.new }
-    ensures lines { AreTallied tally.new shards.new accounts.new.lines }
-    ensures adds_up { AddsUp tally.new shards.new accounts.new.stopped }
-    ensures billed { AreBilled (keys_in shards.new) accounts.new.billing }
-    ensures knows { KnowsBegun shards.new accounts.new.billing }
-    ensures awaited { AreAwaited named.moment shards.new accounts.new.reports }
-    ensures terms { All (KeepsTerms named.moment) shards.new }
-    ensures held { All (λ v. AreHeld v.number (terms_of v.state) pool.new.table) shards.new }
-    ensures places { pool.new.shards ≡ pool.old.shards }
-    ensures ranges { pool.new.ranges ≡ pool.old.ranges }
-    ensures within { (most : ℕ) → Within most drops.old → Within (most + drops_most) drops.new }
+    requires ready { IsReady rules.now named lists works.old }
+    ensures round { Holds rules.now works.old.pool works.new.pool works.old.accounts works.new.accounts named lists.items.items (P.told plant.old) (P.told plant.new) works.old.shards.items works.new.shards.items works.old.drops works.new.drops works.old.tally works.new.tally result.record result.is_opened works.new.kept.items }
+    ensures keeps { KeepsWorks named.moment works.old works.new }
+    ensures rest { works.new ≡ record works.old { shards = works.new.shards; pool = works.new.pool; accounts = works.new.accounts; tally = works.new.tally; drops = works.new.drops; kept = works.new.kept; spare = works.new.spare } }
 {
     let count = lists.items.len() as u16;
-    let free = accounts.free();
-    if prepare_all(shards, alloc, count, free, spare) {
+    let free = works.accounts.free();
+    let shards = works.shards.as_mut_slice();
+    if prepare_all(shards, alloc, count, free, &mut works.spare) {
         return Held {
-            record: opened(
-                rules, shards, pool, accounts, plant, named, lists, drops, tally,
-            ),
+            record: opened(rules, works, plant, named, lists),
             is_opened: true,
         };
     }
     let items = mem::replace(&mut lists.items, Batch::new(alloc));
-    let outside = part(items.into_vec(), kept);
-    count_refused(drops, outside.len());
+    let outside = part(items.into_vec(), &mut works.kept);
+    count_refused(&mut works.drops, outside.len());
     Held {
-        record: refused(alloc, shards.len(), named, lists, outside),
+        record: refused(alloc, works.shards.len(), named, lists, outside),
         is_opened: false,
     }
 }

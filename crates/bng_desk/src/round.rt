@@ -17,6 +17,7 @@ ghost use Rattle.bng_desk.specs.Taking.{Shown, IsEmpty, HasRows, AreInOrder, Are
 use crate::allowing::allowance;
 use crate::calls::send;
 use crate::drops::{Drops, count};
+use crate::lists::Lists;
 use bng_base::{Batch, Book, DropCause, Entry, Fate, Item, Listed, Loose, OutRecord};
 use bng_plant::Plant;
 use bng_pool::PlainPool;
@@ -94,14 +95,20 @@ fn loose_of(place: u16, item: &Item, fate: Fate) -> Loose
     }
 }
 
+// An item that is dealt, its place on the list of its round, and the moment of the round in milliseconds.
+#[derive(Clone, Copy)]
+struct Dealt<'a> {
+    place: u16,
+    moment: u64,
+    item: &'a Item,
+}
+
 // Hands an item to its shard, or keeps a copy of it as a loose one, and answers its fate.
 fn deal(
     rules: &Rules,
     shards: &mut [Shard],
     pool: &mut PlainPool,
-    place: u16,
-    now: u64,
-    item: &Item,
+    dealt: &Dealt<'_>,
     loose: &mut Vec<Loose>,
     tally: &mut Book,
 ) -> Fate
@@ -112,37 +119,37 @@ fn deal(
     requires pools { HasPools rules.now.pools pool.old.ranges }
     requires places { pool.old.shards ≡ rules.now.shards }
     requires held { All (λ v. AreHeld v.number (terms_of v.state) pool.old.table) shards.old }
-    requires moment { now < 2 ^ 60 }
-    requires whole { item.now.frame.headroom ≡ 64 }
+    requires moment { dealt.now.moment < 2 ^ 60 }
+    requires whole { dealt.now.item.now.frame.headroom ≡ 64 }
     requires room { All (λ v. 0 < v.room) shards.old }
-    requires once { (n : ℕ) (d : Shown) → n < length shards.old → IsWhose rules.now pool.old.table item.now (Whose.Stands n) → Admits (slice_index_or shards.old n d) item.now.kind }
+    requires once { (n : ℕ) (d : Shown) → n < length shards.old → IsWhose rules.now pool.old.table dealt.now.item.now (Whose.Stands n) → Admits (slice_index_or shards.old n d) dealt.now.item.now.kind }
     requires low_books { All (λ v. AreLow (2 ^ 63) v.books) shards.old }
     requires low_tally { IsLow (2 ^ 63) tally.old }
     requires loose_room { length loose.old.items < vec_capacity loose.old }
-    ensures deals { DealsOne rules.now pool.old pool.new place now item.now shards.old shards.new loose.old.items loose.new.items tally.old tally.new result }
+    ensures deals { DealsOne rules.now pool.old pool.new dealt.now.place dealt.now.moment dealt.now.item.now shards.old shards.new loose.old.items loose.new.items tally.old tally.new result }
     ensures held { All (λ v. AreHeld v.number (terms_of v.state) pool.new.table) shards.new }
     ensures capacity { vec_capacity loose.new ≡ vec_capacity loose.old }
 {
+    let item = dealt.item;
     match whose_is(rules, pool, item) {
         Whose::Loose(fate) => {
-            loose.push_reserved(loose_of(place, item, fate));
+            loose.push_reserved(loose_of(dealt.place, item, fate));
             fate
         }
         Whose::Stands(number) => {
-            shards[usize::from(number)].step(pool, 0, place, now, item, tally)
+            shards[usize::from(number)].step(pool, 0, dealt.place, dealt.moment, item, tally)
         }
     }
 }
 
-/// Hands each item to its shard, in their order; an item that is for no shard is loose. Where a peer is accepted an address is claimed of
-/// the pool. What passes is entered in the tally. At most as many terms begin in a shard as it is allowed.
+/// Hands each item on the lists to its shard, in their order; an item that is for no shard is loose. Where a peer is accepted an address
+/// is claimed of the pool. What passes is entered in the tally. At most as many terms begin in a shard as it is allowed.
 pub(crate) fn deal_all(
     rules: &Rules,
     shards: &mut [Shard],
     pool: &mut PlainPool,
     now: u64,
-    items: &Batch<Item>,
-    loose: &mut Vec<Loose>,
+    lists: &mut Lists,
     drops: &mut Drops,
     tally: &mut Book,
 )
@@ -154,23 +161,30 @@ pub(crate) fn deal_all(
     requires places { pool.old.shards ≡ rules.now.shards }
     requires held { All (λ v. AreHeld v.number (terms_of v.state) pool.old.table) shards.old }
     requires moment { now < 2 ^ 60 }
-    requires items { AreItems items.now.items }
-    requires ready { All (λ v. IsReady (length items.now.items) v.allowance v) shards.old }
+    requires items { AreItems lists.old.items.items }
+    requires ready { All (λ v. IsReady (length lists.old.items.items) v.allowance v) shards.old }
     requires rows { All HasRows shards.old }
     requires low_books { All (λ v. AreLow (2 ^ 62 + 2 ^ 61) v.books) shards.old }
     requires low_tally { IsLow (2 ^ 62 + 2 ^ 61) tally.old }
-    requires loose { loose.old.items ≡ [] }
-    requires room { length items.now.items ≤ vec_capacity loose.old }
+    requires loose { lists.old.loose.items ≡ [] }
+    requires room { length lists.old.items.items ≤ vec_capacity lists.old.loose }
     requires drops { Within (2 ^ 62) drops.old }
-    ensures deals { Deals rules.now pool.old pool.new now items.now.items shards.old shards.new loose.new.items drops.old drops.new tally.old tally.new }
+    ensures deals { Deals rules.now pool.old pool.new now lists.old.items.items shards.old shards.new lists.new.loose.items drops.old drops.new tally.old tally.new }
+    ensures rest { lists.new ≡ record lists.old { loose = lists.new.loose } }
     ensures numbers { AreInOrder shards.new }
     ensures held { All (λ v. AreHeld v.number (terms_of v.state) pool.new.table) shards.new }
-    ensures within { (most : ℕ) → Within most drops.old → Within (most + length items.now.items) drops.new }
-    ensures tally { (most : ℕ) → IsLow most tally.old → IsLow (most + 4160 * length items.now.items) tally.new }
+    ensures within { (most : ℕ) → Within most drops.old → Within (most + length lists.old.items.items) drops.new }
+    ensures tally { (most : ℕ) → IsLow most tally.old → IsLow (most + 4160 * length lists.old.items.items) tally.new }
 {
+    let loose = &mut lists.loose;
     let mut place = 0;
-    for item in items.as_slice() {
-        let fate = deal(rules, shards, pool, place, now, item, loose, tally);
+    for item in lists.items.as_slice() {
+        let dealt = Dealt {
+            place,
+            moment: now,
+            item,
+        };
+        let fate = deal(rules, shards, pool, &dealt, loose, tally);
         count(drops, fate);
         place += 1;
     }

@@ -56,20 +56,7 @@ pub(crate) fn settle<P: Plant, T: Trace>(
     ensures settles { Settles rules.now named lists.items.items works.old works.new (P.told plant.old) (P.told plant.new) (T.told trace.old) (T.told trace.new) result }
     ensures keeps { KeepsWorks named.moment works.old works.new }
 {
-    let Held { record, is_opened } = hold(
-        alloc,
-        rules,
-        works.shards.as_mut_slice(),
-        &mut works.pool,
-        &mut works.accounts,
-        plant,
-        named,
-        lists,
-        &mut works.kept,
-        &mut works.spare,
-        &mut works.drops,
-        &mut works.tally,
-    );
+    let Held { record, is_opened } = hold(alloc, rules, works, plant, named, lists);
     send_requests(
         plant,
         &mut works.lane,

@@ -3,8 +3,9 @@ ghost use Rattle.std.specs.Prelude.{◌≡◌, ◌+◌, ◌≤◌, ◌<◌, ◌^
 ghost use Rattle.bng_base.specs.Stretch.{ExtendsPlant};
 ghost use Rattle.bng_base.specs.Told.{TraceTold};
 ghost use Rattle.bng_desk.specs.Model.{state_of, left_of};
-ghost use Rattle.bng_desk.specs.Turn.{MakesTurn, MakesEnd, MakesGrace, DoesNothing, answer_if, waiting_stretch};
+ghost use Rattle.bng_desk.specs.Turn.{MakesTurn, MakesEnd, MakesGrace, DoesNothing, answer_if, deadline_in, wait_for, waiting_stretch};
 ghost use Rattle.bng_desk.specs.Turn.{told_after as number_after};
+ghost use Rattle.bng_ppp.specs.LinkRelation.{earliest as first_of};
 
 use crate::control::heed;
 use crate::desk::{Desk, DeskState, GRACE_MOST, Turned};
@@ -16,6 +17,7 @@ use crate::holding::Named;
 use crate::settlement::{Settled, settle};
 use crate::sums::sessions_in;
 use bng_plant::{Clock, Gate, Plant, Trace};
+use bng_shard::Shard;
 use std::alloc::Global;
 use std::sync::Wait;
 use std::thread::Threads;
@@ -37,6 +39,23 @@ fn wait_if<P: Plant>(plant: &mut P, idle: bool, ms: u32)
 {
     if idle {
         plant.wait(ms);
+    }
+}
+
+// Waits until a shard is due or something else asks for a turn, but at most so long, if the turn took nothing. The shards are asked for
+// their deadlines only then.
+fn wait_for_work<P: Plant>(
+    plant: &mut P,
+    idle: bool,
+    shards: &[Shard],
+    asked: Option<u64>,
+    now: u64,
+)
+    ensures { ExtendsPlant (P.told plant.old) (P.told plant.new) (waiting_stretch idle (wait_for (first_of (deadline_in shards.now) asked) now)) }
+{
+    if idle {
+        let due = earlier(deadline_of(shards), asked);
+        plant.wait(wait_until(due, now));
     }
 }
 
@@ -86,17 +105,7 @@ impl Desk {
         let wall = clock.wall();
         let heeding = heed(plant, &mut self.works.frame);
         let unacknowledged = self.works.accounts.hear(plant, &mut self.works.frame);
-        let quiet = gather(
-            &self.rules,
-            self.works.shards.as_slice(),
-            plant,
-            &mut self.works.frame,
-            now,
-            &mut self.works.draws,
-            &mut self.works.lane,
-            &mut self.works.kept,
-            &mut lists.items,
-        );
+        let quiet = gather(&self.rules, &mut self.works, plant, now, &mut lists.items);
         let named = Named {
             number: self.told + 1,
             moment: now,
@@ -115,9 +124,9 @@ impl Desk {
             lists,
         );
         let asked = earlier(self.works.lane.deadline(), self.works.accounts.deadline());
-        let due = earlier(deadline_of(self.works.shards.as_slice()), asked);
         let silent = both(both(heeding.idle, unacknowledged), quiet);
-        wait_if(plant, both(silent, noted), wait_until(due, now));
+        let idle = both(silent, noted);
+        wait_for_work(plant, idle, self.works.shards.as_slice(), asked, now);
         self.told = told_after(noted, self.told);
         self.turns += 1;
         self.stopped = either(self.stopped, heeding.stop);

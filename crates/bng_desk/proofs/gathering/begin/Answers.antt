@@ -12,17 +12,17 @@ move_all-requires g c = record { room = omega (arith, c.requires.few_kept, c.req
 
 pub take_if-requires-clause-room : goal.take_if-requires-clause-room
 take_if-requires-clause-room g c =
-    omega (arith, c.requires.few_kept, c.requires.room, c.move_all.ensures.to_room, ap (λ (xs : List Item). length xs) (c.move_all.ensures.moved ∙ ap (λ (xs : List Item). xs ++ c.args.kept.now.items) c.requires.empty))
+    omega (arith, c.requires.few_kept, c.requires.room, c.move_all.ensures.to_room, ap (λ (xs : List Item). length xs) (c.move_all.ensures.moved ∙ ap (λ (xs : List Item). xs ++ c.args.works.now.kept.items) c.requires.empty))
 
 module _ (g : Over) (c : After-take_if g) where
-  begun : TakesAuth (is_empty c.args.kept.now.items) (g.P.Plant.told c.args.plant.now) (g.P.Plant.told c.take_if.new.plant) c.args.lane.now c.take_if.new.lane c.args.draws.now c.take_if.new.draws c.args.kept.now.items c.take_if.new.items.items c.take_if.result
+  begun : TakesAuth (is_empty c.args.works.now.kept.items) (g.P.Plant.told c.args.plant.now) (g.P.Plant.told c.take_if.new.plant) c.args.works.now.lane c.take_if.new.lane c.args.works.now.draws c.take_if.new.draws c.args.works.now.kept.items c.take_if.new.items.items c.take_if.result
   begun =
-      auth_begun c.args.kept.now.items c.as_slice.result.now c.is_none-reads.result (g.P.Plant.told c.args.plant.now) (g.P.Plant.told c.take_if.new.plant) c.args.lane.now c.take_if.new.lane c.args.draws.now c.take_if.new.draws
+      auth_begun c.args.works.now.kept.items c.as_slice.result.now c.is_none-reads.result (g.P.Plant.told c.args.plant.now) (g.P.Plant.told c.take_if.new.plant) c.args.works.now.lane c.take_if.new.lane c.args.works.now.draws c.take_if.new.draws
       c.args.items.now.items c.move_all.new.to.items c.take_if.new.items.items c.take_if.result c.is_none-reads.ensures c.as_slice.ensures.value c.requires.empty c.move_all.ensures.moved c.take_if.ensures.takes
 
-  bounds : (length c.take_if.new.items.items ≤ 128) × (c.take_if.new.draws.drawn ≤ c.args.draws.now.drawn + 128)
+  bounds : (length c.take_if.new.items.items ≤ 128) × (c.take_if.new.draws.drawn ≤ c.args.works.now.draws.drawn + 128)
   bounds =
-      auth_bounds c.args.kept.now.items (g.P.Plant.told c.args.plant.now) (g.P.Plant.told c.take_if.new.plant) c.args.lane.now c.take_if.new.lane c.args.draws.now c.take_if.new.draws c.take_if.new.items.items c.take_if.result
+      auth_bounds c.args.works.now.kept.items (g.P.Plant.told c.args.plant.now) (g.P.Plant.told c.take_if.new.plant) c.args.works.now.lane c.take_if.new.lane c.args.works.now.draws c.take_if.new.draws c.take_if.new.items.items c.take_if.result
       begun c.requires.few_kept
 
 pub returns-clause-takes : goal.returns-clause-takes

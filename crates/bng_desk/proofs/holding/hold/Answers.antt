@@ -1,144 +1,152 @@
-use Rattle.std.proofs.Common.{◌≡◌, inl, ℕ, ◌≤◌, ◌+◌, ◌^◌, List, map, refl, length, ap, sym, subst, ◌∙◌, arith}
+use Rattle.std.proofs.Common.{◌≡◌, inl, inr, ℕ, ◌≤◌, ◌+◌, true, List, [], ◌++◌, Vec, Global, map, replicate, refl, length, ap, sym, subst, ◌∙◌, arith}
+use Rattle.std.proofs.lemmas.List.{with_items_is}
 use Rattle.std.proofs.lemmas.List.Sums.{count_by-le-length, length-filter}
+use Rattle.std.specs.List.{All, AllZip}
+use Rattle.std.specs.Vec.{with_items}
 use Rattle.bng_base.specs.Batches.{Batch}
+use Rattle.bng_base.specs.declared.item.Entry.{Entry}
 use Rattle.bng_base.specs.declared.item.Item.{Item}
-use Rattle.std.specs.List.{AllZip}
+use Rattle.bng_base.specs.declared.round.RoundRecord.{RoundRecord}
 use Rattle.bng_engine.specs.Calls.{Kept}
-use Rattle.bng_engine.specs.Quantities.{Octets, in_book}
-use Rattle.bng_engine.specs.Terms.{Key}
+use Rattle.bng_engine.specs.Views.{ShardView}
 use Rattle.bng_shard.specs.Protocol.{ShardState}
-use Rattle.bng_desk.specs.Accounting.{AreBilled}
+use Rattle.bng_desk.specs.declared.settlement.Works.{Works}
 use Rattle.bng_desk.specs.Allowing.{allowance_of, free_in}
-use Rattle.bng_desk.specs.Counting.{Within}
-use Rattle.bng_desk.specs.Items.{is_from_outside}
+use Rattle.bng_desk.specs.Counting.{Within, plus}
+use Rattle.bng_desk.specs.Items.{is_from_outside, kept_of}
 use Rattle.bng_desk.specs.Kept.{octets_most, drops_most}
-use Rattle.bng_desk.specs.Round.{refused_of}
-use Rattle.bng_desk.proofs.Awaited.{awaited_held}
-use Rattle.bng_desk.proofs.Joining.{sessions_kept, low_kept, low_wider, books_kept, books_wider}
+use Rattle.bng_desk.specs.Round.{refused_of, with_refused}
+use Rattle.bng_desk.specs.Settlement.{IsReady}
+use Rattle.bng_desk.specs.Taking.{HasRows, IsEmpty}
+use Rattle.bng_desk.proofs.Joining.{low_kept, low_wider, books_kept, books_wider}
 use Rattle.bng_desk.proofs.OneMore.{low_more}
-use Rattle.bng_desk.proofs.Readying.{WorksBy, all_onward, order_kept}
+use Rattle.bng_desk.proofs.Prepared.{keeps_still, made, ready_still, same_count}
+use Rattle.bng_desk.proofs.Readying.{Shards}
 use Rattle.bng_desk.proofs.Shares.{allowed_sum, shares_few}
-use Rattle.bng_desk.proofs.Returning.{held_kept}
-use Rattle.bng_desk.proofs.SameTerms.{MadeReady, allowed_as, kept_keys, knows_held, numbers_each, ready_each, terms_held}
-use Rattle.bng_desk.proofs.Tallied.{lines_kept, sum_kept}
+use Rattle.bng_desk.proofs.SameTerms.{MadeReady, allowed_as, numbers_each, ready_each}
+use Rattle.bng_desk.proofs.holding.hold.Given.{Over}
 use Rattle.bng_desk.proofs.holding.hold.Goals as goal
+use Rattle.bng_desk.proofs.holding.hold.Goals.{After-prepare_all}
 
-pub opened-requires-clause-numbers : goal.opened-requires-clause-numbers
-opened-requires-clause-numbers g c = order_kept Kept (λ x y k. k.number) c.args.shards.now c.prepare_all.new.shards c.prepare_all.ensures.kept c.requires.numbers
+-- the shards that were made ready, and what was before
+module _ (g : Over) (c : After-prepare_all g) where
+  abbrev works : Works
+  works = c.args.works.now
 
-pub opened-requires-clause-low : goal.opened-requires-clause-low
-opened-requires-clause-low g c = low_kept (2 ^ 62 + 2 ^ 61) c.args.shards.now c.prepare_all.new.shards c.prepare_all.ensures.kept c.requires.low
+  abbrev was : Shards
+  was = works.shards.items
 
-pub opened-requires-clause-low_books : goal.opened-requires-clause-low_books
-opened-requires-clause-low_books g c = books_kept (2 ^ 62 + 2 ^ 61) c.args.shards.now c.prepare_all.new.shards c.prepare_all.ensures.kept c.requires.low_books
+  abbrev shards : Vec (ShardView ShardState Entry) Global
+  shards = with_items works.shards c.prepare_all.new.shards
 
-pub opened-requires-clause-lines : goal.opened-requires-clause-lines
-opened-requires-clause-lines g c = lines_kept (λ input. in_book Octets input c.args.tally.now) c.args.shards.now c.prepare_all.new.shards c.args.accounts.now.lines c.prepare_all.ensures.kept c.requires.lines
+  is : shards.items ≡ c.prepare_all.new.shards
+  is = with_items_is works.shards c.prepare_all.new.shards (omega (arith, c.prepare_all.auto.shards, c.as_mut_slice-shards.ensures.len, works.shards.ok.0))
 
-pub opened-requires-clause-adds_up : goal.opened-requires-clause-adds_up
-opened-requires-clause-adds_up g c = sum_kept c.args.tally.now c.args.shards.now c.prepare_all.new.shards c.args.accounts.now.stopped c.prepare_all.ensures.kept c.requires.adds_up
+  kept : AllZip Kept was shards.items
+  kept = subst (λ (xs : Shards). AllZip Kept was xs) (sym is) (subst (λ (xs : Shards). AllZip Kept xs c.prepare_all.new.shards) c.as_mut_slice-shards.ensures.value c.prepare_all.ensures.kept)
 
-pub opened-requires-clause-billed : goal.opened-requires-clause-billed
-opened-requires-clause-billed g c = subst (λ (ks : List Key). AreBilled ks c.args.accounts.now.billing) (sym (kept_keys c.args.shards.now c.prepare_all.new.shards c.prepare_all.ensures.kept)) c.requires.billed
+  empty : All IsEmpty shards.items
+  empty = subst (λ (xs : Shards). All IsEmpty xs) (sym is) c.prepare_all.ensures.empty
 
-pub opened-requires-clause-one_rule : goal.opened-requires-clause-one_rule
-opened-requires-clause-one_rule g c = all_onward Kept (WorksBy c.args.rules.now) (λ x y k here. ap (λ (s : ShardState). s.rules) k.state ∙ here) c.args.shards.now c.prepare_all.new.shards c.prepare_all.ensures.kept c.requires.one_rule
+  ready : IsReady c.args.rules.now c.args.named c.args.lists (made works shards c.prepare_all.new.spare)
+  ready = ready_still works shards c.prepare_all.new.spare kept c.args.rules.now c.args.named c.args.lists empty c.requires.ready
 
-pub opened-requires-clause-terms : goal.opened-requires-clause-terms
-opened-requires-clause-terms g c = terms_held c.args.named.moment c.args.shards.now c.prepare_all.new.shards c.prepare_all.ensures.kept c.requires.terms
-
-pub opened-requires-clause-serials : goal.opened-requires-clause-serials
-opened-requires-clause-serials g c =
-    numbers_each c.args.named.moment _ c.free-free.result (length c.args.shards.now) c.args.shards.now c.prepare_all.new.shards c.prepare_all.ensures.kept (c.prepare_all.ensures.ready c.if-prepare_all.true) c.requires.terms
-
-pub opened-requires-clause-knows : goal.opened-requires-clause-knows
-opened-requires-clause-knows g c = knows_held c.args.shards.now c.prepare_all.new.shards c.args.accounts.now.billing c.prepare_all.ensures.kept c.requires.knows
-
-pub opened-requires-clause-awaited : goal.opened-requires-clause-awaited
-opened-requires-clause-awaited g c = awaited_held c.args.named.moment c.args.shards.now c.prepare_all.new.shards c.args.accounts.now.reports c.prepare_all.ensures.kept c.requires.awaited
+  -- each was given its share
+  shared : c.prepare_all.result ≡ true → AllZip (MadeReady (length c.args.lists.items.items) c.free-free.result (length was)) was shards.items
+  shared done =
+      let n = c.len-count.result in
+      let free = c.free-free.result in
+      subst (λ (k : ℕ). AllZip (MadeReady k free (length was)) was shards.items) c.len-count.ensures
+      (subst (λ (xs : Shards). AllZip (MadeReady n free (length was)) was xs) (sym is)
+      (subst (λ (xs : Shards). AllZip (MadeReady n free (length xs)) xs c.prepare_all.new.shards) c.as_mut_slice-shards.ensures.value (c.prepare_all.ensures.ready done)))
 
 pub opened-requires-clause-ready : goal.opened-requires-clause-ready
-opened-requires-clause-ready g c =
-    let shards = c.args.shards.now in
-    let ready = c.prepare_all.new.shards in
+opened-requires-clause-ready g c = ready g (goal.at.opened-requires-clause-ready g c).After-prepare_all
+
+pub opened-requires-clause-prepared : goal.opened-requires-clause-prepared
+opened-requires-clause-prepared g c =
+    let b = (goal.at.opened-requires-clause-prepared g c).After-prepare_all in
+    let olds = was g b in
+    let news = (shards g b).items in
+    let n = length c.args.lists.items.items in
     let free = c.free-free.result in
-    ready_each (length c.args.lists.items.items) free (length shards) shards ready
-    (subst (λ (n : ℕ). AllZip (MadeReady n free (length shards)) shards ready) (c.len-count.ensures) (c.prepare_all.ensures.ready c.if-prepare_all.true))
-
-pub opened-requires-clause-free : goal.opened-requires-clause-free
-opened-requires-clause-free g c =
-    let shards = c.args.shards.now in
-    omega (
-      arith,
-      c.free-free.ensures.free,
-      allowed_sum _ c.free-free.result (length shards) shards c.prepare_all.new.shards (c.prepare_all.ensures.ready c.if-prepare_all.true),
-      shares_few c.free-free.result shards (omega (arith, c.requires.count, c.requires.some)) c.requires.numbers,
-    )
-
-pub opened-requires-clause-held : goal.opened-requires-clause-held
-opened-requires-clause-held g c = held_kept c.args.pool.now.table c.args.shards.now c.prepare_all.new.shards c.prepare_all.ensures.kept c.requires.held
-
-pub returns-clause-held : goal.returns-clause-held
-returns-clause-held g c = held_kept c.args.pool.now.table c.args.shards.now c.prepare_all.new.shards c.prepare_all.ensures.kept c.requires.held
-
-pub returns-clause-billed : goal.returns-clause-billed
-returns-clause-billed g c = subst (λ (ks : List Key). AreBilled ks c.args.accounts.now.billing) (sym (kept_keys c.args.shards.now c.prepare_all.new.shards c.prepare_all.ensures.kept)) c.requires.billed
-
-pub returns-clause-terms : goal.returns-clause-terms
-returns-clause-terms g c = terms_held c.args.named.moment c.args.shards.now c.prepare_all.new.shards c.prepare_all.ensures.kept c.requires.terms
-
-pub returns-clause-knows : goal.returns-clause-knows
-returns-clause-knows g c = knows_held c.args.shards.now c.prepare_all.new.shards c.args.accounts.now.billing c.prepare_all.ensures.kept c.requires.knows
-
-pub returns-clause-awaited : goal.returns-clause-awaited
-returns-clause-awaited g c = awaited_held c.args.named.moment c.args.shards.now c.prepare_all.new.shards c.args.accounts.now.reports c.prepare_all.ensures.kept c.requires.awaited
+    let each = shared g b c.if-prepare_all.true in
+    record {
+      roomy = ready_each n free (length olds) olds news each;
+      rows = subst (λ (xs : Shards). All HasRows xs) (sym (is g b)) (c.prepare_all.ensures.rows c.if-prepare_all.true);
+      serials = numbers_each c.args.named.moment n free (length olds) olds news (kept g b) each c.requires.ready.terms;
+      free = omega (
+        arith,
+        c.free-free.ensures.free,
+        allowed_sum n free (length olds) olds news each,
+        shares_few free olds (omega (arith, c.requires.ready.count, c.requires.ready.some)) c.requires.ready.order,
+      );
+    }
 
 pub returns-then-prepare_all-clause-round : goal.returns-then-prepare_all-clause-round
 returns-then-prepare_all-clause-round g c =
-    let b = c.args.accounts.now.billing in
-    let shards = c.args.shards.now in
-    let free : c.free-free.result ≡ free_in b = omega (arith, c.free-free.ensures.free) in
+    let b = (goal.at.returns-then-prepare_all-clause-round g c).After-prepare_all in
+    let olds = was g b in
+    let news = (shards g b).items in
+    let free = c.free-free.result in
+    let free_is : free ≡ free_in c.args.works.now.accounts.billing = omega (arith, c.free-free.ensures.free) in
     let held = c.opened.ensures.round in
     inl (
       refl,
-      c.requires.none_kept,
+      ap (λ (x : Works). x.kept.items) c.opened.ensures.rest ∙ c.requires.ready.none_kept,
       record {
-        ready = c.prepare_all.new.shards;
-        kept = c.prepare_all.ensures.kept;
+        ready = news;
+        kept = kept g b;
         held = held;
-        allows = held.allowed ∙ allowed_as _ c.free-free.result (length shards) shards c.prepare_all.new.shards (c.prepare_all.ensures.ready c.if-prepare_all.true) ∙ ap (λ (n : ℕ). map (allowance_of n (length shards)) shards) free;
+        allows = held.allowed ∙ allowed_as (length c.args.lists.items.items) free (length olds) olds news (shared g b c.if-prepare_all.true) ∙ ap (λ (n : ℕ). map (allowance_of n (length olds)) olds) free_is;
       },
     )
 
-pub returns-clause-lines : goal.returns-clause-lines
-returns-clause-lines g c = lines_kept (λ input. in_book Octets input c.args.tally.now) c.args.shards.now c.prepare_all.new.shards c.args.accounts.now.lines c.prepare_all.ensures.kept c.requires.lines
+pub returns-then-prepare_all-clause-keeps : goal.returns-then-prepare_all-clause-keeps
+returns-then-prepare_all-clause-keeps g c =
+    let b = (goal.at.returns-then-prepare_all-clause-keeps g c).After-prepare_all in
+    keeps_still (works g b) (shards g b) c.prepare_all.new.spare (kept g b) c.args.named.moment c.opened.new.works c.opened.ensures.keeps
 
-pub returns-clause-adds_up : goal.returns-clause-adds_up
-returns-clause-adds_up g c = sum_kept c.args.tally.now c.args.shards.now c.prepare_all.new.shards c.args.accounts.now.stopped c.prepare_all.ensures.kept c.requires.adds_up
+pub returns-then-prepare_all-clause-rest : goal.returns-then-prepare_all-clause-rest
+returns-then-prepare_all-clause-rest g c =
+    let w = c.args.works.now in
+    let n = c.opened.new.works in
+    let rest = λ (x : Works). let y : Works = record w { shards = n.shards; pool = n.pool; accounts = n.accounts; tally = n.tally; drops = n.drops; kept = x.kept; spare = x.spare } in y in
+    c.opened.ensures.rest ∙ ap rest (sym c.opened.ensures.rest)
 
-pub returns-then-prepare_all-clause-low : goal.returns-then-prepare_all-clause-low
-returns-then-prepare_all-clause-low g c most low = c.opened.ensures.low most (low_kept most c.args.shards.now c.prepare_all.new.shards c.prepare_all.ensures.kept low)
+pub returns-clause-round : goal.returns-clause-round
+returns-clause-round g c =
+    let b = (goal.at.returns-clause-round g c).After-prepare_all in
+    let w = c.args.works.now in
+    let items = c.args.lists.items.items in
+    let n = length w.shards.items in
+    let named = c.args.named in
+    let items_are = c.into_vec.ensures ∙ ap (λ (x : Batch Item). x.items) c.replace-items.ensures.value in
+    let refused_are = c.part-outside.ensures.refused ∙ ap refused_of items_are in
+    let count : c.len.result ≡ length (refused_of items) = omega (arith, c.len.ensures, c.part-outside.result.ok.0, ap (λ (is : List Item). length is) refused_are) in
+    let told = λ (k : ℕ) (is : List Item). let x : RoundRecord = record { number = named.number; moment = named.moment; wall = named.wall; allowances = replicate k 0; journals = replicate k []; loose = []; outs = []; refused = is } in x in
+    let shards_count : c.len-2.result ≡ n = omega (arith, c.len-2.ensures, w.shards.ok.0) in
+    inr (
+      refl,
+      c.part-outside.ensures.kept ∙ ap (λ (is : List Item). is ++ kept_of c.into_vec.result.items) c.requires.ready.none_kept ∙ ap kept_of items_are,
+      record {
+        kept = kept g b;
+        told = refl;
+        drops_are = c.count_refused.ensures ∙ ap (λ (k : ℕ). plus w.drops (with_refused k)) count;
+        pool_is = refl;
+        accounts_are = refl;
+        tally_is = refl;
+        record_told = c.refused.ensures ∙ ap (λ (k : ℕ). told k c.part-outside.result.items) shards_count ∙ ap (told n) refused_are;
+      },
+    )
 
-pub returns-then-prepare_all-clause-books : goal.returns-then-prepare_all-clause-books
-returns-then-prepare_all-clause-books g c most low = c.opened.ensures.books most (books_kept most c.args.shards.now c.prepare_all.new.shards c.prepare_all.ensures.kept low)
-
-pub returns-clause-sessions : goal.returns-clause-sessions
-returns-clause-sessions g c few = sessions_kept c.args.shards.now c.prepare_all.new.shards c.prepare_all.ensures.kept few
-
-pub returns-clause-numbers : goal.returns-clause-numbers
-returns-clause-numbers g c = order_kept Kept (λ x y k. k.number) c.args.shards.now c.prepare_all.new.shards c.prepare_all.ensures.kept c.requires.numbers
-
-pub returns-clause-low : goal.returns-clause-low
-returns-clause-low g c most low = low_wider most (most + octets_most) c.prepare_all.new.shards (omega arith) (low_kept most c.args.shards.now c.prepare_all.new.shards c.prepare_all.ensures.kept low)
-
-pub returns-clause-books : goal.returns-clause-books
-returns-clause-books g c most low = books_wider most (most + octets_most) c.prepare_all.new.shards (omega arith) (books_kept most c.args.shards.now c.prepare_all.new.shards c.prepare_all.ensures.kept low)
-
-pub returns-clause-tally : goal.returns-clause-tally
-returns-clause-tally g c most low = low_more most (most + octets_most) c.args.tally.now (omega arith) low
-
-pub returns-clause-within : goal.returns-clause-within
-returns-clause-within g c most within =
+pub returns-clause-keeps : goal.returns-clause-keeps
+returns-clause-keeps g c =
+    let b = (goal.at.returns-clause-keeps g c).After-prepare_all in
+    let w = c.args.works.now in
+    let olds = w.shards.items in
+    let news = (shards g b).items in
+    let still = ready g b in
     let items = c.args.lists.items.items in
     let n = c.len.result in
     let few : n ≤ drops_most = omega (
@@ -146,20 +154,41 @@ returns-clause-within g c most within =
       c.len.ensures,
       c.part-outside.result.ok.0,
       ap (λ (is : List Item). length is) c.part-outside.ensures.refused,
-      ap (λ (is : List Item). length (refused_of is)) (c.into_vec.ensures ∙ ap (λ (b : Batch Item). b.items) c.replace-items.ensures.value),
+      ap (λ (is : List Item). length (refused_of is)) (c.into_vec.ensures ∙ ap (λ (x : Batch Item). x.items) c.replace-items.ensures.value),
       length-filter (λ (i : Item). is_from_outside i.kind) items,
       count_by-le-length (λ (i : Item). is_from_outside i.kind) items,
-      c.requires.items.few,
+      c.requires.ready.items.few,
     ) in
-    subst (Within (most + drops_most)) (sym c.count_refused.ensures)
-    (record {
-      malformed = omega (arith, within.malformed);
-      no_session = omega (arith, within.no_session);
-      not_open = omega (arith, within.not_open);
-      expired = omega (arith, within.expired);
-      spoofed = omega (arith, within.spoofed);
-      too_big = omega (arith, within.too_big);
-      exceeded = omega (arith, within.exceeded);
-      link_failed = omega (arith, within.link_failed);
-      want_of_memory = omega (arith, within.want_of_memory, few);
-    })
+    record {
+      count = same_count w (shards g b) c.prepare_all.new.spare (kept g b);
+      order = still.order;
+      empty = still.empty;
+      sessions = still.sessions;
+      low = λ most low. low_wider most (most + octets_most) news (omega arith) (low_kept most olds news (kept g b) low);
+      books = λ most low. books_wider most (most + octets_most) news (omega arith) (books_kept most olds news (kept g b) low);
+      tally = λ most low. low_more most (most + octets_most) w.tally (omega arith) low;
+      tallied = still.tallied;
+      adds_up = still.adds_up;
+      billed = still.billed;
+      counts = λ most within. subst (Within (most + drops_most)) (sym c.count_refused.ensures)
+          (record {
+            malformed = omega (arith, within.malformed);
+            no_session = omega (arith, within.no_session);
+            not_open = omega (arith, within.not_open);
+            expired = omega (arith, within.expired);
+            spoofed = omega (arith, within.spoofed);
+            too_big = omega (arith, within.too_big);
+            exceeded = omega (arith, within.exceeded);
+            link_failed = omega (arith, within.link_failed);
+            want_of_memory = omega (arith, within.want_of_memory, few);
+          });
+      drawn = omega arith;
+      handed = refl;
+      room = c.part-outside.ensures.capacity;
+      places = refl;
+      held = still.held;
+      ranges = refl;
+      terms = still.terms;
+      knows = still.knows;
+      awaited = still.awaited;
+    }

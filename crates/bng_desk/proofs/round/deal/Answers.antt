@@ -14,8 +14,8 @@ use Rattle.bng_desk.proofs.round.deal.Goals as goal
 pub returns-in-Stands-clause-deals : goal.returns-in-Stands-clause-deals
 returns-in-Stands-clause-deals c =
     let n = c.from.result in
-    let e = entry_of 0 c.args.place c.args.now c.args.item.now in
-    let whose : IsWhose c.args.rules.now c.args.pool.now.table c.args.item.now (Stands n) = search rules in
+    let e = entry_of 0 c.args.dealt.now.place c.args.dealt.now.moment c.args.dealt.now.item.now in
+    let whose : IsWhose c.args.rules.now c.args.pool.now.table c.args.dealt.now.item.now (Stands n) = search rules in
     let within : n < length c.args.shards.now = search rules in
     let v = c.index-shards-from.result in
     let w = c.step.new.self in

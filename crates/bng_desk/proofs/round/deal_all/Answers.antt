@@ -38,7 +38,7 @@ pub loop-item-init : goal.loop-item-init
 loop-item-init c =
     let shards = c.args.shards.now in
     record {
-      deals = deals_none c.args.rules.now c.args.pool.now c.args.now (length c.args.items.now.items) shards c.args.loose.now.items c.args.drops.now c.args.tally.now c.requires.ready c.requires.rows c.requires.loose;
+      deals = deals_none c.args.rules.now c.args.pool.now c.args.now (length c.args.lists.now.items.items) shards c.args.lists.now.loose.items c.args.drops.now c.args.tally.now c.requires.ready c.requires.rows c.requires.loose;
       held = c.requires.held;
       place = refl;
       room = λ k d lt. omega (arith, (c.requires.ready k d lt).room);
@@ -52,7 +52,7 @@ pub deal-fate-requires-clause-once : goal.deal-fate-requires-clause-once
 deal-fate-requires-clause-once c n d lt is =
     let was = c.loop-item.invariant in
     let i = c.loop-item.item-index in
-    let all = c.args.items.now.items in
+    let all = c.args.lists.now.items.items in
     let item = c.item-item.result in
     let here = stands all c.as_slice-item-items.result.now i item c.as_slice-item-items.ensures c.loop-item-test.true c.item-item.is in
     let r = c.args.rules.now in
@@ -67,7 +67,7 @@ deal-fate-requires-clause-once c n d lt is =
 pub deal-fate-requires-clause-low_books : goal.deal-fate-requires-clause-low_books
 deal-fate-requires-clause-low_books c k d lt i within q input =
     let was = c.loop-item.invariant in
-    let all = c.args.items.now.items in
+    let all = c.args.lists.now.items.items in
     let here = stands all c.as_slice-item-items.result.now c.loop-item.item-index c.item-item.result c.as_slice-item-items.ensures c.loop-item-test.true c.item-item.is in
     omega (
       arith,
@@ -79,19 +79,19 @@ deal-fate-requires-clause-low_books c k d lt i within q input =
 
 pub deal-fate-requires-clause-low_tally : goal.deal-fate-requires-clause-low_tally
 deal-fate-requires-clause-low_tally c =
-    let here = stands c.args.items.now.items c.as_slice-item-items.result.now c.loop-item.item-index c.item-item.result c.as_slice-item-items.ensures c.loop-item-test.true c.item-item.is in
+    let here = stands c.args.lists.now.items.items c.as_slice-item-items.result.now c.loop-item.item-index c.item-item.result c.as_slice-item-items.ensures c.loop-item-test.true c.item-item.is in
     low_more (2 ^ 62 + 2 ^ 61 + 4160 * c.loop-item.item-index) (2 ^ 63) c.loop-item.tally (omega (arith, here.within, c.requires.items.few)) (c.loop-item.invariant.tally (2 ^ 62 + 2 ^ 61) c.requires.low_tally)
 
 pub count-requires : goal.count-requires
 count-requires c =
-    let here = stands c.args.items.now.items c.as_slice-item-items.result.now c.loop-item.item-index c.item-item.result c.as_slice-item-items.ensures c.loop-item-test.true c.item-item.is in
+    let here = stands c.args.lists.now.items.items c.as_slice-item-items.result.now c.loop-item.item-index c.item-item.result c.as_slice-item-items.ensures c.loop-item-test.true c.item-item.is in
     within_wider (2 ^ 62 + c.loop-item.item-index) (2 ^ 63) c.loop-item.drops (omega (arith, here.within, c.requires.items.few)) (c.loop-item.invariant.drops (2 ^ 62) c.requires.drops)
 
 pub loop-item-preserved : goal.loop-item-preserved
 loop-item-preserved c =
     let was = c.loop-item.invariant in
     let i = c.loop-item.item-index in
-    let all = c.args.items.now.items in
+    let all = c.args.lists.now.items.items in
     let done = take i all in
     let item = c.item-item.result in
     let here = stands all c.as_slice-item-items.result.now i item c.as_slice-item-items.ensures c.loop-item-test.true c.item-item.is in
@@ -128,32 +128,32 @@ loop-item-preserved c =
 
 pub returns-clause-deals : goal.returns-clause-deals
 returns-clause-deals c =
-    let all = are_all c.args.items.now.items c.as_slice-item-items.result.now c.loop-item.item-index c.as_slice-item-items.ensures c.loop-item.auto.item-index-end c.loop-item-test.false in
+    let all = are_all c.args.lists.now.items.items c.as_slice-item-items.result.now c.loop-item.item-index c.as_slice-item-items.ensures c.loop-item.auto.item-index-end c.loop-item-test.false in
     subst (λ (is : List Item). Deals c.args.rules.now c.args.pool.now c.loop-item.pool c.args.now is c.args.shards.now c.loop-item.shards c.loop-item.loose.items c.args.drops.now c.loop-item.drops c.args.tally.now c.loop-item.tally) all c.loop-item.invariant.deals
 
 pub returns-clause-numbers : goal.returns-clause-numbers
 returns-clause-numbers c =
-    numbers_dealt c.args.rules.now c.args.pool.now c.loop-item.pool c.args.now (take c.loop-item.item-index c.args.items.now.items) c.args.shards.now c.loop-item.shards c.loop-item.loose.items c.args.drops.now c.loop-item.drops c.args.tally.now c.loop-item.tally c.loop-item.invariant.deals
+    numbers_dealt c.args.rules.now c.args.pool.now c.loop-item.pool c.args.now (take c.loop-item.item-index c.args.lists.now.items.items) c.args.shards.now c.loop-item.shards c.loop-item.loose.items c.args.drops.now c.loop-item.drops c.args.tally.now c.loop-item.tally c.loop-item.invariant.deals
     c.requires.numbers
 
 pub returns-clause-within : goal.returns-clause-within
 returns-clause-within c most within =
-    within_wider (most + c.loop-item.item-index) (most + length c.args.items.now.items) c.loop-item.drops (omega (arith, c.loop-item.auto.item-index-end, ap (λ (is : List Item). length is) c.as_slice-item-items.ensures))
+    within_wider (most + c.loop-item.item-index) (most + length c.args.lists.now.items.items) c.loop-item.drops (omega (arith, c.loop-item.auto.item-index-end, ap (λ (is : List Item). length is) c.as_slice-item-items.ensures))
     (c.loop-item.invariant.drops most within)
 
 pub returns-clause-tally : goal.returns-clause-tally
 returns-clause-tally c most low =
-    low_more (most + 4160 * c.loop-item.item-index) (most + 4160 * length c.args.items.now.items) c.loop-item.tally (omega (arith, c.loop-item.auto.item-index-end, ap (λ (is : List Item). length is) c.as_slice-item-items.ensures))
+    low_more (most + 4160 * c.loop-item.item-index) (most + 4160 * length c.args.lists.now.items.items) c.loop-item.tally (omega (arith, c.loop-item.auto.item-index-end, ap (λ (is : List Item). length is) c.as_slice-item-items.ensures))
     (c.loop-item.invariant.tally most low)
 
 pub deal-fate-requires-clause-numbers : goal.deal-fate-requires-clause-numbers
 deal-fate-requires-clause-numbers c =
-    numbers_dealt c.args.rules.now c.args.pool.now c.loop-item.pool c.args.now (take c.loop-item.item-index c.args.items.now.items) c.args.shards.now c.loop-item.shards c.loop-item.loose.items c.args.drops.now c.loop-item.drops c.args.tally.now c.loop-item.tally c.loop-item.invariant.deals
+    numbers_dealt c.args.rules.now c.args.pool.now c.loop-item.pool c.args.now (take c.loop-item.item-index c.args.lists.now.items.items) c.args.shards.now c.loop-item.shards c.loop-item.loose.items c.args.drops.now c.loop-item.drops c.args.tally.now c.loop-item.tally c.loop-item.invariant.deals
     c.requires.numbers
 
 pub deal-fate-requires-clause-one_rule : goal.deal-fate-requires-clause-one_rule
 deal-fate-requires-clause-one_rule c =
-    dealt_rules c.args.rules.now c.args.pool.now c.loop-item.pool c.args.now (take c.loop-item.item-index c.args.items.now.items) c.args.shards.now c.loop-item.shards c.loop-item.loose.items c.args.drops.now c.loop-item.drops c.args.tally.now c.loop-item.tally c.loop-item.invariant.deals c.args.rules.now
+    dealt_rules c.args.rules.now c.args.pool.now c.loop-item.pool c.args.now (take c.loop-item.item-index c.args.lists.now.items.items) c.args.shards.now c.loop-item.shards c.loop-item.loose.items c.args.drops.now c.loop-item.drops c.args.tally.now c.loop-item.tally c.loop-item.invariant.deals c.args.rules.now
     c.requires.one_rule
 
 pub deal-fate-requires-clause-pools : goal.deal-fate-requires-clause-pools

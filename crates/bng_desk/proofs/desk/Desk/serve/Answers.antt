@@ -13,7 +13,7 @@ use Rattle.bng_desk.specs.Items.{kept_of}
 use Rattle.bng_desk.specs.Kept.{is_verdict, octets_most, drops_most}
 use Rattle.bng_desk.specs.Model.{Desk, is_over, keys_in, state_of}
 use Rattle.bng_desk.specs.Settlement.{IsReady, KeepsWorks, Settles}
-use Rattle.bng_desk.specs.Taking.{Accounts, outs_of_items}
+use Rattle.bng_desk.specs.Taking.{Accounts}
 use Rattle.bng_desk.specs.Turn.{MakesTurn, deadline_in, wait_for}
 use Rattle.bng_desk.proofs.Billed.{billed_kept, heard_keeps}
 use Rattle.bng_desk.proofs.DropLaws.{within_wider}
@@ -32,7 +32,7 @@ use Rattle.bng_desk.proofs.desk.Desk.serve.Goals.{After-answer, After-gather-qui
 -- the desk before, what its turn gathered, and what may stay of that
 module _ (g : Over) (c : After-gather-quiet g) where
   abbrev works : Works
-  works = record c.self.inside.works { frame = c.gather-quiet.new.frame }
+  works = record c.self.inside.works { frame = c.gather-quiet.new.works.frame }
 
   abbrev desk : Desk
   desk = record {
@@ -67,7 +67,11 @@ module _ (g : Over) (c : After-gather-quiet g) where
   heard = c.hear-unacknowledged.new.self.billing
 
   abbrev mid : Accounts → Works
-  mid accounts = record works { accounts = accounts; lane = c.gather-quiet.new.lane; draws = c.gather-quiet.new.draws; kept = c.gather-quiet.new.kept; lists = c.take.new.self }
+  mid accounts = record works { accounts = accounts; lane = c.gather-quiet.new.works.lane; draws = c.gather-quiet.new.works.draws; kept = c.gather-quiet.new.works.kept; lists = c.take.new.self }
+
+  -- what the turn works on then
+  rest : c.gather-quiet.new.works ≡ mid c.hear-unacknowledged.new.self
+  rest = c.gather-quiet.ensures.rest
 
   abbrev lists : Lists
   lists = record c.in-Ok.lists { items = c.gather-quiet.new.items }
@@ -91,14 +95,13 @@ module _ (g : Over) (c : After-gather-quiet g) where
       let takes = c.hear-unacknowledged.ensures.takes in
       knows_less works.shards.items works.accounts.billing heard (heard_forgets works.accounts.billing heard takes.acknowledged takes.hears) c.self.invariant.0.knows
 
-  gathers : Gathers desk.rules works.shards.items c.now-now.result works.kept.items (g.P.Plant.told c.hear-unacknowledged.new.plant) (g.P.Plant.told c.gather-quiet.new.plant) works.lane c.gather-quiet.new.lane works.draws c.gather-quiet.new.draws c.gather-quiet.new.items.items c.gather-quiet.result
+  gathers : Gathers desk.rules works.shards.items c.now-now.result works.kept.items (g.P.Plant.told c.hear-unacknowledged.new.plant) (g.P.Plant.told c.gather-quiet.new.plant) works.lane c.gather-quiet.new.works.lane works.draws c.gather-quiet.new.works.draws c.gather-quiet.new.items.items c.gather-quiet.result
   gathers =
-      subst (λ (xs : Shards). Gathers desk.rules xs c.now-now.result works.kept.items (g.P.Plant.told c.hear-unacknowledged.new.plant) (g.P.Plant.told c.gather-quiet.new.plant) works.lane c.gather-quiet.new.lane works.draws c.gather-quiet.new.draws c.gather-quiet.new.items.items c.gather-quiet.result)
-      c.as_slice.ensures.value c.gather-quiet.ensures.gathers
+      c.gather-quiet.ensures.gathers
 
   stay : StaysServing desk c.gather-quiet.new.items.items
   stay =
-      serving_staying desk works.shards.items c.now-now.result (g.P.Plant.told c.hear-unacknowledged.new.plant) (g.P.Plant.told c.gather-quiet.new.plant) works.lane c.gather-quiet.new.lane works.draws c.gather-quiet.new.draws
+      serving_staying desk works.shards.items c.now-now.result (g.P.Plant.told c.hear-unacknowledged.new.plant) (g.P.Plant.told c.gather-quiet.new.plant) works.lane c.gather-quiet.new.works.lane works.draws c.gather-quiet.new.works.draws
       c.gather-quiet.new.items.items c.gather-quiet.result gathers c.gather-quiet.ensures.items (c.self.invariant.0.while_serving serves) (few_kept desk c.self.invariant.0 serves)
 
   shards_count : c.len.result ≡ length works.shards.items
@@ -116,9 +119,9 @@ settle-noted-requires g c =
     let b = (goal.at.settle-noted-requires g c).After-gather-quiet in
     let taken = c.in-Ok.ensures in
     record {
-      ready = subst (λ (a : Accounts). IsReady c.self.inside.rules (named g b) (lists g b) (mid g b a)) (sym c.hear-unacknowledged.ensures.others)
-          (is_ready (desk g b) (works g b) (heard g b) c.gather-quiet.new.lane c.gather-quiet.new.draws c.gather-quiet.new.kept c.take.new.self (named g b) (lists g b) c.self.invariant.0 (billed g b) (knows g b) (later g b) c.now-now.ensures.bound c.gather-quiet.ensures.few_drawn c.gather-quiet.ensures.none_kept
-          (omega (arith, (stay g b).few, c.gather-quiet.ensures.kept_room, c.self.invariant.1)) c.gather-quiet.ensures.items (subst (λ (vs : Shards). outs_of_items c.gather-quiet.new.items.items ≤ 5760 + 320 * length vs) c.as_slice.ensures.value c.gather-quiet.ensures.few_outs)
+      ready = subst (λ (x : Works). IsReady c.self.inside.rules (named g b) (lists g b) x) (sym (rest g b)) (subst (λ (a : Accounts). IsReady c.self.inside.rules (named g b) (lists g b) (mid g b a)) (sym c.hear-unacknowledged.ensures.others)
+          (is_ready (desk g b) (works g b) (heard g b) c.gather-quiet.new.works.lane c.gather-quiet.new.works.draws c.gather-quiet.new.works.kept c.take.new.self (named g b) (lists g b) c.self.invariant.0 (billed g b) (knows g b) (later g b) c.now-now.ensures.bound c.gather-quiet.ensures.few_drawn c.gather-quiet.ensures.none_kept
+          (omega (arith, (stay g b).few, c.gather-quiet.ensures.kept_room, c.self.invariant.1)) c.gather-quiet.ensures.items c.gather-quiet.ensures.few_outs
           (record {
             loose = taken.loose.0;
             loose_room = taken.loose.1;
@@ -127,7 +130,7 @@ settle-noted-requires g c =
             outs = taken.outs.0;
             outs_room = omega (arith, taken.outs.1, shards_count g b);
             allowances = taken.allowances ∙ ap (λ (m : ℕ). replicate m 0) (shards_count g b);
-          }));
+          })));
     }
 
 -- the settlement, over what the turn gathered
@@ -135,18 +138,20 @@ module _ (g : Over) (c : After-answer g) where
   abbrev so_far : After-gather-quiet g
   so_far = (goal.at.invariant_of-self-2 g c).After-gather-quiet
 
-  settles : Settles c.self.inside.rules (named g so_far) c.gather-quiet.new.items.items (gathered (works g so_far) (heard g so_far) c.gather-quiet.new.lane c.gather-quiet.new.draws c.gather-quiet.new.kept c.take.new.self) c.settle-noted.new.works
+  settles : Settles c.self.inside.rules (named g so_far) c.gather-quiet.new.items.items (gathered (works g so_far) (heard g so_far) c.gather-quiet.new.works.lane c.gather-quiet.new.works.draws c.gather-quiet.new.works.kept c.take.new.self) c.settle-noted.new.works
       (g.P.Plant.told c.gather-quiet.new.plant) (g.P.Plant.told c.settle-noted.new.plant) (g.T.Trace.told c.args.trace.now) (g.T.Trace.told c.settle-noted.new.trace) c.settle-noted.result
   settles =
       subst (λ (a : Accounts). Settles c.self.inside.rules (named g so_far) c.gather-quiet.new.items.items (mid g so_far a) c.settle-noted.new.works (g.P.Plant.told c.gather-quiet.new.plant) (g.P.Plant.told c.settle-noted.new.plant) (g.T.Trace.told c.args.trace.now) (g.T.Trace.told c.settle-noted.new.trace) c.settle-noted.result)
-      c.hear-unacknowledged.ensures.others c.settle-noted.ensures.settles
+      c.hear-unacknowledged.ensures.others
+      (subst (λ (x : Works). Settles c.self.inside.rules (named g so_far) c.gather-quiet.new.items.items x c.settle-noted.new.works (g.P.Plant.told c.gather-quiet.new.plant) (g.P.Plant.told c.settle-noted.new.plant) (g.T.Trace.told c.args.trace.now) (g.T.Trace.told c.settle-noted.new.trace) c.settle-noted.result) (rest g so_far) c.settle-noted.ensures.settles)
 
-  keeps : KeepsWorks c.now-now.result (gathered (works g so_far) (heard g so_far) c.gather-quiet.new.lane c.gather-quiet.new.draws c.gather-quiet.new.kept c.take.new.self) c.settle-noted.new.works
-  keeps = subst (λ (a : Accounts). KeepsWorks c.now-now.result (mid g so_far a) c.settle-noted.new.works) c.hear-unacknowledged.ensures.others c.settle-noted.ensures.keeps
+  keeps : KeepsWorks c.now-now.result (gathered (works g so_far) (heard g so_far) c.gather-quiet.new.works.lane c.gather-quiet.new.works.draws c.gather-quiet.new.works.kept c.take.new.self) c.settle-noted.new.works
+  keeps = subst (λ (a : Accounts). KeepsWorks c.now-now.result (mid g so_far a) c.settle-noted.new.works) c.hear-unacknowledged.ensures.others
+      (subst (λ (x : Works). KeepsWorks c.now-now.result x c.settle-noted.new.works) (rest g so_far) c.settle-noted.ensures.keeps)
 
   kept_as : (P : List Item → Type 0) → P [] → P (kept_of c.gather-quiet.new.items.items) → P c.settle-noted.new.works.kept.items
   kept_as P =
-      kept_by (desk g so_far) (works g so_far) c.settle-noted.new.works (heard g so_far) c.gather-quiet.new.lane c.gather-quiet.new.draws c.gather-quiet.new.kept c.take.new.self (named g so_far) c.gather-quiet.new.items.items
+      kept_by (desk g so_far) (works g so_far) c.settle-noted.new.works (heard g so_far) c.gather-quiet.new.works.lane c.gather-quiet.new.works.draws c.gather-quiet.new.works.kept c.take.new.self (named g so_far) c.gather-quiet.new.items.items
       (g.P.Plant.told c.gather-quiet.new.plant) (g.P.Plant.told c.settle-noted.new.plant) (g.T.Trace.told c.args.trace.now) (g.T.Trace.told c.settle-noted.new.trace) c.settle-noted.result P settles
 
 pub invariant_of-self : goal.invariant_of-self
@@ -210,7 +215,7 @@ invariant_of-self-2 g c =
     let staying = stay g b in (
       kept_served d after c.either-self-inside.result c.now-now.result c.told_after-self-inside.result c.self.invariant.0 (serves g b)
           (turns_left (seen_with d w) (ap (λ (x : Desk). state_of x) c.self.view_is ∙ c.requires.state) c.self.invariant.0.made) (later g b)
-          (is_left d w after (heard g b) c.gather-quiet.new.lane c.gather-quiet.new.draws c.gather-quiet.new.kept c.take.new.self (named g b) c.gather-quiet.new.items.items (g.P.Plant.told c.gather-quiet.new.plant) (g.P.Plant.told c.settle-noted.new.plant) (g.T.Trace.told c.args.trace.now) (g.T.Trace.told c.settle-noted.new.trace) c.settle-noted.result
+          (is_left d w after (heard g b) c.gather-quiet.new.works.lane c.gather-quiet.new.works.draws c.gather-quiet.new.works.kept c.take.new.self (named g b) c.gather-quiet.new.items.items (g.P.Plant.told c.gather-quiet.new.plant) (g.P.Plant.told c.settle-noted.new.plant) (g.T.Trace.told c.args.trace.now) (g.T.Trace.told c.settle-noted.new.trace) c.settle-noted.result
           c.self.invariant.0 (settles g c) (keeps g c) c.gather-quiet.ensures.few_drawn)
           (subst (λ (n : ℕ). n ≤ c.self.inside.told + 1) (sym c.told_after-self-inside.ensures) (few_told c.settle-noted.result.noted c.self.inside.told)) (kept_as g c (AreKept d) (none_kept d) staying.kept)
           (kept_as g c (All is_verdict) (λ k e lt. absurd (omega arith)) staying.verdicts),
@@ -226,16 +231,15 @@ returns g c =
     let after = c.settle-noted.new.works in
     let clock = g.C.Clock.told in
     let before_is : Outside = record { plant = told c.args.plant.now; clock = clock c.args.clock.now; trace = g.T.Trace.told c.args.trace.now } in
-    let behind_is : Outside = record { plant = told c.wait_if.new.plant; clock = clock c.wall-wall.new.self; trace = g.T.Trace.told c.settle-noted.new.trace } in
+    let behind_is : Outside = record { plant = told c.wait_for_work.new.plant; clock = clock c.wall-wall.new.self; trace = g.T.Trace.told c.settle-noted.new.trace } in
     let due = c.deadline.result in
     let record_due = c.deadline-2.result in
-    let made = served d w after (heard g b) c.gather-quiet.new.lane c.gather-quiet.new.draws c.gather-quiet.new.kept c.take.new.self (named g b) c.heed-heeding.result c.hear-unacknowledged.result c.gather-quiet.result c.gather-quiet.new.items.items c.settle-noted.result due record_due
-    (told c.args.plant.now) (told c.heed-heeding.new.plant) (told c.hear-unacknowledged.new.plant) (told c.gather-quiet.new.plant) (told c.settle-noted.new.plant) (told c.wait_if.new.plant) (g.T.Trace.told c.args.trace.now) (g.T.Trace.told c.settle-noted.new.trace)
+    let made = served d w after (heard g b) c.gather-quiet.new.works.lane c.gather-quiet.new.works.draws c.gather-quiet.new.works.kept c.take.new.self (named g b) c.heed-heeding.result c.hear-unacknowledged.result c.gather-quiet.result c.gather-quiet.new.items.items c.settle-noted.result due record_due
+    (told c.args.plant.now) (told c.heed-heeding.new.plant) (told c.hear-unacknowledged.new.plant) (told c.gather-quiet.new.plant) (told c.settle-noted.new.plant) (told c.wait_for_work.new.plant) (g.T.Trace.told c.args.trace.now) (g.T.Trace.told c.settle-noted.new.trace)
     refl c.heed-heeding.ensures c.hear-unacknowledged.ensures.takes (gathers g b) (settles g c) c.deadline.ensures c.deadline-2.ensures
-    c.both-2.result c.wait_until.result c.wait_if.ensures (c.both-2.ensures ∙ ap (λ (x : Bool). x && c.settle-noted.result.noted) (c.both-silent.ensures ∙ ap (λ (x : Bool). x && c.gather-quiet.result) c.both.ensures))
-    (c.wait_until.ensures
-    ∙ ap (λ (x : Option ℕ). wait_for x c.now-now.result)
-    (c.earlier-due.ensures ∙ ap (λ (x : Option ℕ). earliest x c.earlier-asked.result) (c.deadline_of.ensures ∙ ap (λ (xs : Shards). deadline_in xs) c.as_slice-2.ensures.value) ∙ ap (λ (x : Option ℕ). earliest (deadline_in after.shards.items) x) c.earlier-asked.ensures))
+    c.both-idle.result (wait_for (earliest (deadline_in c.as_slice.result.now) c.earlier-asked.result) c.now-now.result) c.wait_for_work.ensures (c.both-idle.ensures ∙ ap (λ (x : Bool). x && c.settle-noted.result.noted) (c.both-silent.ensures ∙ ap (λ (x : Bool). x && c.gather-quiet.result) c.both.ensures))
+    (ap (λ (x : Option ℕ). wait_for x c.now-now.result)
+    (ap (λ (xs : Shards). earliest (deadline_in xs) c.earlier-asked.result) c.as_slice.ensures.value ∙ ap (λ (x : Option ℕ). earliest (deadline_in after.shards.items) x) c.earlier-asked.ensures))
     (later g b) (clock c.args.clock.now) (clock c.now-now.new.self) (clock c.wall-wall.new.self) c.now-now.ensures.answers c.wall-wall.ensures.answers (c.wall-wall.ensures.last ∙ c.now-now.ensures.last)
     c.answer.result c.answer.ensures c.either-self-inside.result c.either-self-inside.ensures c.told_after-self-inside.result c.told_after-self-inside.ensures in
     subst (λ (x : Desk). MakesTurn x (after_turn (seen_with d after) c.either-self-inside.result c.now-now.result c.told_after-self-inside.result) before_is behind_is c.answer.result) c.self.view_is made
