@@ -172,7 +172,7 @@ def built_tool():
         yield tool
 
 
-def main(rounds=5, seconds=1.0):
+def main(rounds=11, seconds=0.3):
     with built_tool() as tool:
         print(f"{os.cpu_count()} processors, load {os.getloadavg()[0]:.1f}")
         failed = any([compare(tool, shards, rounds, seconds) for shards in SHARDS])
