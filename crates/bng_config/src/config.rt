@@ -11,7 +11,6 @@ use bng_base::{AccessPort, AuthKind, Ip4, Listed, NamedRange, Peer, Static};
 /// Access-Request is sent in all, 1 to 10. Of accounting it is for how many terms there is room that are live or have a
 /// record that the server has not yet acknowledged, 64 to 262,144 (RFC 2866 section 4.1), the gateway's end of the
 /// socket for accounting, which no other of its sockets has, and the server's end (section 3); the secret is the same.
-#[derive(Drop)]
 pub struct Config {
     pub name: ArrayVec<u8, 64>,
     pub shards: u16,
@@ -38,4 +37,32 @@ pub struct Config {
     /// The pools of addresses for subscribers, 1 to 16. Their names are different, 1 to 32 of `a` to `z`, `0` to `9`, `-`
     /// and `_` each; no address is in two of them; together they have at most 262,144; each circuit's address is in one.
     pub pools: Listed<NamedRange>,
+}
+
+impl Drop for Config {
+    fn drop(self) {
+        let Config {
+            name: _,
+            shards: _,
+            services: _,
+            auth: _,
+            echo: _,
+            control_local: _,
+            core_local: _,
+            core_peer: _,
+            access: _,
+            statics: _,
+            nas_ip: _,
+            auth_local: _,
+            auth_server: _,
+            secret: _,
+            tries: _,
+            terms: _,
+            acct_local: _,
+            acct_server: _,
+            address: _,
+            dns: _,
+            pools: _,
+        } = self;
+    }
 }

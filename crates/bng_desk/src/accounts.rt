@@ -57,12 +57,22 @@ pub(crate) const NO_STOPS: Stopped = Stopped {
 
 /// The lines of the circuits, what the Stops of all terms say that were formed so far, the records of terms, and of each shard which
 /// Interims were taken.
-#[derive(Drop)]
 pub(crate) struct Accounts {
     pub(crate) lines: Vec<Line>,
     pub(crate) stopped: Stopped,
     pub(crate) billing: Billing,
     pub(crate) reports: Vec<Reports>,
+}
+
+impl Drop for Accounts {
+    fn drop(self) {
+        let Accounts {
+            lines: _,
+            stopped: _,
+            billing: _,
+            reports: _,
+        } = self;
+    }
 }
 
 impl Model for Accounts {

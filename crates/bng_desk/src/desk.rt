@@ -17,11 +17,12 @@ use crate::random::Draws;
 use crate::report::{octets_of, report};
 use crate::settlement::Works;
 use crate::sums::{Sums, all_carried, begun_in, live, plus_book, sessions_in};
-use bng_base::{Book, Frame, Item};
+use bng_base::{Book, Frame, Item, Listed};
 use bng_config::Config;
 use bng_shard::{Rules, Shard};
 use std::alloc::Global;
 use std::marker::Model;
+use std::mem;
 
 /// So many turns of the ending in a row that open no round are the end.
 const UNOPENED_MOST: u64 = 1_000_000;
@@ -63,7 +64,6 @@ pub enum Turned {
 }
 
 /// The desk. Contracts see what it serves, its shards, the questions and the records that are out, and what it counts.
-#[derive(Drop)]
 pub struct Desk {
     pub(crate) rules: Rules,
     rounds: u64,
@@ -77,6 +77,25 @@ pub struct Desk {
     pub(crate) closed: bool,
     pub(crate) closing: u64,
     pub(crate) graces: u64,
+}
+
+impl Drop for Desk {
+    fn drop(self) {
+        let Desk {
+            rules: _,
+            rounds: _,
+            turns: _,
+            stopped: _,
+            works: _,
+            moment: _,
+            told: _,
+            endings: _,
+            unopened: _,
+            closed: _,
+            closing: _,
+            graces: _,
+        } = self;
+    }
 }
 
 impl Model for Desk {
@@ -144,7 +163,7 @@ impl Desk {
     /// key of the cookies first.
     pub fn open(
         alloc: Global,
-        config: Config,
+        mut config: Config,
         rounds: u64,
         seed: [u8; 32],
         now: u64,
@@ -169,7 +188,8 @@ impl Desk {
         let (handed, reports) = opening::notes(alloc, config.shards)?;
         let kept = room_to_keep(alloc)?;
         let rules = opening::rules(alloc, &config, offers)?;
-        let opens = opening::shards(alloc, &rules, config.statics.into_vec(), now)?;
+        let circuits = mem::replace(&mut config.statics, Listed::of(Vec::new(alloc)));
+        let opens = opening::shards(alloc, &rules, circuits.into_vec(), now)?;
         let accounts = opening::accounts(alloc, billing, lines, reports, opens.as_slice(), now)?;
         Ok(Desk {
             rules,

@@ -18,7 +18,6 @@ use std::alloc::Global;
 /// What the turns of a desk work on. The lists of its turns are kept from one to the next: `lists`, and in `spare` those of the shards'
 /// journals. `kept` has room for all that may stay of a round, so that a round that could not be opened for want of memory takes none.
 /// Into `frame` a turn receives; it is kept so that no turn blanks one.
-#[derive(Drop)]
 pub(crate) struct Works {
     pub(crate) shards: Vec<Shard>,
     pub(crate) pool: PlainPool,
@@ -32,6 +31,25 @@ pub(crate) struct Works {
     pub(crate) lists: Lists,
     pub(crate) spare: Vec<Batch<Entry>>,
     pub(crate) frame: Frame,
+}
+
+impl Drop for Works {
+    fn drop(self) {
+        let Works {
+            shards: _,
+            pool: _,
+            accounts: _,
+            tally: _,
+            draws: _,
+            drops: _,
+            lane: _,
+            handed: _,
+            kept: _,
+            lists: _,
+            spare: _,
+            frame: _,
+        } = self;
+    }
 }
 
 /// What came of a settlement: whether the trace took its round, and whether that was opened.

@@ -120,12 +120,22 @@ fn loopback(port: u16) -> Peer {
 }
 
 /// What a run left.
-#[derive(Drop)]
 struct Ended {
     status: u8,
     plant: MemoryPlant,
     out: MemorySink,
     err: MemorySink,
+}
+
+impl Drop for Ended {
+    fn drop(self) {
+        let Ended {
+            status: _,
+            plant: _,
+            out: _,
+            err: _,
+        } = self;
+    }
 }
 
 /// The frame with an 84-octet packet that begins with these octets.

@@ -3,7 +3,6 @@ use bng_discovery::PortRules;
 use bng_ppp::LinkRules;
 
 /// By what all shards of a gateway work. A shard has them from its opening on.
-#[derive(Drop)]
 pub struct Rules {
     /// How many shards there are, 1 to 64.
     pub shards: u16,
@@ -18,4 +17,17 @@ pub struct Rules {
     pub pools: Listed<NamedRange>,
     /// What each session's link is run by.
     pub link: LinkRules,
+}
+
+impl Drop for Rules {
+    fn drop(self) {
+        let Rules {
+            shards: _,
+            core_peer: _,
+            access: _,
+            offers: _,
+            pools: _,
+            link: _,
+        } = self;
+    }
 }

@@ -34,7 +34,6 @@ use std::marker::Model;
 /// The sessions of a shard by number, provisioned circuits among them; how many terms began, how many questions were asked, by session
 /// number the moment in milliseconds at which its last packet passed, the numbers of the sessions that have ended and leave at the
 /// settlement, of those whose question has no verdict yet, and of those for which a request may come again.
-#[derive(Drop)]
 pub struct Served {
     pub(crate) sessions: Slots<Session>,
     pub(crate) begun: u64,
@@ -43,6 +42,20 @@ pub struct Served {
     pub(crate) leaving: Vec<SessionNo>,
     pub(crate) asking: Vec<SessionNo>,
     pub(crate) young: Vec<SessionNo>,
+}
+
+impl Drop for Served {
+    fn drop(self) {
+        let Served {
+            sessions: _,
+            begun: _,
+            asked: _,
+            passed: _,
+            leaving: _,
+            asking: _,
+            young: _,
+        } = self;
+    }
 }
 
 impl Model for Served {

@@ -43,7 +43,6 @@ pub enum ShardError {
 /// The sessions of one shard, with the provisioned circuits whose numbers are the shard's. Contracts see it as the engine does:
 /// its rules and what it serves by them, a row for each term with what it carried, a book for each profile, and of a round that is
 /// going on its allowance of new terms, the journal, what is to be sent, and for how many items more there is room.
-#[derive(Drop)]
 pub struct Shard {
     rules: Rules,
     pub(crate) served: Served,
@@ -55,6 +54,22 @@ pub struct Shard {
     journal: Batch<Entry>,
     outs: Batch<OutRecord>,
     room: usize,
+}
+
+impl Drop for Shard {
+    fn drop(self) {
+        let Shard {
+            rules: _,
+            served: _,
+            terms: _,
+            passed: _,
+            allowance: _,
+            left: _,
+            journal: _,
+            outs: _,
+            room: _,
+        } = self;
+    }
 }
 
 impl Model for Shard {

@@ -143,10 +143,15 @@ fn rules_with(alloc: Global, range: Range) -> Result<Rules, AllocError>
 }
 
 /// A shard, and who holds an address.
-#[derive(Drop)]
 struct Bench {
     shard: Shard,
     pool: PlainPool,
+}
+
+impl Drop for Bench {
+    fn drop(self) {
+        let Bench { shard: _, pool: _ } = self;
+    }
 }
 
 impl Model for Bench {
