@@ -1,5 +1,5 @@
 use super::{Config, ConfigError, Fault, Key, fault_text, read};
-use bng_base::{AuthKind, Ip4, Mac, Peer, SessionNo};
+use bng_base::{AccessPort, AuthKind, Ip4, Mac, NamedRange, Peer, SessionNo, Static};
 use std::alloc::{AllocError, Global};
 use std::process::Abort;
 use std::test::Fail;
@@ -102,76 +102,109 @@ fn config_of(rt: &impl Abort, alloc: Global, text: &str) -> Config {
     read(alloc, text.as_bytes()).expect(rt, "a configuration")
 }
 
+fn assert_number(rt: &impl Abort, number: u64, wanted: u64) {
+    assert_eq!(rt; number, wanted);
+}
+
+fn assert_octets(rt: &impl Abort, octets: &[u8], wanted: &[u8]) {
+    assert_eq!(rt; octets, wanted);
+}
+
+fn assert_address(rt: &impl Abort, address: Ip4, wanted: u32) {
+    assert_eq!(rt; address.0, wanted);
+}
+
+fn assert_peer(rt: &impl Abort, peer: Peer, wanted: u16) {
+    assert_eq!(rt; peer, loopback(wanted));
+}
+
+fn assert_mac(rt: &impl Abort, mac: Mac, wanted: u8) {
+    assert_eq!(rt; mac, Mac([2, 0, 0, 0, 0, wanted]));
+}
+
+fn assert_kinds(rt: &impl Abort, kinds: &[AuthKind], wanted: &[AuthKind]) {
+    assert_eq!(rt; kinds, wanted);
+}
+
+fn assert_ports(rt: &impl Abort, access: &[AccessPort], ends: &[(u16, u16, u8)]) {
+    assert_eq!(rt; access.len(), ends.len());
+    for (port, (local, peer, mac)) in access.iter().zip(ends) {
+        assert_peer(rt, port.local, *local);
+        assert_peer(rt, port.peer, *peer);
+        assert_mac(rt, port.mac, *mac);
+    }
+}
+
+fn assert_pools(rt: &impl Abort, pools: &[NamedRange], ranges: &[(&[u8], u32, u32)]) {
+    assert_eq!(rt; pools.len(), ranges.len());
+    for (pool, (name, first, last)) in pools.iter().zip(ranges) {
+        assert_octets(rt, pool.name.as_slice(), *name);
+        assert_address(rt, pool.range.first, *first);
+        assert_address(rt, pool.range.last, *last);
+    }
+}
+
+fn assert_circuits(rt: &impl Abort, statics: &[Static], rows: &[(u8, u8, u16, u32, &[u8])]) {
+    assert_eq!(rt; statics.len(), rows.len());
+    for (circuit, (port, mac, session, address, user)) in statics.iter().zip(rows) {
+        assert_number(rt, u64::from(circuit.port), u64::from(*port));
+        assert_mac(rt, circuit.mac, *mac);
+        assert_number(rt, u64::from(circuit.session.0), u64::from(*session));
+        assert_address(rt, circuit.address, *address);
+        assert_octets(rt, circuit.user.as_slice(), *user);
+    }
+}
+
+// What the gateway is, of a configuration.
+fn assert_gateway(rt: &impl Abort, config: &Config) {
+    assert_octets(rt, config.name.as_slice(), b"bng1");
+    assert_number(rt, u64::from(config.shards), 4);
+    assert_eq!(rt; config.services.len(), 1);
+    assert_octets(rt, config.services.as_slice()[0].as_slice(), b"inet");
+    assert_kinds(rt, config.auth.as_slice(), &[AuthKind::Chap, AuthKind::Pap]);
+    assert_number(rt, u64::from(config.echo), 30);
+    assert_number(rt, u64::from(config.terms), 8192);
+    assert_address(rt, config.address, 0x0a00_0001);
+    assert_eq!(rt; config.dns.len(), 0);
+}
+
+// Its sockets, and what it knows of its servers.
+fn assert_sockets(rt: &impl Abort, config: &Config) {
+    assert_peer(rt, config.control_local, 9002);
+    assert_peer(rt, config.core_local, 9000);
+    assert_peer(rt, config.core_peer, 9001);
+    assert_address(rt, config.nas_ip, 0xc0a8_0110);
+    assert_peer(rt, config.auth_local, 9003);
+    assert_peer(rt, config.auth_server, 1812);
+    assert_octets(rt, config.secret.as_slice(), b"xyzzy5461");
+    assert_number(rt, u64::from(config.tries), 4);
+    assert_peer(rt, config.acct_local, 9004);
+    assert_peer(rt, config.acct_server, 1813);
+}
+
 #[test]
 fn a_whole_configuration_is_read(rt: HostRuntime) {
     let config = config_of(&rt, rt.alloc(), WHOLE);
-    assert_eq!(rt; config.name.as_slice(), b"bng1".as_slice());
-    assert_eq!(rt; config.shards, 4);
-    assert_eq!(rt; config.services.len(), 1);
-    assert_eq!(rt;
-        config.services.as_slice()[0].as_slice(),
-        b"inet".as_slice()
-    );
-    assert_eq!(rt;
-        config.auth.as_slice(),
-        [AuthKind::Chap, AuthKind::Pap].as_slice()
-    );
-    assert_eq!(rt; config.echo, 30);
-    assert_eq!(rt; config.control_local, loopback(9002));
-    assert_eq!(rt; config.core_local, loopback(9000));
-    assert_eq!(rt; config.core_peer, loopback(9001));
-    let access = config.access.as_slice();
-    assert_eq!(rt; access.len(), 1);
-    assert_eq!(rt; access[0].local, loopback(9010));
-    assert_eq!(rt; access[0].peer, loopback(9011));
-    assert_eq!(rt; access[0].mac, Mac([2, 0, 0, 0, 0, 0xfe]));
-    let statics = config.statics.as_slice();
-    assert_eq!(rt; statics.len(), 1);
-    assert_eq!(rt; statics[0].port, 1);
-    assert_eq!(rt; statics[0].mac, Mac([2, 0, 0, 0, 0, 1]));
-    assert_eq!(rt; statics[0].session, SessionNo(1025));
-    assert_eq!(rt; statics[0].address, Ip4(0x0a00_0002));
-    assert_eq!(rt; statics[0].user.as_slice(), b"fixed1".as_slice());
-    assert_eq!(rt; statics[0].profile, 0);
-    assert_eq!(rt; config.nas_ip, Ip4(0xc0a8_0110));
-    assert_eq!(rt; config.auth_local, loopback(9003));
-    assert_eq!(rt; config.auth_server, loopback(1812));
-    assert_eq!(rt; config.secret.as_slice(), b"xyzzy5461".as_slice());
-    assert_eq!(rt; config.tries, 4);
-    assert_eq!(rt; config.terms, 8192);
-    assert_eq!(rt; config.acct_local, loopback(9004));
-    assert_eq!(rt; config.acct_server, loopback(1813));
-    assert_eq!(rt; config.address, Ip4(0x0a00_0001));
-    assert_eq!(rt; config.dns.len(), 0);
-    let pools = config.pools.as_slice();
-    assert_eq!(rt; pools.len(), 1);
-    assert_eq!(rt; pools[0].name.as_slice(), b"main".as_slice());
-    assert_eq!(rt; pools[0].range.first, Ip4(0x0a00_0002));
-    assert_eq!(rt; pools[0].range.last, Ip4(0x0a00_0065));
+    assert_gateway(&rt, &config);
+    assert_sockets(&rt, &config);
+    assert_ports(&rt, config.access.as_slice(), &[(9010, 9011, 0xfe)]);
+    let ranges: [(&[u8], u32, u32); 1] = [(b"main", 0x0a00_0002, 0x0a00_0065)];
+    assert_pools(&rt, config.pools.as_slice(), &ranges);
+    let circuits: [(u8, u8, u16, u32, &[u8]); 1] = [(1, 1, 1025, 0x0a00_0002, b"fixed1")];
+    assert_circuits(&rt, config.statics.as_slice(), &circuits);
+    assert_eq!(rt; config.statics.as_slice()[0].profile, 0);
 }
 
 #[test]
 fn all_entries_are_read_in_order(rt: HostRuntime) {
     let config = config_of(&rt, rt.alloc(), LISTS);
     let ends = [(9010, 9011, 0xfe), (9020, 9021, 0xff)];
-    let access = config.access.as_slice();
-    assert_eq!(rt; access.len(), ends.len());
-    for (port, (local, peer, mac)) in access.iter().zip(ends) {
-        assert_eq!(rt; port.local, loopback(local));
-        assert_eq!(rt; port.peer, loopback(peer));
-        assert_eq!(rt; port.mac, Mac([2, 0, 0, 0, 0, mac]));
-    }
+    assert_ports(&rt, config.access.as_slice(), &ends);
     let ranges: [(&[u8], u32, u32); 2] = [
         (b"main", 0x0a00_0002, 0x0a00_0065),
         (b"top_0-9", 0xffff_ffff, 0xffff_ffff),
     ];
-    let pools = config.pools.as_slice();
-    assert_eq!(rt; pools.len(), ranges.len());
-    for (pool, (name, first, last)) in pools.iter().zip(ranges) {
-        assert_eq!(rt; pool.name.as_slice(), name);
-        assert_eq!(rt; pool.range.first, Ip4(first));
-        assert_eq!(rt; pool.range.last, Ip4(last));
-    }
+    assert_pools(&rt, config.pools.as_slice(), &ranges);
     let servers = [Ip4(0xc000_0235), Ip4(0xc000_0236)];
     assert_eq!(rt; config.dns.as_slice(), servers.as_slice());
     let rows: [(u8, u8, u16, u32, &[u8]); 3] = [
@@ -179,15 +212,7 @@ fn all_entries_are_read_in_order(rt: HostRuntime) {
         (2, 2, 65_534, 0x0a00_0003, b"fixed2"),
         (2, 3, 1, 0xffff_ffff, b"fixed3"),
     ];
-    let statics = config.statics.as_slice();
-    assert_eq!(rt; statics.len(), rows.len());
-    for (circuit, (port, mac, session, address, user)) in statics.iter().zip(rows) {
-        assert_eq!(rt; circuit.port, port);
-        assert_eq!(rt; circuit.mac, Mac([2, 0, 0, 0, 0, mac]));
-        assert_eq!(rt; circuit.session, SessionNo(session));
-        assert_eq!(rt; circuit.address, Ip4(address));
-        assert_eq!(rt; circuit.user.as_slice(), user);
-    }
+    assert_circuits(&rt, config.statics.as_slice(), &rows);
 }
 
 fn told(rt: &impl Abort, alloc: Global, text: &[u8]) -> Fault {

@@ -120,126 +120,128 @@ fn the_first_way_to_authenticate_comes_first(rt: HostRuntime) -> Result<(), Fail
     Ok(())
 }
 
+// The broken texts of a gateway, each with what is told of it.
+const BROKEN: [(&str, &str); 36] = [
+    ("", "C5 gateway.name"),
+    ("gateway = 1", "C5 gateway.name"),
+    ("gateway = [{ name = \"bng1\" }]", "C5 gateway.name"),
+    ("gateway.name = 1", "C5 gateway.name"),
+    ("gateway.name = \"\"", "C5 gateway.name"),
+    ("gateway.name = \"bng 1\"", "C5 gateway.name"),
+    ("gateway.name = \"bng1\\u007f\"", "C5 gateway.name"),
+    ("gateway.name = \"bng\u{e9}\"", "C5 gateway.name"),
+    ("gateway.name = \"bng1\\n\"", "C5 gateway.name"),
+    ("gateway = { shards = 0 }", "C5 gateway.name"),
+    (
+        "gateway = { name = \"n\", address = \"10.0.0.1\", shards = 0 }",
+        "C5 gateway.shards",
+    ),
+    (
+        "gateway = { name = \"n\", address = \"10.0.0.1\", shards = 65 }",
+        "C5 gateway.shards",
+    ),
+    (
+        "gateway = { name = \"n\", address = \"10.0.0.1\", shards = -1 }",
+        "C5 gateway.shards",
+    ),
+    (
+        "gateway = { name = \"n\", address = \"10.0.0.1\", shards = 65537 }",
+        "C5 gateway.shards",
+    ),
+    (
+        "gateway = { name = \"n\", address = \"10.0.0.1\", shards = \"4\" }",
+        "C5 gateway.shards",
+    ),
+    (
+        "gateway = { name = \"n\", address = \"10.0.0.1\", shards = 4.0 }",
+        "C5 gateway.shards",
+    ),
+    (
+        "gateway = { name = \"n\", address = \"10.0.0.1\", terms = 63 }",
+        "C5 gateway.terms",
+    ),
+    (
+        "gateway = { name = \"n\", address = \"10.0.0.1\", terms = 262145 }",
+        "C5 gateway.terms",
+    ),
+    (
+        "gateway = { name = \"n\", address = \"10.0.0.1\", terms = -1 }",
+        "C5 gateway.terms",
+    ),
+    (
+        "gateway = { name = \"n\", address = \"10.0.0.1\", terms = 4294967360 }",
+        "C5 gateway.terms",
+    ),
+    (
+        "gateway = { name = \"n\", address = \"10.0.0.1\", terms = \"64\" }",
+        "C5 gateway.terms",
+    ),
+    (
+        "gateway = { name = \"n\", address = \"10.0.0.1\", services = \"inet\" }",
+        "C5 gateway.services",
+    ),
+    (
+        "gateway = { name = \"n\", address = \"10.0.0.1\", services = [\"a\", 1] }",
+        "C5 gateway.services",
+    ),
+    (
+        "gateway = { name = \"n\", address = \"10.0.0.1\", services = [\"\"] }",
+        "C5 gateway.services",
+    ),
+    (
+        "gateway = { name = \"n\", address = \"10.0.0.1\", services = [\"1\", \"2\", \"3\", \"4\", \"5\", \"6\", \"7\", \"8\", \"9\"] }",
+        "C5 gateway.services",
+    ),
+    (
+        "gateway = { name = \"n\", address = \"10.0.0.1\", auth = \"chap\" }",
+        "C5 gateway.auth",
+    ),
+    (
+        "gateway = { name = \"n\", address = \"10.0.0.1\", auth = [] }",
+        "C5 gateway.auth",
+    ),
+    (
+        "gateway = { name = \"n\", address = \"10.0.0.1\", auth = [\"CHAP\"] }",
+        "C5 gateway.auth",
+    ),
+    (
+        "gateway = { name = \"n\", address = \"10.0.0.1\", auth = [\"eap\"] }",
+        "C5 gateway.auth",
+    ),
+    (
+        "gateway = { name = \"n\", address = \"10.0.0.1\", auth = [\"pap\", 1] }",
+        "C5 gateway.auth",
+    ),
+    (
+        "gateway = { name = \"n\", address = \"10.0.0.1\", auth = [\"chap\", \"chap\"] }",
+        "C5 gateway.auth",
+    ),
+    (
+        "gateway = { name = \"n\", address = \"10.0.0.1\", auth = [\"pap\", \"pap\"] }",
+        "C5 gateway.auth",
+    ),
+    (
+        "gateway = { name = \"n\", address = \"10.0.0.1\", auth = [\"chap\", \"pap\", \"chap\"] }",
+        "C5 gateway.auth",
+    ),
+    (
+        "gateway = { name = \"n\", address = \"10.0.0.1\", echo = -1 }",
+        "C5 gateway.echo",
+    ),
+    (
+        "gateway = { name = \"n\", address = \"10.0.0.1\", echo = 3601 }",
+        "C5 gateway.echo",
+    ),
+    (
+        "gateway = { name = \"n\", address = \"10.0.0.1\", echo = true }",
+        "C5 gateway.echo",
+    ),
+];
+
 #[test]
 fn each_broken_value_is_told_at_its_key(rt: HostRuntime) -> Result<(), Fail> {
-    let rows = [
-        ("", "C5 gateway.name"),
-        ("gateway = 1", "C5 gateway.name"),
-        ("gateway = [{ name = \"bng1\" }]", "C5 gateway.name"),
-        ("gateway.name = 1", "C5 gateway.name"),
-        ("gateway.name = \"\"", "C5 gateway.name"),
-        ("gateway.name = \"bng 1\"", "C5 gateway.name"),
-        ("gateway.name = \"bng1\\u007f\"", "C5 gateway.name"),
-        ("gateway.name = \"bng\u{e9}\"", "C5 gateway.name"),
-        ("gateway.name = \"bng1\\n\"", "C5 gateway.name"),
-        ("gateway = { shards = 0 }", "C5 gateway.name"),
-        (
-            "gateway = { name = \"n\", address = \"10.0.0.1\", shards = 0 }",
-            "C5 gateway.shards",
-        ),
-        (
-            "gateway = { name = \"n\", address = \"10.0.0.1\", shards = 65 }",
-            "C5 gateway.shards",
-        ),
-        (
-            "gateway = { name = \"n\", address = \"10.0.0.1\", shards = -1 }",
-            "C5 gateway.shards",
-        ),
-        (
-            "gateway = { name = \"n\", address = \"10.0.0.1\", shards = 65537 }",
-            "C5 gateway.shards",
-        ),
-        (
-            "gateway = { name = \"n\", address = \"10.0.0.1\", shards = \"4\" }",
-            "C5 gateway.shards",
-        ),
-        (
-            "gateway = { name = \"n\", address = \"10.0.0.1\", shards = 4.0 }",
-            "C5 gateway.shards",
-        ),
-        (
-            "gateway = { name = \"n\", address = \"10.0.0.1\", terms = 63 }",
-            "C5 gateway.terms",
-        ),
-        (
-            "gateway = { name = \"n\", address = \"10.0.0.1\", terms = 262145 }",
-            "C5 gateway.terms",
-        ),
-        (
-            "gateway = { name = \"n\", address = \"10.0.0.1\", terms = -1 }",
-            "C5 gateway.terms",
-        ),
-        (
-            "gateway = { name = \"n\", address = \"10.0.0.1\", terms = 4294967360 }",
-            "C5 gateway.terms",
-        ),
-        (
-            "gateway = { name = \"n\", address = \"10.0.0.1\", terms = \"64\" }",
-            "C5 gateway.terms",
-        ),
-        (
-            "gateway = { name = \"n\", address = \"10.0.0.1\", services = \"inet\" }",
-            "C5 gateway.services",
-        ),
-        (
-            "gateway = { name = \"n\", address = \"10.0.0.1\", services = [\"a\", 1] }",
-            "C5 gateway.services",
-        ),
-        (
-            "gateway = { name = \"n\", address = \"10.0.0.1\", services = [\"\"] }",
-            "C5 gateway.services",
-        ),
-        (
-            "gateway = { name = \"n\", address = \"10.0.0.1\", services = [\"1\", \"2\", \"3\", \"4\", \"5\", \"6\", \"7\", \"8\", \"9\"] }",
-            "C5 gateway.services",
-        ),
-        (
-            "gateway = { name = \"n\", address = \"10.0.0.1\", auth = \"chap\" }",
-            "C5 gateway.auth",
-        ),
-        (
-            "gateway = { name = \"n\", address = \"10.0.0.1\", auth = [] }",
-            "C5 gateway.auth",
-        ),
-        (
-            "gateway = { name = \"n\", address = \"10.0.0.1\", auth = [\"CHAP\"] }",
-            "C5 gateway.auth",
-        ),
-        (
-            "gateway = { name = \"n\", address = \"10.0.0.1\", auth = [\"eap\"] }",
-            "C5 gateway.auth",
-        ),
-        (
-            "gateway = { name = \"n\", address = \"10.0.0.1\", auth = [\"pap\", 1] }",
-            "C5 gateway.auth",
-        ),
-        (
-            "gateway = { name = \"n\", address = \"10.0.0.1\", auth = [\"chap\", \"chap\"] }",
-            "C5 gateway.auth",
-        ),
-        (
-            "gateway = { name = \"n\", address = \"10.0.0.1\", auth = [\"pap\", \"pap\"] }",
-            "C5 gateway.auth",
-        ),
-        (
-            "gateway = { name = \"n\", address = \"10.0.0.1\", auth = [\"chap\", \"pap\", \"chap\"] }",
-            "C5 gateway.auth",
-        ),
-        (
-            "gateway = { name = \"n\", address = \"10.0.0.1\", echo = -1 }",
-            "C5 gateway.echo",
-        ),
-        (
-            "gateway = { name = \"n\", address = \"10.0.0.1\", echo = 3601 }",
-            "C5 gateway.echo",
-        ),
-        (
-            "gateway = { name = \"n\", address = \"10.0.0.1\", echo = true }",
-            "C5 gateway.echo",
-        ),
-    ];
     let alloc = rt.alloc();
-    for (line, wanted) in rows {
+    for (line, wanted) in BROKEN {
         let text = with_gateway(alloc, line)?;
         let fault = told(&rt, alloc, text.as_bytes());
         assert_eq!(rt; fault_text(fault).as_str(), wanted);
