@@ -9,8 +9,9 @@ use Rattle.bng_gate.specs.declared.texts.Opening.TheVariants.{Configuration, See
 use Rattle.bng_gate.specs.declared.texts.Refusal.{Refusal}
 use Rattle.bng_gate.specs.declared.texts.Refusal.TheVariants.{Usage, Refused, CannotOpen, OutOfMemory, TraceFailed, OutputFailed}
 use Rattle.bng_gate.specs.Texts.{refusal_text, status_of}
-use Rattle.bng_gate.specs.Run.{World, outside, Prepares, IsUnprepared, FailsToSeed, Seeds, SeedsOnce, IsReady, Runs, RunsTo, Concludes, IsUnserved, Told, IsRun, IsServed, IsUnanswered, Why, Refuses, IsUnwritten, RunEnds}
+use Rattle.bng_gate.specs.Run.{World, outside, Prepares, IsUnprepared, FailsToSeed, Seeds, SeedsOnce, IsReady, Runs, CompletesTo, Concludes, Tells, IsUnready, IsUnserved, Told, IsRun, IsServed, IsUnanswered, Why, Refuses, IsUnwritten, RunEnds}
 use Rattle.bng_gate.specs.Unanswered.{unanswered_of, NamesStops, FailsToName}
+use Rattle.bng_gate.proofs.Whole.{runs_of, unprinted_of}
 
 -- Each status by itself.
 module _ (words : List (List ℕ)) (old new : World) (status : ℕ) (seeds : SeedsOnce old.entropy new.entropy) where
@@ -71,7 +72,7 @@ module _ (words : List (List ℕ)) (f f' : FilesTold) (p : PlantTold) (k : Clock
   why_unprepared TraceFailed w = absurd w
   why_unprepared OutputFailed w = absurd w
 
-  pub unprepared : (refusal : Refusal) → IsUnprepared words f f' refusal → Told e e' refusal status → RunEnds words before unread status
+  unprepared : (refusal : Refusal) → IsUnprepared words f f' refusal → Told e e' refusal status → RunEnds words before unread status
   unprepared refusal w told = ends_with words before unread status (inl refl) refusal (why_unprepared refusal w) told
 
 -- A configuration was read, and no seed was given.
@@ -82,7 +83,7 @@ module _ (words : List (List ℕ)) (config : Config) (f f' : FilesTold) (p : Pla
   abbrev ungiven : World
   ungiven = record { files = f'; plant = p; clock = k; entropy = n'; trace = t; out = o; err = e' }
 
-  pub unseeded : Prepares words f f' config → FailsToSeed n n' → Told e e' (CannotOpen Seed) status → RunEnds words unasked ungiven status
+  unseeded : Prepares words f f' config → FailsToSeed n n' → Told e e' (CannotOpen Seed) status → RunEnds words unasked ungiven status
   unseeded prepares fails told =
       ends_with words unasked ungiven status (inr (inl fails)) (CannotOpen Seed)
       (record {
@@ -93,6 +94,15 @@ module _ (words : List (List ℕ)) (config : Config) (f f' : FilesTold) (p : Pla
         out = refl;
       })
       told
+
+-- Nothing was there to be served.
+module _ (words : List (List ℕ)) (f f' : FilesTold) (p : PlantTold) (k : ClockTold) (n n' : EntropyTold) (t : TraceTold) (o e e' : SinkTold) (status : ℕ) where
+  pub unready : (refusal : Refusal) → IsUnready words f f' n n' refusal → Told e e' refusal status →
+      RunEnds words (record { files = f; plant = p; clock = k; entropy = n; trace = t; out = o; err = e }) (record { files = f'; plant = p; clock = k; entropy = n'; trace = t; out = o; err = e' }) status
+  unready refusal (inl w) told =
+      subst (λ (x : EntropyTold). RunEnds words (record { files = f; plant = p; clock = k; entropy = n; trace = t; out = o; err = e }) (record { files = f'; plant = p; clock = k; entropy = x; trace = t; out = o; err = e' }) status) (sym w.1)
+      (unprepared words f f' p k n t o e e' status refusal w.0 told)
+  unready refusal (inr w) told = unseeded words w.1 f f' p k n n' t o e e' status w.2 w.3 (subst (λ (x : Refusal). Told e e' x status) w.0 told)
 
 -- A configuration was read, and a seed was given.
 module _ (words : List (List ℕ)) (config : Config) (seed : List ℕ) (f f' : FilesTold) (p p' : PlantTold) (k k' : ClockTold) (n n' : EntropyTold) (t t' : TraceTold) (o o' e e' : SinkTold) (status : ℕ) where
@@ -109,18 +119,18 @@ module _ (words : List (List ℕ)) (config : Config) (seed : List ℕ) (f f' : F
   is_run ready runs = record { config = config; seed = seed; ready = ready; runs = runs }
 
   -- it came to its report
-  pub concluded : Prepares words f f' config → Seeds n n' seed → (d : Desk) → RunsTo config seed (outside first) (outside last) o o' d → Concludes d e e' status → RunEnds words first last status
-  concluded prepares seeds d to (inl c) =
-      let run = is_run (record { prepares = prepares; seeds = seeds }) to.runs in
-      ends_served words first last status (given seeds) c.0 (record { run = run; acknowledged = subst (λ (x : Desk). unanswered_of x ≡ []) (sym to.last) c.1; silent = c.2 })
-  concluded prepares seeds d to (inr (inl c)) =
-      let run = is_run (record { prepares = prepares; seeds = seeds }) to.runs in
-      ends_unanswered words first last status (given seeds) c.0 (record { run = run; names = subst (λ (x : Desk). NamesStops x e e') (sym to.last) c.1 })
-  concluded prepares seeds d to (inr (inr (inl c))) =
-      let run = is_run (record { prepares = prepares; seeds = seeds }) to.runs in
-      ends_unwritten words first last status (given seeds) c.0 (inr (inr (inr (record { run = run; fails = subst (λ (x : Desk). FailsToName x e e') (sym to.last) c.1 }))))
-  concluded prepares seeds d to (inr (inr (inr told))) =
-      ends_with words first last status (given seeds) OutOfMemory (inr (inr (is_run (record { prepares = prepares; seeds = seeds }) to.runs))) told
+  concluded : Prepares words f f' config → Seeds n n' seed → (d : Desk) (runs : Runs config seed (outside first) (outside last) o o') → runs.completes.course.last ≡ d → Concludes d e e' status → RunEnds words first last status
+  concluded prepares seeds d runs is (inl c) =
+      let run = is_run (record { prepares = prepares; seeds = seeds }) runs in
+      ends_served words first last status (given seeds) c.0 (record { run = run; acknowledged = subst (λ (x : Desk). unanswered_of x ≡ []) (sym is) c.1; silent = c.2 })
+  concluded prepares seeds d runs is (inr (inl c)) =
+      let run = is_run (record { prepares = prepares; seeds = seeds }) runs in
+      ends_unanswered words first last status (given seeds) c.0 (record { run = run; names = subst (λ (x : Desk). NamesStops x e e') (sym is) c.1 })
+  concluded prepares seeds d runs is (inr (inr (inl c))) =
+      let run = is_run (record { prepares = prepares; seeds = seeds }) runs in
+      ends_unwritten words first last status (given seeds) c.0 (inr (inr (inr (record { run = run; fails = subst (λ (x : Desk). FailsToName x e e') (sym is) c.1 }))))
+  concluded prepares seeds d runs is (inr (inr (inr told))) =
+      ends_with words first last status (given seeds) OutOfMemory (inr (inr (is_run (record { prepares = prepares; seeds = seeds }) runs))) told
 
   why_unserved : IsReady words first last config seed → (refusal : Refusal) → IsUnserved config seed (outside first) (outside last) o o' refusal → Why words first last refusal
   why_unserved ready Usage w = absurd w
@@ -149,3 +159,8 @@ module _ (words : List (List ℕ)) (config : Config) (seed : List ℕ) (f f' : F
 
   pub unserved : Prepares words f f' config → Seeds n n' seed → (refusal : Refusal) → IsUnserved config seed (outside first) (outside last) o o' refusal → Told e e' refusal status → RunEnds words first last status
   unserved prepares seeds refusal w told = ends_with words first last status (given seeds) refusal (why_unserved (record { prepares = prepares; seeds = seeds }) refusal w) told
+
+  -- its turns came to their end
+  pub told_of : Prepares words f f' config → Seeds n n' seed → (d : Desk) → CompletesTo config seed (outside first) (outside last) d → Tells d o o' e e' status → RunEnds words first last status
+  told_of prepares seeds d c (inl t) = concluded prepares seeds d (runs_of config seed (outside first) (outside last) d c o o' t.0) c.last t.1
+  told_of prepares seeds d c (inr t) = unserved prepares seeds t.0 (unprinted_of config seed (outside first) (outside last) d c o o' t.0 t.1) t.2

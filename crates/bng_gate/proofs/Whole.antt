@@ -1,15 +1,16 @@
 -- A run is its opening, its turns and its report.
-use Rattle.std.proofs.Common.{◌≡◌, ◌<◌, ◌≤◌, inl, inr, ℕ, Bool, false, ◌||◌, List, [], ◌∷◌, ◌++◌, length, length-append, refl, sym, ap, subst, arith}
+use Rattle.std.proofs.Common.{◌≡◌, ◌<◌, ◌≤◌, inl, inr, ℕ, Bool, false, ◌||◌, List, [], ◌∷◌, ◌++◌, length, length-append, refl, sym, ap, subst, ◌∙◌, arith}
 use Rattle.bng_base.specs.Causes.{Rose}
 use Rattle.bng_base.specs.Told.{TraceTold, SinkTold}
 use Rattle.bng_base.specs.Stretch.{Outside, Stretch, Extends}
 use Rattle.bng_base.proofs.StretchLaws.{joined_none, extends_more}
 use Rattle.bng_base.proofs.ToldLaws.{rose_late}
 use Rattle.bng_config.specs.declared.config.Config.{Config}
+use Rattle.bng_desk.specs.declared.desk.DeskState.TheVariants.{Starved}
 use Rattle.bng_desk.specs.Model.{Desk, state_of}
 use Rattle.bng_gate.specs.declared.texts.Refusal.{Refusal}
 use Rattle.bng_gate.specs.declared.texts.Refusal.TheVariants.{Usage, Refused, CannotOpen, OutOfMemory, TraceFailed, OutputFailed}
-use Rattle.bng_gate.specs.Run.{turns_most, Begins, Completes, FailsToNote, Reports, IsUnreported, RunsTo, IsUnserved}
+use Rattle.bng_gate.specs.Run.{turns_most, Begins, Completes, CompletesTo, FailsToNote, Reports, FailsToReport, IsUnreported, Runs, IsUnserved}
 use Rattle.bng_gate.specs.Serving.{Made, run_stretch, ending_stretch, EndsServing, MakesTurns, FailsTurning}
 use Rattle.bng_gate.proofs.States.{ended_of}
 
@@ -51,17 +52,8 @@ module _ (config : Config) (seed : List ℕ) (old between new : Outside) (openin
     };
   }
 
-  pub runs_to : (out out' : SinkTold) → MakesTurns opening last between new → Reports last out out' → RunsTo config seed old new out out' last
-  runs_to out out' made reports = record { runs = record { completes = completes_of made; ended = ended_of (state_of last) made.finishes.over reports.unstarved; reports = reports }; last = refl }
-
-  -- the report was not written
-  pub unprinted_of : (out out' : SinkTold) → MakesTurns opening last between new → (refusal : Refusal) → IsUnreported last out out' refusal → IsUnserved config seed old new out out' refusal
-  unprinted_of out out' made Usage w = absurd w
-  unprinted_of out out' made (Refused fault) w = absurd w
-  unprinted_of out out' made (CannotOpen what) w = absurd w
-  unprinted_of out out' made OutOfMemory w = (inr (completes_of made), w)
-  unprinted_of out out' made TraceFailed w = absurd w
-  unprinted_of out out' made OutputFailed w = record { completes = completes_of made; ended = ended_of (state_of last) made.finishes.over w.unstarved; fails = w }
+  pub completes_to : MakesTurns opening last between new → CompletesTo config seed old new last
+  completes_to made = record { completes = completes_of made; last = refl }
 
   rose_here : Rose between.trace.faults new.trace.faults → Rose old.trace.faults new.trace.faults
   rose_here rose = subst (λ (t : TraceTold). Rose t.faults new.trace.faults) untraced rose
@@ -127,3 +119,28 @@ module _ (config : Config) (seed : List ℕ) (old between new : Outside) (openin
         });
         rose = rose_here (rose_late between.trace.faults f.between.trace.faults new.trace.faults f.serves.told.cause.later f.fails.rose);
       }
+
+-- What was told of a run whose turns came to their end.
+module _ (config : Config) (seed : List ℕ) (old new : Outside) (d : Desk) (c : CompletesTo config seed old new d) (out out' : SinkTold) where
+  unstarved : ¬ (state_of d ≡ Starved) → ¬ (state_of c.completes.course.last ≡ Starved)
+  unstarved none is = none (ap (λ (x : Desk). state_of x) (sym c.last) ∙ is)
+
+  pub runs_of : Reports d out out' → Runs config seed old new out out'
+  runs_of reports = record {
+    completes = c.completes;
+    ended = ended_of (state_of c.completes.course.last) c.completes.whole.over (unstarved reports.unstarved);
+    reports = subst (λ (x : Desk). Reports x out out') (sym c.last) reports;
+  }
+
+  -- the report was not written
+  pub unprinted_of : (refusal : Refusal) → IsUnreported d out out' refusal → IsUnserved config seed old new out out' refusal
+  unprinted_of Usage w = absurd w
+  unprinted_of (Refused fault) w = absurd w
+  unprinted_of (CannotOpen what) w = absurd w
+  unprinted_of OutOfMemory w = (inr c.completes, w)
+  unprinted_of TraceFailed w = absurd w
+  unprinted_of OutputFailed w = record {
+    completes = c.completes;
+    ended = ended_of (state_of c.completes.course.last) c.completes.whole.over (unstarved w.unstarved);
+    fails = subst (λ (x : Desk). FailsToReport x out out') (sym c.last) w;
+  }

@@ -166,6 +166,11 @@ pub record FailsToSeed (old new : EntropyTold) : Type 0 where
   pub rose : Rose old.faults new.faults
   pub seeds : new.seeds ≡ old.seeds
 
+-- why there is nothing to serve: no configuration was read, and no seed asked for; or one was read, and no seed was given
+abbrev pub IsUnready : List (List ℕ) → FilesTold → FilesTold → EntropyTold → EntropyTold → Refusal → Type 0
+IsUnready words old new entropy entropy' refusal =
+    (IsUnprepared words old new refusal × (entropy' ≡ entropy)) ⊎ ((refusal ≡ CannotOpen Seed) × ((config : Config) × Prepares words old new config × FailsToSeed entropy entropy'))
+
 -- The turns -----------------------------------------------------------------------------------------------------------------
 
 -- all roles were bound, no bind failed, and the clock was read
@@ -241,6 +246,11 @@ pub record Completes (config : Config) (seed : List ℕ) (old new : Outside) : T
   pub course : Course config seed old new
   pub whole : IsWhole course.turns course.endings course.last
 
+-- and this desk was left
+pub record CompletesTo (config : Config) (seed : List ℕ) (old new : Outside) (d : Desk) : Type 0 where
+  pub completes : Completes config seed old new
+  pub last : completes.course.last ≡ d
+
 -- a run that came to a round that the trace did not take, and made no turn after it
 pub record FailsToNote (config : Config) (seed : List ℕ) (old new : Outside) : Type 0 where
   pub course : Course config seed old new
@@ -278,11 +288,6 @@ pub record Runs (config : Config) (seed : List ℕ) (old new : Outside) (out out
   pub ended : state_of completes.course.last ≡ Ended
   pub reports : Reports completes.course.last out out'
 
--- and this desk was left
-pub record RunsTo (config : Config) (seed : List ℕ) (old new : Outside) (out out' : SinkTold) (d : Desk) : Type 0 where
-  pub runs : Runs config seed old new out out'
-  pub last : runs.completes.course.last ≡ d
-
 -- The run came to its end with no session left and its grace over, and a front of the report was written.
 pub record FailsToPrint (config : Config) (seed : List ℕ) (old new : Outside) (out out' : SinkTold) : Type 0 where
   pub completes : Completes config seed old new
@@ -312,6 +317,10 @@ Told old new refusal status = ((status ≡ status_of refusal) × Grows old.bytes
 abbrev pub Concludes : Desk → SinkTold → SinkTold → ℕ → Type 0
 Concludes last old new status =
     ((status ≡ 0) × (unanswered_of last ≡ []) × (new ≡ old)) ⊎ (((status ≡ 6) × NamesStops last old new) ⊎ (((status ≡ 5) × FailsToName last old new) ⊎ Told old new OutOfMemory status))
+
+-- The report was written, and then what the Stops come to; or it was not, and the line of its refusal was.
+abbrev pub Tells : Desk → SinkTold → SinkTold → SinkTold → SinkTold → ℕ → Type 0
+Tells last out out' err err' status = (Reports last out out' × Concludes last err err' status) ⊎ ((refusal : Refusal) × IsUnreported last out out' refusal × Told err err' refusal status)
 
 -- The statuses --------------------------------------------------------------------------------------------------------------
 

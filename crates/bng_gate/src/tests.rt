@@ -138,6 +138,28 @@ impl Drop for Ended {
     }
 }
 
+// Each check of a value is a function of its own: in a test, among all that is live there, its proof would take long.
+
+/// A run ended with this status.
+fn assert_status(rt: &impl Abort, ended: &Ended, status: u8) {
+    assert_eq!(rt; ended.status, status);
+}
+
+/// It wrote this to the output.
+fn assert_out(rt: &impl Abort, ended: &Ended, text: &[u8]) {
+    assert_eq!(rt; ended.out.text(), text);
+}
+
+/// It wrote this to the output of errors.
+fn assert_err(rt: &impl Abort, ended: &Ended, text: &[u8]) {
+    assert_eq!(rt; ended.err.text(), text);
+}
+
+/// It sent so many datagrams.
+fn assert_sent(rt: &impl Abort, ended: &Ended, count: usize) {
+    assert_eq!(rt; ended.plant.sent().len(), count);
+}
+
 /// The frame with an 84-octet packet that begins with these octets.
 fn frame_of(alloc: Global, packet: &[u8; 20]) -> Result<Vec<u8>, AllocError> {
     let mut frame = Vec::from_slice(alloc, &HEADER)?;

@@ -1,7 +1,7 @@
 //! The top call.
 ghost use Rattle.std.specs.Prelude.{◌≡◌, ◌+◌, ◌<◌, ◌≤◌, ◌⊎◌, ℕ, List, [], ◌∷◌, false, IsSome, OnOk, OnErr, IfNone, IfOk, IfErr, IfSome, length};
 ghost use Rattle.std.specs.List.{All};
-ghost use Rattle.bng_base.specs.Told.{Grows};
+ghost use Rattle.bng_base.specs.Told.{Grows, SinkTold};
 ghost use Rattle.bng_config.specs.declared.config.Config.{Config as Settings};
 ghost use Rattle.bng_config.specs.declared.fault.Fault.{Fault as Rule};
 ghost use Rattle.bng_config.specs.Configuration.{HasFault};
@@ -11,7 +11,7 @@ ghost use Rattle.bng_gate.specs.Headline.{Headline, IsQuiet, WasSafe};
 ghost use Rattle.bng_gate.specs.Words.{Serves};
 ghost use Rattle.bng_gate.specs.Words.{texts as words_of};
 ghost use Rattle.bng_gate.specs.Run.{Prepares, IsUnprepared, Binds, binds_most, BindsPorts, FailsAtPort, FailsAt, Seeds, FailsToSeed, IsUnserved, Told, RunEnds, IsUnfailed, IsFaultless};
-ghost use Rattle.bng_gate.specs.Run.{Begins, IsUnbegun, Reports, IsUnreported, RunsTo, Concludes};
+ghost use Rattle.bng_gate.specs.Run.{Begins, IsUnbegun, Reports, IsUnreported, IsUnready, CompletesTo, Concludes, Tells};
 ghost use Rattle.bng_gate.specs.Serving.{MakesTurns, FailsTurning};
 
 use crate::saying::say;
@@ -139,6 +139,36 @@ fn draw_seed<E: Entropy>(entropy: &mut E) -> Option<[u8; 32]>
     }
 }
 
+// What is served: the configuration, and the seed of the random octets.
+#[derive(Drop)]
+struct Ready {
+    config: Config,
+    seed: [u8; 32],
+}
+
+// Reads the configuration that the words name, and then asks for a seed.
+fn make_ready<E: Entropy, F: Files>(
+    alloc: Global,
+    words: &Vec<String>,
+    files: &mut F,
+    entropy: &mut E,
+) -> Result<Ready, Refusal>
+    ensures prepared { IfOk result (λ ready. Prepares (words_of words.now.items) (F.told files.old) (F.told files.new) ready.config) }
+    ensures seeded { IfOk result (λ ready. Seeds (E.told entropy.old) (E.told entropy.new) ready.seed) }
+    ensures keeps { IfOk result (λ ready. KeepsRules ready.config) }
+    ensures profiles { IfOk result (λ ready. All (λ c. c.profile < profiles_there) ready.config.statics) }
+    ensures refused { IfErr result (λ refusal. IsUnready (words_of words.now.items) (F.told files.old) (F.told files.new) (E.told entropy.old) (E.told entropy.new) refusal) }
+{
+    let config = match prepare(alloc, words, files) {
+        Ok(config) => config,
+        Err(refusal) => return Err(refusal),
+    };
+    match draw_seed(entropy) {
+        Some(seed) => Ok(Ready { config, seed }),
+        None => Err(Refusal::CannotOpen(Opening::Seed)),
+    }
+}
+
 /// Binds the roles, reads the clock, and opens the desk.
 pub(crate) fn open_desk<P: Plant, C: Clock>(
     alloc: Global,
@@ -208,32 +238,30 @@ fn report<O: Sink>(alloc: Global, desk: &Desk, out: &mut O) -> Result<(), Refusa
     }
 }
 
-// Serves a configuration, from the binds to the report, and gives the desk that is left.
-fn serve_all<R, P: Plant, C: Clock, T: Trace, O: Sink, G>(
+// Opens a desk and makes its turns, and gives the desk that is left.
+fn serve_all<R, P: Plant, C: Clock, T: Trace, G>(
     rt: &R,
     alloc: Global,
-    config: Config,
-    seed: [u8; 32],
+    ready: Ready,
     plant: &mut P,
     clock: &mut C,
     trace: &mut T,
-    out: &mut O,
     gate: &G,
 ) -> Result<Desk, Refusal>
 where
     R: Threads + Wait + Sync,
     G: Gate + Sync,
-    requires rules { KeepsRules config }
-    requires profiles { All (λ c. c.profile < profiles_there) config.statics }
-    ensures served { IfOk result (λ desk. RunsTo config seed
+    requires rules { KeepsRules ready.config }
+    requires profiles { All (λ c. c.profile < profiles_there) ready.config.statics }
+    ensures served { IfOk result (λ desk. CompletesTo ready.config ready.seed
+        (record { plant = P.told plant.old; clock = C.told clock.old; trace = T.told trace.old })
+        (record { plant = P.told plant.new; clock = C.told clock.new; trace = T.told trace.new }) desk) }
+    ensures refused { IfErr result (λ refusal. (out : SinkTold) → IsUnserved ready.config ready.seed
         (record { plant = P.told plant.old; clock = C.told clock.old; trace = T.told trace.old })
         (record { plant = P.told plant.new; clock = C.told clock.new; trace = T.told trace.new })
-        (O.told out.old) (O.told out.new) desk) }
-    ensures refused { IfErr result (λ refusal. IsUnserved config seed
-        (record { plant = P.told plant.old; clock = C.told clock.old; trace = T.told trace.old })
-        (record { plant = P.told plant.new; clock = C.told clock.new; trace = T.told trace.new })
-        (O.told out.old) (O.told out.new) refusal) }
+        out out refusal) }
 {
+    let Ready { config, seed } = ready;
     let mut desk = match open_desk(alloc, config, seed, plant, clock) {
         Ok(desk) => desk,
         Err(refusal) => return Err(refusal),
@@ -241,10 +269,7 @@ where
     if let Err(TraceFault) = make_turns(rt, alloc, &mut desk, plant, clock, trace, gate) {
         return Err(Refusal::TraceFailed);
     }
-    match report(alloc, &desk, out) {
-        Ok(()) => Ok(desk),
-        Err(refusal) => Err(refusal),
-    }
+    Ok(desk)
 }
 
 // Writes the line of a refusal, and answers its status. Where that fails, the status is another.
@@ -274,37 +299,12 @@ fn conclude<X: Sink>(alloc: Global, desk: &Desk, err: &mut X) -> u8
     }
 }
 
-// The same, without what follows from the turns.
-fn run_to_end<R, P: Plant, C: Clock, E: Entropy, F: Files, T: Trace, O: Sink, X: Sink, G>(
-    rt: &R,
-    alloc: Global,
-    words: &Vec<String>,
-    files: &mut F,
-    plant: &mut P,
-    clock: &mut C,
-    entropy: &mut E,
-    trace: &mut T,
-    out: &mut O,
-    err: &mut X,
-    gate: &G,
-) -> u8
-where
-    R: Threads + Wait + Sync,
-    G: Gate + Sync,
-    ensures { RunEnds (words_of words.now.items)
-        (record { files = F.told files.old; plant = P.told plant.old; clock = C.told clock.old; entropy = E.told entropy.old; trace = T.told trace.old; out = O.told out.old; err = X.told err.old })
-        (record { files = F.told files.new; plant = P.told plant.new; clock = C.told clock.new; entropy = E.told entropy.new; trace = T.told trace.new; out = O.told out.new; err = X.told err.new })
-        result }
+// Writes the report of a desk and then what its Stops come to, and answers the status.
+fn tell<O: Sink, X: Sink>(alloc: Global, desk: &Desk, out: &mut O, err: &mut X) -> u8
+    ensures { Tells desk.now (O.told out.old) (O.told out.new) (X.told err.old) (X.told err.new) result }
 {
-    let config = match prepare(alloc, words, files) {
-        Ok(config) => config,
-        Err(refusal) => return refuse(err, refusal),
-    };
-    let Some(seed) = draw_seed(entropy) else {
-        return refuse(err, Refusal::CannotOpen(Opening::Seed));
-    };
-    match serve_all(rt, alloc, config, seed, plant, clock, trace, out, gate) {
-        Ok(desk) => conclude(alloc, &desk, err),
+    match report(alloc, desk, out) {
+        Ok(()) => conclude(alloc, desk, err),
         Err(refusal) => refuse(err, refusal),
     }
 }
@@ -370,7 +370,12 @@ where
         (record { files = F.told files.new; plant = P.told plant.new; clock = C.told clock.new; entropy = E.told entropy.new; trace = T.told trace.new; out = O.told out.new; err = X.told err.new })
         → (result ≡ 0) ⊎ (result ≡ 4) ⊎ (result ≡ 6) }
 {
-    run_to_end(
-        rt, alloc, words, files, plant, clock, entropy, trace, out, err, gate,
-    )
+    let ready = match make_ready(alloc, words, files, entropy) {
+        Ok(ready) => ready,
+        Err(refusal) => return refuse(err, refusal),
+    };
+    match serve_all(rt, alloc, ready, plant, clock, trace, gate) {
+        Ok(desk) => tell(alloc, &desk, out, err),
+        Err(refusal) => refuse(err, refusal),
+    }
 }

@@ -4,7 +4,10 @@ use super::authentication::{LEAVES, PAP, begun, reply};
 use super::forwarding::FROM_CORE;
 use super::host::from_host;
 use super::logins::{ANY, ASKS, TAKES, records, response, run_in};
-use super::{CONFIGURATION, Ended, PACKET, SERVE, frame_of, loopback, run_at, seed};
+use super::{
+    CONFIGURATION, Ended, PACKET, SERVE, assert_err, assert_status, frame_of, loopback, run_at,
+    seed,
+};
 use bng_base::Role;
 use bng_plant::{Arrival, MemoryClock, MemoryPlant, NoTrace};
 use std::alloc::{AllocError, Global};
@@ -97,7 +100,7 @@ fn a_start_is_sent_again_until_it_is_acknowledged(rt: HostRuntime) -> Result<(),
         script.push(reply.after(1))?;
         script.push(stop())?;
         let ended = run_slow(&rt, alloc, script)?;
-        assert_eq!(rt; ended.status, 6);
+        assert_status(&rt, &ended, 6);
         let sent = ended.plant.sent().iter();
         let starts = sent.filter(|datagram| datagram.octets.as_slice() == start.as_slice());
         assert_eq!(rt; starts.count(), sends);
@@ -124,8 +127,8 @@ fn a_stop_is_waited_for_until_it_is_acknowledged(rt: HostRuntime) -> Result<(), 
     let last = Arrival::new(Role::Acct, loopback(1813), stopped.as_slice());
     script.push(last.after(1))?;
     let ended = run_slow(&rt, alloc, script)?;
-    assert_eq!(rt; ended.status, 0);
-    assert!(rt; ended.err.text().is_empty());
+    assert_status(&rt, &ended, 0);
+    assert_err(&rt, &ended, b"");
     assert!(rt;
         ended.out.text().starts_with(
             b"stopped in=84 out=20\nlive in=0 out=0\ntotal in=84 out=20\nworker 0 in=84 out=20\n"
@@ -169,7 +172,7 @@ fn an_interim_is_formed_each_interval_unless_one_is_open(rt: HostRuntime) -> Res
     let configuration = PAP.replace(alloc, "auth = ", "echo = 0\nauth = ")?;
     let script = reported(alloc)?;
     let ended = run_in(&rt, alloc, configuration.as_str(), script, 30_000)?;
-    assert_eq!(rt; ended.status, 0);
+    assert_status(&rt, &ended, 0);
     // The first Interim is sent again 30 and 60 s later; at 60 s the next one is due, and is not formed.
     let wanted = [
         LOGIN_START,

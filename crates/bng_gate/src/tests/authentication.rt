@@ -4,7 +4,9 @@
 use super::host::{
     ACK, ACKED, ASKED, PADS, PADT, REQUEST, SESSIONS, TO_HOST, framed, from_host, session,
 };
-use super::{Ended, SERVE, accounts, loopback, run_at, run_over, seed, sends, sends_from};
+use super::{
+    Ended, SERVE, accounts, assert_status, loopback, run_at, run_over, seed, sends, sends_from,
+};
 use bng_base::Role;
 use bng_plant::{Arrival, MemoryClock, MemoryPlant, NoTrace};
 use std::alloc::{AllocError, Global};
@@ -186,7 +188,7 @@ pub(super) fn sends_after(
     status: u8,
     rest: &[(Role, u16, &[u8])],
 ) -> Result<(), Fail> {
-    assert_eq!(rt; ended.status, status);
+    assert_status(rt, ended, status);
     let port = Role::Access(1);
     let asked = framed(alloc, &TO_HOST, PAP_ASKED)?;
     let acked = framed(alloc, &TO_HOST, &ACKED)?;
@@ -371,7 +373,7 @@ fn a_response_is_asked_about_and_refused(rt: HostRuntime) -> Result<(), Fail> {
     script.push(from_host(alloc, TERMINATED)?.after(1))?;
     script.push(stop(0))?;
     let ended = run_over(&rt, alloc, &SERVE, SESSIONS, script, &[], &[])?;
-    assert_eq!(rt; ended.status, 0);
+    assert_status(&rt, &ended, 0);
     let asked = framed(alloc, &TO_HOST, &ASKED)?;
     let acked = framed(alloc, &TO_HOST, &ACKED)?;
     let challenge = framed(alloc, &TO_HOST, CHALLENGE)?;

@@ -1,6 +1,8 @@
 //! Sessions that hosts ask for.
 use super::host::{HOST, PADS, PADT, SESSIONS, request};
-use super::{SERVE, loopback, run_over, run_told, script_of, seed, sends};
+use super::{
+    SERVE, assert_out, assert_status, loopback, run_over, run_told, script_of, seed, sends,
+};
 use bng_base::Role;
 use bng_plant::{Arrival, MemoryPlant, NoTrace};
 use std::test::Fail;
@@ -112,8 +114,8 @@ fn a_host_is_offered_a_session_and_gets_it_once(rt: HostRuntime) -> Result<(), F
     ];
     let script = script_of(alloc, &list)?;
     let ended = run_over(&rt, alloc, &SERVE, SESSIONS, script, &[], &[])?;
-    assert_eq!(rt; ended.status, 0);
-    assert_eq!(rt; ended.out.text(), NOTHING);
+    assert_status(&rt, &ended, 0);
+    assert_out(&rt, &ended, NOTHING);
     let wanted: [(Role, u16, &[u8]); 8] = [
         (port, 9011, &PADO),
         (port, 9011, &PADO),
@@ -158,8 +160,8 @@ fn a_shard_has_1022_sessions(rt: HostRuntime) -> Result<(), Fail> {
         &mut NoTrace,
         &[],
     )?;
-    assert_eq!(rt; ended.status, 0);
-    assert_eq!(rt; ended.out.text(), NOTHING);
+    assert_status(&rt, &ended, 0);
+    assert_out(&rt, &ended, NOTHING);
     let sent = ended.plant.sent();
     let mut replies = sent
         .iter()

@@ -1,7 +1,7 @@
 //! Packets of provisioned circuits, beside a server of accounting that says nothing: so the Stops go out again until the grace is over.
 use super::{
-    CONFIGURATION, PACKET, SERVE, TWO_PORTS, accounts, frame_and_stop, loopback, run_over,
-    script_of, sends,
+    CONFIGURATION, PACKET, SERVE, TWO_PORTS, accounts, assert_err, assert_out, assert_sent,
+    assert_status, frame_and_stop, loopback, run_over, script_of, sends,
 };
 use bng_base::Role;
 use std::test::Fail;
@@ -122,14 +122,16 @@ fn a_packet_is_forwarded_with_ttl_and_sum_changed(rt: HostRuntime) -> Result<(),
     let alloc = rt.alloc();
     let script = frame_and_stop(alloc, &PACKET)?;
     let ended = run_over(&rt, alloc, &SERVE, CONFIGURATION, script, &[], &[])?;
-    assert_eq!(rt; ended.status, 6);
-    assert_eq!(rt;
-        ended.out.text(),
-        b"stopped in=84 out=0\nlive in=0 out=0\ntotal in=84 out=0\nworker 0 in=84 out=0\nstatic 10.0.0.2 in=84 out=0\ndrop Malformed 0\ndrop NoSession 0\ndrop NotOpen 0\ndrop Expired 0\ndrop Spoofed 0\ndrop TooBig 0\ndrop Exceeded 0\ndrop LinkFailed 0\ndrop WantOfMemory 0\n".as_slice()
+    assert_status(&rt, &ended, 6);
+    assert_out(
+        &rt,
+        &ended,
+        b"stopped in=84 out=0\nlive in=0 out=0\ntotal in=84 out=0\nworker 0 in=84 out=0\nstatic 10.0.0.2 in=84 out=0\ndrop Malformed 0\ndrop NoSession 0\ndrop NotOpen 0\ndrop Expired 0\ndrop Spoofed 0\ndrop TooBig 0\ndrop Exceeded 0\ndrop LinkFailed 0\ndrop WantOfMemory 0\n",
     );
-    assert_eq!(rt;
-        ended.err.text(),
-        b"stop 6553f1000401000000000001 p1/020000000001/1025 10.0.0.2 in=84 out=0\n".as_slice()
+    assert_err(
+        &rt,
+        &ended,
+        b"stop 6553f1000401000000000001 p1/020000000001/1025 10.0.0.2 in=84 out=0\n",
     );
     let sent = ended.plant.sent();
     // The packet, the Start, `stopping` and the Stop, and in 30 s ten times the Stop again, 3 s after the time before.
@@ -159,20 +161,22 @@ fn a_packet_that_does_not_go_is_counted_as_a_drop_alone(rt: HostRuntime) -> Resu
     let script = frame_and_stop(alloc, &PACKET)?;
     // Five binds, the receives of Control, of Acct, of Auth, twice of the access port and of the core, and then the send to the core.
     let failed = run_over(&rt, alloc, &SERVE, CONFIGURATION, script, &[12], &[])?;
-    assert_eq!(rt; failed.status, 6);
-    assert_eq!(rt;
-        failed.out.text(),
-        b"stopped in=0 out=0\nlive in=0 out=0\ntotal in=0 out=0\nworker 0 in=0 out=0\nstatic 10.0.0.2 in=0 out=0\ndrop Malformed 0\ndrop NoSession 0\ndrop NotOpen 0\ndrop Expired 0\ndrop Spoofed 0\ndrop TooBig 0\ndrop Exceeded 0\ndrop LinkFailed 1\ndrop WantOfMemory 0\n".as_slice()
+    assert_status(&rt, &failed, 6);
+    assert_out(
+        &rt,
+        &failed,
+        b"stopped in=0 out=0\nlive in=0 out=0\ntotal in=0 out=0\nworker 0 in=0 out=0\nstatic 10.0.0.2 in=0 out=0\ndrop Malformed 0\ndrop NoSession 0\ndrop NotOpen 0\ndrop Expired 0\ndrop Spoofed 0\ndrop TooBig 0\ndrop Exceeded 0\ndrop LinkFailed 1\ndrop WantOfMemory 0\n",
     );
     let script = frame_and_stop(alloc, &SPOOFED)?;
     let spoofed = run_over(&rt, alloc, &SERVE, CONFIGURATION, script, &[], &[])?;
-    assert_eq!(rt; spoofed.status, 6);
-    assert_eq!(rt;
-        spoofed.out.text(),
-        b"stopped in=0 out=0\nlive in=0 out=0\ntotal in=0 out=0\nworker 0 in=0 out=0\nstatic 10.0.0.2 in=0 out=0\ndrop Malformed 0\ndrop NoSession 0\ndrop NotOpen 0\ndrop Expired 0\ndrop Spoofed 1\ndrop TooBig 0\ndrop Exceeded 0\ndrop LinkFailed 0\ndrop WantOfMemory 0\n".as_slice()
+    assert_status(&rt, &spoofed, 6);
+    assert_out(
+        &rt,
+        &spoofed,
+        b"stopped in=0 out=0\nlive in=0 out=0\ntotal in=0 out=0\nworker 0 in=0 out=0\nstatic 10.0.0.2 in=0 out=0\ndrop Malformed 0\ndrop NoSession 0\ndrop NotOpen 0\ndrop Expired 0\ndrop Spoofed 1\ndrop TooBig 0\ndrop Exceeded 0\ndrop LinkFailed 0\ndrop WantOfMemory 0\n",
     );
     // The Start, `stopping` and eleven times the Stop.
-    assert_eq!(rt; spoofed.plant.sent().len(), 13);
+    assert_sent(&rt, &spoofed, 13);
     accounts(&rt, &spoofed, 2, &[STOP, NOTHING_IN, NOTHING_OUT]);
     Ok(())
 }
@@ -187,10 +191,11 @@ fn what_comes_after_a_failed_send_is_sent(rt: HostRuntime) -> Result<(), Fail> {
     let script = script_of(alloc, &list)?;
     // Five binds, the receives of Control, of Acct, of Auth, three times of the access port and of the core, and then the first send.
     let ended = run_over(&rt, alloc, &SERVE, CONFIGURATION, script, &[13], &[])?;
-    assert_eq!(rt; ended.status, 6);
-    assert_eq!(rt;
-        ended.out.text(),
-        b"stopped in=20 out=0\nlive in=0 out=0\ntotal in=20 out=0\nworker 0 in=20 out=0\nstatic 10.0.0.2 in=20 out=0\ndrop Malformed 0\ndrop NoSession 0\ndrop NotOpen 0\ndrop Expired 0\ndrop Spoofed 0\ndrop TooBig 0\ndrop Exceeded 0\ndrop LinkFailed 1\ndrop WantOfMemory 0\n".as_slice()
+    assert_status(&rt, &ended, 6);
+    assert_out(
+        &rt,
+        &ended,
+        b"stopped in=20 out=0\nlive in=0 out=0\ntotal in=20 out=0\nworker 0 in=20 out=0\nstatic 10.0.0.2 in=20 out=0\ndrop Malformed 0\ndrop NoSession 0\ndrop NotOpen 0\ndrop Expired 0\ndrop Spoofed 0\ndrop TooBig 0\ndrop Exceeded 0\ndrop LinkFailed 1\ndrop WantOfMemory 0\n",
     );
     let wanted: [(Role, u16, &[u8]); 2] = [
         (Role::Core, 9001, &UP),
@@ -210,10 +215,11 @@ fn packets_pass_both_ways_without_their_padding(rt: HostRuntime) -> Result<(), F
     ];
     let script = script_of(alloc, &list)?;
     let ended = run_over(&rt, alloc, &SERVE, CONFIGURATION, script, &[], &[])?;
-    assert_eq!(rt; ended.status, 6);
-    assert_eq!(rt;
-        ended.out.text(),
-        b"stopped in=20 out=20\nlive in=0 out=0\ntotal in=20 out=20\nworker 0 in=20 out=20\nstatic 10.0.0.2 in=20 out=20\ndrop Malformed 0\ndrop NoSession 0\ndrop NotOpen 0\ndrop Expired 0\ndrop Spoofed 0\ndrop TooBig 0\ndrop Exceeded 0\ndrop LinkFailed 0\ndrop WantOfMemory 0\n".as_slice()
+    assert_status(&rt, &ended, 6);
+    assert_out(
+        &rt,
+        &ended,
+        b"stopped in=20 out=20\nlive in=0 out=0\ntotal in=20 out=20\nworker 0 in=20 out=20\nstatic 10.0.0.2 in=20 out=20\ndrop Malformed 0\ndrop NoSession 0\ndrop NotOpen 0\ndrop Expired 0\ndrop Spoofed 0\ndrop TooBig 0\ndrop Exceeded 0\ndrop LinkFailed 0\ndrop WantOfMemory 0\n",
     );
     let wanted: [(Role, u16, &[u8]); 4] = [
         (Role::Core, 9001, &UP),
@@ -236,10 +242,11 @@ fn each_circuit_gets_its_own_packets_on_its_own_port(rt: HostRuntime) -> Result<
     ];
     let script = script_of(alloc, &list)?;
     let ended = run_over(&rt, alloc, &SERVE, TWO_PORTS, script, &[], &[])?;
-    assert_eq!(rt; ended.status, 6);
-    assert_eq!(rt;
-        ended.out.text(),
-        b"stopped in=20 out=40\nlive in=0 out=0\ntotal in=20 out=40\nworker 0 in=20 out=40\nstatic 10.0.0.2 in=20 out=20\nstatic 10.0.0.3 in=0 out=20\ndrop Malformed 1\ndrop NoSession 0\ndrop NotOpen 0\ndrop Expired 0\ndrop Spoofed 0\ndrop TooBig 0\ndrop Exceeded 0\ndrop LinkFailed 0\ndrop WantOfMemory 0\n".as_slice()
+    assert_status(&rt, &ended, 6);
+    assert_out(
+        &rt,
+        &ended,
+        b"stopped in=20 out=40\nlive in=0 out=0\ntotal in=20 out=40\nworker 0 in=20 out=40\nstatic 10.0.0.2 in=20 out=20\nstatic 10.0.0.3 in=0 out=20\ndrop Malformed 1\ndrop NoSession 0\ndrop NotOpen 0\ndrop Expired 0\ndrop Spoofed 0\ndrop TooBig 0\ndrop Exceeded 0\ndrop LinkFailed 0\ndrop WantOfMemory 0\n",
     );
     let wanted: [(Role, u16, &[u8]); 4] = [
         (Role::Core, 9001, &UP),
@@ -263,10 +270,11 @@ fn circuits_stand_in_any_order(rt: HostRuntime) -> Result<(), Fail> {
     ];
     let script = script_of(alloc, &list)?;
     let ended = run_over(&rt, alloc, &SERVE, FALLING_NUMBERS, script, &[], &[])?;
-    assert_eq!(rt; ended.status, 6);
-    assert_eq!(rt;
-        ended.out.text(),
-        b"stopped in=20 out=40\nlive in=0 out=0\ntotal in=20 out=40\nworker 0 in=20 out=40\nstatic 10.0.0.2 in=20 out=20\nstatic 10.0.0.3 in=0 out=20\ndrop Malformed 0\ndrop NoSession 0\ndrop NotOpen 0\ndrop Expired 0\ndrop Spoofed 0\ndrop TooBig 0\ndrop Exceeded 0\ndrop LinkFailed 0\ndrop WantOfMemory 0\n".as_slice()
+    assert_status(&rt, &ended, 6);
+    assert_out(
+        &rt,
+        &ended,
+        b"stopped in=20 out=40\nlive in=0 out=0\ntotal in=20 out=40\nworker 0 in=20 out=40\nstatic 10.0.0.2 in=20 out=20\nstatic 10.0.0.3 in=0 out=20\ndrop Malformed 0\ndrop NoSession 0\ndrop NotOpen 0\ndrop Expired 0\ndrop Spoofed 0\ndrop TooBig 0\ndrop Exceeded 0\ndrop LinkFailed 0\ndrop WantOfMemory 0\n",
     );
     let mut down = DOWN;
     down[17] = 2;
@@ -305,12 +313,13 @@ fn what_does_not_pass_is_counted_by_its_cause(rt: HostRuntime) -> Result<(), Fai
     ];
     let script = script_of(alloc, &list)?;
     let ended = run_over(&rt, alloc, &SERVE, CONFIGURATION, script, &[], &[])?;
-    assert_eq!(rt; ended.status, 6);
-    assert_eq!(rt;
-        ended.out.text(),
-        b"stopped in=0 out=0\nlive in=0 out=0\ntotal in=0 out=0\nworker 0 in=0 out=0\nstatic 10.0.0.2 in=0 out=0\ndrop Malformed 2\ndrop NoSession 3\ndrop NotOpen 0\ndrop Expired 1\ndrop Spoofed 0\ndrop TooBig 0\ndrop Exceeded 0\ndrop LinkFailed 0\ndrop WantOfMemory 0\n".as_slice()
+    assert_status(&rt, &ended, 6);
+    assert_out(
+        &rt,
+        &ended,
+        b"stopped in=0 out=0\nlive in=0 out=0\ntotal in=0 out=0\nworker 0 in=0 out=0\nstatic 10.0.0.2 in=0 out=0\ndrop Malformed 2\ndrop NoSession 3\ndrop NotOpen 0\ndrop Expired 1\ndrop Spoofed 0\ndrop TooBig 0\ndrop Exceeded 0\ndrop LinkFailed 0\ndrop WantOfMemory 0\n",
     );
-    assert_eq!(rt; ended.plant.sent().len(), 14);
+    assert_sent(&rt, &ended, 14);
     assert_eq!(rt; ended.plant.sent()[0].octets.as_slice().get(15), Some(&7));
     Ok(())
 }

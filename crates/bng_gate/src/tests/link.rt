@@ -1,6 +1,6 @@
 //! The link of a session.
 use super::host::{ACK, ACKED, ASKED, PADS, PADT, REQUEST, SESSIONS, TO_HOST, framed, session};
-use super::{SERVE, loopback, run_over, sends};
+use super::{SERVE, assert_out, assert_status, loopback, run_over, sends};
 use bng_base::Role;
 use bng_plant::Arrival;
 use std::test::Fail;
@@ -47,10 +47,11 @@ fn a_link_comes_to_opened_and_answers_echoes(rt: HostRuntime) -> Result<(), Fail
     let mut script = session(alloc, &heard)?;
     script.push(Arrival::new(Role::Control, loopback(5), b"stop"))?;
     let ended = run_over(&rt, alloc, &SERVE, SESSIONS, script, &[], &[])?;
-    assert_eq!(rt; ended.status, 0);
-    assert_eq!(rt;
-        ended.out.text(),
-        b"stopped in=0 out=0\nlive in=0 out=0\ntotal in=0 out=0\nworker 0 in=0 out=0\ndrop Malformed 0\ndrop NoSession 0\ndrop NotOpen 1\ndrop Expired 0\ndrop Spoofed 0\ndrop TooBig 0\ndrop Exceeded 0\ndrop LinkFailed 0\ndrop WantOfMemory 0\n".as_slice()
+    assert_status(&rt, &ended, 0);
+    assert_out(
+        &rt,
+        &ended,
+        b"stopped in=0 out=0\nlive in=0 out=0\ntotal in=0 out=0\nworker 0 in=0 out=0\ndrop Malformed 0\ndrop NoSession 0\ndrop NotOpen 1\ndrop Expired 0\ndrop Spoofed 0\ndrop TooBig 0\ndrop Exceeded 0\ndrop LinkFailed 0\ndrop WantOfMemory 0\n",
     );
     let asked = framed(alloc, &TO_HOST, &ASKED)?;
     let rejected = framed(alloc, &TO_HOST, &REJECTED)?;

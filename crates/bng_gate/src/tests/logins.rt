@@ -5,7 +5,9 @@ use super::authentication::{
     stop,
 };
 use super::host::{ACKED, PADT, REQUEST, TO_HOST, framed, from_host, request};
-use super::{Ended, SERVE, has, loopback, run_at, seed, sends_from};
+use super::{
+    Ended, SERVE, assert_err, assert_out, assert_status, has, loopback, run_at, seed, sends_from,
+};
 use bng_base::Role;
 use bng_plant::{Arrival, MemoryClock, MemoryPlant, NoTrace};
 use std::alloc::{AllocError, Global};
@@ -248,10 +250,11 @@ fn sends_of_visit(rt: &impl Abort, alloc: Global, ended: &Ended, last: &[u8]) ->
 fn a_subscriber_logs_in_and_is_accounted_for(rt: HostRuntime) -> Result<(), Fail> {
     let alloc = rt.alloc();
     let ended = run_in(&rt, alloc, PAP, visit(alloc)?, 1000)?;
-    assert!(rt; ended.err.text().is_empty());
-    assert_eq!(rt;
-        ended.out.text(),
-        b"stopped in=40 out=28\nlive in=0 out=0\ntotal in=40 out=28\nworker 0 in=40 out=28\ndrop Malformed 0\ndrop NoSession 0\ndrop NotOpen 0\ndrop Expired 0\ndrop Spoofed 0\ndrop TooBig 0\ndrop Exceeded 0\ndrop LinkFailed 0\ndrop WantOfMemory 0\n".as_slice()
+    assert_err(&rt, &ended, b"");
+    assert_out(
+        &rt,
+        &ended,
+        b"stopped in=40 out=28\nlive in=0 out=0\ntotal in=40 out=28\nworker 0 in=40 out=28\ndrop Malformed 0\ndrop NoSession 0\ndrop NotOpen 0\ndrop Expired 0\ndrop Spoofed 0\ndrop TooBig 0\ndrop Exceeded 0\ndrop LinkFailed 0\ndrop WantOfMemory 0\n",
     );
     sends_of_visit(&rt, alloc, &ended, LEFT)?;
     records(&rt, alloc, &ended, &[START, STOP])
@@ -365,7 +368,7 @@ fn of_two_accepts_for_one_address_in_one_round_the_first_counts(
         (port, 9011, &PADT),
         (port, 9011, &OTHER_PADT),
     ];
-    assert_eq!(rt; ended.status, 6);
+    assert_status(&rt, &ended, 6);
     sends_from(&rt, &ended, 6, &rest);
     records_are_of_the_first_host(&rt, &ended);
     Ok(())

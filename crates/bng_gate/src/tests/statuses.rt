@@ -1,6 +1,7 @@
 //! How a run ends that does not come to its report.
 use super::{
-    CONFIGURATION, PACKET, SERVE, TWO_PORTS, frame_and_stop, loopback, run_over, run_told, seed,
+    CONFIGURATION, PACKET, SERVE, TWO_PORTS, assert_err, assert_sent, assert_status,
+    frame_and_stop, loopback, run_over, run_told, seed,
 };
 use bng_base::Role;
 use bng_plant::{MemoryPlant, MemoryTrace, NoTrace};
@@ -44,20 +45,14 @@ const USAGE: &str =
 fn each_status_has_its_line(rt: HostRuntime) -> Result<(), Fail> {
     let alloc = rt.alloc();
     let none = run_over(&rt, alloc, &[], CONFIGURATION, Vec::new(alloc), &[], &[])?;
-    assert_eq!(rt; none.status, 1);
-    assert_eq!(rt; none.err.text(), USAGE.as_bytes());
+    assert_status(&rt, &none, 1);
+    assert_err(&rt, &none, USAGE.as_bytes());
     let refused = run_over(&rt, alloc, &SERVE, NO_SESSION, Vec::new(alloc), &[], &[])?;
-    assert_eq!(rt; refused.status, 2);
-    assert_eq!(rt;
-        refused.err.text(),
-        b"bng: config: C5 static.1.session\n".as_slice()
-    );
+    assert_status(&rt, &refused, 2);
+    assert_err(&rt, &refused, b"bng: config: C5 static.1.session\n");
     let unbound = run_over(&rt, alloc, &SERVE, TWO_PORTS, Vec::new(alloc), &[4], &[])?;
-    assert_eq!(rt; unbound.status, 3);
-    assert_eq!(rt;
-        unbound.err.text(),
-        b"bng: cannot open access 2\n".as_slice()
-    );
+    assert_status(&rt, &unbound, 3);
+    assert_err(&rt, &unbound, b"bng: cannot open access 2\n");
     let missing = ["serve", "missing.toml"];
     let missing = run_over(
         &rt,
@@ -68,11 +63,8 @@ fn each_status_has_its_line(rt: HostRuntime) -> Result<(), Fail> {
         &[],
         &[],
     )?;
-    assert_eq!(rt; missing.status, 3);
-    assert_eq!(rt;
-        missing.err.text(),
-        b"bng: cannot open configuration\n".as_slice()
-    );
+    assert_status(&rt, &missing, 3);
+    assert_err(&rt, &missing, b"bng: cannot open configuration\n");
     let unbound = run_over(
         &rt,
         alloc,
@@ -82,8 +74,8 @@ fn each_status_has_its_line(rt: HostRuntime) -> Result<(), Fail> {
         &[2],
         &[],
     )?;
-    assert_eq!(rt; unbound.status, 3);
-    assert_eq!(rt; unbound.err.text(), b"bng: cannot open core\n".as_slice());
+    assert_status(&rt, &unbound, 3);
+    assert_err(&rt, &unbound, b"bng: cannot open core\n");
     let unbound = run_over(
         &rt,
         alloc,
@@ -93,8 +85,8 @@ fn each_status_has_its_line(rt: HostRuntime) -> Result<(), Fail> {
         &[4],
         &[],
     )?;
-    assert_eq!(rt; unbound.status, 3);
-    assert_eq!(rt; unbound.err.text(), b"bng: cannot open auth\n".as_slice());
+    assert_status(&rt, &unbound, 3);
+    assert_err(&rt, &unbound, b"bng: cannot open auth\n");
     let unbound = run_over(
         &rt,
         alloc,
@@ -104,12 +96,12 @@ fn each_status_has_its_line(rt: HostRuntime) -> Result<(), Fail> {
         &[5],
         &[],
     )?;
-    assert_eq!(rt; unbound.status, 3);
-    assert_eq!(rt; unbound.err.text(), b"bng: cannot open acct\n".as_slice());
+    assert_status(&rt, &unbound, 3);
+    assert_err(&rt, &unbound, b"bng: cannot open acct\n");
     let script = frame_and_stop(alloc, &PACKET)?;
     let unwritten = run_over(&rt, alloc, &SERVE, CONFIGURATION, script, &[], &[1])?;
-    assert_eq!(rt; unwritten.status, 5);
-    assert_eq!(rt; unwritten.err.text(), b"bng: output failed\n".as_slice());
+    assert_status(&rt, &unwritten, 5);
+    assert_err(&rt, &unwritten, b"bng: output failed\n");
     Ok(())
 }
 
@@ -129,8 +121,8 @@ fn without_a_seed_nothing_is_bound(rt: HostRuntime) -> Result<(), Fail> {
         &mut NoTrace,
         &[],
     )?;
-    assert_eq!(rt; ended.status, 3);
-    assert_eq!(rt; ended.err.text(), b"bng: cannot open seed\n".as_slice());
+    assert_status(&rt, &ended, 3);
+    assert_err(&rt, &ended, b"bng: cannot open seed\n");
     assert!(rt; ended.plant.bound().is_empty() && ended.out.text().is_empty());
     Ok(())
 }
@@ -155,11 +147,11 @@ fn a_round_that_the_trace_does_not_take_is_the_last(rt: HostRuntime) -> Result<(
             &mut trace,
             &[],
         )?;
-        assert_eq!(rt; ended.status, 5);
-        assert_eq!(rt; ended.err.text(), b"bng: trace failed\n".as_slice());
+        assert_status(&rt, &ended, 5);
+        assert_err(&rt, &ended, b"bng: trace failed\n");
         assert!(rt; ended.out.text().is_empty());
         // The packet went to the core before that, and the Start of the circuit and its Stop to the server.
-        assert_eq!(rt; ended.plant.sent().len(), sent);
+        assert_sent(&rt, &ended, sent);
         match ended.plant.sent() {
             [first, ..] => {
                 assert_eq!(rt; first.role, Role::Core);
