@@ -283,6 +283,23 @@ impl Bench {
     }
 }
 
+// Each check of a value is a function of its own: in a test, among all that is live there, its proof would take long.
+fn assert_octets(rt: &impl Abort, octets: &[u8], wanted: &[u8]) {
+    assert_eq!(rt; octets, wanted);
+}
+
+fn assert_count(rt: &impl Abort, count: usize, wanted: usize) {
+    assert_eq!(rt; count, wanted);
+}
+
+fn assert_sessions(rt: &impl Abort, shard: &Shard, wanted: u32) {
+    assert_eq!(rt; shard.sessions(), wanted);
+}
+
+fn assert_due(rt: &impl Abort, due: Option<u64>, wanted: Option<u64>) {
+    assert_eq!(rt; due, wanted);
+}
+
 // The octets of the out at this place.
 fn octets(outs: &[OutRecord], place: usize) -> &[u8] {
     match outs.get(place) {

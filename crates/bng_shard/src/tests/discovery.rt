@@ -1,6 +1,9 @@
 ghost use Rattle.std.specs.Prelude.{◌<◌, ◌^◌};
 
-use super::{Bench, NOTHING, ONE, PADI, item, octets, open_bench, padi, request, rules};
+use super::{
+    Bench, NOTHING, ONE, PADI, assert_count, assert_due, assert_octets, assert_sessions, item,
+    octets, open_bench, padi, request, rules,
+};
 use bng_base::ItemKind;
 use std::alloc::Global;
 use std::process::Abort;
@@ -43,16 +46,16 @@ fn a_host_is_offered_a_session_and_its_request_sent_twice_makes_one(
     let access = ItemKind::Access(1);
     let mut tally = NOTHING;
     let outs = bench.round(&rt, alloc, &mut tally, 0, item(access, &PADI));
-    assert_eq!(rt; octets(&outs, 0), PADO.as_slice());
-    assert_eq!(rt; bench.shard.sessions(), 0);
+    assert_octets(&rt, octets(&outs, 0), &PADO);
+    assert_sessions(&rt, &bench.shard, 0);
     let first = request(&rt, alloc, &mut bench, 1);
-    assert_eq!(rt; first.len(), 2);
-    assert_eq!(rt; octets(&first, 0), PADS.as_slice());
+    assert_count(&rt, first.len(), 2);
+    assert_octets(&rt, octets(&first, 0), &PADS);
     let again = request(&rt, alloc, &mut bench, 1);
-    assert_eq!(rt; again.len(), 1);
-    assert_eq!(rt; octets(&again, 0), PADS.as_slice());
-    assert_eq!(rt; bench.shard.sessions(), 1);
-    assert_eq!(rt; bench.shard.due(), Some(3000));
+    assert_count(&rt, again.len(), 1);
+    assert_octets(&rt, octets(&again, 0), &PADS);
+    assert_sessions(&rt, &bench.shard, 1);
+    assert_due(&rt, bench.shard.due(), Some(3000));
     Ok(())
 }
 
@@ -64,10 +67,10 @@ fn ten_thousand_calls_make_no_session(rt: HostRuntime) -> Result<(), Fail> {
     for host in 0..10_000 {
         let call = item(ItemKind::Access(1), &padi(host));
         let outs = bench.round(&rt, alloc, &mut tally, 0, call);
-        assert_eq!(rt; outs.len(), 1);
+        assert_count(&rt, outs.len(), 1);
     }
-    assert_eq!(rt; bench.shard.sessions(), 0);
-    assert_eq!(rt; bench.shard.due(), None);
+    assert_sessions(&rt, &bench.shard, 0);
+    assert_due(&rt, bench.shard.due(), None);
     Ok(())
 }
 
@@ -84,13 +87,13 @@ fn a_full_shard_refuses_and_is_free_again_where_no_host_goes_on(
             Some(host.to_be_bytes().as_slice())
         );
     }
-    assert_eq!(rt; bench.shard.sessions(), 1022);
+    assert_sessions(&rt, &bench.shard, 1022);
     let outs = request(&rt, alloc, &mut bench, 1024);
-    assert_eq!(rt; octets(&outs, 0), FULL.as_slice());
+    assert_octets(&rt, octets(&outs, 0), &FULL);
     for count in 1..11 {
-        assert_eq!(rt; bench.shard.sessions(), 1022);
+        assert_sessions(&rt, &bench.shard, 1022);
         ticks(&rt, alloc, &mut bench, 3000 * count, 16);
     }
-    assert_eq!(rt; bench.shard.sessions(), 0);
+    assert_sessions(&rt, &bench.shard, 0);
     Ok(())
 }

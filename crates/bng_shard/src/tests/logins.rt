@@ -2,7 +2,8 @@ ghost use Rattle.std.specs.Prelude.{◌≡◌, ◌≤◌, length};
 
 use super::verdicts::{ACCEPT, ACK, PASSWORD, REQUEST, in_session_of, verdict};
 use super::{
-    Bench, NOTHING, ONE, TO_IT, item, octets, open_bench, peer, request, rules_with, span,
+    Bench, NOTHING, ONE, TO_IT, assert_count, assert_due, assert_octets, assert_sessions, item,
+    octets, open_bench, peer, request, rules_with, span,
 };
 use bng_base::{DropCause, Fate, Ip4, Item, ItemKind, OutRecord};
 use std::alloc::Global;
@@ -127,10 +128,10 @@ fn assert_tells(rt: &impl Abort, bench: &mut Bench, serial: u64) {
 
 // The Authenticate-Nak says that there is no address, and LCP does Close.
 fn assert_refused(rt: &impl Abort, outs: &[OutRecord]) {
-    assert_eq!(rt; outs.len(), 2);
-    assert_eq!(rt; octets(outs, 0).len(), 37);
+    assert_count(rt, outs.len(), 2);
+    assert_count(rt, octets(outs, 0).len(), 37);
     assert_eq!(rt; span(outs, 0, 20, 37), NO_ADDRESS.as_slice());
-    assert_eq!(rt; span(outs, 1, 20, 23), b"\xc0\x21\x05".as_slice());
+    assert_octets(rt, span(outs, 1, 20, 23), b"\xc0\x21\x05");
 }
 
 // The term that ended leaves: of the first host, with this number and by this cause; its address is held until then.
@@ -153,8 +154,8 @@ fn an_accept_begins_a_term_that_is_told_once(rt: HostRuntime) -> Result<(), Fail
     let alloc = rt.alloc();
     let mut bench = open_bench(alloc, rules_with(alloc, ONE)?, ONE)?;
     let outs = accepted(&rt, alloc, &mut bench, 1, 1);
-    assert_eq!(rt; outs.len(), 2);
-    assert_eq!(rt; span(&outs, 1, 20, 32), OWN.as_slice());
+    assert_count(&rt, outs.len(), 2);
+    assert_octets(&rt, span(&outs, 1, 20, 32), OWN);
     assert_eq!(rt; bench.pool.look(ADDRESS), Some(0));
     assert_eq!(rt; bench.shard.allowance(), 1);
     assert_tells(&rt, &mut bench, 1);
@@ -182,14 +183,14 @@ fn an_address_that_is_held_is_given_to_nobody_else(rt: HostRuntime) -> Result<()
     let alloc = rt.alloc();
     let mut bench = open_bench(alloc, rules_with(alloc, ONE)?, ONE)?;
     let first = accepted(&rt, alloc, &mut bench, 1, 1);
-    assert_eq!(rt; first.len(), 2);
+    assert_count(&rt, first.len(), 2);
     let second = accepted(&rt, alloc, &mut bench, 2, 2);
     assert_refused(&rt, &second);
     // a Configure-Request in Opened ends the term; then the address is free, and it is leased again
     let _again = hear(&rt, alloc, &mut bench, in_session_of(1, REQUEST));
     assert_reaps(&rt, &mut bench, 1, 1);
     let third = accepted(&rt, alloc, &mut bench, 3, 3);
-    assert_eq!(rt; third.len(), 2);
+    assert_count(&rt, third.len(), 2);
     assert_eq!(rt; bench.pool.look(ADDRESS), Some(0));
     Ok(())
 }
@@ -198,7 +199,7 @@ fn an_address_that_is_held_is_given_to_nobody_else(rt: HostRuntime) -> Result<()
 fn a_term_ends_when_it_was_silent_or_lasted_too_long(rt: HostRuntime) -> Result<(), Fail> {
     let alloc = rt.alloc();
     let mut bench = limited(&rt, alloc)?;
-    assert_eq!(rt; bench.shard.due(), Some(30_000));
+    assert_due(&rt, bench.shard.due(), Some(30_000));
     pass(&rt, alloc, &mut bench, 20_000);
     // what passed is known when the deadline comes, which moves then
     assert_eq!(rt; ticked(&rt, alloc, &mut bench, 30_000), (0, Some(50_000)));
@@ -229,6 +230,6 @@ fn a_padt_and_an_end_end_terms_by_causes_of_their_own(rt: HostRuntime) -> Result
     let _second = accepted(&rt, alloc, &mut bench, 1, 2);
     let _all = hear(&rt, alloc, &mut bench, item(ItemKind::End, &[]));
     assert_reaps(&rt, &mut bench, 2, 10);
-    assert_eq!(rt; bench.shard.sessions(), 0);
+    assert_sessions(&rt, &bench.shard, 0);
     Ok(())
 }

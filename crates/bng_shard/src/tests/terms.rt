@@ -7,7 +7,10 @@ ghost use Rattle.bng_pool.specs.Tables.{entry};
 ghost use Rattle.std.specs.List.{All};
 ghost use Rattle.bng_slots.specs.Sessions.{IsNumberOf};
 
-use super::{Bench, NOTHING, TO_IT, TWO, item, peer, request, rules, span};
+use super::{
+    Bench, NOTHING, TO_IT, TWO, assert_count, assert_octets, assert_sessions, item, peer, request,
+    rules, span,
+};
 use crate::{Charged, EndedTerm, LiveTerm, Shard, Traffic};
 use arrayvec::ArrayVec;
 use bng_base::{
@@ -241,7 +244,7 @@ fn assert_reaps(rt: &impl Abort, bench: &mut Bench, term: (TermId, Circuit, Ip4)
 // No term is left that ended, and no session.
 fn assert_all_left(rt: &impl Abort, bench: &mut Bench) {
     assert!(rt; bench.reap().is_none());
-    assert!(rt; bench.shard.sessions() == 0);
+    assert_sessions(rt, &bench.shard, 0);
 }
 
 // At this place this term is there.
@@ -258,10 +261,10 @@ fn an_end_ends_circuits_too_and_each_leaves_by_a_stop(rt: HostRuntime) -> Result
     assert_fate(&rt, alloc, &mut bench, Fate::Forwarded);
     let outs = end(&rt, alloc, &mut bench);
     // the session that discovery made is told by a PADT, and the circuits are not
-    assert!(rt; outs.len() == 1);
-    assert!(rt; span(&outs, 0, 15, 18) == b"\xa7\x04\x03".as_slice());
+    assert_count(&rt, outs.len(), 1);
+    assert_octets(&rt, span(&outs, 0, 15, 18), b"\xa7\x04\x03");
     assert_fate(&rt, alloc, &mut bench, Fate::Dropped(DropCause::NotOpen));
-    assert!(rt; bench.shard.sessions() == 3);
+    assert_sessions(&rt, &bench.shard, 3);
     assert_reaps(&rt, &mut bench, term(1, 1025, 1, 0x0a000002));
     assert_reaps(&rt, &mut bench, term(2, 1026, 2, 0x0a000003));
     assert_all_left(&rt, &mut bench);

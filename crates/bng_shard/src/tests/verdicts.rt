@@ -1,6 +1,9 @@
 ghost use Rattle.std.specs.Prelude.{◌≡◌, ◌≤◌, length};
 
-use super::{Bench, NOTHING, ONE, item, octets, open_bench, request, rules, span, text};
+use super::{
+    Bench, NOTHING, ONE, assert_count, assert_octets, item, octets, open_bench, request, rules,
+    span, text,
+};
 use crate::Handed;
 use arrayvec::ArrayVec;
 use bng_base::{Item, ItemKind, OutRecord, SessionNo};
@@ -97,17 +100,17 @@ fn judged(rt: &impl Abort, alloc: Global, reply: &[u8; 24]) -> Result<Vec<OutRec
     };
     assert_eq!(rt; asked, Some(number));
     let again = hear(rt, alloc, &mut bench, in_session(AGAIN));
-    assert_eq!(rt; again.len(), 0);
+    assert_count(rt, again.len(), 0);
     assert!(rt; bench.shard.asked(&mut handed).is_none());
     let other_question = hear(rt, alloc, &mut bench, verdict(1, 2, reply));
-    assert_eq!(rt; other_question.len(), 0);
+    assert_count(rt, other_question.len(), 0);
     let other_session = hear(rt, alloc, &mut bench, verdict(2, 1, reply));
-    assert_eq!(rt; other_session.len(), 0);
+    assert_count(rt, other_session.len(), 0);
     let outs = hear(rt, alloc, &mut bench, verdict(1, 1, reply));
     let mut none = Handed::open(alloc)?;
     assert!(rt; bench.shard.asked(&mut none).is_none());
     let late = hear(rt, alloc, &mut bench, verdict(1, 1, reply));
-    assert_eq!(rt; late.len(), 0);
+    assert_count(rt, late.len(), 0);
     Ok(outs)
 }
 
@@ -115,14 +118,14 @@ fn judged(rt: &impl Abort, alloc: Global, reply: &[u8; 24]) -> Result<Vec<OutRec
 fn a_verdict_counts_for_the_question_of_its_session_alone(rt: HostRuntime) -> Result<(), Fail> {
     let alloc = rt.alloc();
     let accepted = judged(&rt, alloc, ACCEPT)?;
-    assert_eq!(rt; accepted.len(), 1);
-    assert_eq!(rt; octets(&accepted, 0).len(), 29);
-    assert_eq!(rt; span(&accepted, 0, 20, 29), ACCEPTED.as_slice());
+    assert_count(&rt, accepted.len(), 1);
+    assert_count(&rt, octets(&accepted, 0).len(), 29);
+    assert_octets(&rt, span(&accepted, 0, 20, 29), ACCEPTED);
     // after the Authenticate-Nak LCP does Close, by a Terminate-Request
     let refused = judged(&rt, alloc, REJECT)?;
-    assert_eq!(rt; refused.len(), 2);
-    assert_eq!(rt; octets(&refused, 0).len(), 29);
-    assert_eq!(rt; span(&refused, 0, 20, 29), REJECTED.as_slice());
-    assert_eq!(rt; span(&refused, 1, 20, 23), b"\xc0\x21\x05".as_slice());
+    assert_count(&rt, refused.len(), 2);
+    assert_count(&rt, octets(&refused, 0).len(), 29);
+    assert_octets(&rt, span(&refused, 0, 20, 29), REJECTED);
+    assert_octets(&rt, span(&refused, 1, 20, 23), b"\xc0\x21\x05");
     Ok(())
 }

@@ -39,9 +39,9 @@ use Rattle.bng_desk.proofs.OpenedTerms.{are_served, few_terms, knows_there, open
 use Rattle.bng_desk.proofs.Outfit.{of_shard, offers_count, ranges_of}
 use Rattle.bng_desk.proofs.Returning.{HoldsOwn}
 use Rattle.bng_desk.proofs.desk.Desk.open.Goals as goal
-use Rattle.bng_desk.proofs.desk.Desk.open.Goals.{After-as_slice-2, After-new-3}
+use Rattle.bng_desk.proofs.desk.Desk.open.Goals.{After-as_slice-2, After-new-4}
 
-module _ (c : After-new-3) where
+module _ (c : After-new-4) where
   abbrev statics : ℕ → List Static
   statics n = filter (λ (s : Static). shard_of s == n) c.args.config.statics
 
@@ -52,7 +52,7 @@ module _ (c : After-new-3) where
   made_as = c.in_ok-rules.ensures
 
   circuits : c.into_vec.result.items ≡ c.args.config.statics
-  circuits = c.into_vec.ensures
+  circuits = (c.into_vec.ensures ∙ c.replace-circuits.ensures.value)
 
   shards_are : c.in_ok-opens.opens.items ≡ map (λ n. opened n made (statics n) c.args.now) (range_with_len 0 made.shards)
   shards_are = c.in_ok-opens.ensures.opened ∙ ap (λ (ss : List Static). map (λ n. opened n made (filter (λ (s : Static). shard_of s == n) ss) c.args.now) (range_with_len 0 made.shards)) circuits
@@ -156,7 +156,7 @@ invariant_of-result c =
 
 pub returns : goal.returns
 returns c =
-    let b = (goal.at.returns c).After-new-3 in
+    let b = (goal.at.returns c).After-new-4 in
     let config = c.args.config in
     let r = made b in
     let desk = λ (tallies : List Book) (lines : List Line) (stopped : Stopped) (shards : List (ShardView ShardState Entry)) (draws : Drawn) (handed : List (List ℕ)) (reports : List Reports) (kept : List Item). let x : Desk = record {
@@ -219,7 +219,7 @@ returns c =
 
 pub shards-requires-clause-circuits : goal.shards-requires-clause-circuits
 shards-requires-clause-circuits c =
-    subst (λ (cs : List Static). AreServed c.in_ok-rules.rules cs) (sym c.into_vec.ensures)
+    subst (λ (cs : List Static). AreServed c.in_ok-rules.rules cs) (sym (c.into_vec.ensures ∙ c.replace-circuits.ensures.value))
     (are_served c.args.config c.in_ok-rules.rules c.requires.rules c.requires.profiles (ap (λ (r : Rules). r.shards) c.in_ok-rules.ensures) (ap (λ (r : Rules). length r.access) c.in_ok-rules.ensures))
 
 pub accounts-requires-clause-most : goal.accounts-requires-clause-most
@@ -232,7 +232,7 @@ module _ (c : After-as_slice-2) where
 
   there : c.as_slice-2.result.now ≡ map (λ n. opened n c.in_ok-rules.rules (of_shard c.args.config.statics n) c.args.now) (range_with_len 0 c.in_ok-rules.rules.shards)
   there =
-      c.as_slice-2.ensures.value ∙ c.in_ok-opens.ensures.opened ∙ ap (λ (ss : List Static). map (λ n. opened n c.in_ok-rules.rules (of_shard ss n) c.args.now) (range_with_len 0 c.in_ok-rules.rules.shards)) c.into_vec.ensures
+      c.as_slice-2.ensures.value ∙ c.in_ok-opens.ensures.opened ∙ ap (λ (ss : List Static). map (λ n. opened n c.in_ok-rules.rules (of_shard ss n) c.args.now) (range_with_len 0 c.in_ok-rules.rules.shards)) (c.into_vec.ensures ∙ c.replace-circuits.ensures.value)
 
 pub accounts-requires-clause-room : goal.accounts-requires-clause-room
 accounts-requires-clause-room c =
