@@ -102,7 +102,7 @@ module _ (words : List (List ℕ)) (f f' : FilesTold) (p : PlantTold) (k : Clock
   unready refusal (inl w) told =
       subst (λ (x : EntropyTold). RunEnds words (record { files = f; plant = p; clock = k; entropy = n; trace = t; out = o; err = e }) (record { files = f'; plant = p; clock = k; entropy = x; trace = t; out = o; err = e' }) status) (sym w.1)
       (unprepared words f f' p k n t o e e' status refusal w.0 told)
-  unready refusal (inr w) told = unseeded words w.1 f f' p k n n' t o e e' status w.2 w.3 (subst (λ (x : Refusal). Told e e' x status) w.0 told)
+  unready refusal (inr w) told = unseeded words w.1.0 f f' p k n n' t o e e' status w.1.1 w.1.2 (subst (λ (x : Refusal). Told e e' x status) w.0 told)
 
 -- A configuration was read, and a seed was given.
 module _ (words : List (List ℕ)) (config : Config) (seed : List ℕ) (f f' : FilesTold) (p p' : PlantTold) (k k' : ClockTold) (n n' : EntropyTold) (t t' : TraceTold) (o o' e e' : SinkTold) (status : ℕ) where

@@ -122,10 +122,10 @@ module _ (config : Config) (seed : List ℕ) (old between new : Outside) (openin
 
 -- What was told of a run whose turns came to their end.
 module _ (config : Config) (seed : List ℕ) (old new : Outside) (d : Desk) (c : CompletesTo config seed old new d) (out out' : SinkTold) where
-  unstarved : ¬ (state_of d ≡ Starved) → ¬ (state_of c.completes.course.last ≡ Starved)
+  pub unstarved : ¬ (state_of d ≡ Starved) → ¬ (state_of c.completes.course.last ≡ Starved)
   unstarved none is = none (ap (λ (x : Desk). state_of x) (sym c.last) ∙ is)
 
-  pub runs_of : Reports d out out' → Runs config seed old new out out'
+  abbrev pub runs_of : Reports d out out' → Runs config seed old new out out'
   runs_of reports = record {
     completes = c.completes;
     ended = ended_of (state_of c.completes.course.last) c.completes.whole.over (unstarved reports.unstarved);

@@ -3,8 +3,8 @@ use Rattle.bng_base.specs.Stretch.{Outside}
 use Rattle.bng_gate.proofs.Whole.{completes_to, fails_to_note}
 use Rattle.bng_gate.proofs.top.serve_all.Goals as goal
 
-pub returns-in_default-clause-served : goal.returns-in_default-clause-served
-returns-in_default-clause-served g c =
+pub returns-clause-served : goal.returns-clause-served
+returns-clause-served g c =
     let old : Outside = record { plant = g.P.Plant.told c.args.plant.now; clock = g.C.Clock.told c.args.clock.now; trace = g.T.Trace.told c.args.trace.now } in
     let opening : Outside = record { plant = g.P.Plant.told c.open_desk.new.plant; clock = g.C.Clock.told c.open_desk.new.clock; trace = g.T.Trace.told c.args.trace.now } in
     let new : Outside = record { plant = g.P.Plant.told c.make_turns.new.plant; clock = g.C.Clock.told c.make_turns.new.clock; trace = g.T.Trace.told c.make_turns.new.trace } in
