@@ -152,6 +152,7 @@ fn assert_circuits(rt: &impl Abort, statics: &[Static], rows: &[(u8, u8, u16, u3
         assert_number(rt, u64::from(circuit.session.0), u64::from(*session));
         assert_address(rt, circuit.address, *address);
         assert_octets(rt, circuit.user.as_slice(), *user);
+        assert_number(rt, u64::from(circuit.profile), 0);
     }
 }
 
@@ -192,7 +193,6 @@ fn a_whole_configuration_is_read(rt: HostRuntime) {
     assert_pools(&rt, config.pools.as_slice(), &ranges);
     let circuits: [(u8, u8, u16, u32, &[u8]); 1] = [(1, 1, 1025, 0x0a00_0002, b"fixed1")];
     assert_circuits(&rt, config.statics.as_slice(), &circuits);
-    assert_eq!(rt; config.statics.as_slice()[0].profile, 0);
 }
 
 #[test]
