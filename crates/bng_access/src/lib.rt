@@ -11,6 +11,3 @@ mod rules;
 
 pub use crate::request::write;
 pub use crate::rules::NasRules;
-
-#[cfg(test)]
-mod tests;

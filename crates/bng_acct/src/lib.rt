@@ -27,6 +27,3 @@ pub use crate::held::Held;
 pub use crate::rules::{AcctRules, SpoolError};
 pub use crate::sheet::Sheet;
 pub use crate::spool::Spool;
-
-#[cfg(test)]
-mod tests;

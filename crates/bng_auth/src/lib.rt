@@ -16,6 +16,3 @@ pub use crate::credentials::{Credentials, NAME_MOST, PASSWORD_MOST, Proof};
 pub use crate::pap::Pap;
 pub use crate::reply::{Reply, TEXT_MOST};
 pub use crate::step::AuthStep;
-
-#[cfg(test)]
-mod tests;

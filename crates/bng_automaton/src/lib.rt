@@ -13,8 +13,6 @@ mod event;
 mod restart;
 mod state;
 mod table;
-#[cfg(test)]
-mod tests;
 
 pub use crate::action::{Action, Actions};
 pub use crate::automaton::{Automaton, RESTART_TIMER};

@@ -8,8 +8,6 @@
 mod billing;
 mod laws;
 mod rules;
-#[cfg(test)]
-mod tests;
 mod withdrawing;
 
 pub use crate::billing::Billing;

@@ -14,8 +14,6 @@ mod reply;
 mod request;
 mod requests;
 mod rules;
-#[cfg(test)]
-mod tests;
 
 pub use crate::desk::CoaDesk;
 pub use crate::law::{requests_are_apart, requests_stand_in_order, requests_stay_in_hand};

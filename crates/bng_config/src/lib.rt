@@ -25,6 +25,3 @@ pub use crate::config::Config;
 pub use crate::fault::{ConfigError, Fault, Key};
 pub use crate::reading::read;
 pub use crate::texts::fault_text;
-
-#[cfg(test)]
-mod tests;

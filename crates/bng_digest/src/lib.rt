@@ -6,8 +6,6 @@
 mod authentication;
 mod hiding;
 mod mixing;
-#[cfg(test)]
-mod tests;
 mod texts;
 
 pub use crate::authentication::{chap_value, hmac_md5, hmac_md5_of};

@@ -16,6 +16,3 @@ pub use crate::answers::{Answer, ErrorTag};
 pub use crate::port::PortRules;
 pub use crate::reply::{confirm, offer, refuse, terminate};
 pub use crate::table::answer;
-
-#[cfg(test)]
-mod tests;

@@ -16,6 +16,3 @@ pub use crate::arrived::{Arrived, carried, frame_at, names_session, packet_from}
 pub use crate::forward::{down, up};
 pub use crate::framed::{put_in_frame, take_from_frame};
 pub use crate::view::TermView;
-
-#[cfg(test)]
-mod tests;

@@ -9,8 +9,6 @@ mod class;
 mod grant;
 mod law;
 mod numbers;
-#[cfg(test)]
-mod tests;
 mod texts;
 
 pub use crate::grant::{Grant, grant_of};

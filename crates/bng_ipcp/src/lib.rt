@@ -10,8 +10,6 @@ mod configure_reply;
 mod configure_request;
 mod judgement;
 pub mod option;
-#[cfg(test)]
-mod tests;
 
 pub use crate::ask::IpcpAsk;
 pub use crate::configure_reply::Taken;

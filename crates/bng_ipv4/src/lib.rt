@@ -13,6 +13,3 @@ pub use crate::grammar::read;
 pub use crate::lowering::lower_ttl;
 pub use crate::spelling::write;
 pub use bng_base::{Ipv4, ReadError, Written};
-
-#[cfg(test)]
-mod tests;

@@ -16,8 +16,6 @@ mod placed;
 mod refusal;
 mod spelling;
 mod step;
-#[cfg(test)]
-mod tests;
 mod values;
 
 pub use crate::call::Call;

@@ -15,8 +15,6 @@ mod number;
 mod outgoing;
 mod ring;
 mod sent;
-#[cfg(test)]
-mod tests;
 
 pub use crate::answers::{Due, Heard, Queued};
 pub use crate::channel::{Channel, HELLO_AFTER};

@@ -19,8 +19,6 @@ mod refusal;
 mod rules;
 mod spelling;
 mod step;
-#[cfg(test)]
-mod tests;
 mod tunnel;
 mod values;
 

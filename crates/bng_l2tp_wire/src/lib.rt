@@ -16,6 +16,3 @@ mod view;
 pub use crate::octets::is_control;
 pub use crate::view::{Avp, Control, Data};
 pub use bng_base::{ReadError, Written};
-
-#[cfg(test)]
-mod tests;

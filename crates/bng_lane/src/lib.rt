@@ -8,8 +8,6 @@
 mod lane;
 mod laws;
 mod rules;
-#[cfg(test)]
-mod tests;
 
 pub use crate::lane::Lane;
 pub use crate::laws::{pending_stays, replies_answer_requests, requests_say_their_questions};

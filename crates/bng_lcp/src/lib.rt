@@ -13,8 +13,6 @@ mod judgement;
 mod magic_number;
 mod maximum_receive_unit;
 pub mod option;
-#[cfg(test)]
-mod tests;
 
 pub use crate::ask::LcpAsk;
 pub use crate::configure_reply::Taken;

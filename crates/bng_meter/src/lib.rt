@@ -10,8 +10,6 @@
 mod colour;
 mod level;
 mod meter;
-#[cfg(test)]
-mod tests;
 
 pub use colour::Colour;
 pub use meter::Meter;

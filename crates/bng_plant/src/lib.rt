@@ -34,6 +34,3 @@ pub use crate::memory_sink::MemorySink;
 pub use crate::memory_trace::MemoryTrace;
 pub use crate::no_trace::{NoTrace, OpenGate};
 pub use crate::outside::{Clock, Entropy, Files, Gate, Plant, Sink, Trace};
-
-#[cfg(test)]
-mod tests;

@@ -37,18 +37,12 @@ mod protocol_reject;
 mod rules;
 mod step;
 mod terminate;
-#[cfg(test)]
-mod tests;
 mod timers;
 mod verdict;
-#[cfg(test)]
-mod whole_fixtures;
 mod whole_frame;
 mod whole_input;
 mod whole_link;
 mod whole_step;
-#[cfg(test)]
-mod whole_tests;
 mod whole_timers;
 
 pub use crate::authentication::Authentication;

@@ -25,6 +25,3 @@ pub use crate::made_option::{MadeOpt, made, put_made};
 pub use crate::option_table::{Good, Row, Width};
 pub use crate::view::{Opt, Packet, Ppp};
 pub use bng_base::{ReadError, Written};
-
-#[cfg(test)]
-mod tests;

@@ -15,6 +15,3 @@ mod view;
 pub use crate::listing::{tags, write_tags};
 pub use crate::view::{Pppoe, Tag};
 pub use bng_base::{ReadError, Written};
-
-#[cfg(test)]
-mod tests;

@@ -7,7 +7,5 @@
 #![tactic(auto)]
 
 mod profiles;
-#[cfg(test)]
-mod tests;
 
 pub use profiles::{ProfileError, Profiles};

@@ -11,8 +11,6 @@ mod replies;
 mod requests;
 mod rules;
 mod sends;
-#[cfg(test)]
-mod tests;
 
 pub use crate::client::Client;
 pub use crate::due::{Due, DueRequest, INTERVAL, Longest, Sought};

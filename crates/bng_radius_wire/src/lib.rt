@@ -11,8 +11,6 @@ mod lists;
 mod places;
 mod reading;
 mod signing;
-#[cfg(test)]
-mod tests;
 mod views;
 mod writing;
 

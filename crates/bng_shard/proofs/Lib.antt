@@ -62,7 +62,6 @@ pub mod Controls
 pub mod Vacating
 pub mod DueLaws
 pub mod BookLaws
-pub mod OneCircuit
 pub mod Circuits
 pub mod Scanning
 pub mod Listing
@@ -74,7 +73,6 @@ pub mod Tying
 pub mod AskedPool
 pub mod ClaimLaws
 pub mod OpenedKeys
-pub mod Benches
 pub mod ClaimedTerms
 pub mod Numbered
 pub mod TermYeses

@@ -48,6 +48,3 @@ pub use crate::shard::{Shard, ShardError};
 pub use crate::sums::{Charged, Traffic};
 pub use crate::term::{EndedTerm, LiveTerm, ReportedTerm};
 pub use crate::whose::{Whose, whose_is};
-
-#[cfg(test)]
-mod tests;

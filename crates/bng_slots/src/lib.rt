@@ -18,8 +18,6 @@ mod laws;
 mod shelf;
 mod slots;
 mod slotted;
-#[cfg(test)]
-mod tests;
 mod vacancy;
 
 pub use crate::full::{Full, SlotError};

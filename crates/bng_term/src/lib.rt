@@ -10,8 +10,6 @@
 mod law;
 mod lifetime;
 mod limits;
-#[cfg(test)]
-mod tests;
 mod timeout;
 
 pub use crate::law::{

@@ -7,8 +7,6 @@
 mod attributes;
 mod law;
 mod question;
-#[cfg(test)]
-mod tests;
 mod verdict;
 
 pub use crate::law::{verdicts_are_one, yes_is_an_accept};

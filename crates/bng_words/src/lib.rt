@@ -19,8 +19,6 @@ mod option;
 mod piece;
 mod place;
 mod program;
-#[cfg(test)]
-mod tests;
 mod word;
 
 pub use crate::command::{Command, WordsError};

@@ -1,0 +1,5 @@
+//! The configuration: worked examples of `bng_config`.
+#![tactic(auto)]
+
+#[cfg(test)]
+mod config;

@@ -1,0 +1,9 @@
+//! Tunnels and calls: worked examples of `bng_l2tp_call`, `bng_l2tp_reliable`, `bng_l2tp_tunnel`.
+#![tactic(auto)]
+
+#[cfg(test)]
+mod l2tp_call;
+#[cfg(test)]
+mod l2tp_reliable;
+#[cfg(test)]
+mod l2tp_tunnel;

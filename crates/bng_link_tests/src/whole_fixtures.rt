@@ -1,0 +1,122 @@
+//! What the tests of a whole link share.
+ghost use Rattle.std.specs.Prelude.{◌<◌, ◌^◌, length};
+
+use arrayvec::ArrayVec;
+use bng_base::{AuthKind, Ip4};
+use bng_ppp::{LinkKind, LinkRules, WholeInput, WholeLink, WholeSteps};
+
+// The gateway's magic number is a1b2c3d4, and these octets are its Challenge.
+pub(crate) const RANDOM: [u8; 16] = [
+    0xa1, 0xb2, 0xc3, 0xd4, 4, 5, 6, 7, 8, 9, 10, 11, 12, 13, 14, 15,
+];
+
+// pppd over PPPoE asks for its Maximum-Receive-Unit and a magic number, and takes what the gateway asks for.
+pub(crate) const REQUEST: &[u8] =
+    b"\xc0\x21\x01\x02\x00\x0e\x01\x04\x05\xd4\x05\x06\x11\x22\x33\x44";
+
+pub(crate) const CHAP_ACK: &[u8] =
+    b"\xc0\x21\x02\x01\x00\x13\x01\x04\x05\xd4\x03\x05\xc2\x23\x05\x05\x06\xa1\xb2\xc3\xd4";
+
+pub(crate) const PAP_ACK: &[u8] =
+    b"\xc0\x21\x02\x01\x00\x12\x01\x04\x05\xd4\x03\x04\xc0\x23\x05\x06\xa1\xb2\xc3\xd4";
+
+pub(crate) const CHALLENGE: &[u8] =
+    b"\xc2\x23\x01\x01\x00\x19\x10\xa1\xb2\xc3\xd4\x04\x05\x06\x07\x08\x09\x0a\x0b\x0c\x0d\x0e\x0fbng1";
+
+pub(crate) const RESPONSE: &[u8] =
+    b"\xc2\x23\x02\x01\x00\x17\x10\x01\x02\x03\x04\x05\x06\x07\x08\x09\x0a\x0b\x0c\x0d\x0e\x0f\x10u0";
+
+pub(crate) const PAP_REQUEST: &[u8] = b"\xc0\x23\x01\x07\x00\x0c\x02u0\x04pass";
+
+pub(crate) fn rules(auth: AuthKind, echo: u16) -> LinkRules
+    ensures { 0 < length result.auth.items }
+{
+    let mut only = ArrayVec::new();
+    only.push(auth);
+    let mut name = ArrayVec::new();
+    name.push(b'b');
+    name.push(b'n');
+    name.push(b'g');
+    name.push(b'1');
+    LinkRules {
+        name,
+        address: Ip4(0x0a00_0001),
+        dns: [Some(Ip4(0xc000_0235)), Some(Ip4(0xc000_0236))],
+        auth: only,
+        echo,
+    }
+}
+
+// The octets of a frame that a step sends, none where it sends fewer.
+pub(crate) fn sent(steps: &WholeSteps, place: usize) -> &[u8] {
+    match steps.outs().get(place) {
+        Some(frame) => frame.payload(),
+        None => &[],
+    }
+}
+
+pub(crate) fn tell(
+    link: &mut WholeLink,
+    rules: &LinkRules,
+    input: WholeInput<'_>,
+    now: u64,
+) -> WholeSteps
+    requires moment { now < 2 ^ 60 }
+    requires some { 0 < length rules.now.auth.items }
+{
+    let mut steps = WholeSteps::new();
+    link.step(rules, input, now, &RANDOM, &mut steps);
+    steps
+}
+
+pub(crate) fn hear(link: &mut WholeLink, rules: &LinkRules, octets: &[u8]) -> WholeSteps
+    requires { 0 < length rules.now.auth.items }
+{
+    tell(link, rules, WholeInput::Frame(octets), 0)
+}
+
+// A verdict with the address 10.0.0.2.
+pub(crate) fn verdict(yes: bool, octets: &[u8]) -> WholeInput<'static> {
+    verdict_with(yes, Some(Ip4(0x0a00_0002)), octets)
+}
+
+pub(crate) fn verdict_with(yes: bool, lease: Option<Ip4>, octets: &[u8]) -> WholeInput<'static> {
+    let mut text = ArrayVec::new();
+    for octet in octets {
+        if !text.is_full() {
+            text.push(*octet);
+        }
+    }
+    WholeInput::Verdict { yes, lease, text }
+}
+
+// A link whose LCP is Opened.
+pub(crate) fn opened(rules: &LinkRules, ack: &[u8]) -> WholeLink
+    requires { 0 < length rules.now.auth.items }
+{
+    let mut link = WholeLink::new(LinkKind::Pppoe, &RANDOM, 0);
+    let _asked = tell(&mut link, rules, WholeInput::Start, 0);
+    let _answered = hear(&mut link, rules, REQUEST);
+    let _opened = hear(&mut link, rules, ack);
+    link
+}
+
+// A link whose peer was accepted by CHAP and has its address.
+pub(crate) fn served(rules: &LinkRules) -> WholeLink
+    requires { 0 < length rules.now.auth.items }
+{
+    let mut link = opened(rules, CHAP_ACK);
+    let _asked = hear(&mut link, rules, RESPONSE);
+    let _accepted = tell(&mut link, rules, verdict(true, b""), 0);
+    let _acked = hear(
+        &mut link,
+        rules,
+        b"\x80\x21\x02\x01\x00\x0a\x03\x06\x0a\x00\x00\x01",
+    );
+    let _served = hear(
+        &mut link,
+        rules,
+        b"\x80\x21\x01\x01\x00\x0a\x03\x06\x0a\x00\x00\x02",
+    );
+    link
+}

@@ -1,0 +1,30 @@
+use Rattle.std.proofs.Common.{get_or, arith}
+use Rattle.std.proofs.lemmas.Option.{slice_get-get_or}
+use Rattle.bng_pool.specs.Seats.{SeatView}
+use Rattle.bng_parts_tests.proofs.InHand.{scan_same, changed_seats, changed_round, noted_round, scanned_in_hand}
+use Rattle.bng_parts_tests.proofs.pool.one_hand.scan.Goals as goal
+
+pub compare_at-requires-clause-seats : goal.compare_at-requires-clause-seats
+compare_at-requires-clause-seats c = let before : SeatView = get_or c.args.seats.now c.args.shard c.index-seats-shard.result in let all = c.requires.hand.all in let low = c.requires.shard in
+    changed_seats c.args.pool.now c.args.seats.now c.requires.hand c.args.shard before c.scan-answer.new.seat (slice_get-get_or c.args.seats.now c.args.shard c.index-seats-shard.result (omega arith)) (scan_same _ _ _ _ _ c.scan-answer.ensures.2)
+
+pub compare_at-requires-clause-round : goal.compare_at-requires-clause-round
+compare_at-requires-clause-round c = let before : SeatView = get_or c.args.seats.now c.args.shard c.index-seats-shard.result in let all = c.requires.hand.all in let low = c.requires.shard in
+    (c.requires.round.0, changed_round c.args.pool.now c.args.seats.now c.requires.hand c.args.shard before c.scan-answer.new.seat (slice_get-get_or c.args.seats.now c.args.shard c.index-seats-shard.result (omega arith)) (scan_same _ _ _ _ _ c.scan-answer.ensures.2) c.requires.round.0 c.requires.round.1)
+
+pub returns-clause-table : goal.returns-clause-table
+returns-clause-table c = let before : SeatView = get_or c.args.seats.now c.args.shard c.index-seats-shard.result in let all = c.requires.hand.all in let low = c.requires.shard in (
+  c.scan-answer.ensures.0,
+  c.scan-answer.ensures.1,
+  (scanned_in_hand c.seats_in_one_hand_are_a_table.ensures.all_keep c.args.pool.now c.args.seats.now c.compare_at.new.seats c.requires.hand c.args.shard before c.scan-answer.new.seat (slice_get-get_or c.args.seats.now c.args.shard c.index-seats-shard.result (omega arith)) c.requires.round
+      c.compare_at.ensures.agreed c.compare_at.ensures.seats c.seats_in_one_hand_are_a_table.ensures.scans c.scan-answer.ensures.0 c.args.range c.scan-answer.result c.scan-answer.ensures.1 c.scan-answer.ensures.2).1,
+)
+
+pub returns-clause-hand : goal.returns-clause-hand
+returns-clause-hand c = let before : SeatView = get_or c.args.seats.now c.args.shard c.index-seats-shard.result in let all = c.requires.hand.all in let low = c.requires.shard in
+    (scanned_in_hand c.seats_in_one_hand_are_a_table.ensures.all_keep c.args.pool.now c.args.seats.now c.compare_at.new.seats c.requires.hand c.args.shard before c.scan-answer.new.seat (slice_get-get_or c.args.seats.now c.args.shard c.index-seats-shard.result (omega arith)) c.requires.round
+    c.compare_at.ensures.agreed c.compare_at.ensures.seats c.seats_in_one_hand_are_a_table.ensures.scans c.scan-answer.ensures.0 c.args.range c.scan-answer.result c.scan-answer.ensures.1 c.scan-answer.ensures.2).0
+
+pub returns-clause-round : goal.returns-clause-round
+returns-clause-round c phase round = let before : SeatView = get_or c.args.seats.now c.args.shard c.index-seats-shard.result in let all = c.requires.hand.all in let low = c.requires.shard in
+    noted_round _ _ phase c.compare_at.ensures.seats (changed_round c.args.pool.now c.args.seats.now c.requires.hand c.args.shard before c.scan-answer.new.seat (slice_get-get_or c.args.seats.now c.args.shard c.index-seats-shard.result (omega arith)) (scan_same _ _ _ _ _ c.scan-answer.ensures.2) phase round)

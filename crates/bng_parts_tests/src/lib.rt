@@ -1,0 +1,25 @@
+//! The parts below a shard: worked examples of `bng_base`, `bng_engine`, `bng_forward`, `bng_meter`, `bng_plant`, `bng_pool`, `bng_profile`, `bng_slots`, `bng_term`, `bng_turn`, `bng_words`.
+#![tactic(auto)]
+
+#[cfg(test)]
+mod base;
+#[cfg(test)]
+mod engine;
+#[cfg(test)]
+mod forward;
+#[cfg(test)]
+mod meter;
+#[cfg(test)]
+mod plant;
+#[cfg(test)]
+mod pool;
+#[cfg(test)]
+mod profile;
+#[cfg(test)]
+mod slots;
+#[cfg(test)]
+mod term;
+#[cfg(test)]
+mod turn;
+#[cfg(test)]
+mod words;

@@ -1,0 +1,75 @@
+//! Lists of packets with the colours that RFC 2697 gives them.
+ghost use Rattle.std.specs.Prelude.{◌≡◌};
+
+use bng_base::Rate;
+use bng_meter::Colour::{Green, Red, Yellow};
+use bng_meter::Meter;
+use std::test::Fail;
+
+// A meter that starts at 0.
+fn meter(cir: u64, cbs: u64, ebs: u64) -> Meter
+    ensures { result.last ≡ 0 }
+{
+    Meter::new(Rate { cir, cbs, ebs }, 0)
+}
+
+#[test]
+fn a_packet_is_green_then_yellow_then_red(rt: HostRuntime) -> Result<(), Fail> {
+    let mut meter = meter(1000, 1500, 1500);
+    let colours = [
+        meter.take(0, 1500),
+        meter.take(0, 1500),
+        meter.take(0, 1500),
+        meter.take(1499, 1500),
+        meter.take(1500, 1500),
+    ];
+    assert_eq!(rt; colours, [Green, Yellow, Red, Red, Green]);
+    Ok(())
+}
+
+#[test]
+fn a_token_comes_at_the_first_millisecond_that_reaches_it(rt: HostRuntime) -> Result<(), Fail> {
+    let mut meter = meter(3, 1, 0);
+    let colours = [
+        meter.take(0, 1),
+        meter.take(333, 1),
+        meter.take(334, 1),
+        meter.take(666, 1),
+        meter.take(667, 1),
+        meter.take(1000, 1),
+    ];
+    assert_eq!(rt; colours, [Green, Red, Green, Red, Green, Green]);
+    Ok(())
+}
+
+#[test]
+fn tokens_fill_the_committed_bucket_and_then_the_excess_bucket(
+    rt: HostRuntime,
+) -> Result<(), Fail> {
+    let mut meter = meter(1000, 1500, 1500);
+    let emptied = [meter.take(0, 1500), meter.take(0, 1500)];
+    let full = [
+        meter.take(2000, 1500),
+        meter.take(2000, 500),
+        meter.take(2000, 1),
+    ];
+    assert_eq!(rt; emptied, [Green, Yellow]);
+    assert_eq!(rt; full, [Green, Yellow, Red]);
+    Ok(())
+}
+
+#[test]
+fn a_day_of_silence_fills_both_buckets_at_any_rate(rt: HostRuntime) -> Result<(), Fail> {
+    let rate = Rate {
+        cir: u64::MAX,
+        cbs: u64::MAX,
+        ebs: 1500,
+    };
+    let mut meter = Meter::new(rate, 5);
+    let colours = [
+        meter.take(86_400_005, u32::MAX),
+        meter.take((1 << 60) - 1, u32::MAX),
+    ];
+    assert_eq!(rt; colours, [Green, Green]);
+    Ok(())
+}

@@ -1,0 +1,84 @@
+//! Two profiles and their books.
+ghost use Rattle.std.specs.Prelude.{◌≡◌, ◌≤◌, ◌<◌, length, IfSome};
+
+use arrayvec::ArrayVec;
+use bng_base::{Book, Profile};
+use bng_profile::Profiles;
+use std::test::Fail;
+
+fn unmetered(name: &[u8]) -> Profile
+    requires { length name.now ≤ 32 }
+    ensures { result.name.items ≡ name.now }
+{
+    let mut letters = ArrayVec::new();
+    let Ok(()) = letters.try_extend_from_slice(name) else {
+        unreachable!()
+    };
+    Profile {
+        name: letters,
+        up: None,
+        down: None,
+    }
+}
+
+const MOST: u64 = 1 << 63;
+
+fn pass(profiles: &mut Profiles, profile: u8, input: bool, octets: u16) -> Option<()>
+    requires { (profile < length profiles.old.books) × (octets ≤ 4096) }
+    ensures { length profiles.new.books ≡ length profiles.old.books }
+{
+    let book = profiles.book(profile);
+    let full = book.input > MOST || book.output > MOST;
+    if full || book.input_packets > MOST || book.output_packets > MOST {
+        return None;
+    }
+    profiles.pass(profile, input, octets);
+    Some(())
+}
+
+fn take_off(profiles: &mut Profiles, profile: u8, octets: u16) -> Option<()>
+    requires { (profile < length profiles.old.books) × (octets ≤ 4096) }
+    ensures { length profiles.new.books ≡ length profiles.old.books }
+{
+    let book = profiles.book(profile);
+    if book.input < octets as u64 || book.input_packets < 1 {
+        return None;
+    }
+    profiles.take_off(profile, true, octets);
+    Some(())
+}
+
+#[test]
+fn finds_each_profile_by_its_whole_name(rt: HostRuntime) -> Result<(), Fail> {
+    let profiles = Profiles::open(rt.alloc(), &[unmetered(b"bronze"), unmetered(b"gold")])?;
+    assert_eq!(rt; profiles.find(b"bronze"), Some(0));
+    assert_eq!(rt; profiles.find(b"gold"), Some(1));
+    assert_eq!(rt; profiles.find(b"golden"), None);
+    assert_eq!(rt; profiles.find(b""), None);
+    Ok(())
+}
+
+#[test]
+fn a_book_counts_what_passed_and_was_not_taken_off(rt: HostRuntime) -> Result<(), Fail> {
+    let mut profiles = Profiles::open(rt.alloc(), &[unmetered(b"bronze"), unmetered(b"gold")])?;
+    pass(&mut profiles, 0, true, 100).ok_or("full")?;
+    pass(&mut profiles, 1, true, 200).ok_or("full")?;
+    pass(&mut profiles, 1, false, 84).ok_or("full")?;
+    pass(&mut profiles, 1, true, 4096).ok_or("full")?;
+    take_off(&mut profiles, 1, 4096).ok_or("empty")?;
+    let bronze = Book {
+        input: 100,
+        output: 0,
+        input_packets: 1,
+        output_packets: 0,
+    };
+    let gold = Book {
+        input: 200,
+        output: 84,
+        input_packets: 1,
+        output_packets: 1,
+    };
+    assert_eq!(rt; profiles.book(0), bronze);
+    assert_eq!(rt; profiles.book(1), gold);
+    Ok(())
+}

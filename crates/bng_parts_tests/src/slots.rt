@@ -1,0 +1,189 @@
+ghost use Rattle.std.specs.Prelude.{◌≡◌, Some, None};
+
+use bng_base::{Circuit, Ip4, Mac, Peer, SessionNo, TermId, TunnelNo};
+use bng_slots::{Slots, Slotted};
+use std::process::Abort;
+use std::test::Fail;
+
+/// A session that nothing is found by.
+#[derive(Drop, PartialEq)]
+struct Blank {
+    tag: u16,
+}
+
+impl Slotted for Blank {
+    ghost circuit = { λ _. None };
+
+    ghost address = { λ _. None };
+
+    ghost term = { λ _. None };
+
+    ghost deadline = { λ _. None };
+
+    fn circuit(&self) -> Option<Circuit> {
+        None
+    }
+
+    fn address(&self) -> Option<Ip4> {
+        None
+    }
+
+    fn term(&self) -> Option<TermId> {
+        None
+    }
+
+    fn deadline(&self) -> Option<u64> {
+        None
+    }
+}
+
+// Inserts a value, and tells its number.
+fn number_of(slots: &mut Slots<Blank>, tag: u16) -> Option<SessionNo> {
+    slots.insert(Blank { tag }).ok()
+}
+
+#[test]
+fn the_lowest_number_is_given_first_and_given_again(rt: HostRuntime) -> Result<(), Fail> {
+    let mut slots = Slots::open(rt.alloc(), 0)?;
+    for tag in 1..1023 {
+        assert!(rt; number_of(&mut slots, tag) == Some(SessionNo(tag)));
+    }
+    assert!(rt; slots.vacant().is_none());
+    match slots.insert(Blank { tag: 2000 }) {
+        Ok(_) => panic!(rt; "not full"),
+        Err(full) => assert!(rt; full.value.tag == 2000),
+    }
+    assert!(rt; slots.remove(SessionNo(5)) == Some(Blank { tag: 5 }));
+    assert!(rt; slots.remove(SessionNo(5)).is_none());
+    assert!(rt; number_of(&mut slots, 3000) == Some(SessionNo(5)));
+    Ok(())
+}
+
+/// A subscriber's session.
+#[derive(Drop)]
+struct Line {
+    circuit: Circuit,
+    address: Ip4,
+    term: TermId,
+    deadline: Option<u64>,
+}
+
+impl Slotted for Line {
+    ghost circuit = { λ l. Some l.circuit };
+
+    ghost address = { λ l. Some l.address };
+
+    ghost term = { λ l. Some l.term };
+
+    ghost deadline = { λ l. l.deadline };
+
+    fn circuit(&self) -> Option<Circuit> {
+        Some(self.circuit)
+    }
+
+    fn address(&self) -> Option<Ip4> {
+        Some(self.address)
+    }
+
+    fn term(&self) -> Option<TermId> {
+        Some(self.term)
+    }
+
+    fn deadline(&self) -> Option<u64> {
+        self.deadline
+    }
+}
+
+fn pppoe(session: u16) -> Line {
+    Line {
+        circuit: Circuit::Pppoe {
+            port: 1,
+            mac: Mac([2, 0, 0, 0, 0, 1]),
+            session: SessionNo(session),
+        },
+        address: Ip4(0x0a00_0002),
+        term: TermId {
+            session: SessionNo(session),
+            serial: 1,
+        },
+        deadline: Some(3000),
+    }
+}
+
+fn l2tp(session: u16) -> Line {
+    Line {
+        circuit: Circuit::L2tp {
+            peer: Peer {
+                ip: Ip4(0xc000_0201),
+                port: 1701,
+            },
+            tunnel: TunnelNo(64_513),
+            session: SessionNo(session),
+        },
+        address: Ip4(0x0a00_0003),
+        term: TermId {
+            session: SessionNo(session),
+            serial: 2,
+        },
+        deadline: Some(2000),
+    }
+}
+
+fn third() -> Line {
+    Line {
+        address: Ip4(0x0a00_0004),
+        deadline: Some(3000),
+        ..l2tp(64_515)
+    }
+}
+
+// Puts a line under a number of shard 63 once nothing stands in its way.
+fn admit(rt: &impl Abort, slots: &mut Slots<Line>, n: u16, line: Line) {
+    let number = SessionNo(n);
+    assert!(rt; slots.shard() == 63);
+    assert!(rt; 64_513 <= n && n <= 65_534);
+    assert!(rt; slots.get(number).is_none());
+    assert!(rt; slots.by_circuit(&line.circuit).is_none());
+    assert!(rt; slots.by_address(line.address).is_none());
+    assert!(rt; slots.by_term(&line.term).is_none());
+    slots.put(number, line);
+}
+
+// What the indexes say of a line.
+fn found(
+    slots: &Slots<Line>,
+    line: &Line,
+) -> (Option<SessionNo>, Option<SessionNo>, Option<SessionNo>) {
+    (
+        slots.by_circuit(&line.circuit),
+        slots.by_address(line.address),
+        slots.by_term(&line.term),
+    )
+}
+
+#[test]
+fn each_index_leads_to_its_session_until_it_is_removed(rt: HostRuntime) -> Result<(), Fail> {
+    let mut slots = Slots::open(rt.alloc(), 63)?;
+    let (low, high) = (Some(SessionNo(64_513)), Some(SessionNo(65_534)));
+    admit(&rt, &mut slots, 65_534, pppoe(65_534));
+    admit(&rt, &mut slots, 64_513, l2tp(64_513));
+    assert!(rt; found(&slots, &pppoe(65_534)) == (high, high, high));
+    assert!(rt; found(&slots, &l2tp(64_513)) == (low, low, low));
+    assert!(rt; slots.remove(SessionNo(65_534)).is_some());
+    assert!(rt; found(&slots, &pppoe(65_534)) == (None, None, None));
+    Ok(())
+}
+
+#[test]
+fn the_earliest_deadline_comes_first_and_then_the_lower_number(
+    rt: HostRuntime,
+) -> Result<(), Fail> {
+    let mut slots = Slots::open(rt.alloc(), 63)?;
+    admit(&rt, &mut slots, 64_520, pppoe(64_520));
+    admit(&rt, &mut slots, 64_530, l2tp(64_530));
+    admit(&rt, &mut slots, 64_515, third());
+    assert!(rt; slots.earliest() == Some((2000, SessionNo(64_530))));
+    assert!(rt; slots.remove(SessionNo(64_530)).is_some());
+    assert!(rt; slots.earliest() == Some((3000, SessionNo(64_515))));
+    Ok(())
+}

@@ -1,5 +1,0 @@
-use Rattle.std.proofs.Common.{◌≡◌}
-use Rattle.bng_pool.proofs.tests.names_winners.Given as goal
-
-abbrev pub invariant-loop-winner : goal.invariant-loop-winner
-invariant-loop-winner l = l.seat.pool ≡ l.pool

@@ -1,0 +1,272 @@
+ghost use Rattle.std.specs.Prelude.{◌≡◌, ◌<◌, ◌≤◌, ◌∷◌, [], List};
+ghost use Rattle.bng_radius_wire.specs.Attributes.{Field};
+ghost use Rattle.bng_acct.specs.Request.{AreClasses};
+
+use arrayvec::ArrayVec;
+use bng_acct::{AcctRules, Moment, RecordNo, Spool, StatusType, TermFacts};
+use bng_base::{Book, Circuit, Frame, Ip4, Mac, Peer, SessionNo, TermId, TunnelNo};
+use std::process::Abort;
+use std::test::Fail;
+
+const RULES_WALL: u64 = 1_700_000_000;
+
+fn rules(terms: u32) -> AcctRules
+    requires { terms ≤ 262144 }
+    ensures { result.terms ≤ 262144 }
+{
+    let mut name = ArrayVec::new();
+    let _ = name.try_extend_from_slice(b"bng1");
+    AcctRules {
+        terms,
+        wall: RULES_WALL,
+        name,
+        nas_ip: Ip4(0xc0a8_0110),
+    }
+}
+
+const PPPOE: Circuit = Circuit::Pppoe {
+    port: 1,
+    mac: Mac([2, 0, 0, 0, 0, 1]),
+    session: SessionNo(1025),
+};
+
+const L2TP: Circuit = Circuit::L2tp {
+    peer: Peer {
+        ip: Ip4(0xc000_020a),
+        port: 1701,
+    },
+    tunnel: TunnelNo(1027),
+    session: SessionNo(1025),
+};
+
+fn term(session: u16, serial: u64) -> TermId {
+    TermId {
+        session: SessionNo(session),
+        serial,
+    }
+}
+
+// The Classes "a" and "bc".
+fn classes() -> ArrayVec<u8, 512>
+    ensures { result.items ≡ 25 ∷ 3 ∷ 97 ∷ 25 ∷ 4 ∷ 98 ∷ 99 ∷ [] }
+{
+    let mut class = ArrayVec::new();
+    let _ = class.try_extend_from_slice(&[25, 3, 97, 25, 4, 98, 99]);
+    class
+}
+
+// A term with the Classes "a" and "bc", which began after a second.
+fn facts(term: TermId, circuit: Circuit, input: u64, output: u64) -> TermFacts
+    ensures { (classes : List Field) × AreClasses classes result.class.items }
+{
+    let mut user = ArrayVec::new();
+    let _ = user.try_extend_from_slice(b"nemo");
+    TermFacts {
+        term,
+        circuit,
+        address: Ip4(0x0a00_0002),
+        user,
+        class: classes(),
+        began: 1_000,
+        carried: Book {
+            input,
+            output,
+            input_packets: 5,
+            output_packets: 6,
+        },
+    }
+}
+
+// Forms a record where that may be done.
+fn form(
+    rt: &impl Abort,
+    spool: &mut Spool,
+    status: StatusType,
+    facts: &TermFacts,
+    now: u64,
+) -> RecordNo
+    requires { (classes : List Field) × AreClasses classes facts.now.class.items }
+{
+    assert!(rt; facts.began <= now);
+    assert!(rt; spool.free() > 0);
+    assert!(rt; spool.open_number(facts.term, status).is_none());
+    let at = Moment {
+        now,
+        wall: 1_700_000_062,
+        cause: 1,
+    };
+    match status {
+        StatusType::Start => spool.start(facts, at),
+        StatusType::Interim => spool.interim(facts, at),
+        StatusType::Stop => spool.stop(facts, at),
+    }
+}
+
+// The octets were made from the tables of RFC 2865, RFC 2866 and RFC 2869 by a script.
+#[test]
+fn records_have_the_octets_of_their_facts(rt: HostRuntime) -> Result<(), Fail> {
+    let cases = [
+        (
+            StatusType::Stop,
+            PPPOE,
+            62_999,
+            "040000ca0000000000000000000000000000000001066e656d6f0406c0a8011005060000040106060000000207060000000108060a000002190361190462631f1330323a30303a30303a30303a30303a30312006626e67312806000000022a06000000132b06000000072c1a3635353366313030303430313030303030303030303030312e060000003d2f060000000530060000000631060000000134060000000135060000000337066553f13e3d0600000005571670312f3032303030303030303030312f31303235",
+        ),
+        (
+            StatusType::Start,
+            L2TP,
+            1_000,
+            "0400008d0000000000000000000000000000000001066e656d6f0406c0a8011005060000040106060000000207060000000108060a000002190361190462632006626e67312806000000012c1a36353533663130303034303130303030303030303030303137066553f13e3d0600000005571c743139322e302e322e31303a313730312f313032372f31303235",
+        ),
+        (
+            StatusType::Interim,
+            PPPOE,
+            62_999,
+            "040000c40000000000000000000000000000000001066e656d6f0406c0a8011005060000040106060000000207060000000108060a000002190361190462631f1330323a30303a30303a30303a30303a30312006626e67312806000000032a06000000132b06000000072c1a3635353366313030303430313030303030303030303030312e060000003d2f060000000530060000000634060000000135060000000337066553f13e3d0600000005571670312f3032303030303030303030312f31303235",
+        ),
+    ];
+    let mut frame = Frame::new();
+    for (status, circuit, now, octets) in cases {
+        let mut spool = Spool::open(rt.alloc(), &rules(64))?;
+        let term = facts(term(1025, 1), circuit, 0x1_0000_0013, 0x3_0000_0007);
+        let number = form(&rt, &mut spool, status, &term, now);
+        assert!(rt; spool.next(&mut frame) == Some(number));
+        let text = hex::encode(rt.alloc(), frame.payload())?;
+        assert_eq!(rt; text.as_str(), octets);
+    }
+    Ok(())
+}
+
+#[test]
+fn records_go_out_in_order_and_stay_until_acknowledged(rt: HostRuntime) -> Result<(), Fail> {
+    let mut spool = Spool::open(rt.alloc(), &rules(64))?;
+    let mut frame = Frame::new();
+    let one = facts(term(1025, 1), PPPOE, 84, 0);
+    let start = form(&rt, &mut spool, StatusType::Start, &one, 1_000);
+    let interim = form(&rt, &mut spool, StatusType::Interim, &one, 2_000);
+    let stop = form(&rt, &mut spool, StatusType::Stop, &one, 3_000);
+    assert_eq!(rt; spool.free(), 63);
+    assert_eq!(rt; spool.unacked_stops(), 1);
+    assert!(rt; !spool.interim_free(&one.term));
+    for number in [start, interim, stop] {
+        assert!(rt; spool.next(&mut frame) == Some(number));
+        assert!(rt; spool.knows(number));
+    }
+    assert!(rt; spool.next(&mut frame) == None);
+    spool.acked(interim);
+    assert!(rt; spool.interim_free(&one.term));
+    spool.acked(stop);
+    assert_eq!(rt; spool.unacked_stops(), 0);
+    assert_eq!(rt; spool.free(), 63);
+    spool.acked(start);
+    assert!(rt; !spool.knows(start));
+    assert_eq!(rt; spool.free(), 64);
+    Ok(())
+}
+
+#[test]
+fn stops_alone_stay_and_are_listed_by_session_and_term(rt: HostRuntime) -> Result<(), Fail> {
+    let mut spool = Spool::open(rt.alloc(), &rules(64))?;
+    let mut frame = Frame::new();
+    for (session, serial) in [(1026, 2), (1025, 7), (1025, 1)] {
+        let facts = facts(term(session, serial), PPPOE, 84, serial);
+        let stop = form(&rt, &mut spool, StatusType::Stop, &facts, 3_000);
+        let start = form(&rt, &mut spool, StatusType::Start, &facts, 3_000);
+        assert!(rt; start != stop);
+    }
+    assert!(rt; spool.next(&mut frame).is_some());
+    spool.stops_only();
+    assert_eq!(rt; spool.unacked_stops(), 3);
+    assert_eq!(rt; spool.free(), 61);
+    for (at, session, serial) in [(0, 1025, 1), (1, 1025, 7), (2, 1026, 2)] {
+        match spool.unacked(at) {
+            Some(facts) => {
+                assert!(rt; facts.term == term(session, serial));
+                assert!(rt; facts.circuit == PPPOE);
+                assert!(rt; facts.address == Ip4(0x0a00_0002));
+                assert_eq!(rt; facts.carried.input, 84);
+                assert_eq!(rt; facts.carried.output, serial);
+            }
+            None => assert!(rt; false, "it is not listed"),
+        }
+    }
+    assert!(rt; spool.unacked(3).is_none());
+    for _ in 0..2 {
+        assert!(rt; spool.next(&mut frame).is_some());
+    }
+    assert!(rt; spool.next(&mut frame) == None);
+    Ok(())
+}
+
+const MANY: u64 = 20_000;
+
+// A number below MANY for each such number, no two alike and far from one another.
+fn scattered(n: u64) -> usize
+    requires { n < 20000 }
+{
+    (n * 7_919 % MANY) as usize
+}
+
+// Acknowledges records in a scattered order.
+fn acknowledge(rt: &impl Abort, spool: &mut Spool, numbers: &[RecordNo]) {
+    for n in 0..MANY {
+        match numbers.get(scattered(n)) {
+            Some(number) => {
+                assert!(rt; spool.knows(*number));
+                spool.acked(*number);
+                assert!(rt; !spool.knows(*number));
+            }
+            None => assert!(rt; false, "it has no number"),
+        }
+    }
+}
+
+// The Starts of terms that rise, and the Stops of the same that fall.
+fn fill(
+    rt: &impl Abort,
+    spool: &mut Spool,
+    starts: &mut Vec<RecordNo>,
+    stops: &mut Vec<RecordNo>,
+) -> Result<(), Fail> {
+    for n in 0..MANY {
+        let facts = facts(term(1025, n + 1), PPPOE, 84, 0);
+        starts.push(form(rt, spool, StatusType::Start, &facts, 2_000))?;
+    }
+    for n in 0..MANY {
+        let facts = facts(term(1025, MANY - n), PPPOE, 84, 0);
+        stops.push(form(rt, spool, StatusType::Stop, &facts, 3_000))?;
+    }
+    Ok(())
+}
+
+#[test]
+fn thousands_of_terms_come_and_go(rt: HostRuntime) -> Result<(), Fail> {
+    let mut spool = Spool::open(rt.alloc(), &rules(20_001))?;
+    let mut frame = Frame::new();
+    let mut starts = Vec::new(rt.alloc());
+    let mut stops = Vec::new(rt.alloc());
+    fill(&rt, &mut spool, &mut starts, &mut stops)?;
+    assert_eq!(rt; spool.free(), 1);
+    assert_eq!(rt; spool.unacked_stops(), 20_000);
+    for at in 0..20_000u32 {
+        match spool.unacked(at) {
+            Some(facts) => assert!(rt; facts.term == term(1025, u64::from(at) + 1)),
+            None => assert!(rt; false, "it is not listed"),
+        }
+    }
+    assert!(rt; spool.unacked(20_000).is_none());
+    acknowledge(&rt, &mut spool, starts.as_slice());
+    assert_eq!(rt; spool.free(), 1);
+    for stop in &stops {
+        assert!(rt; spool.next(&mut frame) == Some(*stop));
+    }
+    assert!(rt; spool.next(&mut frame) == None);
+    acknowledge(&rt, &mut spool, stops.as_slice());
+    assert_eq!(rt; spool.free(), 20_001);
+    assert_eq!(rt; spool.unacked_stops(), 0);
+    assert!(rt; spool.unacked(0).is_none());
+    fill(&rt, &mut spool, &mut starts, &mut stops)?;
+    assert_eq!(rt; spool.free(), 1);
+    assert_eq!(rt; spool.unacked_stops(), 20_000);
+    Ok(())
+}

@@ -1,0 +1,348 @@
+ghost use Rattle.std.specs.Prelude.{◌≡◌, ◌≤◌, ◌∷◌, [], None, List, IfOk};
+ghost use Rattle.bng_base.specs.declared.circuit.TermId.{TermId};
+ghost use Rattle.bng_radius_wire.specs.Attributes.{Field};
+ghost use Rattle.bng_acct.specs.Request.{AreClasses};
+ghost use Rattle.bng_acct.specs.Spool.{open_of};
+ghost use Rattle.bng_acct.specs.declared.facts.StatusType.{StatusType};
+
+use arrayvec::ArrayVec;
+use bng_acct::{AcctRules, Moment, RecordNo, StatusType, TermFacts};
+use bng_base::{Book, Circuit, Frame, Ip4, Mac, Peer, SessionNo, TermId};
+use bng_billing::{Billing, BillingError, BillingRules};
+use std::alloc::Global;
+use std::process::Abort;
+use std::test::Fail;
+
+const SERVER: Peer = Peer {
+    ip: Ip4(0x0a00_0001),
+    port: 1813,
+};
+
+const STRANGER: Peer = Peer {
+    ip: Ip4(0x0a00_0001),
+    port: 1812,
+};
+
+// The requests of the records, and the replies to them, were made from the tables of RFC 2865, RFC 2866 and RFC 2869 by a script
+// with Python's hashlib.
+const START: &str =
+    "0400009a782cc98f1ee19d3add32fcea44f9184001066e656d6f0406c0a8011005060000040106060000000207060000000108060a000002190361190462631f1330323a30303a30303a30303a30303a30312006626e67312806000000012c1a36353533663130303034303130303030303030303030303137066553f13e3d0600000005571670312f3032303030303030303030312f31303235";
+
+const STOP: &str =
+    "040100ca649e0d040edd9e4262e03bc7be6de7b701066e656d6f0406c0a8011005060000040106060000000207060000000108060a000002190361190462631f1330323a30303a30303a30303a30303a30312006626e67312806000000022a06000000132b06000000072c1a3635353366313030303430313030303030303030303030312e060000003e2f060000000530060000000631060000000134060000000135060000000337066553f13e3d0600000005571670312f3032303030303030303030312f31303235";
+
+const REPLY_TO_START: &str = "05000014e3b90359f9cd7259db302c60b6facf95";
+
+const REPLY_TO_STOP: &str = "0501001405e2d0a0574a8277da44a41d67446adf";
+
+// The reply to the Start with another Identifier, and with one octet changed.
+const WITH_IDENTIFIER_1: &str = "050100148b0609e0a4cf0ea9e18f534504957f84";
+
+const WITH_ONE_OCTET_CHANGED: &str = "05000014e3b90359f9cd7259db302c60b6facf94";
+
+// The replies to the Interim that goes out with Identifier 1, and to the Stop with Identifier 2.
+const REPLY_TO_INTERIM: &str = "05010014202876fb20ea9c957776854a3989ce9b";
+
+const REPLY_TO_STOP_2: &str = "0502001464af99b8fc195190418837d05c10ea3c";
+
+const PPPOE: Circuit = Circuit::Pppoe {
+    port: 1,
+    mac: Mac([2, 0, 0, 0, 0, 1]),
+    session: SessionNo(1025),
+};
+
+// A list of these octets, as many of them as there is room for.
+fn listed<const N: usize>(octets: &[u8]) -> ArrayVec<u8, N> {
+    let mut list = ArrayVec::new();
+    let _ = list.try_extend_from_slice(octets);
+    list
+}
+
+// The Classes "a" and "bc".
+fn classes() -> ArrayVec<u8, 512>
+    ensures { result.items ≡ 25 ∷ 3 ∷ 97 ∷ 25 ∷ 4 ∷ 98 ∷ 99 ∷ [] }
+{
+    let mut class = ArrayVec::new();
+    let _ = class.try_extend_from_slice(&[25, 3, 97, 25, 4, 98, 99]);
+    class
+}
+
+// The term with this number of session 1025, which began after a second.
+fn facts(serial: u64) -> TermFacts
+    ensures classes { (classes : List Field) × AreClasses classes result.class.items }
+    ensures term { result.term.serial ≡ serial }
+{
+    TermFacts {
+        term: TermId {
+            session: SessionNo(1025),
+            serial,
+        },
+        circuit: PPPOE,
+        address: Ip4(0x0a00_0002),
+        user: listed(b"nemo"),
+        class: classes(),
+        began: 1_000,
+        carried: Book {
+            input: 0x1_0000_0013,
+            output: 0x3_0000_0007,
+            input_packets: 5,
+            output_packets: 6,
+        },
+    }
+}
+
+fn opened(alloc: Global) -> Result<Billing, BillingError>
+    ensures { IfOk result (λ b. b.spool.held ≡ []) }
+{
+    let acct = AcctRules {
+        terms: 300,
+        wall: 1_700_000_000,
+        name: listed(b"bng1"),
+        nas_ip: Ip4(0xc0a8_0110),
+    };
+    Billing::open(
+        alloc,
+        BillingRules {
+            acct,
+            server: SERVER,
+            secret: listed(b"xyzzy5461"),
+        },
+    )
+}
+
+// Forms a record, if there is room for its term. None of its kind is open of the term.
+fn form(
+    rt: &impl Abort,
+    billing: &mut Billing,
+    status: StatusType,
+    facts: &TermFacts,
+    now: u64,
+) -> RecordNo
+    requires classes { (classes : List Field) × AreClasses classes facts.now.class.items }
+    requires once { open_of facts.now.term status billing.old.spool.held ≡ None }
+    ensures { (t : TermId) (s : StatusType) → (t ≡ facts.now.term → s ≡ status → ⊥) → open_of t s billing.new.spool.held ≡ open_of t s billing.old.spool.held }
+{
+    assert!(rt; facts.began <= now);
+    assert!(rt; billing.free() > 0);
+    let at = Moment {
+        now,
+        wall: 1_700_000_062,
+        cause: 1,
+    };
+    match status {
+        StatusType::Start => billing.start(facts, at),
+        StatusType::Interim => billing.interim(facts, at),
+        StatusType::Stop => billing.stop(facts, at),
+    }
+}
+
+// Forms the Starts of the terms 1 to 257.
+fn form_starts(rt: &impl Abort, billing: &mut Billing)
+    requires { billing.old.spool.held ≡ [] }
+{
+    for n in 1..258u64 {
+        form(rt, billing, StatusType::Start, &facts(n), 1_000);
+    }
+}
+
+// Sends the record that waited longest, which has to be this one, with this identifier.
+fn send(rt: &impl Abort, billing: &mut Billing, number: RecordNo, id: u8, now: u64) -> Frame {
+    match billing.send(now) {
+        Some((record, given, frame)) => {
+            assert!(rt; record == number && given == id);
+            frame
+        }
+        None => {
+            assert!(rt; false, "no record is handed out");
+            Frame::new()
+        }
+    }
+}
+
+// Sends the request again that is due first, which has to be this one.
+fn resend(rt: &impl Abort, billing: &mut Billing, id: u8, frame: &Frame, now: u64) {
+    match billing.resend(now) {
+        Some((again, octets)) => {
+            assert!(rt; again == id);
+            assert!(rt; octets.payload() == frame.payload());
+        }
+        None => assert!(rt; false, "no request is sent again"),
+    }
+}
+
+// Hears a datagram, in hexadecimal digits, which has to acknowledge this record.
+fn hear(
+    rt: &impl Abort,
+    alloc: Global,
+    billing: &mut Billing,
+    from: Peer,
+    datagram: &str,
+    record: Option<RecordNo>,
+) -> Result<(), Fail> {
+    let octets = hex::decode(alloc, datagram)?;
+    assert!(rt; billing.take(from, octets.as_slice()) == record);
+    Ok(())
+}
+
+// Sends the record that waited longest, as `send`, with these octets, in hexadecimal digits.
+fn send_octets(
+    rt: &impl Abort,
+    alloc: Global,
+    billing: &mut Billing,
+    number: RecordNo,
+    id: u8,
+    octets: &str,
+) -> Result<(), Fail> {
+    let frame = send(rt, billing, number, id, 63_000);
+    let text = hex::encode(alloc, frame.payload())?;
+    assert!(rt; text.as_str() == octets);
+    Ok(())
+}
+
+// Hears the reply to the Start before it was sent, and where the send failed; and then sends both.
+fn hear_too_soon(rt: &impl Abort, alloc: Global, billing: &mut Billing) -> Result<(), Fail> {
+    hear(rt, alloc, billing, SERVER, REPLY_TO_START, None)?;
+    billing.note(0, false);
+    hear(rt, alloc, billing, SERVER, REPLY_TO_START, None)?;
+    billing.note(0, true);
+    billing.note(1, true);
+    Ok(())
+}
+
+// Hears what is no reply: from another port, with another Identifier, with one octet changed, and one octet alone.
+fn hear_others(rt: &impl Abort, alloc: Global, billing: &mut Billing) -> Result<(), Fail> {
+    hear(rt, alloc, billing, STRANGER, REPLY_TO_START, None)?;
+    hear(rt, alloc, billing, SERVER, WITH_IDENTIFIER_1, None)?;
+    hear(rt, alloc, billing, SERVER, WITH_ONE_OCTET_CHANGED, None)?;
+    hear(rt, alloc, billing, SERVER, "05", None)
+}
+
+// Sends a Start and a Stop, and hears what acknowledges them, and what does not.
+fn send_and_hear(
+    rt: &impl Abort,
+    alloc: Global,
+    billing: &mut Billing,
+    start: RecordNo,
+    stop: RecordNo,
+) -> Result<(), Fail> {
+    send_octets(rt, alloc, billing, start, 0, START)?;
+    send_octets(rt, alloc, billing, stop, 1, STOP)?;
+    hear_too_soon(rt, alloc, billing)?;
+    hear_others(rt, alloc, billing)?;
+    hear(rt, alloc, billing, SERVER, REPLY_TO_START, Some(start))?;
+    hear(rt, alloc, billing, SERVER, REPLY_TO_START, None)?;
+    hear(rt, alloc, billing, SERVER, REPLY_TO_STOP, Some(stop))
+}
+
+#[test]
+fn records_go_out_and_are_acknowledged_once(rt: HostRuntime) -> Result<(), Fail> {
+    let mut billing = opened(rt.alloc())?;
+    assert!(rt; billing.server() == SERVER);
+    let term = facts(1);
+    let start = form(&rt, &mut billing, StatusType::Start, &term, 1_000);
+    let stop = form(&rt, &mut billing, StatusType::Stop, &term, 63_000);
+    send_and_hear(&rt, rt.alloc(), &mut billing, start, stop)?;
+    assert_eq!(rt; billing.unacked_stops(), 0);
+    assert_eq!(rt; billing.free(), 300);
+    assert!(rt; billing.deadline() == None);
+    Ok(())
+}
+
+#[test]
+fn a_request_is_sent_again_every_3_s_with_the_same_octets(rt: HostRuntime) -> Result<(), Fail> {
+    let mut billing = opened(rt.alloc())?;
+    let start = form(&rt, &mut billing, StatusType::Start, &facts(1), 1_000);
+    let frame = send(&rt, &mut billing, start, 0, 0);
+    assert!(rt; billing.deadline() == Some(3_000));
+    assert!(rt; billing.resend(2_999).is_none());
+    for now in [3_000, 6_000] {
+        resend(&rt, &mut billing, 0, &frame, now);
+        assert!(rt; billing.resend(now).is_none());
+    }
+    assert!(rt; billing.deadline() == Some(9_000));
+    Ok(())
+}
+
+#[test]
+fn at_most_256_requests_are_out_and_no_record_is_lost(rt: HostRuntime) -> Result<(), Fail> {
+    let mut billing = opened(rt.alloc())?;
+    form_starts(&rt, &mut billing);
+    assert_eq!(rt; billing.free(), 43);
+    let mut first = None;
+    for id in 0..=255u8 {
+        match billing.send(0) {
+            Some((number, given, _)) => {
+                assert_eq!(rt; given, id);
+                first = first.or(Some(number));
+            }
+            None => assert!(rt; false, "no record is handed out"),
+        }
+    }
+    assert!(rt; billing.send(0).is_none());
+
+    billing.note(0, true);
+    hear(&rt, rt.alloc(), &mut billing, SERVER, REPLY_TO_START, first)?;
+    assert_eq!(rt; billing.free(), 43);
+    match billing.send(0) {
+        Some((number, id, _)) => {
+            assert_eq!(rt; id, 0);
+            assert!(rt; Some(number) != first);
+        }
+        None => assert!(rt; false, "the last record is not handed out"),
+    }
+    assert!(rt; billing.send(0).is_none());
+    hear(&rt, rt.alloc(), &mut billing, SERVER, REPLY_TO_START, None)?;
+    Ok(())
+}
+
+// Sends a Start, an Interim and a Stop, and answers the request of the last one.
+fn send_three(
+    rt: &impl Abort,
+    billing: &mut Billing,
+    start: RecordNo,
+    interim: RecordNo,
+    stop: RecordNo,
+) -> Frame {
+    send(rt, billing, start, 0, 0);
+    send(rt, billing, interim, 1, 0);
+    let last = send(rt, billing, stop, 2, 0);
+    for id in 0..3 {
+        billing.note(id, true);
+    }
+    last
+}
+
+// Hears at the stop that a Stop alone is out, with this request, and is acknowledged.
+fn hear_the_stop(
+    rt: &impl Abort,
+    alloc: Global,
+    billing: &mut Billing,
+    stop: RecordNo,
+    request: &Frame,
+) -> Result<(), Fail> {
+    billing.stops_only();
+    hear(rt, alloc, billing, SERVER, REPLY_TO_START, None)?;
+    hear(rt, alloc, billing, SERVER, REPLY_TO_INTERIM, None)?;
+    resend(rt, billing, 2, request, 3_000);
+    assert!(rt; billing.resend(3_000).is_none());
+    hear(rt, alloc, billing, SERVER, REPLY_TO_STOP_2, Some(stop))
+}
+
+#[test]
+fn at_the_stop_a_stop_alone_stays_out(rt: HostRuntime) -> Result<(), Fail> {
+    let mut billing = opened(rt.alloc())?;
+    let term = facts(1);
+    let start = form(&rt, &mut billing, StatusType::Start, &term, 1_000);
+    let interim = form(&rt, &mut billing, StatusType::Interim, &term, 63_000);
+    assert!(rt; !billing.interim_free(&term.term));
+    let stop = form(&rt, &mut billing, StatusType::Stop, &term, 63_000);
+    let request = send_three(&rt, &mut billing, start, interim, stop);
+    match billing.unacked(0) {
+        Some(facts) => assert!(rt; facts.term == term.term),
+        None => assert!(rt; false, "the Stop is not listed"),
+    }
+    hear_the_stop(&rt, rt.alloc(), &mut billing, stop, &request)?;
+    assert!(rt; billing.unacked(0).is_none());
+    assert_eq!(rt; billing.free(), 300);
+    Ok(())
+}

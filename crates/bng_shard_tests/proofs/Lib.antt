@@ -1,0 +1,2 @@
+pub mod OneCircuit
+pub mod Benches

@@ -1,0 +1,5 @@
+//! A shard: worked examples of `bng_shard`.
+#![tactic(auto)]
+
+#[cfg(test)]
+mod shard;

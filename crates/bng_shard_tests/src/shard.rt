@@ -1,0 +1,347 @@
+//! What the tests of a shard share: its rules, the rounds of one item, and how a host asks for a session.
+ghost use Rattle.std.specs.Prelude.{◌≡◌, ◌⊎◌, ◌+◌, ◌<◌, ◌≤◌, ◌^◌, [], ◌∷◌, IfOk, length, map, true};
+ghost use Rattle.bng_shard.specs.Sums.{AreLow, IsLow};
+
+use arrayvec::ArrayVec;
+use bng_base::{
+    AccessPort, AuthKind, Book, Fate, Frame, Ip4, Item, ItemKind, Listed, Mac, NamedRange,
+    OutRecord, Peer, Range, Static,
+};
+use bng_discovery::PortRules;
+use bng_pool::PlainPool;
+use bng_ppp::LinkRules;
+use bng_shard::{EndedTerm, LiveTerm, Rules, Shard};
+use std::alloc::{AllocError, Global};
+use std::marker::Model;
+use std::process::Abort;
+use std::test::Fail;
+
+mod discovery;
+mod interims;
+mod logins;
+mod terms;
+mod verdicts;
+
+const PORT: Mac = Mac([2, 0, 0, 0, 0, 0xfe]);
+
+const KEY: [u8; 16] = [0, 1, 2, 3, 4, 5, 6, 7, 8, 9, 10, 11, 12, 13, 14, 15];
+
+// for any service, with a Host-Uniq
+const PADI: [u8; 32] = [
+    0xff, 0xff, 0xff, 0xff, 0xff, 0xff, 2, 0, 0, 0, 0, 1, 0x88, 0x63, 0x11, 9, 0, 0, 0, 12, 1, 1,
+    0, 0, 1, 3, 0, 4, 0xa1, 0xb2, 0xc3, 0xd4,
+];
+// a PADR of the same host, up to its cookie
+const PADR: [u8; 52] = [
+    2, 0, 0, 0, 0, 0xfe, 2, 0, 0, 0, 0, 1, 0x88, 0x63, 0x11, 0x19, 0, 0, 0, 32, 1, 1, 0, 0, 1, 3,
+    0, 4, 0xa1, 0xb2, 0xc3, 0xd4, 1, 4, 0, 16, 0, 0, 0, 0, 0, 0, 0, 0, 0, 0, 0, 0, 0, 0, 0, 0,
+];
+
+// A packet towards 10.0.0.2.
+const TO_IT: [u8; 28] = [
+    0x45, 0, 0, 28, 0, 0, 0, 0, 64, 17, 0xae, 0xce, 192, 0, 2, 1, 10, 0, 0, 2, 0x30, 0x39, 0x30,
+    0x39, 0, 8, 0, 0,
+];
+
+fn peer(port: u16) -> Peer {
+    Peer {
+        ip: Ip4(0x7f000001),
+        port,
+    }
+}
+
+fn text<const N: usize>(octets: &[u8]) -> ArrayVec<u8, N> {
+    let mut text = ArrayVec::new();
+    for octet in octets {
+        if !text.is_full() {
+            text.push(*octet);
+        }
+    }
+    text
+}
+
+fn offers() -> PortRules {
+    let mut services = ArrayVec::new();
+    services.push(text(b"inet"));
+    PortRules {
+        port: 1,
+        mac: PORT,
+        key: KEY,
+        name: text(b"bng1"),
+        services,
+    }
+}
+
+fn links() -> LinkRules
+    ensures { 0 < length result.auth.items }
+{
+    LinkRules {
+        name: text(b"bng1"),
+        address: Ip4(0x0a000001),
+        dns: [None, None],
+        auth: ArrayVec::from([AuthKind::Pap, AuthKind::Chap]),
+        echo: 0,
+    }
+}
+
+// The addresses 10.0.0.2 and 10.0.0.3.
+const TWO: Range = Range {
+    first: Ip4(0x0a000002),
+    last: Ip4(0x0a000003),
+};
+
+// The address 10.0.0.2.
+const ONE: Range = Range {
+    first: Ip4(0x0a000002),
+    last: Ip4(0x0a000002),
+};
+
+// One shard, the port 1, and these pools.
+fn rules_over(alloc: Global, pools: Vec<NamedRange>) -> Result<Rules, AllocError>
+    ensures auth { IfOk result (λ r. 0 < length r.link.auth.items) }
+    ensures access { IfOk result (λ r. length r.access ≡ 1) }
+    ensures offers { IfOk result (λ r. length r.offers ≡ 1) }
+    ensures pools { IfOk result (λ r. r.pools ≡ pools.items) }
+{
+    let port = AccessPort {
+        local: peer(9010),
+        peer: peer(9011),
+        mac: PORT,
+    };
+    let access = Vec::from_array(alloc, [port])?;
+    let offers = Vec::from_array(alloc, [offers()])?;
+    Ok(Rules {
+        shards: 1,
+        core_peer: peer(9001),
+        access: Listed::of(access),
+        offers: Listed::of(offers),
+        pools: Listed::of(pools),
+        link: links(),
+    })
+}
+
+// The same with no pool.
+fn rules(alloc: Global) -> Result<Rules, AllocError>
+    ensures auth { IfOk result (λ r. 0 < length r.link.auth.items) }
+    ensures access { IfOk result (λ r. length r.access ≡ 1) }
+    ensures offers { IfOk result (λ r. length r.offers ≡ 1) }
+    ensures pools { IfOk result (λ r. r.pools ≡ []) }
+{
+    rules_over(alloc, Vec::new(alloc))
+}
+
+// The same with this pool, whose name is main.
+fn rules_with(alloc: Global, range: Range) -> Result<Rules, AllocError>
+    ensures auth { IfOk result (λ r. 0 < length r.link.auth.items) }
+    ensures access { IfOk result (λ r. length r.access ≡ 1) }
+    ensures offers { IfOk result (λ r. length r.offers ≡ 1) }
+    ensures pools { IfOk result (λ r. map (λ p. p.range) r.pools ≡ range ∷ []) }
+{
+    let name = text(b"main");
+    let pools = Vec::from_array(alloc, [NamedRange { name, range }])?;
+    rules_over(alloc, pools)
+}
+
+/// A shard, and who holds an address.
+struct Bench {
+    shard: Shard,
+    pool: PlainPool,
+}
+
+impl Drop for Bench {
+    fn drop(self) {
+        let Bench { shard: _, pool: _ } = self;
+    }
+}
+
+impl Model for Bench {
+    ghost use Rattle.std.specs.Prelude.{◌<◌};
+    ghost use Rattle.bng_base.specs.declared.item.Entry.{Entry};
+    ghost use Rattle.bng_engine.specs.Views.{ShardView};
+    ghost use Rattle.bng_pool.specs.Plain.{PlainView};
+    ghost use Rattle.bng_shard.specs.Protocol.{ShardState, AreHeld, HasPools, terms_of};
+
+    ghost Value = { ShardView ShardState Entry × PlainView };
+
+    ghost use Rattle.std.specs.Coded.{codes};
+    ghost use Rattle.bng_shard.specs.Codes.{state_code};
+
+    ghost coded = { Prim.hlevel (codes, state_code) };
+
+    ghost view = { λ b. (b.shard, b.pool) };
+
+    ghost invariant = { λ b. HasPools b.shard.state.rules.pools b.pool.ranges × (b.shard.number < b.pool.shards)
+        × AreHeld b.shard.number (terms_of b.shard.state) b.pool.table };
+}
+
+// The shard 0 by these rules, of which no term holds an address of this range.
+fn open_bench(alloc: Global, rules: Rules, range: Range) -> Result<Bench, Fail>
+    requires auth { 0 < length rules.link.auth.items }
+    requires offers { length rules.offers ≡ length rules.access }
+    requires range { (range.first.0 ≤ range.last.0) × (range.last.0 < range.first.0 + 262144) }
+    requires pools { (rules.pools ≡ []) ⊎ (map (λ p. p.range) rules.pools ≡ range ∷ []) }
+{
+    let pool = PlainPool::open(alloc, &[range], 1)?;
+    let shard = Shard::open(alloc, 0, rules, &[], 0)?;
+    Ok(Bench { shard, pool })
+}
+
+fn item(kind: ItemKind, octets: &[u8]) -> Item
+    requires { length octets.now ≤ 4096 }
+    ensures { result.frame.headroom ≡ 64 }
+{
+    let mut frame = Frame::new();
+    frame.set(octets);
+    Item {
+        kind,
+        from: peer(9011),
+        frame,
+        cut: false,
+        random: KEY,
+        target: 0,
+        ask: 0,
+    }
+}
+
+const NOTHING: Book = Book {
+    input: 0,
+    output: 0,
+    input_packets: 0,
+    output_packets: 0,
+};
+
+// No more than 2^62 octets or packets are in a book.
+fn is_low(book: &Book) -> bool
+    ensures { result ≡ true → IsLow (2 ^ 63) book.now }
+{
+    let most = 1 << 62;
+    book.input <= most
+        && book.output <= most
+        && book.input_packets <= most
+        && book.output_packets <= most
+}
+
+// Whether the shard's book is low.
+fn has_low_book(shard: &Shard) -> bool
+    ensures { result ≡ true → AreLow (2 ^ 63) shard.now.books }
+{
+    let passed = shard.book(0);
+    is_low(&passed)
+}
+
+impl Bench {
+    // The fate and the outs of one item at this moment, with its packets in a seat's tally. The round is not settled; one term may
+    // begin in it.
+    fn handled(
+        &mut self,
+        rt: &impl Abort,
+        alloc: Global,
+        tally: &mut Book,
+        now: u64,
+        item: Item,
+    ) -> (Fate, Vec<OutRecord>)
+        requires moment { now < 2 ^ 60 }
+        requires whole { item.frame.headroom ≡ 64 }
+    {
+        // No round is going on now, which `prepare` asks.
+        let _none = self.shard.drain();
+        assert!(rt; self.shard.begun() < 1 << 40);
+        assert!(rt; self.shard.prepare(alloc, 1, 1).is_ok());
+        assert!(rt; has_low_book(&self.shard));
+        assert!(rt; is_low(tally));
+        let fate = self.shard.step(&mut self.pool, 0, 0, now, &item, tally);
+        let (journal, outs) = self.shard.drain();
+        assert_eq!(rt; journal.len(), 1);
+        (fate, outs.into_vec())
+    }
+
+    // The first term of whose beginning no Start was formed yet.
+    fn fresh(&mut self) -> Option<LiveTerm> {
+        self.shard.fresh()
+    }
+
+    // The next term that ended leaves, if one has.
+    fn reap(&mut self) -> Option<EndedTerm> {
+        self.shard.reap(&mut self.pool)
+    }
+
+    // The outs of a round of one item at this moment, in which no term ends.
+    fn round(
+        &mut self,
+        rt: &impl Abort,
+        alloc: Global,
+        tally: &mut Book,
+        now: u64,
+        item: Item,
+    ) -> Vec<OutRecord>
+        requires moment { now < 2 ^ 60 }
+        requires whole { item.frame.headroom ≡ 64 }
+    {
+        let (_fate, outs) = self.handled(rt, alloc, tally, now, item);
+        assert!(rt; self.reap().is_none());
+        outs
+    }
+}
+
+// Each check of a value is a function of its own: in a test, among all that is live there, its proof would take long.
+fn assert_octets(rt: &impl Abort, octets: &[u8], wanted: &[u8]) {
+    assert_eq!(rt; octets, wanted);
+}
+
+fn assert_count(rt: &impl Abort, count: usize, wanted: usize) {
+    assert_eq!(rt; count, wanted);
+}
+
+fn assert_sessions(rt: &impl Abort, shard: &Shard, wanted: u32) {
+    assert_eq!(rt; shard.sessions(), wanted);
+}
+
+fn assert_due(rt: &impl Abort, due: Option<u64>, wanted: Option<u64>) {
+    assert_eq!(rt; due, wanted);
+}
+
+// The octets of the out at this place.
+fn octets(outs: &[OutRecord], place: usize) -> &[u8] {
+    match outs.get(place) {
+        Some(out) => out.frame.as_slice(),
+        None => &[],
+    }
+}
+
+// The octets of the out at this place, from one octet to another.
+fn span(outs: &[OutRecord], place: usize, start: usize, end: usize) -> &[u8] {
+    match octets(outs, place).get(start..end) {
+        Some(span) => span,
+        None => &[],
+    }
+}
+
+// The PADI of a host.
+fn padi(host: u16) -> [u8; 32] {
+    let [high, low] = host.to_be_bytes();
+    let mut octets = PADI;
+    octets[10] = high;
+    octets[11] = low;
+    octets
+}
+
+// The PADR of a host that was offered a session so.
+fn padr(host: u16, offer: &[u8]) -> [u8; 52] {
+    let [high, low] = host.to_be_bytes();
+    let mut octets = PADR;
+    octets[10] = high;
+    octets[11] = low;
+    if let Some(cookie) = offer.last_chunk::<16>() {
+        octets[36..].copy_from_slice(cookie);
+    }
+    octets
+}
+
+// The outs of a round with the PADR of a host, after one with its PADI, at moment 0.
+fn request(rt: &impl Abort, alloc: Global, bench: &mut Bench, host: u16) -> Vec<OutRecord> {
+    let mut tally = NOTHING;
+    let access = ItemKind::Access(1);
+    let offered = bench.round(rt, alloc, &mut tally, 0, item(access, &padi(host)));
+    let asked = padr(host, octets(&offered, 0));
+    bench.round(rt, alloc, &mut tally, 0, item(access, &asked))
+}

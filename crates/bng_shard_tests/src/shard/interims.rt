@@ -1,0 +1,56 @@
+ghost use Rattle.std.specs.Prelude.{◌≡◌, ◌<◌, ◌^◌, ℕ, Some, true};
+ghost use Rattle.bng_shard.specs.Interims.{AwaitsInterims};
+
+use super::logins::accepted_by;
+use super::verdicts::ACCEPT;
+use super::{Bench, NOTHING, TWO, open_bench, rules_with};
+use bng_base::{Book, OutRecord, SessionNo, Static, TermId};
+use bng_shard::{ReportedTerm, Reports};
+use std::alloc::Global;
+use std::process::Abort;
+use std::test::Fail;
+
+// An Access-Accept with an Acct-Interim-Interval of 60 seconds (RFC 2869 section 5.16).
+const REPORTED: &[u8; 26] = b"\x02\0\0\x1a\0\0\0\0\0\0\0\0\0\0\0\0\0\0\0\0\x55\x06\0\0\0\x3c";
+
+// A shard whose first host has a term without Interims, and its second host one with an Interim each minute, both from moment 0 on.
+fn reported(rt: &impl Abort, alloc: Global) -> Result<Bench, Fail> {
+    let mut bench = open_bench(alloc, rules_with(alloc, TWO)?, TWO)?;
+    let _without = accepted_by(rt, alloc, &mut bench, 1, 1, ACCEPT);
+    let _with = accepted_by(rt, alloc, &mut bench, 2, 2, REPORTED);
+    Ok(bench)
+}
+
+// The Interim that is taken at this moment, if one is due: its term, and what that carried.
+fn taken(bench: &Bench, reports: &mut Reports, now: u64) -> Option<(TermId, Book)>
+    requires moment { now < 2 ^ 60 }
+    requires awaits { AwaitsInterims bench.now.0.state.slots reports.old }
+    ensures awaits { AwaitsInterims bench.now.0.state.slots reports.new }
+{
+    let told = bench.shard.interim(reports, now)?;
+    Some((told.term.term, told.carried))
+}
+
+#[test]
+fn an_interim_is_due_each_interval_and_taken_once(rt: HostRuntime) -> Result<(), Fail> {
+    let alloc = rt.alloc();
+    let bench = reported(&rt, alloc)?;
+    let mut reports = Reports::open(alloc)?;
+    let second = TermId {
+        session: SessionNo(2),
+        serial: 2,
+    };
+    assert_eq!(rt; taken(&bench, &mut reports, 59_999), None);
+    assert_eq!(rt;
+        taken(&bench, &mut reports, 60_000),
+        Some((second, NOTHING))
+    );
+    assert_eq!(rt; taken(&bench, &mut reports, 60_000), None);
+    assert_eq!(rt; taken(&bench, &mut reports, 119_999), None);
+    assert_eq!(rt;
+        taken(&bench, &mut reports, 120_000),
+        Some((second, NOTHING))
+    );
+    assert_eq!(rt; taken(&bench, &mut reports, 120_000), None);
+    Ok(())
+}

@@ -1,0 +1,311 @@
+ghost use Rattle.std.specs.Prelude.{◌≡◌, [], ◌∷◌, Some, ℕ, IfOk, true};
+ghost use Rattle.bng_shard.specs.declared.rules.Rules.{Rules as Ways};
+ghost use Rattle.bng_shard.specs.Frames.{charge_of};
+ghost use Rattle.bng_shard.specs.Opening.{lease_from, provisioned};
+ghost use Rattle.bng_shard.specs.Protocol.{opened};
+ghost use Rattle.bng_pool.specs.Tables.{entry};
+ghost use Rattle.std.specs.List.{All};
+ghost use Rattle.bng_slots.specs.Sessions.{IsNumberOf};
+
+use super::{
+    Bench, NOTHING, TO_IT, TWO, assert_count, assert_octets, assert_sessions, item, peer, request,
+    rules, span,
+};
+use arrayvec::ArrayVec;
+use bng_base::{
+    Charge, Circuit, DropCause, Fate, Frame, Ip4, ItemKind, Mac, Octets, OutRecord, Role,
+    SessionNo, Static, TermId,
+};
+use bng_pool::PlainPool;
+use bng_shard::{Charged, EndedTerm, LiveTerm, Shard, Traffic};
+use std::alloc::Global;
+use std::process::Abort;
+use std::test::Fail;
+
+pub(super) fn circuit() -> Static
+    ensures number { IsNumberOf 1 result.session.0 }
+    ensures port { result.port ≡ 1 }
+    ensures profile { result.profile ≡ 0 }
+{
+    let mut user = ArrayVec::new();
+    user.push(b'f');
+    Static {
+        port: 1,
+        mac: Mac([2, 0, 0, 0, 0, 1]),
+        session: SessionNo(1025),
+        address: Ip4(0x0a000002),
+        user,
+        profile: 0,
+    }
+}
+
+// The shard 1 with this circuit.
+fn open_with(alloc: Global, circuit: &Static) -> Result<Shard, Fail>
+    requires number { IsNumberOf 1 circuit.now.session.0 }
+    requires port { circuit.now.port ≡ 1 }
+    requires profile { circuit.now.profile ≡ 0 }
+    ensures { IfOk result (λ s. (rules : Ways) × (rules.pools ≡ []) × (s ≡ opened 1 rules (circuit.now ∷ []) 0)) }
+{
+    let rules = rules(alloc)?;
+    let circuits = std::slice::from_ref(circuit);
+    let shard = Shard::open(alloc, 1, rules, circuits, 0)?;
+    Ok(shard)
+}
+
+// A packet of its term of so many octets, from the subscriber, that was sent.
+pub(super) fn sent(circuit: &Static, octets: u16) -> OutRecord
+    ensures charge { result.charge ≡ Some (charge_of (provisioned circuit.now 1) (lease_from circuit.now 1) true octets) }
+    ensures sent { result.sent ≡ true }
+{
+    OutRecord {
+        shard: 1,
+        seat: 0,
+        place: 0,
+        role: Role::Core,
+        to: peer(9001),
+        frame: Octets::of(Frame::new()),
+        charge: Some(Charge {
+            term: TermId {
+                session: circuit.session,
+                serial: 1,
+            },
+            profile: circuit.profile,
+            circuit: Circuit::Pppoe {
+                port: circuit.port,
+                mac: circuit.mac,
+                session: circuit.session,
+            },
+            address: circuit.address,
+            input: true,
+            octets,
+        }),
+        sent: true,
+    }
+}
+
+// Charges the first packet of a shard that has one circuit.
+fn charge_first(shard: &mut Shard, circuit: &Static, out: &OutRecord) -> Charged
+    requires number { IsNumberOf 1 circuit.now.session.0 }
+    requires opened { (rules : Ways) × (shard.old ≡ opened 1 rules (circuit.now ∷ []) 0) }
+    requires charged { (octets : ℕ) × (out.now.charge ≡ Some (charge_of (provisioned circuit.now 1) (lease_from circuit.now 1) true octets)) }
+    requires sent { out.now.sent ≡ true }
+    ensures number { shard.new.number ≡ shard.old.number }
+    ensures state { shard.new.state ≡ shard.old.state }
+{
+    shard.charge(out)
+}
+
+#[test]
+fn a_packet_counts_for_its_term(rt: HostRuntime) -> Result<(), Fail> {
+    let alloc = rt.alloc();
+    let circuit = circuit();
+    let packet = sent(&circuit, 84);
+    let mut shard = open_with(alloc, &circuit)?;
+    let charged = Charged::Packet {
+        input: true,
+        octets: 84,
+    };
+    assert_eq!(rt; charge_first(&mut shard, &circuit, &packet), charged);
+    let carried = Some(Traffic {
+        input: 84,
+        output: 0,
+    });
+    assert_eq!(rt; shard.carried(Ip4(0x0a000002)), carried);
+    assert_eq!(rt; shard.carried(Ip4(0x0a000003)), None);
+    Ok(())
+}
+
+// A circuit of the shard 1 on the port 1.
+fn circuit_of(host: u8, session: u16, address: u32) -> Static
+    ensures session { result.session.0 ≡ session }
+    ensures address { result.address.0 ≡ address }
+    ensures port { result.port ≡ 1 }
+    ensures profile { result.profile ≡ 0 }
+{
+    let mut user = ArrayVec::new();
+    user.push(b'f');
+    Static {
+        port: 1,
+        mac: Mac([2, 0, 0, 0, 0, host]),
+        session: SessionNo(session),
+        address: Ip4(address),
+        user,
+        profile: 0,
+    }
+}
+
+// Whether the shard 1 holds the addresses of these circuits.
+fn are_held(pool: &PlainPool, circuits: &[Static]) -> bool
+    ensures { result ≡ true → All (λ c. entry pool.now.table c.address.0 ≡ Some 1) circuits.now }
+{
+    for circuit in circuits {
+        if pool.look(circuit.address) != Some(1) {
+            return false;
+        }
+    }
+    true
+}
+
+// The shard 1 with these circuits, as it was opened, whose addresses it holds.
+fn bench_of(
+    rt: &impl Abort,
+    alloc: Global,
+    shard: Shard,
+    circuits: &[Static],
+) -> Result<Bench, Fail>
+    requires number { shard.number ≡ 1 }
+    requires state { (rules : Ways) × (rules.pools ≡ []) × (shard.state ≡ (opened 1 rules circuits.now 0).state) }
+{
+    let mut pool = PlainPool::open(alloc, &[TWO], 2)?;
+    for _ in circuits {
+        let _held = pool.scan(1, 0);
+    }
+    assert!(rt; are_held(&pool, circuits));
+    Ok(Bench { shard, pool })
+}
+
+// The shard 1 with two circuits, the one with the higher session number first, whose addresses it holds.
+fn open_two(rt: &impl Abort, alloc: Global) -> Result<Bench, Fail> {
+    let rules = rules(alloc)?;
+    let circuits = [
+        circuit_of(2, 1026, 0x0a000003),
+        circuit_of(1, 1025, 0x0a000002),
+    ];
+    let circuits = circuits.as_slice();
+    let shard = Shard::open(alloc, 1, rules, circuits, 0)?;
+    bench_of(rt, alloc, shard, circuits)
+}
+
+// Which term is the circuit's of this host.
+fn term(host: u8, session: u16, serial: u64, address: u32) -> (TermId, Circuit, Ip4) {
+    let session = SessionNo(session);
+    let term = TermId { session, serial };
+    let circuit = Circuit::Pppoe {
+        port: 1,
+        mac: Mac([2, 0, 0, 0, 0, host]),
+        session,
+    };
+    (term, circuit, Ip4(address))
+}
+
+// The term that is shown is this one, of the circuit's user, from the opening on.
+fn is_term(shown: &LiveTerm, term: (TermId, Circuit, Ip4)) -> bool {
+    (shown.term, shown.circuit, shown.address) == term
+        && shown.user.as_slice() == b"f".as_slice()
+        && shown.class.is_empty()
+        && shown.began == 0
+}
+
+// The term that ended is this one, and it carried nothing.
+fn is_end(ended: &EndedTerm, term: (TermId, Circuit, Ip4)) -> bool {
+    (ended.term, ended.circuit, ended.address) == term
+        && ended.user.as_slice() == b"f".as_slice()
+        && ended.began == 0
+        && ended.cause == 10
+        && ended.carried == NOTHING
+}
+
+// A packet of the first circuit, in a frame of its session.
+const FROM_IT: [u8; 50] = [
+    2, 0, 0, 0, 0, 0xfe, 2, 0, 0, 0, 0, 1, 0x88, 0x64, 0x11, 0, 4, 1, 0, 30, 0, 0x21, 0x45, 0, 0,
+    28, 0, 0, 0, 0, 64, 17, 0xae, 0xce, 10, 0, 0, 2, 192, 0, 2, 1, 0x30, 0x39, 0x30, 0x39, 0, 8, 0,
+    0,
+];
+
+// A packet of the first circuit and one towards it have this fate.
+fn assert_fate(rt: &impl Abort, alloc: Global, bench: &mut Bench, fate: Fate) {
+    let mut tally = NOTHING;
+    let access = item(ItemKind::Access(1), &FROM_IT);
+    let (up, _sent_up) = bench.handled(rt, alloc, &mut tally, 0, access);
+    assert!(rt; up == fate);
+    let mut core = item(ItemKind::Core, &TO_IT);
+    core.from = peer(9001);
+    let (down, _sent_down) = bench.handled(rt, alloc, &mut tally, 0, core);
+    assert!(rt; down == fate);
+}
+
+// The outs of an End of the shard 1.
+fn end(rt: &impl Abort, alloc: Global, bench: &mut Bench) -> Vec<OutRecord> {
+    let mut tally = NOTHING;
+    let mut end = item(ItemKind::End, &[]);
+    end.target = 1;
+    let (_consumed, outs) = bench.handled(rt, alloc, &mut tally, 0, end);
+    outs
+}
+
+// This term leaves next, and its address becomes free.
+fn assert_reaps(rt: &impl Abort, bench: &mut Bench, term: (TermId, Circuit, Ip4)) {
+    assert!(rt; bench.pool.look(term.2).is_some());
+    let reaped = bench.reap();
+    assert!(rt; reaped.as_ref().is_some_and(|ended| is_end(ended, term)));
+    assert!(rt; bench.pool.look(term.2).is_none());
+}
+
+// No term is left that ended, and no session.
+fn assert_all_left(rt: &impl Abort, bench: &mut Bench) {
+    assert!(rt; bench.reap().is_none());
+    assert_sessions(rt, &bench.shard, 0);
+}
+
+// At this place this term is there.
+fn assert_term(rt: &impl Abort, bench: &Bench, place: usize, term: (TermId, Circuit, Ip4)) {
+    let shown = bench.shard.term(place);
+    assert!(rt; shown.as_ref().is_some_and(|shown| is_term(shown, term)));
+}
+
+#[test]
+fn an_end_ends_circuits_too_and_each_leaves_by_a_stop(rt: HostRuntime) -> Result<(), Fail> {
+    let alloc = rt.alloc();
+    let mut bench = open_two(&rt, alloc)?;
+    let _made = request(&rt, alloc, &mut bench, 3);
+    assert_fate(&rt, alloc, &mut bench, Fate::Forwarded);
+    let outs = end(&rt, alloc, &mut bench);
+    // the session that discovery made is told by a PADT, and the circuits are not
+    assert_count(&rt, outs.len(), 1);
+    assert_octets(&rt, span(&outs, 0, 15, 18), b"\xa7\x04\x03");
+    assert_fate(&rt, alloc, &mut bench, Fate::Dropped(DropCause::NotOpen));
+    assert_sessions(&rt, &bench.shard, 3);
+    assert_reaps(&rt, &mut bench, term(1, 1025, 1, 0x0a000002));
+    assert_reaps(&rt, &mut bench, term(2, 1026, 2, 0x0a000003));
+    assert_all_left(&rt, &mut bench);
+    Ok(())
+}
+
+#[test]
+fn terms_are_shown_by_their_numbers_until_they_leave(rt: HostRuntime) -> Result<(), Fail> {
+    let alloc = rt.alloc();
+    let mut bench = open_two(&rt, alloc)?;
+    let first = term(1, 1025, 1, 0x0a000002);
+    let second = term(2, 1026, 2, 0x0a000003);
+    let _outs = end(&rt, alloc, &mut bench);
+    assert_term(&rt, &bench, 0, first);
+    assert_term(&rt, &bench, 1, second);
+    assert!(rt; bench.shard.term(2).is_none());
+    assert_reaps(&rt, &mut bench, first);
+    assert_term(&rt, &bench, 0, second);
+    assert!(rt; bench.shard.term(1).is_none());
+    Ok(())
+}
+
+#[test]
+fn a_stop_says_what_its_term_carried(rt: HostRuntime) -> Result<(), Fail> {
+    let alloc = rt.alloc();
+    let circuit = circuit();
+    let packet = sent(&circuit, 84);
+    let mut shard = open_with(alloc, &circuit)?;
+    let _charged = charge_first(&mut shard, &circuit, &packet);
+    let circuits = std::slice::from_ref(&circuit);
+    let mut bench = bench_of(&rt, alloc, shard, circuits)?;
+    let _outs = end(&rt, alloc, &mut bench);
+    let mut carried = NOTHING;
+    carried.input = 84;
+    carried.input_packets = 1;
+    let reaped = bench.reap();
+    assert!(rt;
+        reaped
+            .as_ref()
+            .is_some_and(|ended| ended.carried == carried)
+    );
+    assert_eq!(rt; bench.shard.carried(Ip4(0x0a000002)), None);
+    Ok(())
+}

@@ -1,0 +1,131 @@
+ghost use Rattle.std.specs.Prelude.{◌≡◌, ◌≤◌, length};
+
+use super::{
+    Bench, NOTHING, ONE, assert_count, assert_octets, item, octets, open_bench, request, rules,
+    span, text,
+};
+use arrayvec::ArrayVec;
+use bng_base::{Item, ItemKind, OutRecord, SessionNo};
+use bng_shard::Handed;
+use bng_verdict::QuestionNo;
+use std::alloc::Global;
+use std::process::Abort;
+use std::test::Fail;
+
+// The first host asks for its Maximum-Receive-Unit and a magic number, and takes what the gateway asks for: 1,492 octets, PAP and the
+// magic number 00010203 (RFC 1661 section 6).
+pub(super) const REQUEST: &[u8; 16] =
+    b"\xc0\x21\x01\x02\x00\x0e\x01\x04\x05\xd4\x05\x06\x11\x22\x33\x44";
+
+pub(super) const ACK: &[u8; 20] =
+    b"\xc0\x21\x02\x01\x00\x12\x01\x04\x05\xd4\x03\x04\xc0\x23\x05\x06\x00\x01\x02\x03";
+
+// its password twice, under two identifiers (RFC 1334 section 2.2.1)
+pub(super) const PASSWORD: &[u8; 14] = b"\xc0\x23\x01\x07\x00\x0c\x02u0\x04pass";
+
+const AGAIN: &[u8; 14] = b"\xc0\x23\x01\x08\x00\x0c\x02u0\x04pass";
+
+// an Access-Accept and an Access-Reject, each with a Reply-Message (RFC 2865 sections 4.2, 4.3 and 5.18), and what PAP makes of them
+pub(super) const ACCEPT: &[u8; 24] = b"\x02\x00\x00\x18\0\0\0\0\0\0\0\0\0\0\0\0\0\0\0\0\x12\x04hi";
+
+const ACCEPTED: &[u8; 9] = b"\xc0\x23\x02\x07\x00\x07\x02hi";
+
+const REJECT: &[u8; 24] = b"\x03\x00\x00\x18\0\0\0\0\0\0\0\0\0\0\0\0\0\0\0\0\x12\x04no";
+
+const REJECTED: &[u8; 9] = b"\xc0\x23\x03\x07\x00\x07\x02no";
+
+// A frame of this host's session, which has the same number, with this PPP frame.
+pub(super) fn in_session_of(host: u8, ppp: &[u8]) -> Item
+    requires { length ppp.now ≤ 44 }
+    ensures { result.frame.headroom ≡ 64 }
+{
+    let length = ppp.len() as u8;
+    let mut octets: ArrayVec<u8, 64> = text(&[
+        2, 0, 0, 0, 0, 0xfe, 2, 0, 0, 0, 0, host, 0x88, 0x64, 0x11, 0, 0, host, 0, length,
+    ]);
+    for octet in ppp {
+        if !octets.is_full() {
+            octets.push(*octet);
+        }
+    }
+    item(ItemKind::Access(1), octets.as_slice())
+}
+
+// A frame of the first host's session with this PPP frame.
+fn in_session(ppp: &[u8]) -> Item
+    requires { length ppp.now ≤ 44 }
+    ensures { result.frame.headroom ≡ 64 }
+{
+    in_session_of(1, ppp)
+}
+
+// A RADIUS server's reply to this question of this session.
+pub(super) fn verdict(session: u16, ask: u64, reply: &[u8]) -> Item
+    requires { length reply.now ≤ 4096 }
+    ensures { result.frame.headroom ≡ 64 }
+{
+    let mut told = item(ItemKind::Verdict, reply);
+    told.target = session;
+    told.ask = ask;
+    told
+}
+
+// The outs of a round of one item at moment 0.
+pub(super) fn hear(rt: &impl Abort, alloc: Global, bench: &mut Bench, item: Item) -> Vec<OutRecord>
+    requires whole { item.frame.headroom ≡ 64 }
+{
+    let mut tally = NOTHING;
+    bench.round(rt, alloc, &mut tally, 0, item)
+}
+
+// A shard whose first host sent its password.
+fn asking(rt: &impl Abort, alloc: Global) -> Result<Bench, Fail> {
+    let mut bench = open_bench(alloc, rules(alloc)?, ONE)?;
+    let _made = request(rt, alloc, &mut bench, 1);
+    let _answered = hear(rt, alloc, &mut bench, in_session(REQUEST));
+    let _opened = hear(rt, alloc, &mut bench, in_session(ACK));
+    let _asked = hear(rt, alloc, &mut bench, in_session(PASSWORD));
+    Ok(bench)
+}
+
+// The outs of a verdict on a peer's password that was asked about once. A verdict on another question, or of another session, does
+// nothing, and neither does a second one.
+fn judged(rt: &impl Abort, alloc: Global, reply: &[u8; 24]) -> Result<Vec<OutRecord>, Fail> {
+    let mut bench = asking(rt, alloc)?;
+    let mut handed = Handed::open(alloc)?;
+    let asked = bench.shard.asked(&mut handed).map(|ask| ask.number);
+    let number = QuestionNo {
+        session: SessionNo(1),
+        ask: 1,
+    };
+    assert_eq!(rt; asked, Some(number));
+    let again = hear(rt, alloc, &mut bench, in_session(AGAIN));
+    assert_count(rt, again.len(), 0);
+    assert!(rt; bench.shard.asked(&mut handed).is_none());
+    let other_question = hear(rt, alloc, &mut bench, verdict(1, 2, reply));
+    assert_count(rt, other_question.len(), 0);
+    let other_session = hear(rt, alloc, &mut bench, verdict(2, 1, reply));
+    assert_count(rt, other_session.len(), 0);
+    let outs = hear(rt, alloc, &mut bench, verdict(1, 1, reply));
+    let mut none = Handed::open(alloc)?;
+    assert!(rt; bench.shard.asked(&mut none).is_none());
+    let late = hear(rt, alloc, &mut bench, verdict(1, 1, reply));
+    assert_count(rt, late.len(), 0);
+    Ok(outs)
+}
+
+#[test]
+fn a_verdict_counts_for_the_question_of_its_session_alone(rt: HostRuntime) -> Result<(), Fail> {
+    let alloc = rt.alloc();
+    let accepted = judged(&rt, alloc, ACCEPT)?;
+    assert_count(&rt, accepted.len(), 1);
+    assert_count(&rt, octets(&accepted, 0).len(), 29);
+    assert_octets(&rt, span(&accepted, 0, 20, 29), ACCEPTED);
+    // after the Authenticate-Nak LCP does Close, by a Terminate-Request
+    let refused = judged(&rt, alloc, REJECT)?;
+    assert_count(&rt, refused.len(), 2);
+    assert_count(&rt, octets(&refused, 0).len(), 29);
+    assert_octets(&rt, span(&refused, 0, 20, 29), REJECTED);
+    assert_octets(&rt, span(&refused, 1, 20, 23), b"\xc0\x21\x05");
+    Ok(())
+}
