@@ -1,3 +1,4 @@
+use crate::asserts::{assert_holds, assert_octets, assert_same};
 use bng_base::{AccessPort, AuthKind, Ip4, Mac, NamedRange, Peer, SessionNo, Static};
 use bng_config::{Config, ConfigError, Fault, Key, fault_text, read};
 use std::alloc::{AllocError, Global};
@@ -106,10 +107,6 @@ fn assert_number(rt: &impl Abort, number: u64, wanted: u64) {
     assert_eq!(rt; number, wanted);
 }
 
-fn assert_octets(rt: &impl Abort, octets: &[u8], wanted: &[u8]) {
-    assert_eq!(rt; octets, wanted);
-}
-
 fn assert_address(rt: &impl Abort, address: Ip4, wanted: u32) {
     assert_eq!(rt; address.0, wanted);
 }
@@ -127,7 +124,7 @@ fn assert_kinds(rt: &impl Abort, kinds: &[AuthKind], wanted: &[AuthKind]) {
 }
 
 fn assert_ports(rt: &impl Abort, access: &[AccessPort], ends: &[(u16, u16, u8)]) {
-    assert_eq!(rt; access.len(), ends.len());
+    assert_same(rt, &access.len(), &ends.len());
     for (port, (local, peer, mac)) in access.iter().zip(ends) {
         assert_peer(rt, port.local, *local);
         assert_peer(rt, port.peer, *peer);
@@ -136,7 +133,7 @@ fn assert_ports(rt: &impl Abort, access: &[AccessPort], ends: &[(u16, u16, u8)])
 }
 
 fn assert_pools(rt: &impl Abort, pools: &[NamedRange], ranges: &[(&[u8], u32, u32)]) {
-    assert_eq!(rt; pools.len(), ranges.len());
+    assert_same(rt, &pools.len(), &ranges.len());
     for (pool, (name, first, last)) in pools.iter().zip(ranges) {
         assert_octets(rt, pool.name.as_slice(), *name);
         assert_address(rt, pool.range.first, *first);
@@ -145,7 +142,7 @@ fn assert_pools(rt: &impl Abort, pools: &[NamedRange], ranges: &[(&[u8], u32, u3
 }
 
 fn assert_circuits(rt: &impl Abort, statics: &[Static], rows: &[(u8, u8, u16, u32, &[u8])]) {
-    assert_eq!(rt; statics.len(), rows.len());
+    assert_same(rt, &statics.len(), &rows.len());
     for (circuit, (port, mac, session, address, user)) in statics.iter().zip(rows) {
         assert_number(rt, u64::from(circuit.port), u64::from(*port));
         assert_mac(rt, circuit.mac, *mac);
@@ -160,13 +157,13 @@ fn assert_circuits(rt: &impl Abort, statics: &[Static], rows: &[(u8, u8, u16, u3
 fn assert_gateway(rt: &impl Abort, config: &Config) {
     assert_octets(rt, config.name.as_slice(), b"bng1");
     assert_number(rt, u64::from(config.shards), 4);
-    assert_eq!(rt; config.services.len(), 1);
+    assert_same(rt, &config.services.len(), &1);
     assert_octets(rt, config.services.as_slice()[0].as_slice(), b"inet");
     assert_kinds(rt, config.auth.as_slice(), &[AuthKind::Chap, AuthKind::Pap]);
     assert_number(rt, u64::from(config.echo), 30);
     assert_number(rt, u64::from(config.terms), 8192);
     assert_address(rt, config.address, 0x0a00_0001);
-    assert_eq!(rt; config.dns.len(), 0);
+    assert_same(rt, &config.dns.len(), &0);
 }
 
 // Its sockets, and what it knows of its servers.
@@ -206,7 +203,7 @@ fn all_entries_are_read_in_order(rt: HostRuntime) {
     ];
     assert_pools(&rt, config.pools.as_slice(), &ranges);
     let servers = [Ip4(0xc000_0235), Ip4(0xc000_0236)];
-    assert_eq!(rt; config.dns.as_slice(), servers.as_slice());
+    assert_same(&rt, &config.dns.as_slice(), &servers.as_slice());
     let rows: [(u8, u8, u16, u32, &[u8]); 3] = [
         (1, 1, 1025, 0x0a00_0002, b"fixed1"),
         (2, 2, 65_534, 0x0a00_0003, b"fixed2"),
@@ -280,7 +277,7 @@ fn each_rule_is_told_at_its_key(rt: HostRuntime) -> Result<(), Fail> {
     for (line, other, wanted) in rows {
         let text = changed(alloc, LISTS, line, other)?;
         let fault = told(&rt, alloc, text.as_bytes());
-        assert_eq!(rt; fault_text(fault).as_str(), wanted);
+        assert_same(&rt, &fault_text(fault).as_str(), &wanted);
     }
     Ok(())
 }
@@ -307,7 +304,7 @@ fn the_lists_have_their_forms(rt: HostRuntime) -> Result<(), Fail> {
         let mut text = String::from_str(alloc, ENDS)?;
         text.push_str(line)?;
         let fault = told(&rt, alloc, text.as_bytes());
-        assert_eq!(rt; fault_text(fault).as_str(), wanted);
+        assert_same(&rt, &fault_text(fault).as_str(), &wanted);
     }
     Ok(())
 }
@@ -325,10 +322,10 @@ fn each_rule_of_the_text_is_told(rt: HostRuntime) -> Result<(), Fail> {
         (longer.as_slice(), "C1 text"),
     ];
     for (text, wanted) in rows {
-        assert_eq!(rt; fault_text(told(&rt, alloc, text)).as_str(), wanted);
+        assert_same(&rt, &fault_text(told(&rt, alloc, text)).as_str(), &wanted);
     }
     let last = fault_text(Fault::OutsideForm(Key::StaticSession(1023)));
-    assert_eq!(rt; last.as_str(), "C5 static.1024.session");
+    assert_same(&rt, &last.as_str(), &"C5 static.1024.session");
     Ok(())
 }
 
@@ -336,7 +333,7 @@ fn each_rule_of_the_text_is_told(rt: HostRuntime) -> Result<(), Fail> {
 fn keys_that_are_not_named_are_not_looked_at(rt: HostRuntime) -> Result<(), Fail> {
     let alloc = rt.alloc();
     let text = changed(alloc, WHOLE, "workers = 2", "workers = 0")?;
-    assert!(rt; read(alloc, text.as_bytes()).is_ok());
+    assert_holds(&rt, read(alloc, text.as_bytes()).is_ok());
     Ok(())
 }
 
@@ -344,10 +341,10 @@ fn keys_that_are_not_named_are_not_looked_at(rt: HostRuntime) -> Result<(), Fail
 fn want_of_memory_is_no_fault(rt: HostRuntime) {
     match read(rt.alloc(), LISTS.as_bytes()) {
         Ok(config) => {
-            assert_eq!(rt; config.access.as_slice().len(), 2);
-            assert_eq!(rt; config.pools.as_slice().len(), 2);
-            assert_eq!(rt; config.statics.as_slice().len(), 3);
+            assert_same(&rt, &config.access.as_slice().len(), &2);
+            assert_same(&rt, &config.pools.as_slice().len(), &2);
+            assert_same(&rt, &config.statics.as_slice().len(), &3);
         }
-        Err(error) => assert_eq!(rt; error, ConfigError::OutOfMemory),
+        Err(error) => assert_same(&rt, &error, &ConfigError::OutOfMemory),
     }
 }

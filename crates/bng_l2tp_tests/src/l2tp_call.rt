@@ -1,3 +1,4 @@
+use crate::asserts::{assert_holds, assert_same};
 use arrayvec::ArrayVec;
 use bng_base::{SessionNo, TunnelStep};
 use bng_l2tp_call::Call;
@@ -73,20 +74,26 @@ fn messages_that_come_twice_make_one_call(rt: HostRuntime) -> Result<(), Fail> {
     for early in [ICCN, CDN, WEN, SLI] {
         assert!(rt; is_quiet(&takes(alloc, &mut call, early)?), "{early}");
     }
-    assert!(rt; call.peer_number().is_none());
+    assert_holds(&rt, call.peer_number().is_none());
     let first = takes(alloc, &mut call, ICRQ)?;
-    assert!(rt; !first.opened && !first.ended && !first.call);
-    assert_eq!(rt; outs(alloc, &first)?.as_str(), ICRP);
-    assert!(rt; call.peer_number() == Some(9));
-    assert!(rt; is_quiet(&takes(alloc, &mut call, ICRQ)?));
+    assert_holds(&rt, !first.opened && !first.ended && !first.call);
+    assert_same(&rt, &outs(alloc, &first)?.as_str(), &ICRP);
+    assert_holds(&rt, call.peer_number() == Some(9));
+    assert_holds(&rt, is_quiet(&takes(alloc, &mut call, ICRQ)?));
     let second = takes(alloc, &mut call, ICCN)?;
-    assert!(rt; second.opened && !second.ended && second.outs.is_empty());
+    assert_holds(
+        &rt,
+        second.opened && !second.ended && second.outs.is_empty(),
+    );
     for quiet in [ICCN, WEN, SLI] {
         assert!(rt; is_quiet(&takes(alloc, &mut call, quiet)?), "{quiet}");
     }
     let last = takes(alloc, &mut call, CDN)?;
-    assert!(rt; last.ended && !last.opened && last.outs.is_empty());
-    assert!(rt; is_quiet(&takes(alloc, &mut call, CDN)?) && is_quiet(&call.end()));
+    assert_holds(&rt, last.ended && !last.opened && last.outs.is_empty());
+    assert_holds(
+        &rt,
+        is_quiet(&takes(alloc, &mut call, CDN)?) && is_quiet(&call.end()),
+    );
     Ok(())
 }
 
@@ -99,9 +106,12 @@ fn refuses(
     cdn: &str,
 ) -> Result<(), Fail> {
     let step = takes(alloc, &mut call, datagram)?;
-    assert!(rt; step.ended && !step.opened);
+    assert_holds(rt, step.ended && !step.opened);
     assert_eq!(rt; outs(alloc, &step)?.as_str(), cdn, "{datagram}");
-    assert!(rt; is_quiet(&takes(alloc, &mut call, ICRQ)?) && is_quiet(&call.end()));
+    assert_holds(
+        rt,
+        is_quiet(&takes(alloc, &mut call, ICRQ)?) && is_quiet(&call.end()),
+    );
     Ok(())
 }
 
@@ -195,9 +205,10 @@ fn an_icrq_without_what_it_must_have_is_refused(rt: HostRuntime) -> Result<(), F
     // the same AVP and one of type 40, neither of which must be known
     let optional =
         "c802003e0401000000020001800800000000000a80080000000e0009800a0000000f00000001800a00000012000000000007000900017800070000002878";
-    assert_eq!(rt;
-        outs(alloc, &takes(alloc, &mut made(), optional)?)?.as_str(),
-        ICRP
+    assert_same(
+        &rt,
+        &outs(alloc, &takes(alloc, &mut made(), optional)?)?.as_str(),
+        &ICRP,
     );
     Ok(())
 }
@@ -210,11 +221,12 @@ fn hidden_values_are_read_with_the_last_random_vector(rt: HostRuntime) -> Result
     let hidden =
         "c802005e0401000000020001800800000000000a8008000000247a7ac00f0000000fddeb25d77d12dcfa54800c000000246c6174746573c00a0000000e9a0e9c7ac01d000000164950de7232e6a0d0761164d6d466a4bc990629dee3eae8";
     let mut call = Call::new(&secret(), SessionNo(1026));
-    assert_eq!(rt;
-        outs(alloc, &takes(alloc, &mut call, hidden)?)?.as_str(),
-        ICRP
+    assert_same(
+        &rt,
+        &outs(alloc, &takes(alloc, &mut call, hidden)?)?.as_str(),
+        &ICRP,
     );
-    assert!(rt; call.peer_number() == Some(9));
+    assert_holds(&rt, call.peer_number() == Some(9));
     // nor without the secret
     let to_0 = "c80200260000000000000000800800000000000e80080000000e0000800a0000000100020003";
     refuses(&rt, alloc, Call::new(&None, SessionNo(1026)), hidden, to_0)
@@ -224,15 +236,19 @@ fn hidden_values_are_read_with_the_last_random_vector(rt: HostRuntime) -> Result
 fn the_gateway_ends_a_call_once(rt: HostRuntime) -> Result<(), Fail> {
     let alloc = rt.alloc();
     let mut call = Call::new(&None, SessionNo(1026));
-    assert!(rt; is_quiet(&call.end()));
+    assert_holds(&rt, is_quiet(&call.end()));
     takes(alloc, &mut call, ICRQ)?;
     takes(alloc, &mut call, ICCN)?;
     let step = call.end();
-    assert!(rt; step.ended && !step.opened);
-    assert_eq!(rt;
-        outs(alloc, &step)?.as_str(),
-        "c80200240000000900000000800800000000000e80080000000e04028008000000010003"
+    assert_holds(&rt, step.ended && !step.opened);
+    assert_same(
+        &rt,
+        &outs(alloc, &step)?.as_str(),
+        &"c80200240000000900000000800800000000000e80080000000e04028008000000010003",
     );
-    assert!(rt; is_quiet(&call.end()) && is_quiet(&takes(alloc, &mut call, CDN)?));
+    assert_holds(
+        &rt,
+        is_quiet(&call.end()) && is_quiet(&takes(alloc, &mut call, CDN)?),
+    );
     Ok(())
 }

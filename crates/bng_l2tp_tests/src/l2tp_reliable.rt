@@ -1,4 +1,5 @@
 //! Runs of a channel.
+use crate::asserts::assert_same;
 use bng_l2tp_reliable::{Channel, Due, Heard, Outgoing, Queued};
 use std::test::Fail;
 
@@ -40,8 +41,8 @@ fn due(channel: &mut Channel, now: u64) -> Due {
 #[test]
 fn a_message_goes_out_six_times_and_is_given_up(rt: HostRuntime) -> Result<(), Fail> {
     let mut channel = Channel::new(4, 0);
-    assert_eq!(rt; queue(&mut channel, 7), Queued::Ok);
-    assert_eq!(rt; next(&mut channel), Some((0, 0, 7)));
+    assert_same(&rt, &queue(&mut channel, 7), &Queued::Ok);
+    assert_same(&rt, &next(&mut channel), &Some((0, 0, 7)));
     let rows = [
         (999, Due::Nothing, 1000),
         (1000, Due::Resend, 3000),
@@ -57,7 +58,7 @@ fn a_message_goes_out_six_times_and_is_given_up(rt: HostRuntime) -> Result<(), F
     for (now, answer, deadline) in rows {
         assert_eq!(rt; due(&mut channel, now), answer, "at {now}");
         assert_eq!(rt; channel.deadline(), deadline, "after {now}");
-        assert_eq!(rt; flight(&channel, 0), Some((0, 0, 7)));
+        assert_same(&rt, &flight(&channel, 0), &Some((0, 0, 7)));
     }
     Ok(())
 }
@@ -77,7 +78,7 @@ fn numbers_go_on_from_65535_to_0(rt: HostRuntime) -> Result<(), Fail> {
     for (ns, heard) in rows {
         assert_eq!(rt; hear(&mut channel, ns), heard, "{ns}");
     }
-    assert_eq!(rt; channel.numbers(), (0, 1));
+    assert_same(&rt, &channel.numbers(), &(0, 1));
     Ok(())
 }
 
@@ -93,7 +94,7 @@ fn sent_numbers_go_on_from_65535_to_0(rt: HostRuntime) -> Result<(), Fail> {
         queue(&mut channel, octet);
     }
     let outs = [next(&mut channel), next(&mut channel), next(&mut channel)];
-    assert_eq!(rt; outs, [Some((65_535, 0, 0)), Some((0, 0, 1)), None]);
+    assert_same(&rt, &outs, &[Some((65_535, 0, 0)), Some((0, 0, 1)), None]);
     let rows = [
         // Acknowledgements that are passed over: an old one, and one of what was not sent.
         (65_534, [outs[0], outs[1], None]),
@@ -111,7 +112,7 @@ fn sent_numbers_go_on_from_65535_to_0(rt: HostRuntime) -> Result<(), Fail> {
         ];
         assert_eq!(rt; found, left, "after {nr}");
     }
-    assert_eq!(rt; next(&mut channel), Some((1, 0, 2)));
+    assert_same(&rt, &next(&mut channel), &Some((1, 0, 2)));
     Ok(())
 }
 
@@ -119,22 +120,22 @@ fn sent_numbers_go_on_from_65535_to_0(rt: HostRuntime) -> Result<(), Fail> {
 fn sixty_four_messages_wait(rt: HostRuntime) -> Result<(), Fail> {
     let mut channel = Channel::new(9, 0);
     for octet in 0..64 {
-        assert_eq!(rt; queue(&mut channel, octet), Queued::Ok);
+        assert_same(&rt, &queue(&mut channel, octet), &Queued::Ok);
     }
-    assert_eq!(rt; queue(&mut channel, 64), Queued::WindowQueueFull);
+    assert_same(&rt, &queue(&mut channel, 64), &Queued::WindowQueueFull);
     for ns in 0..8u8 {
-        assert_eq!(rt; next(&mut channel), Some((ns as u16, 0, ns)));
+        assert_same(&rt, &next(&mut channel), &Some((ns as u16, 0, ns)));
     }
-    assert_eq!(rt; next(&mut channel), None);
+    assert_same(&rt, &next(&mut channel), &None);
     for octet in 64..72 {
-        assert_eq!(rt; queue(&mut channel, octet), Queued::Ok);
+        assert_same(&rt, &queue(&mut channel, octet), &Queued::Ok);
     }
-    assert_eq!(rt; queue(&mut channel, 72), Queued::WindowQueueFull);
+    assert_same(&rt, &queue(&mut channel, 72), &Queued::WindowQueueFull);
     acknowledge(&mut channel, 5, 0);
     for ns in 8..13u8 {
-        assert_eq!(rt; next(&mut channel), Some((ns as u16, 0, ns)));
+        assert_same(&rt, &next(&mut channel), &Some((ns as u16, 0, ns)));
     }
-    assert_eq!(rt; next(&mut channel), None);
+    assert_same(&rt, &next(&mut channel), &None);
     Ok(())
 }
 
@@ -150,8 +151,8 @@ fn a_hello_is_asked_for_once_in_a_silence(rt: HostRuntime) -> Result<(), Fail> {
         assert_eq!(rt; due(&mut channel, now), answer, "at {now}");
         assert_eq!(rt; channel.deadline(), deadline, "after {now}");
     }
-    assert_eq!(rt; acknowledge(&mut channel, 0, 200_000), Heard::Acked);
-    assert_eq!(rt; channel.deadline(), 260_000);
-    assert_eq!(rt; due(&mut channel, 260_000), Due::Hello);
+    assert_same(&rt, &acknowledge(&mut channel, 0, 200_000), &Heard::Acked);
+    assert_same(&rt, &channel.deadline(), &260_000);
+    assert_same(&rt, &due(&mut channel, 260_000), &Due::Hello);
     Ok(())
 }

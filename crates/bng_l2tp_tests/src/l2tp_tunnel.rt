@@ -1,5 +1,6 @@
 ghost use Rattle.std.specs.Prelude.{◌≤◌, length};
 
+use crate::asserts::{assert_holds, assert_same};
 use arrayvec::ArrayVec;
 use bng_base::{Ip4, Peer, TunnelNo, TunnelStep};
 use bng_l2tp_tunnel::{Tunnel, TunnelRules, assigned_tunnel, message_type};
@@ -97,19 +98,23 @@ fn established(alloc: Global) -> Result<Tunnel, Fail> {
 fn messages_that_come_twice_make_one_tunnel(rt: HostRuntime) -> Result<(), Fail> {
     let alloc = rt.alloc();
     let mut tunnel = tunnel(0x0401, true, true);
-    assert!(rt; tunnel.peer_number().is_none());
+    assert_holds(&rt, tunnel.peer_number().is_none());
     let first = takes(alloc, &mut tunnel, SCCRQ_ASKS, 0)?;
-    assert!(rt; !first.established && !first.cleared && !first.left_out);
-    assert_eq!(rt; outs(alloc, &first)?.as_str(), SCCRP_ASKS);
-    assert!(rt; tunnel.peer_number() == Some(5));
+    assert_holds(&rt, !first.established && !first.cleared && !first.left_out);
+    assert_same(&rt, &outs(alloc, &first)?.as_str(), &SCCRP_ASKS);
+    assert_holds(&rt, tunnel.peer_number() == Some(5));
     let again = takes(alloc, &mut tunnel, SCCRQ_ASKS, 1)?;
-    assert_eq!(rt; outs(alloc, &again)?.as_str(), "c802000c0005000000010001 ");
+    assert_same(
+        &rt,
+        &outs(alloc, &again)?.as_str(),
+        &"c802000c0005000000010001 ",
+    );
     let second = takes(alloc, &mut tunnel, SCCCN_ANSWERS, 2)?;
-    assert!(rt; second.established && !second.cleared);
-    assert_eq!(rt; outs(alloc, &second)?.as_str(), ZLB_2);
+    assert_holds(&rt, second.established && !second.cleared);
+    assert_same(&rt, &outs(alloc, &second)?.as_str(), &ZLB_2);
     let again = takes(alloc, &mut tunnel, SCCCN_ANSWERS, 3)?;
-    assert!(rt; !again.established && !again.cleared);
-    assert_eq!(rt; outs(alloc, &again)?.as_str(), ZLB_2);
+    assert_holds(&rt, !again.established && !again.cleared);
+    assert_same(&rt, &outs(alloc, &again)?.as_str(), &ZLB_2);
     Ok(())
 }
 
@@ -118,19 +123,19 @@ fn a_tunnel_without_a_secret_asks_for_no_answer(rt: HostRuntime) -> Result<(), F
     let alloc = rt.alloc();
     let mut tunnel = tunnel(0x0401, false, true);
     let first = takes(alloc, &mut tunnel, SCCRQ, 0)?;
-    assert_eq!(rt; outs(alloc, &first)?.as_str(), SCCRP);
+    assert_same(&rt, &outs(alloc, &first)?.as_str(), &SCCRP);
     let second = takes(alloc, &mut tunnel, SCCCN, 0)?;
-    assert!(rt; second.established);
-    assert_eq!(rt; outs(alloc, &second)?.as_str(), ZLB_2);
+    assert_holds(&rt, second.established);
+    assert_same(&rt, &outs(alloc, &second)?.as_str(), &ZLB_2);
     let third = takes(alloc, &mut tunnel, HELLO, 0)?;
-    assert_eq!(rt; outs(alloc, &third)?.as_str(), ZLB_3);
+    assert_same(&rt, &outs(alloc, &third)?.as_str(), &ZLB_3);
     // a ZLB, and a message ahead of the next
     for quiet in [
         "c802000c0401000000030001",
         "c802001404010000000900018008000000000006",
     ] {
         let step = takes(alloc, &mut tunnel, quiet, 0)?;
-        assert!(rt; step.outs.is_empty() && !step.cleared);
+        assert_holds(&rt, step.outs.is_empty() && !step.cleared);
     }
     Ok(())
 }
@@ -144,10 +149,10 @@ fn refuses(
     stop: &str,
 ) -> Result<(), Fail> {
     let step = takes(alloc, &mut tunnel, sccrq, 0)?;
-    assert!(rt; step.cleared && !step.established && !step.call);
+    assert_holds(rt, step.cleared && !step.established && !step.call);
     assert_eq!(rt; outs(alloc, &step)?.as_str(), stop, "{sccrq}");
     let quiet = takes(alloc, &mut tunnel, sccrq, 0)?;
-    assert!(rt; quiet.outs.is_empty());
+    assert_holds(rt, quiet.outs.is_empty());
     Ok(())
 }
 
@@ -205,7 +210,7 @@ fn an_sccrq_without_what_it_must_have_is_refused(rt: HostRuntime) -> Result<(), 
         "c8020046000000000000000080080000000000018008000000020100800a0000000300000003800a000000076c61633180080000000900050007000900017800070000002878";
     let mut taken = tunnel(0x0401, false, true);
     let step = takes(alloc, &mut taken, optional, 0)?;
-    assert_eq!(rt; outs(alloc, &step)?.as_str(), SCCRP);
+    assert_same(&rt, &outs(alloc, &step)?.as_str(), &SCCRP);
     Ok(())
 }
 
@@ -217,12 +222,15 @@ fn hidden_values_are_read_with_the_last_random_vector(rt: HostRuntime) -> Result
         "c802006c0000000000000000800800000000000180080000000201008008000000247a7a800800000024aabbc00c000000032cacdb3404d7c01f0000000725f0e799060a611e0fae631b6a1591ae0d8d4ea60b1ee37974800b000000246c61746572c00a00000009df5e0cb2";
     let mut tunnel = tunnel(0x0401, true, true);
     let step = takes(alloc, &mut tunnel, hidden, 0)?;
-    assert!(rt; !step.cleared && tunnel.peer_number() == Some(5));
+    assert_holds(&rt, !step.cleared && tunnel.peer_number() == Some(5));
     let bytes = hex::decode(alloc, hidden)?;
     let message = Control::read(bytes.as_slice())?;
-    assert!(rt; message_type(&message) == Some(message::SCCRQ));
-    assert!(rt; assigned_tunnel(&message, &Some(text(b"xyzzy"))) == Some(5));
-    assert!(rt; assigned_tunnel(&message, &None) == None);
+    assert_holds(&rt, message_type(&message) == Some(message::SCCRQ));
+    assert_holds(
+        &rt,
+        assigned_tunnel(&message, &Some(text(b"xyzzy"))) == Some(5),
+    );
+    assert_holds(&rt, assigned_tunnel(&message, &None) == None);
     Ok(())
 }
 
@@ -238,9 +246,12 @@ fn a_tunnel_is_refused_over_its_channel(rt: HostRuntime) -> Result<(), Fail> {
         let mut asked = tunnel(0x0401, true, true);
         takes(alloc, &mut asked, SCCRQ_ASKS, 0)?;
         let step = takes(alloc, &mut asked, scccn, 0)?;
-        assert!(rt; step.cleared && !step.established);
-        assert_eq!(rt; outs(alloc, &step)?.as_str(), stop_4);
-        assert!(rt; takes(alloc, &mut asked, SCCCN_ANSWERS, 0)?.outs.is_empty());
+        assert_holds(&rt, step.cleared && !step.established);
+        assert_same(&rt, &outs(alloc, &step)?.as_str(), &stop_4);
+        assert_holds(
+            &rt,
+            takes(alloc, &mut asked, SCCCN_ANSWERS, 0)?.outs.is_empty(),
+        );
     }
     // a HELLO before the SCCCN
     let mut early = tunnel(0x0401, false, true);
@@ -251,8 +262,8 @@ fn a_tunnel_is_refused_over_its_channel(rt: HostRuntime) -> Result<(), Fail> {
         "c802001404010000000100018008000000000006",
         0,
     )?;
-    assert!(rt; step.cleared);
-    assert_eq!(rt; outs(alloc, &step)?.as_str(), stop_7);
+    assert_holds(&rt, step.cleared);
+    assert_same(&rt, &outs(alloc, &step)?.as_str(), &stop_7);
     Ok(())
 }
 
@@ -267,17 +278,18 @@ fn a_stop_ccn_clears_and_a_call_is_refused(rt: HostRuntime) -> Result<(), Fail> 
         "c80200260401000000020001800800000000000a80080000000e0009800a0000000f00000001",
         0,
     )?;
-    assert!(rt; step.call && step.ended && !step.cleared);
-    assert_eq!(rt;
-        outs(alloc, &step)?.as_str(),
-        "c80200260005000900010003800800000000000e80080000000e0000800a0000000100020004 "
+    assert_holds(&rt, step.call && step.ended && !step.cleared);
+    assert_same(
+        &rt,
+        &outs(alloc, &step)?.as_str(),
+        &"c80200260005000900010003800800000000000e80080000000e0000800a0000000100020004 ",
     );
     let stop = "c80200240401000000020001800800000000000480080000000900058008000000010001";
     let mut tunnel = established(alloc)?;
     let step = takes(alloc, &mut tunnel, stop, 0)?;
-    assert!(rt; step.cleared && !step.call);
-    assert_eq!(rt; outs(alloc, &step)?.as_str(), ZLB_3);
-    assert!(rt; takes(alloc, &mut tunnel, stop, 0)?.outs.is_empty());
+    assert_holds(&rt, step.cleared && !step.call);
+    assert_same(&rt, &outs(alloc, &step)?.as_str(), &ZLB_3);
+    assert_holds(&rt, takes(alloc, &mut tunnel, stop, 0)?.outs.is_empty());
     Ok(())
 }
 
@@ -287,19 +299,20 @@ fn timers_send_again_greet_and_give_up(rt: HostRuntime) -> Result<(), Fail> {
     let mut silent = tunnel(0x0401, false, true);
     takes(alloc, &mut silent, SCCRQ, 0)?;
     for moment in [1000, 3000, 7000, 15_000, 23_000] {
-        assert_eq!(rt; silent.deadline(), moment);
-        assert!(rt; silent.due(moment - 1).outs.is_empty());
-        assert_eq!(rt; outs(alloc, &silent.due(moment))?.as_str(), SCCRP);
+        assert_same(&rt, &silent.deadline(), &moment);
+        assert_holds(&rt, silent.due(moment - 1).outs.is_empty());
+        assert_same(&rt, &outs(alloc, &silent.due(moment))?.as_str(), &SCCRP);
     }
-    assert!(rt; !silent.due(30_999).cleared);
-    assert!(rt; silent.due(31_000).cleared);
-    assert!(rt; silent.due(62_000).outs.is_empty());
+    assert_holds(&rt, !silent.due(30_999).cleared);
+    assert_holds(&rt, silent.due(31_000).cleared);
+    assert_holds(&rt, silent.due(62_000).outs.is_empty());
     // Nothing comes for 60 s.
     let mut greeted = established(alloc)?;
-    assert!(rt; greeted.due(59_999).outs.is_empty());
-    assert_eq!(rt;
-        outs(alloc, &greeted.due(60_000))?.as_str(),
-        "c802001400050000000100028008000000000006 "
+    assert_holds(&rt, greeted.due(59_999).outs.is_empty());
+    assert_same(
+        &rt,
+        &outs(alloc, &greeted.due(60_000))?.as_str(),
+        &"c802001400050000000100028008000000000006 ",
     );
     Ok(())
 }
@@ -313,21 +326,23 @@ fn a_calls_message_goes_out_and_the_last_is_one_stop_ccn(rt: HostRuntime) -> Res
         alloc,
         "c80200240000000300000000800800000000000e80080000000e00028008000000010003",
     )?;
-    assert!(rt; cdn.len() <= 512);
+    assert_holds(&rt, cdn.len() <= 512);
     let step = tunnel.send(cdn.as_slice(), 5);
-    assert!(rt; !step.left_out);
-    assert_eq!(rt;
-        outs(alloc, &step)?.as_str(),
-        "c80200240005000300010002800800000000000e80080000000e00028008000000010003 "
+    assert_holds(&rt, !step.left_out);
+    assert_same(
+        &rt,
+        &outs(alloc, &step)?.as_str(),
+        &"c80200240005000300010002800800000000000e80080000000e00028008000000010003 ",
     );
     let step = tunnel.stop(6);
-    assert!(rt; step.cleared);
-    assert_eq!(rt;
-        outs(alloc, &step)?.as_str(),
-        "c80200240005000000020002800800000000000480080000000904018008000000010006 "
+    assert_holds(&rt, step.cleared);
+    assert_same(
+        &rt,
+        &outs(alloc, &step)?.as_str(),
+        &"c80200240005000000020002800800000000000480080000000904018008000000010006 ",
     );
     let again = tunnel.stop(7);
-    assert!(rt; again.outs.is_empty() && !again.cleared);
+    assert_holds(&rt, again.outs.is_empty() && !again.cleared);
     Ok(())
 }
 
@@ -345,18 +360,19 @@ fn the_window_holds_messages_back(rt: HostRuntime) -> Result<(), Fail> {
         alloc,
         "c80200240000000300000000800800000000000e80080000000e00028008000000010003",
     )?;
-    assert!(rt; cdn.len() <= 512);
-    assert!(rt; tunnel.send(cdn.as_slice(), 0).outs.len() == 1);
+    assert_holds(&rt, cdn.len() <= 512);
+    assert_holds(&rt, tunnel.send(cdn.as_slice(), 0).outs.len() == 1);
     for _ in 0..64 {
         let step = tunnel.send(cdn.as_slice(), 0);
-        assert!(rt; step.outs.is_empty() && !step.left_out);
+        assert_holds(&rt, step.outs.is_empty() && !step.left_out);
     }
-    assert!(rt; tunnel.send(cdn.as_slice(), 0).left_out);
+    assert_holds(&rt, tunnel.send(cdn.as_slice(), 0).left_out);
     // a ZLB that acknowledges the first, and a HELLO that acknowledges the second
     let step = takes(alloc, &mut tunnel, "c802000c0401000000020002", 0)?;
-    assert_eq!(rt;
-        outs(alloc, &step)?.as_str(),
-        "c80200240005000300020002800800000000000e80080000000e00028008000000010003 "
+    assert_same(
+        &rt,
+        &outs(alloc, &step)?.as_str(),
+        &"c80200240005000300020002800800000000000e80080000000e00028008000000010003 ",
     );
     let step = takes(
         alloc,
@@ -364,12 +380,13 @@ fn the_window_holds_messages_back(rt: HostRuntime) -> Result<(), Fail> {
         "c802001404010000000200038008000000000006",
         0,
     )?;
-    assert_eq!(rt;
-        outs(alloc, &step)?.as_str(),
-        "c80200240005000300030003800800000000000e80080000000e00028008000000010003 c802000c0005000000040003 "
+    assert_same(
+        &rt,
+        &outs(alloc, &step)?.as_str(),
+        &"c80200240005000300030003800800000000000e80080000000e00028008000000010003 c802000c0005000000040003 ",
     );
     // no StopCCN goes out while another message is in flight
     let stopped = tunnel.stop(0);
-    assert!(rt; stopped.cleared && stopped.outs.is_empty());
+    assert_holds(&rt, stopped.cleared && stopped.outs.is_empty());
     Ok(())
 }

@@ -2,6 +2,8 @@
 #![tactic(auto)]
 
 #[cfg(test)]
+mod asserts;
+#[cfg(test)]
 mod l2tp_call;
 #[cfg(test)]
 mod l2tp_reliable;

@@ -1,3 +1,4 @@
+use crate::asserts::{assert_holds, assert_octets, assert_same};
 use arrayvec::ArrayVec;
 use bng_auth::{AuthStep, Chap, Pap, Proof, Reply};
 use bng_base::{AuthKind, Frame};
@@ -26,30 +27,33 @@ fn pap_asks_once_and_repeats_its_reply(rt: HostRuntime) {
     let AuthStep::Ask(credentials) = pap.on_frame(&request) else {
         panic!(rt; "not asked");
     };
-    assert_eq!(rt; credentials.name.as_slice(), b"nemo".as_slice());
+    assert_octets(&rt, credentials.name.as_slice(), b"nemo".as_slice());
     let Proof::Pap(password) = &credentials.proof else {
         panic!(rt; "no password");
     };
-    assert_eq!(rt; password.as_slice(), b"arctangent".as_slice());
-    assert!(rt;
+    assert_octets(&rt, password.as_slice(), b"arctangent".as_slice());
+    assert_holds(
+        &rt,
         matches!(
             &pap.on_frame(&packet(1, 8, b"\x04nemo\x0aarctangent")),
             AuthStep::Ignore
-        )
+        ),
     );
     let first = pap.on_verdict(true, b"hi");
-    assert_eq!(rt; (first.code(), first.id), (2, 7));
+    assert_same(&rt, &(first.code(), first.id), &(2, 7));
     let second = pap.on_verdict(false, b"no");
-    assert_eq!(rt;
-        (second.code(), second.text.as_slice()),
-        (2, b"hi".as_slice())
+    assert_same(
+        &rt,
+        &(second.code(), second.text.as_slice()),
+        &(2, b"hi".as_slice()),
     );
     let AuthStep::Again(again) = pap.on_frame(&packet(1, 9, b"\x01x\x00")) else {
         panic!(rt; "not repeated");
     };
-    assert_eq!(rt;
-        (again.code(), again.id, again.text.as_slice()),
-        (2, 9, b"hi".as_slice())
+    assert_same(
+        &rt,
+        &(again.code(), again.id, again.text.as_slice()),
+        &(2, 9, b"hi".as_slice()),
     );
 }
 
@@ -57,11 +61,17 @@ fn pap_asks_once_and_repeats_its_reply(rt: HostRuntime) {
 fn requests_outside_their_form_are_ignored_and_long_names_refused(rt: HostRuntime) {
     let mut pap = Pap::new();
     for body in [b"".as_slice(), b"\x04nem", b"\x01x\x02y", b"\x01x\x00y"] {
-        assert!(rt; matches!(&pap.on_frame(&packet(1, 1, body)), AuthStep::Ignore));
+        assert_holds(
+            &rt,
+            matches!(&pap.on_frame(&packet(1, 1, body)), AuthStep::Ignore),
+        );
     }
-    assert!(rt; matches!(&pap.on_frame(&packet(1, 1, b"\x00\x01y")), AuthStep::Refuse));
+    assert_holds(
+        &rt,
+        matches!(&pap.on_frame(&packet(1, 1, b"\x00\x01y")), AuthStep::Refuse),
+    );
     let refused = pap.on_verdict(false, b"no name");
-    assert_eq!(rt; (refused.code(), refused.id), (3, 1));
+    assert_same(&rt, &(refused.code(), refused.id), &(3, 1));
 }
 
 #[test]
@@ -69,18 +79,26 @@ fn chap_takes_the_response_to_its_challenge(rt: HostRuntime) {
     let mut chap = Chap::ask(&[9; 16], 5);
     let mut frame = Frame::new();
     chap.challenge(b"bng1", &mut frame);
-    assert_eq!(rt;
+    assert_octets(
+        &rt,
         frame.payload(),
-        b"\x01\x05\x00\x19\x10\x09\x09\x09\x09\x09\x09\x09\x09\x09\x09\x09\x09\x09\x09\x09\x09bng1".as_slice()
+        b"\x01\x05\x00\x19\x10\x09\x09\x09\x09\x09\x09\x09\x09\x09\x09\x09\x09\x09\x09\x09\x09bng1".as_slice(),
     );
     let body = b"\x10\x01\x01\x01\x01\x01\x01\x01\x01\x01\x01\x01\x01\x01\x01\x01\x01u0".as_slice();
-    assert!(rt; matches!(&chap.on_frame(&packet(2, 6, body)), AuthStep::Ignore));
-    assert!(rt; matches!(&chap.on_frame(&packet(2, 5, &body[..16])), AuthStep::Ignore));
+    assert_holds(
+        &rt,
+        matches!(&chap.on_frame(&packet(2, 6, body)), AuthStep::Ignore),
+    );
+    assert_holds(
+        &rt,
+        matches!(&chap.on_frame(&packet(2, 5, &body[..16])), AuthStep::Ignore),
+    );
     let AuthStep::Ask(credentials) = chap.on_frame(&packet(2, 5, body)) else {
         panic!(rt; "not asked");
     };
-    assert_eq!(rt; credentials.name.as_slice(), b"u0".as_slice());
-    assert!(rt;
+    assert_octets(&rt, credentials.name.as_slice(), b"u0".as_slice());
+    assert_holds(
+        &rt,
         matches!(
             &credentials.proof,
             Proof::Chap {
@@ -88,18 +106,21 @@ fn chap_takes_the_response_to_its_challenge(rt: HostRuntime) {
                 challenge: [9, ..],
                 value: [1, ..]
             }
-        )
+        ),
     );
     let failed = chap.on_verdict(false, b"hi");
-    assert_eq!(rt; (failed.code(), failed.id), (4, 5));
-    assert!(rt; matches!(&chap.on_frame(&packet(2, 5, body)), AuthStep::Again(_)));
+    assert_same(&rt, &(failed.code(), failed.id), &(4, 5));
+    assert_holds(
+        &rt,
+        matches!(&chap.on_frame(&packet(2, 5, body)), AuthStep::Again(_)),
+    );
 }
 
 #[test]
 fn replies_are_written_as_each_protocol_has_them(rt: HostRuntime) {
     let mut frame = Frame::new();
     reply(AuthKind::Pap, true, 7).write(&mut frame);
-    assert_eq!(rt; frame.payload(), b"\x02\x07\x00\x07\x02hi".as_slice());
+    assert_octets(&rt, frame.payload(), b"\x02\x07\x00\x07\x02hi".as_slice());
     reply(AuthKind::Chap, false, 5).write(&mut frame);
-    assert_eq!(rt; frame.payload(), b"\x04\x05\x00\x06hi".as_slice());
+    assert_octets(&rt, frame.payload(), b"\x04\x05\x00\x06hi".as_slice());
 }

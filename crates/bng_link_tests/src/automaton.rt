@@ -1,5 +1,6 @@
 ghost use Rattle.std.specs.Prelude.{◌<◌};
 
+use crate::asserts::assert_same;
 use bng_automaton::{Action, Automaton, Event, State};
 use std::alloc::{AllocError, Global};
 use std::test::Fail;
@@ -144,24 +145,24 @@ fn timeouts(automaton: &mut Automaton, moment: u64) -> u64
 #[test]
 fn ten_configure_and_two_terminate_requests_go_unanswered(rt: HostRuntime) {
     let mut automaton = after(&[Event::Up, Event::Open]);
-    assert_eq!(rt; timeouts(&mut automaton, 0), 9);
-    assert_eq!(rt; automaton.due(29_999), None);
-    assert_eq!(rt; automaton.due(30_000), Some(Event::ToMinus));
+    assert_same(&rt, &timeouts(&mut automaton, 0), &9);
+    assert_same(&rt, &automaton.due(29_999), &None);
+    assert_same(&rt, &automaton.due(30_000), &Some(Event::ToMinus));
 
     let _close = automaton.step(Event::Close, 40_000);
-    assert_eq!(rt; timeouts(&mut automaton, 40_000), 1);
-    assert_eq!(rt; automaton.due(46_000), Some(Event::ToMinus));
+    assert_same(&rt, &timeouts(&mut automaton, 40_000), &1);
+    assert_same(&rt, &automaton.due(46_000), &Some(Event::ToMinus));
     let _end = automaton.step(Event::ToMinus, 46_000);
-    assert_eq!(rt; automaton.state(), State::Closed);
-    assert_eq!(rt; automaton.deadline(), None);
+    assert_same(&rt, &automaton.state(), &State::Closed);
+    assert_same(&rt, &automaton.deadline(), &None);
 }
 
 #[test]
 fn a_nak_begins_the_count_anew(rt: HostRuntime) {
     let mut automaton = after(&[Event::Up, Event::Open]);
-    assert_eq!(rt; timeouts(&mut automaton, 0), 9);
+    assert_same(&rt, &timeouts(&mut automaton, 0), &9);
     let _nak = automaton.step(Event::Rcn, 50_000);
-    assert_eq!(rt; timeouts(&mut automaton, 50_000), 9);
+    assert_same(&rt, &timeouts(&mut automaton, 50_000), &9);
 }
 
 #[test]
@@ -169,7 +170,7 @@ fn the_timer_runs_in_states_4_to_8_alone(rt: HostRuntime) {
     for (number, way) in WAYS.iter().enumerate() {
         let automaton = after(way);
         let runs = 4 <= number && number <= 8;
-        assert_eq!(rt; automaton.state() as usize, number);
+        assert_same(&rt, &(automaton.state() as usize), &number);
         assert_eq!(rt;
             automaton.deadline(),
             if runs { Some(3000) } else { None },
@@ -182,7 +183,7 @@ fn the_timer_runs_in_states_4_to_8_alone(rt: HostRuntime) {
 fn a_terminated_link_waits_one_timer(rt: HostRuntime) {
     let mut automaton = after(WAYS[9]);
     let _ended = automaton.step(Event::Rtr, 7000);
-    assert_eq!(rt; automaton.due(9999), None);
-    assert_eq!(rt; automaton.due(10_000), Some(Event::ToMinus));
-    assert_eq!(rt; automaton.max_failure(), 5);
+    assert_same(&rt, &automaton.due(9999), &None);
+    assert_same(&rt, &automaton.due(10_000), &Some(Event::ToMinus));
+    assert_same(&rt, &automaton.max_failure(), &5);
 }

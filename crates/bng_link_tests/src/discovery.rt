@@ -1,3 +1,4 @@
+use crate::asserts::{assert_holds, assert_octets, assert_same};
 use arrayvec::ArrayVec;
 use bng_base::{Frame, Mac, SessionNo, Written};
 use bng_discovery::{Answer, ErrorTag, PortRules, answer, confirm, offer, refuse, terminate};
@@ -76,7 +77,7 @@ fn sent(rt: &impl Abort, code: u8, tags: &[u8]) -> Frame {
         payload: tags,
     };
     let mut octets = Frame::new();
-    assert_eq!(rt; frame.write(&mut octets), Written::Done);
+    assert_same(rt, &frame.write(&mut octets), &Written::Done);
     octets
 }
 
@@ -90,7 +91,7 @@ fn answered(
 ) -> Answer {
     let octets = sent(rt, code, tags);
     let frame = Pppoe::read(octets.payload()).expect(rt, "a frame");
-    assert!(rt; frame.discovery);
+    assert_holds(rt, frame.discovery);
     answer(&frame, port, known, room)
 }
 
@@ -130,9 +131,10 @@ fn answers_are_those_of_the_first_row_that_holds(rt: HostRuntime) {
 #[test]
 fn a_cookie_is_of_one_port_and_each_bit_of_it_counts(rt: HostRuntime) {
     let other = port(2);
-    assert_eq!(rt;
-        answered(&rt, &other, PADR, &ANY_AGAIN, false, true),
-        Answer::Ignore
+    assert_same(
+        &rt,
+        &answered(&rt, &other, PADR, &ANY_AGAIN, false, true),
+        &Answer::Ignore,
     );
     let port = port(1);
     for place in [8, 15, 23] {
@@ -140,9 +142,10 @@ fn a_cookie_is_of_one_port_and_each_bit_of_it_counts(rt: HostRuntime) {
         if place < 32 {
             changed[place] ^= 1;
         }
-        assert_eq!(rt;
-            answered(&rt, &port, PADR, &changed, true, true),
-            Answer::Ignore
+        assert_same(
+            &rt,
+            &answered(&rt, &port, PADR, &changed, true, true),
+            &Answer::Ignore,
         );
     }
 }
@@ -153,12 +156,12 @@ fn a_pado_names_the_gateway_the_services_and_the_cookie(rt: HostRuntime) {
     for tags in [ANY.as_slice(), LARGE.as_slice()] {
         let octets = sent(&rt, PADI, tags);
         let frame = Pppoe::read(octets.payload()).expect(&rt, "a frame");
-        assert!(rt; frame.discovery);
+        assert_holds(&rt, frame.discovery);
         let mut pado = Frame::new();
-        assert_eq!(rt; offer(&frame, &port, &mut pado), Written::Done);
-        assert_eq!(rt; pado.payload().len(), 68);
-        assert!(rt; pado.payload().starts_with(&OFFER));
-        assert!(rt; pado.payload().ends_with(&ANY_AGAIN[8..24]));
+        assert_same(&rt, &offer(&frame, &port, &mut pado), &Written::Done);
+        assert_same(&rt, &pado.payload().len(), &68);
+        assert_holds(&rt, pado.payload().starts_with(&OFFER));
+        assert_holds(&rt, pado.payload().ends_with(&ANY_AGAIN[8..24]));
     }
 }
 
@@ -168,14 +171,16 @@ fn a_pado_has_at_most_4096_octets(rt: HostRuntime) {
     let mut tags = [0; 4041];
     tags[..8].copy_from_slice(&[1, 1, 0, 0, 1, 0x10, 0x0f, 0xc0]);
     let port = port(1);
-    assert_eq!(rt;
-        answered(&rt, &port, PADI, &tags[..4040], false, true),
-        Answer::Offer
+    assert_same(
+        &rt,
+        &answered(&rt, &port, PADI, &tags[..4040], false, true),
+        &Answer::Offer,
     );
     tags[7] = 0xc1;
-    assert_eq!(rt;
-        answered(&rt, &port, PADI, &tags, false, true),
-        Answer::Ignore
+    assert_same(
+        &rt,
+        &answered(&rt, &port, PADI, &tags, false, true),
+        &Answer::Ignore,
     );
 }
 
@@ -184,31 +189,35 @@ fn a_pads_repeats_what_the_padr_asked_for(rt: HostRuntime) {
     let port = port(1);
     let octets = sent(&rt, PADR, &ANY_AGAIN);
     let frame = Pppoe::read(octets.payload()).expect(&rt, "a frame");
-    assert!(rt; frame.discovery);
+    assert_holds(&rt, frame.discovery);
     let mut pads = Frame::new();
-    assert_eq!(rt;
-        confirm(&frame, &port, SessionNo(0x0401), &mut pads),
-        Written::Done
+    assert_same(
+        &rt,
+        &confirm(&frame, &port, SessionNo(0x0401), &mut pads),
+        &Written::Done,
     );
-    assert_eq!(rt;
+    assert_octets(
+        &rt,
         pads.payload(),
-        [
+        &[
             2, 0, 0, 0, 0, 1, 2, 0, 0, 0, 0, 0xfe, 0x88, 0x63, 0x11, 0x65, 4, 1, 0, 12, 1, 1, 0, 0,
             1, 3, 0, 4, 0xa1, 0xb2, 0xc3, 0xd4,
         ]
-        .as_slice()
+        .as_slice(),
     );
-    assert_eq!(rt;
-        refuse(&frame, &port, ErrorTag::AcSystemError, &mut pads),
-        Written::Done
+    assert_same(
+        &rt,
+        &refuse(&frame, &port, ErrorTag::AcSystemError, &mut pads),
+        &Written::Done,
     );
-    assert_eq!(rt;
+    assert_octets(
+        &rt,
         pads.payload(),
-        [
+        &[
             2, 0, 0, 0, 0, 1, 2, 0, 0, 0, 0, 0xfe, 0x88, 0x63, 0x11, 0x65, 0, 0, 0, 16, 1, 1, 0, 0,
             2, 2, 0, 0, 1, 3, 0, 4, 0xa1, 0xb2, 0xc3, 0xd4,
         ]
-        .as_slice()
+        .as_slice(),
     );
 }
 
@@ -217,20 +226,22 @@ fn a_refusal_has_its_error_and_no_number(rt: HostRuntime) {
     let port = port(1);
     let octets = sent(&rt, PADR, &VIDEO_AGAIN);
     let frame = Pppoe::read(octets.payload()).expect(&rt, "a frame");
-    assert!(rt; frame.discovery);
+    assert_holds(&rt, frame.discovery);
     let mut pads = Frame::new();
-    assert_eq!(rt;
-        refuse(&frame, &port, ErrorTag::ServiceNameError, &mut pads),
-        Written::Done
+    assert_same(
+        &rt,
+        &refuse(&frame, &port, ErrorTag::ServiceNameError, &mut pads),
+        &Written::Done,
     );
-    assert_eq!(rt;
+    assert_octets(
+        &rt,
         pads.payload(),
-        [
+        &[
             2, 0, 0, 0, 0, 1, 2, 0, 0, 0, 0, 0xfe, 0x88, 0x63, 0x11, 0x65, 0, 0, 0, 27, 1, 1, 0, 5,
             0x76, 0x69, 0x64, 0x65, 0x6f, 2, 1, 0, 0, 1, 3, 0, 4, 0xa1, 0xb2, 0xc3, 0xd4, 1, 0x10,
             0, 2, 7, 8,
         ]
-        .as_slice()
+        .as_slice(),
     );
 }
 
@@ -238,11 +249,12 @@ fn a_refusal_has_its_error_and_no_number(rt: HostRuntime) {
 fn a_padt_has_no_tags(rt: HostRuntime) {
     let mut padt = Frame::new();
     terminate(HOST, &port(1), SessionNo(0x0401), &mut padt);
-    assert_eq!(rt;
+    assert_octets(
+        &rt,
         padt.payload(),
-        [
+        &[
             2, 0, 0, 0, 0, 1, 2, 0, 0, 0, 0, 0xfe, 0x88, 0x63, 0x11, 0xa7, 4, 1, 0, 0,
         ]
-        .as_slice()
+        .as_slice(),
     );
 }

@@ -1,3 +1,4 @@
+use crate::asserts::{assert_octets, assert_same};
 use bng_base::{Frame, Ip4};
 use bng_ipcp::{IpcpAsk, IpcpOptions, IpcpRules, Judged, Taken, judge};
 use bng_ppp_wire::{Packet, options};
@@ -71,7 +72,7 @@ fn answer(alloc: Global, body: &[u8], rules: &IpcpRules) -> Result<String, Alloc
 fn requests_are_judged_by_lease_and_servers(rt: HostRuntime) -> Result<(), Fail> {
     for (body, want) in JUDGED.iter() {
         let text = answer(rt.alloc(), body, &RULES)?;
-        assert_eq!(rt; text.as_str(), *want);
+        assert_same(&rt, &text.as_str(), &*want);
     }
     Ok(())
 }
@@ -83,9 +84,9 @@ fn after_the_last_nak_it_rejects_and_adds_nothing(rt: HostRuntime) -> Result<(),
         ..RULES
     };
     let other = answer(rt.alloc(), &[3, 6, 0, 0, 0, 0], &rules)?;
-    assert_eq!(rt; other.as_str(), "Reject 3[0, 0, 0, 0]");
+    assert_same(&rt, &other.as_str(), &"Reject 3[0, 0, 0, 0]");
     let none = answer(rt.alloc(), &[], &rules)?;
-    assert_eq!(rt; none.as_str(), "Ack");
+    assert_same(&rt, &none.as_str(), &"Ack");
     Ok(())
 }
 
@@ -114,9 +115,10 @@ fn replies_are_taken_as_the_standard_says(rt: HostRuntime) {
         let mut ask = IpcpAsk::new(Ip4(0x0a000001));
         let mut frame = Frame::new();
         ask.request(1, &mut frame);
-        assert_eq!(rt;
+        assert_octets(
+            &rt,
             frame.payload(),
-            [1, 1, 0, 10, 3, 6, 10, 0, 0, 1].as_slice()
+            &[1, 1, 0, 10, 3, 6, 10, 0, 0, 1].as_slice(),
         );
         let reply = Packet {
             code: *code,
@@ -138,13 +140,13 @@ fn after_a_reject_it_asks_for_nothing(rt: HostRuntime) {
         id: 1,
         body: &[3, 6, 10, 0, 0, 1],
     };
-    assert_eq!(rt; ask.on_reply(&refused, &[0; 16]), Taken::Changed);
+    assert_same(&rt, &ask.on_reply(&refused, &[0; 16]), &Taken::Changed);
     ask.request(2, &mut frame);
-    assert_eq!(rt; frame.payload(), [1, 2, 0, 4].as_slice());
+    assert_octets(&rt, frame.payload(), &[1, 2, 0, 4].as_slice());
     let agreed = Packet {
         code: 2,
         id: 2,
         body: &[],
     };
-    assert_eq!(rt; ask.on_reply(&agreed, &[0; 16]), Taken::Accepted);
+    assert_same(&rt, &ask.on_reply(&agreed, &[0; 16]), &Taken::Accepted);
 }

@@ -1,3 +1,4 @@
+use crate::asserts::{assert_octets, assert_same};
 use arrayvec::ArrayVec;
 use bng_base::{AuthKind, Frame};
 use bng_lcp::{Judged, LcpAsk, LcpOptions, LcpRules, Taken, judge};
@@ -75,7 +76,7 @@ fn answer(alloc: Global, body: &[u8], rules: &LcpRules) -> Result<String, AllocE
 fn requests_are_judged_by_type_length_and_value(rt: HostRuntime) -> Result<(), Fail> {
     for (body, want) in JUDGED.iter() {
         let text = answer(rt.alloc(), body, &RULES)?;
-        assert_eq!(rt; text.as_str(), *want);
+        assert_same(&rt, &text.as_str(), &*want);
     }
     Ok(())
 }
@@ -87,7 +88,7 @@ fn after_the_last_nak_it_rejects(rt: HostRuntime) -> Result<(), Fail> {
         ..RULES
     };
     let text = answer(rt.alloc(), &[1, 4, 5, 0xd5, 5, 6, 1, 1, 1, 1], &rules)?;
-    assert_eq!(rt; text.as_str(), "Reject 1[5, 213]");
+    assert_same(&rt, &text.as_str(), &"Reject 1[5, 213]");
     Ok(())
 }
 
@@ -98,7 +99,7 @@ fn a_suggested_magic_number_is_never_0(rt: HostRuntime) -> Result<(), Fail> {
         ..RULES
     };
     let text = answer(rt.alloc(), &[5, 6, 0, 0, 0, 0], &rules)?;
-    assert_eq!(rt; text.as_str(), "Nak 5[0, 0, 0, 1]");
+    assert_same(&rt, &text.as_str(), &"Nak 5[0, 0, 0, 1]");
     Ok(())
 }
 
@@ -205,7 +206,7 @@ fn replies_are_taken_as_the_standard_says(rt: HostRuntime) {
         let mut ask = LcpAsk::new(1492, 0xa1b2c3d4, both);
         let mut frame = Frame::new();
         ask.request(7, &mut frame);
-        assert_eq!(rt; frame.payload(), SENT.as_slice());
+        assert_same(&rt, &frame.payload(), &SENT.as_slice());
         let reply = Packet {
             code: *code,
             id: *id,
@@ -227,19 +228,23 @@ fn what_was_rejected_stays_out(rt: HostRuntime) {
         id: 1,
         body: &[1, 4, 5, 0xdc, 5, 6, 0, 0, 0, 1],
     };
-    assert_eq!(rt; ask.on_reply(&refused, &RANDOM), Taken::Changed);
+    assert_same(&rt, &ask.on_reply(&refused, &RANDOM), &Taken::Changed);
     ask.request(2, &mut frame);
-    assert_eq!(rt; frame.payload(), [1, 2, 0, 8, 3, 4, 0xc0, 0x23].as_slice());
+    assert_octets(
+        &rt,
+        frame.payload(),
+        &[1, 2, 0, 8, 3, 4, 0xc0, 0x23].as_slice(),
+    );
     let suggested = Packet {
         code: CONFIGURE_NAK,
         id: 2,
         body: &[1, 4, 2, 0, 5, 6, 1, 1, 1, 1, 3, 5, 0xc2, 0x23, 5],
     };
-    assert_eq!(rt; ask.on_reply(&suggested, &RANDOM), Taken::Changed);
+    assert_same(&rt, &ask.on_reply(&suggested, &RANDOM), &Taken::Changed);
     let agreed = Packet {
         code: CONFIGURE_ACK,
         id: 2,
         body: &[3, 4, 0xc0, 0x23],
     };
-    assert_eq!(rt; ask.on_reply(&agreed, &RANDOM), Taken::Accepted);
+    assert_same(&rt, &ask.on_reply(&agreed, &RANDOM), &Taken::Accepted);
 }

@@ -1,5 +1,6 @@
 ghost use Rattle.std.specs.Prelude.{◌<◌, ◌^◌, length};
 
+use crate::asserts::{assert_holds, assert_octets, assert_same};
 use arrayvec::ArrayVec;
 use bng_base::{AuthKind, Ip4};
 use bng_ppp::{Input, Link, LinkKind, LinkRules, Steps};
@@ -78,27 +79,32 @@ fn opened(rules: &LinkRules) -> Link
 fn a_session_comes_to_opened_and_rejects_ipv6(rt: HostRuntime) {
     let rules = rules(0);
     let mut link = Link::new(LinkKind::Pppoe, &RANDOM, 0);
-    assert_eq!(rt; only(&start(&mut link, &rules)), ASKED.as_slice());
+    assert_same(&rt, &only(&start(&mut link, &rules)), &ASKED.as_slice());
     let refused = [
         0xc0, 0x21, 1, 1, 0, 0x12, 1, 4, 5, 0xd4, 5, 6, 0x11, 0x22, 0x33, 0x44, 7, 2, 8, 2,
     ];
     let reject = [0xc0, 0x21, 4, 1, 0, 8, 7, 2, 8, 2];
-    assert_eq!(rt; only(&hear(&mut link, &rules, &refused)), reject.as_slice());
+    assert_same(
+        &rt,
+        &only(&hear(&mut link, &rules, &refused)),
+        &reject.as_slice(),
+    );
     let ack = [
         0xc0, 0x21, 2, 2, 0, 0x0e, 1, 4, 5, 0xd4, 5, 6, 0x11, 0x22, 0x33, 0x44,
     ];
-    assert_eq!(rt; only(&hear(&mut link, &rules, &GOOD)), ack.as_slice());
-    assert!(rt; !link.was_opened());
+    assert_same(&rt, &only(&hear(&mut link, &rules, &GOOD)), &ack.as_slice());
+    assert_holds(&rt, !link.was_opened());
     let up = hear(&mut link, &rules, &ACKED);
-    assert!(rt; up.opened && up.outs.is_empty() && link.was_opened());
-    assert_eq!(rt; (link.mru(), link.deadline()), (1492, None));
+    assert_holds(&rt, up.opened && up.outs.is_empty() && link.was_opened());
+    assert_same(&rt, &(link.mru(), link.deadline()), &(1492, None));
     let ipv6cp = [0x80, 0x57, 1, 1, 0, 0x0e, 1, 0x0a, 0, 0, 0, 0, 0, 0, 0, 1];
     let rejected = [
         0xc0, 0x21, 8, 2, 0, 0x14, 0x80, 0x57, 1, 1, 0, 0x0e, 1, 0x0a, 0, 0, 0, 0, 0, 0, 0, 1,
     ];
-    assert_eq!(rt;
-        only(&hear(&mut link, &rules, &ipv6cp)),
-        rejected.as_slice()
+    assert_same(
+        &rt,
+        &only(&hear(&mut link, &rules, &ipv6cp)),
+        &rejected.as_slice(),
     );
     let passed_over: [&[u8]; 4] = [
         &[0x80, 0x21, 1, 1, 0, 4],
@@ -107,10 +113,13 @@ fn a_session_comes_to_opened_and_rejects_ipv6(rt: HostRuntime) {
         &[0xc0],
     ];
     for octets in passed_over {
-        assert!(rt; hear(&mut link, &rules, octets).outs.is_empty());
+        assert_holds(&rt, hear(&mut link, &rules, octets).outs.is_empty());
     }
     let again = hear(&mut link, &rules, &GOOD);
-    assert!(rt; again.outs.len() == 2 && !again.opened && !again.finished);
+    assert_holds(
+        &rt,
+        again.outs.len() == 2 && !again.opened && !again.finished,
+    );
 }
 
 #[test]
@@ -119,14 +128,19 @@ fn an_echo_request_is_answered_with_the_gateways_magic_number(rt: HostRuntime) {
     let mut link = opened(&rules);
     let request = [0xc0, 0x21, 9, 7, 0, 8, 0x11, 0x22, 0x33, 0x44];
     let reply = [0xc0, 0x21, 0x0a, 7, 0, 8, 0xa1, 0xb2, 0xc3, 0xd4];
-    assert_eq!(rt; only(&hear(&mut link, &rules, &request)), reply.as_slice());
+    assert_same(
+        &rt,
+        &only(&hear(&mut link, &rules, &request)),
+        &reply.as_slice(),
+    );
     let mute = [0xc0, 0x21, 9, 7, 0, 7, 0x11, 0x22, 0x33];
-    assert!(rt; hear(&mut link, &rules, &mute).outs.is_empty());
+    assert_holds(&rt, hear(&mut link, &rules, &mute).outs.is_empty());
     let unknown = [0xc0, 0x21, 0x0c, 9, 0, 5, 1, 0, 0];
     let code_reject = [0xc0, 0x21, 7, 2, 0, 9, 0x0c, 9, 0, 5, 1];
-    assert_eq!(rt;
-        only(&hear(&mut link, &rules, &unknown)),
-        code_reject.as_slice()
+    assert_same(
+        &rt,
+        &only(&hear(&mut link, &rules, &unknown)),
+        &code_reject.as_slice(),
     );
 }
 
@@ -135,18 +149,18 @@ fn three_unanswered_echoes_lose_the_link(rt: HostRuntime) {
     let rules = rules(30);
     let mut link = opened(&rules);
     let echo = [0xc0, 0x21, 9, 2, 0, 8, 0xa1, 0xb2, 0xc3, 0xd4];
-    assert_eq!(rt; link.deadline(), Some(30_000));
-    assert!(rt; at(&mut link, &rules, 29_999).outs.is_empty());
-    assert_eq!(rt; only(&at(&mut link, &rules, 30_000)), echo.as_slice());
+    assert_same(&rt, &link.deadline(), &Some(30_000));
+    assert_holds(&rt, at(&mut link, &rules, 29_999).outs.is_empty());
+    assert_same(&rt, &only(&at(&mut link, &rules, 30_000)), &echo.as_slice());
     let reply = [0xc0, 0x21, 0x0a, 2, 0, 8, 0x11, 0x22, 0x33, 0x44];
-    assert!(rt; hear(&mut link, &rules, &reply).outs.is_empty());
+    assert_holds(&rt, hear(&mut link, &rules, &reply).outs.is_empty());
     for again in 2..5 {
         let steps = at(&mut link, &rules, 30_000 * again);
-        assert!(rt; steps.outs.len() == 1 && !steps.finished);
+        assert_holds(&rt, steps.outs.len() == 1 && !steps.finished);
     }
     let lost = at(&mut link, &rules, 150_000);
-    assert!(rt; lost.finished && lost.outs.is_empty());
-    assert_eq!(rt; link.deadline(), None);
+    assert_holds(&rt, lost.finished && lost.outs.is_empty());
+    assert_same(&rt, &link.deadline(), &None);
 }
 
 #[test]
@@ -158,13 +172,25 @@ fn after_five_naks_it_rejects(rt: HostRuntime) {
     let nak = [0xc0, 0x21, 3, 9, 0, 8, 1, 4, 5, 0xdc];
     let reject = [0xc0, 0x21, 4, 9, 0, 8, 1, 4, 0, 127];
     for _ in 0..5 {
-        assert_eq!(rt; only(&hear(&mut link, &rules, &request)), nak.as_slice());
+        assert_same(
+            &rt,
+            &only(&hear(&mut link, &rules, &request)),
+            &nak.as_slice(),
+        );
     }
-    assert_eq!(rt; only(&hear(&mut link, &rules, &request)), reject.as_slice());
+    assert_same(
+        &rt,
+        &only(&hear(&mut link, &rules, &request)),
+        &reject.as_slice(),
+    );
     let smaller = [0xc0, 0x21, 1, 10, 0, 8, 1, 4, 1, 0];
     let _ack = hear(&mut link, &rules, &smaller);
-    assert_eq!(rt; link.mru(), 256);
-    assert_eq!(rt; only(&hear(&mut link, &rules, &request)), nak.as_slice());
+    assert_same(&rt, &link.mru(), &256);
+    assert_same(
+        &rt,
+        &only(&hear(&mut link, &rules, &request)),
+        &nak.as_slice(),
+    );
 }
 
 #[test]
@@ -172,22 +198,31 @@ fn a_request_sent_again_keeps_its_identifier(rt: HostRuntime) {
     let rules = rules(0);
     let mut link = Link::new(LinkKind::Pppoe, &RANDOM, 0);
     let _asked = start(&mut link, &rules);
-    assert_eq!(rt; only(&at(&mut link, &rules, 3000)), ASKED.as_slice());
+    assert_same(&rt, &only(&at(&mut link, &rules, 3000)), &ASKED.as_slice());
     // A Nak that was taken is answered by a new one, and a Reject of the authentication closes the link.
     let nak = [0xc0, 0x21, 3, 1, 0, 8, 3, 4, 0xc0, 0x23];
     let second = [
         0xc0, 0x21, 1, 2, 0, 0x12, 1, 4, 5, 0xd4, 3, 4, 0xc0, 0x23, 5, 6, 0xa1, 0xb2, 0xc3, 0xd4,
     ];
-    assert_eq!(rt; only(&hear(&mut link, &rules, &nak)), second.as_slice());
+    assert_same(
+        &rt,
+        &only(&hear(&mut link, &rules, &nak)),
+        &second.as_slice(),
+    );
     let unwilling = [0xc0, 0x21, 4, 2, 0, 8, 3, 4, 0xc0, 0x23];
     let terminate = [0xc0, 0x21, 5, 3, 0, 4];
-    assert_eq!(rt;
-        only(&hear(&mut link, &rules, &unwilling)),
-        terminate.as_slice()
+    assert_same(
+        &rt,
+        &only(&hear(&mut link, &rules, &unwilling)),
+        &terminate.as_slice(),
     );
-    assert_eq!(rt; only(&at(&mut link, &rules, 6000)), terminate.as_slice());
+    assert_same(
+        &rt,
+        &only(&at(&mut link, &rules, 6000)),
+        &terminate.as_slice(),
+    );
     let ack = [0xc0, 0x21, 6, 3, 0, 4];
-    assert!(rt; hear(&mut link, &rules, &ack).finished);
+    assert_holds(&rt, hear(&mut link, &rules, &ack).finished);
 }
 
 #[test]
@@ -196,12 +231,16 @@ fn the_end_of_a_link_is_told(rt: HostRuntime) {
     let mut link = opened(&rules);
     let request = [0xc0, 0x21, 5, 8, 0, 6, 1, 2];
     let ack = [0xc0, 0x21, 6, 8, 0, 4];
-    assert_eq!(rt; only(&hear(&mut link, &rules, &request)), ack.as_slice());
-    assert!(rt; at(&mut link, &rules, 3000).finished);
+    assert_same(
+        &rt,
+        &only(&hear(&mut link, &rules, &request)),
+        &ack.as_slice(),
+    );
+    assert_holds(&rt, at(&mut link, &rules, 3000).finished);
     let mut closed = opened(&rules);
     let mut steps = Steps::new();
     closed.step(&rules, Input::Close, 0, &RANDOM, &mut steps);
-    assert_eq!(rt; only(&steps), [0xc0, 0x21, 5, 2, 0, 4].as_slice());
+    assert_octets(&rt, &only(&steps), &[0xc0, 0x21, 5, 2, 0, 4].as_slice());
     closed.step(&rules, Input::Lost, 0, &RANDOM, &mut steps);
-    assert!(rt; steps.finished && steps.outs.is_empty());
+    assert_holds(&rt, steps.finished && steps.outs.is_empty());
 }

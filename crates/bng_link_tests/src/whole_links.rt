@@ -1,3 +1,4 @@
+use crate::asserts::{assert_holds, assert_octets, assert_same};
 use crate::whole_fixtures::{
     CHALLENGE, CHAP_ACK, PAP_ACK, PAP_REQUEST, RANDOM, REQUEST, RESPONSE, hear, opened, rules,
     sent, served, tell, verdict, verdict_with,
@@ -12,67 +13,85 @@ fn a_pppd_is_accepted_by_chap_and_gets_its_address(rt: HostRuntime) {
     let _asked = tell(&mut link, &rules, WholeInput::Start, 0);
     let _answered = hear(&mut link, &rules, REQUEST);
     let up = hear(&mut link, &rules, CHAP_ACK);
-    assert_eq!(rt; sent(&up, 0), CHALLENGE);
-    assert!(rt; link.was_opened() && !up.opened && link.deadline() == Some(3000));
+    assert_same(&rt, &sent(&up, 0), &CHALLENGE);
+    assert_holds(
+        &rt,
+        link.was_opened() && !up.opened && link.deadline() == Some(3000),
+    );
     // Before it authenticates itself it asks for an echo, and offers IPCP and CCP.
     let echo = hear(
         &mut link,
         &rules,
         b"\xc0\x21\x09\x00\x00\x08\x11\x22\x33\x44",
     );
-    assert_eq!(rt;
-        sent(&echo, 0),
-        b"\xc0\x21\x0a\x00\x00\x08\xa1\xb2\xc3\xd4".as_slice()
+    assert_octets(
+        &rt,
+        &sent(&echo, 0),
+        b"\xc0\x21\x0a\x00\x00\x08\xa1\xb2\xc3\xd4".as_slice(),
     );
     let early = hear(
         &mut link,
         &rules,
         b"\x80\x21\x01\x01\x00\x0a\x03\x06\x00\x00\x00\x00",
     );
-    assert!(rt; early.outs().is_empty());
+    assert_holds(&rt, early.outs().is_empty());
     let ccp = hear(&mut link, &rules, b"\x80\xfd\x01\x01\x00\x04");
-    assert_eq!(rt;
-        sent(&ccp, 0),
-        b"\xc0\x21\x08\x02\x00\x0a\x80\xfd\x01\x01\x00\x04".as_slice()
+    assert_octets(
+        &rt,
+        &sent(&ccp, 0),
+        b"\xc0\x21\x08\x02\x00\x0a\x80\xfd\x01\x01\x00\x04".as_slice(),
     );
     let again = tell(&mut link, &rules, WholeInput::Timer, 3000);
-    assert_eq!(rt; sent(&again, 0), CHALLENGE);
+    assert_same(&rt, &sent(&again, 0), &CHALLENGE);
     let question = hear(&mut link, &rules, RESPONSE);
-    assert!(rt; question.outs().is_empty() && link.deadline().is_none());
+    assert_holds(&rt, question.outs().is_empty() && link.deadline().is_none());
     match &question.asked {
-        Some(claim) => assert_eq!(rt; claim.name.as_slice(), b"u0".as_slice()),
-        None => assert!(rt; false),
+        Some(claim) => assert_octets(&rt, claim.name.as_slice(), b"u0".as_slice()),
+        None => assert_holds(&rt, false),
     }
     let repeated = hear(&mut link, &rules, RESPONSE);
-    assert!(rt; repeated.outs().is_empty() && repeated.asked.is_none());
+    assert_holds(&rt, repeated.outs().is_empty() && repeated.asked.is_none());
     let yes = tell(&mut link, &rules, verdict(true, b"hi"), 3000);
-    assert_eq!(rt; sent(&yes, 0), b"\xc2\x23\x03\x01\x00\x06hi".as_slice());
-    assert_eq!(rt;
-        sent(&yes, 1),
-        b"\x80\x21\x01\x01\x00\x0a\x03\x06\x0a\x00\x00\x01".as_slice()
+    assert_octets(
+        &rt,
+        &sent(&yes, 0),
+        b"\xc2\x23\x03\x01\x00\x06hi".as_slice(),
+    );
+    assert_octets(
+        &rt,
+        &sent(&yes, 1),
+        b"\x80\x21\x01\x01\x00\x0a\x03\x06\x0a\x00\x00\x01".as_slice(),
     );
     let second = tell(&mut link, &rules, verdict(false, b"no"), 3000);
-    assert!(rt; second.outs().is_empty());
+    assert_holds(&rt, second.outs().is_empty());
     let after = hear(&mut link, &rules, RESPONSE);
-    assert_eq!(rt; sent(&after, 0), b"\xc2\x23\x03\x01\x00\x06hi".as_slice());
+    assert_octets(
+        &rt,
+        &sent(&after, 0),
+        b"\xc2\x23\x03\x01\x00\x06hi".as_slice(),
+    );
     let wants =
         b"\x80\x21\x01\x01\x00\x16\x03\x06\x00\x00\x00\x00\x81\x06\x00\x00\x00\x00\x83\x06\x00\x00\x00\x00";
     let nak =
         b"\x80\x21\x03\x01\x00\x16\x03\x06\x0a\x00\x00\x02\x81\x06\xc0\x00\x02\x35\x83\x06\xc0\x00\x02\x36";
-    assert_eq!(rt; sent(&hear(&mut link, &rules, wants), 0), nak.as_slice());
+    assert_same(
+        &rt,
+        &sent(&hear(&mut link, &rules, wants), 0),
+        &nak.as_slice(),
+    );
     let _acked = hear(
         &mut link,
         &rules,
         b"\x80\x21\x02\x01\x00\x0a\x03\x06\x0a\x00\x00\x01",
     );
-    assert!(rt; !link.passes());
+    assert_holds(&rt, !link.passes());
     let takes =
         b"\x80\x21\x01\x02\x00\x16\x03\x06\x0a\x00\x00\x02\x81\x06\xc0\x00\x02\x35\x83\x06\xc0\x00\x02\x36";
     let done = hear(&mut link, &rules, takes);
     let ack =
         b"\x80\x21\x02\x02\x00\x16\x03\x06\x0a\x00\x00\x02\x81\x06\xc0\x00\x02\x35\x83\x06\xc0\x00\x02\x36";
-    assert_eq!(rt; sent(&done, 0), ack.as_slice());
-    assert!(rt; done.opened && link.passes());
+    assert_same(&rt, &sent(&done, 0), &ack.as_slice());
+    assert_holds(&rt, done.opened && link.passes());
 }
 
 // What a pppd says after LCP is Opened with PAP, and the frame that answers it, from its own Echo-Request on to the question
@@ -113,48 +132,58 @@ fn a_pppd_is_accepted_by_pap_and_gets_its_address_and_servers(rt: HostRuntime) {
     let rules = rules(AuthKind::Pap, 0);
     let mut link = WholeLink::new(LinkKind::Pppoe, &RANDOM, 0);
     let asks = tell(&mut link, &rules, WholeInput::Start, 0);
-    assert_eq!(rt;
-        sent(&asks, 0),
-        b"\xc0\x21\x01\x01\x00\x12\x01\x04\x05\xd4\x03\x04\xc0\x23\x05\x06\xa1\xb2\xc3\xd4".as_slice()
+    assert_octets(
+        &rt,
+        &sent(&asks, 0),
+        b"\xc0\x21\x01\x01\x00\x12\x01\x04\x05\xd4\x03\x04\xc0\x23\x05\x06\xa1\xb2\xc3\xd4".as_slice(),
     );
     let acks = hear(&mut link, &rules, REQUEST);
-    assert_eq!(rt;
-        sent(&acks, 0),
-        b"\xc0\x21\x02\x02\x00\x0e\x01\x04\x05\xd4\x05\x06\x11\x22\x33\x44".as_slice()
+    assert_octets(
+        &rt,
+        &sent(&acks, 0),
+        b"\xc0\x21\x02\x02\x00\x0e\x01\x04\x05\xd4\x05\x06\x11\x22\x33\x44".as_slice(),
     );
     let up = hear(&mut link, &rules, PAP_ACK);
-    assert!(rt; up.outs().is_empty() && link.was_opened() && link.deadline() == Some(30_000));
+    assert_holds(
+        &rt,
+        up.outs().is_empty() && link.was_opened() && link.deadline() == Some(30_000),
+    );
     for (heard, answer) in BEFORE_PAP {
-        assert_eq!(rt; sent(&hear(&mut link, &rules, heard), 0), answer);
+        assert_same(&rt, &sent(&hear(&mut link, &rules, heard), 0), &answer);
     }
     let question = hear(&mut link, &rules, PAP_REQUEST);
-    assert!(rt; question.outs().is_empty() && link.deadline().is_none());
+    assert_holds(&rt, question.outs().is_empty() && link.deadline().is_none());
     match &question.asked {
-        Some(claim) => assert_eq!(rt; claim.name.as_slice(), b"u0".as_slice()),
-        None => assert!(rt; false),
+        Some(claim) => assert_octets(&rt, claim.name.as_slice(), b"u0".as_slice()),
+        None => assert_holds(&rt, false),
     }
     let repeated = hear(&mut link, &rules, PAP_REQUEST);
-    assert!(rt; repeated.outs().is_empty() && repeated.asked.is_none());
+    assert_holds(&rt, repeated.outs().is_empty() && repeated.asked.is_none());
     let yes = tell(&mut link, &rules, verdict(true, b"hi"), 0);
-    assert_eq!(rt; sent(&yes, 0), b"\xc0\x23\x02\x07\x00\x07\x02hi".as_slice());
-    assert_eq!(rt;
-        sent(&yes, 1),
-        b"\x80\x21\x01\x01\x00\x0a\x03\x06\x0a\x00\x00\x01".as_slice()
+    assert_octets(
+        &rt,
+        &sent(&yes, 0),
+        b"\xc0\x23\x02\x07\x00\x07\x02hi".as_slice(),
+    );
+    assert_octets(
+        &rt,
+        &sent(&yes, 1),
+        b"\x80\x21\x01\x01\x00\x0a\x03\x06\x0a\x00\x00\x01".as_slice(),
     );
     for (heard, answer) in AFTER_PAP {
-        assert!(rt; !link.passes());
-        assert_eq!(rt; sent(&hear(&mut link, &rules, heard), 0), answer);
+        assert_holds(&rt, !link.passes());
+        assert_same(&rt, &sent(&hear(&mut link, &rules, heard), 0), &answer);
     }
     let takes =
         b"\x80\x21\x01\x03\x00\x16\x03\x06\x0a\x00\x00\x02\x81\x06\xc0\x00\x02\x35\x83\x06\xc0\x00\x02\x36";
     let done = hear(&mut link, &rules, takes);
     let ack =
         b"\x80\x21\x02\x03\x00\x16\x03\x06\x0a\x00\x00\x02\x81\x06\xc0\x00\x02\x35\x83\x06\xc0\x00\x02\x36";
-    assert_eq!(rt; sent(&done, 0), ack.as_slice());
-    assert!(rt; done.opened && link.passes());
+    assert_same(&rt, &sent(&done, 0), &ack.as_slice());
+    assert_holds(&rt, done.opened && link.passes());
     let end = hear(&mut link, &rules, b"\xc0\x21\x05\x04\x00\x04");
-    assert_eq!(rt; sent(&end, 0), b"\xc0\x21\x06\x04\x00\x04".as_slice());
-    assert!(rt; end.term_ended == Some(1) && !link.passes());
+    assert_octets(&rt, &sent(&end, 0), b"\xc0\x21\x06\x04\x00\x04".as_slice());
+    assert_holds(&rt, end.term_ended == Some(1) && !link.passes());
 }
 
 // Frames of IPCP that find it not begun (RFC 1661 section 4.1, Initial): a request, an Ack, a Terminate-Request, a Code-Reject of
@@ -186,21 +215,24 @@ fn a_peer_without_an_address_gets_its_reply_and_no_ipcp(rt: HostRuntime) {
     for (kind, ack, request, reply) in peers {
         let rules = rules(kind, 0);
         let mut link = opened(&rules, ack);
-        assert!(rt; hear(&mut link, &rules, request).asked.is_some());
+        assert_holds(&rt, hear(&mut link, &rules, request).asked.is_some());
         let yes = tell(&mut link, &rules, verdict_with(true, None, b"hi"), 0);
-        assert_eq!(rt; yes.outs().len(), 1);
-        assert_eq!(rt; sent(&yes, 0), reply);
-        assert!(rt; link.deadline().is_none());
+        assert_same(&rt, &yes.outs().len(), &1);
+        assert_same(&rt, &sent(&yes, 0), &reply);
+        assert_holds(&rt, link.deadline().is_none());
         for heard in NOT_BEGUN {
             let passed = hear(&mut link, &rules, heard);
-            assert!(rt; passed.outs().is_empty() && !passed.opened && !link.passes());
+            assert_holds(
+                &rt,
+                passed.outs().is_empty() && !passed.opened && !link.passes(),
+            );
         }
-        assert_eq!(rt; sent(&hear(&mut link, &rules, request), 0), reply);
+        assert_same(&rt, &sent(&hear(&mut link, &rules, request), 0), &reply);
         let late = tell(&mut link, &rules, verdict(true, b"hi"), 0);
-        assert!(rt; late.outs().is_empty() && link.deadline().is_none());
+        assert_holds(&rt, late.outs().is_empty() && link.deadline().is_none());
         let end = hear(&mut link, &rules, b"\xc0\x21\x05\x04\x00\x04");
-        assert_eq!(rt; sent(&end, 0), b"\xc0\x21\x06\x04\x00\x04".as_slice());
-        assert!(rt; end.outs().len() == 1 && end.term_ended.is_none());
+        assert_octets(&rt, &sent(&end, 0), b"\xc0\x21\x06\x04\x00\x04".as_slice());
+        assert_holds(&rt, end.outs().len() == 1 && end.term_ended.is_none());
     }
 }
 
@@ -213,29 +245,36 @@ fn a_request_in_opened_ends_the_term_and_begins_anew(rt: HostRuntime) {
         &rules,
         b"\x80\x21\x09\x05\x00\x08\x00\x00\x00\x00",
     );
-    assert_eq!(rt;
-        sent(&unknown, 0),
-        b"\x80\x21\x07\x02\x00\x0c\x09\x05\x00\x08\x00\x00\x00\x00".as_slice()
+    assert_octets(
+        &rt,
+        &sent(&unknown, 0),
+        b"\x80\x21\x07\x02\x00\x0c\x09\x05\x00\x08\x00\x00\x00\x00".as_slice(),
     );
     let smaller = b"\xc0\x21\x01\x03\x00\x0e\x01\x04\x05\x78\x05\x06\x11\x22\x33\x44";
     let anew = hear(&mut link, &rules, smaller);
-    assert_eq!(rt;
-        sent(&anew, 0),
-        b"\xc0\x21\x01\x02\x00\x13\x01\x04\x05\xd4\x03\x05\xc2\x23\x05\x05\x06\xa1\xb2\xc3\xd4".as_slice()
+    assert_octets(
+        &rt,
+        &sent(&anew, 0),
+        b"\xc0\x21\x01\x02\x00\x13\x01\x04\x05\xd4\x03\x05\xc2\x23\x05\x05\x06\xa1\xb2\xc3\xd4".as_slice(),
     );
-    assert_eq!(rt;
-        sent(&anew, 1),
-        b"\xc0\x21\x02\x03\x00\x0e\x01\x04\x05\x78\x05\x06\x11\x22\x33\x44".as_slice()
+    assert_octets(
+        &rt,
+        &sent(&anew, 1),
+        b"\xc0\x21\x02\x03\x00\x0e\x01\x04\x05\x78\x05\x06\x11\x22\x33\x44".as_slice(),
     );
-    assert!(rt; anew.term_ended == Some(1) && !link.passes() && link.mru() == 1400);
+    assert_holds(
+        &rt,
+        anew.term_ended == Some(1) && !link.passes() && link.mru() == 1400,
+    );
     let up = hear(
         &mut link,
         &rules,
         b"\xc0\x21\x02\x02\x00\x13\x01\x04\x05\xd4\x03\x05\xc2\x23\x05\x05\x06\xa1\xb2\xc3\xd4",
     );
-    assert_eq!(rt;
-        sent(&up, 0),
-        b"\xc2\x23\x01\x02\x00\x19\x10\xa1\xb2\xc3\xd4\x04\x05\x06\x07\x08\x09\x0a\x0b\x0c\x0d\x0e\x0fbng1".as_slice()
+    assert_octets(
+        &rt,
+        &sent(&up, 0),
+        b"\xc2\x23\x01\x02\x00\x19\x10\xa1\xb2\xc3\xd4\x04\x05\x06\x07\x08\x09\x0a\x0b\x0c\x0d\x0e\x0fbng1".as_slice(),
     );
     // The next request names no Maximum-Receive-Unit: it is the limit again.
     let none = hear(
@@ -243,7 +282,7 @@ fn a_request_in_opened_ends_the_term_and_begins_anew(rt: HostRuntime) {
         &rules,
         b"\xc0\x21\x01\x04\x00\x0a\x05\x06\x11\x22\x33\x44",
     );
-    assert!(rt; none.term_ended.is_none() && link.mru() == 1492);
+    assert_holds(&rt, none.term_ended.is_none() && link.mru() == 1492);
 }
 
 #[test]
@@ -258,20 +297,24 @@ fn a_refused_peer_gets_each_text_and_the_link_closes(rt: HostRuntime) {
     ];
     for (text, nak) in texts {
         let mut link = opened(&rules, PAP_ACK);
-        assert!(rt; hear(&mut link, &rules, PAP_REQUEST).asked.is_some());
+        assert_holds(&rt, hear(&mut link, &rules, PAP_REQUEST).asked.is_some());
         let no = tell(&mut link, &rules, verdict(false, text), 0);
-        assert_eq!(rt; sent(&no, 0), nak);
-        assert_eq!(rt; sent(&no, 1), b"\xc0\x21\x05\x02\x00\x04".as_slice());
-        assert!(rt; hear(&mut link, &rules, b"\xc0\x21\x06\x02\x00\x04").finished);
+        assert_same(&rt, &sent(&no, 0), &nak);
+        assert_octets(&rt, &sent(&no, 1), b"\xc0\x21\x05\x02\x00\x04".as_slice());
+        assert_holds(
+            &rt,
+            hear(&mut link, &rules, b"\xc0\x21\x06\x02\x00\x04").finished,
+        );
     }
     let mut nameless = opened(&rules, PAP_ACK);
     let no = hear(&mut nameless, &rules, b"\xc0\x23\x01\x08\x00\x06\x00\x00");
-    assert_eq!(rt;
-        sent(&no, 0),
-        b"\xc0\x23\x03\x08\x00\x0c\x07no name".as_slice()
+    assert_octets(
+        &rt,
+        &sent(&no, 0),
+        b"\xc0\x23\x03\x08\x00\x0c\x07no name".as_slice(),
     );
-    assert_eq!(rt; sent(&no, 1), b"\xc0\x21\x05\x02\x00\x04".as_slice());
-    assert!(rt; no.asked.is_none());
+    assert_octets(&rt, &sent(&no, 1), b"\xc0\x21\x05\x02\x00\x04".as_slice());
+    assert_holds(&rt, no.asked.is_none());
 }
 
 #[test]
@@ -280,19 +323,28 @@ fn a_silent_peer_is_given_up(rt: HostRuntime) {
     let mut link = opened(&chap, CHAP_ACK);
     for count in 1..10 {
         let again = tell(&mut link, &chap, WholeInput::Timer, 3000 * count);
-        assert_eq!(rt; sent(&again, 0), CHALLENGE);
+        assert_same(&rt, &sent(&again, 0), &CHALLENGE);
     }
     let closed = tell(&mut link, &chap, WholeInput::Timer, 30_000);
-    assert_eq!(rt; sent(&closed, 0), b"\xc0\x21\x05\x02\x00\x04".as_slice());
+    assert_octets(
+        &rt,
+        &sent(&closed, 0),
+        b"\xc0\x21\x05\x02\x00\x04".as_slice(),
+    );
     let pap = rules(AuthKind::Pap, 0);
     let mut waited = opened(&pap, PAP_ACK);
-    assert!(rt;
+    assert_holds(
+        &rt,
         tell(&mut waited, &pap, WholeInput::Timer, 29_999)
             .outs()
-            .is_empty()
+            .is_empty(),
     );
     let closed = tell(&mut waited, &pap, WholeInput::Timer, 30_000);
-    assert_eq!(rt; sent(&closed, 0), b"\xc0\x21\x05\x02\x00\x04".as_slice());
+    assert_octets(
+        &rt,
+        &sent(&closed, 0),
+        b"\xc0\x21\x05\x02\x00\x04".as_slice(),
+    );
 }
 
 #[test]
@@ -300,37 +352,48 @@ fn each_end_of_a_term_has_its_cause(rt: HostRuntime) {
     let rules = rules(AuthKind::Chap, 30);
     let mut asked = served(&rules);
     let ack = hear(&mut asked, &rules, b"\xc0\x21\x05\x09\x00\x04");
-    assert!(rt; ack.term_ended == Some(1) && !ack.finished);
-    assert_eq!(rt; sent(&ack, 0), b"\xc0\x21\x06\x09\x00\x04".as_slice());
+    assert_holds(&rt, ack.term_ended == Some(1) && !ack.finished);
+    assert_octets(&rt, &sent(&ack, 0), b"\xc0\x21\x06\x09\x00\x04".as_slice());
     let mut layer = served(&rules);
     let down = hear(&mut layer, &rules, b"\x80\x21\x05\x04\x00\x04");
-    assert_eq!(rt; sent(&down, 0), b"\x80\x21\x06\x04\x00\x04".as_slice());
-    assert!(rt; down.term_ended.is_none() && !layer.passes());
-    assert!(rt; tell(&mut layer, &rules, WholeInput::Timer, 3000).term_ended == Some(1));
+    assert_octets(&rt, &sent(&down, 0), b"\x80\x21\x06\x04\x00\x04".as_slice());
+    assert_holds(&rt, down.term_ended.is_none() && !layer.passes());
+    assert_holds(
+        &rt,
+        tell(&mut layer, &rules, WholeInput::Timer, 3000).term_ended == Some(1),
+    );
     let mut rejected = served(&rules);
     let end = hear(
         &mut rejected,
         &rules,
         b"\xc0\x21\x08\x05\x00\x0a\x80\x21\x01\x01\x00\x04",
     );
-    assert_eq!(rt; sent(&end, 0), b"\x80\x21\x05\x02\x00\x04".as_slice());
+    assert_octets(&rt, &sent(&end, 0), b"\x80\x21\x05\x02\x00\x04".as_slice());
     let mut silent = served(&rules);
     for count in 1..4 {
-        assert!(rt;
+        assert_holds(
+            &rt,
             tell(&mut silent, &rules, WholeInput::Timer, 30_000 * count)
                 .term_ended
-                .is_none()
+                .is_none(),
         );
     }
     let lost = tell(&mut silent, &rules, WholeInput::Timer, 120_000);
-    assert!(rt; lost.term_ended == Some(2) && lost.finished);
+    assert_holds(&rt, lost.term_ended == Some(2) && lost.finished);
     let mut gone = served(&rules);
     let end = tell(&mut gone, &rules, WholeInput::Lost, 0);
-    assert!(rt; end.finished && end.term_ended.is_none() && !gone.passes());
+    assert_holds(
+        &rt,
+        end.finished && end.term_ended.is_none() && !gone.passes(),
+    );
     let mut closed = served(&rules);
     let close = tell(&mut closed, &rules, WholeInput::Close, 0);
-    assert_eq!(rt; sent(&close, 0), b"\xc0\x21\x05\x02\x00\x04".as_slice());
-    assert!(rt; close.term_ended.is_none() && !closed.passes());
+    assert_octets(
+        &rt,
+        &sent(&close, 0),
+        b"\xc0\x21\x05\x02\x00\x04".as_slice(),
+    );
+    assert_holds(&rt, close.term_ended.is_none() && !closed.passes());
 }
 
 #[test]
@@ -343,18 +406,20 @@ fn an_xl2tpd_asks_for_asyncmap_and_no_mru(rt: HostRuntime) {
         &rules,
         b"\xc0\x21\x01\x01\x00\x14\x02\x06\x00\x00\x00\x00\x05\x06\x11\x22\x33\x44\x07\x02\x08\x02",
     );
-    assert_eq!(rt;
-        sent(&first, 0),
-        b"\xc0\x21\x04\x01\x00\x0e\x02\x06\x00\x00\x00\x00\x07\x02\x08\x02".as_slice()
+    assert_octets(
+        &rt,
+        &sent(&first, 0),
+        b"\xc0\x21\x04\x01\x00\x0e\x02\x06\x00\x00\x00\x00\x07\x02\x08\x02".as_slice(),
     );
     let second = hear(
         &mut link,
         &rules,
         b"\xc0\x21\x01\x02\x00\x0a\x05\x06\x11\x22\x33\x44",
     );
-    assert_eq!(rt;
-        sent(&second, 0),
-        b"\xc0\x21\x02\x02\x00\x0a\x05\x06\x11\x22\x33\x44".as_slice()
+    assert_octets(
+        &rt,
+        &sent(&second, 0),
+        b"\xc0\x21\x02\x02\x00\x0a\x05\x06\x11\x22\x33\x44".as_slice(),
     );
-    assert_eq!(rt; link.mru(), 1500);
+    assert_same(&rt, &link.mru(), &1500);
 }

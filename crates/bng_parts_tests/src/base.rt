@@ -1,5 +1,6 @@
 ghost use Rattle.std.specs.Prelude.{◌≡◌, ◌≤◌, length};
 
+use crate::asserts::{assert_holds, assert_octets, assert_same};
 use bng_base::{At, Batch, Claim, Entry, Frame, Ip4, Item, ItemKind, OutRecord, Peer, Role};
 use std::process::Abort;
 use std::test::Fail;
@@ -13,8 +14,8 @@ fn a_frame_changes_at_its_ends(rt: HostRuntime) {
     frame.put_front(&[9]);
     frame.put_back(&[8, 7]);
     frame.overwrite(1, &[6]);
-    assert_eq!(rt; frame.payload(), [9, 6, 4, 8, 7].as_slice());
-    assert_eq!(rt; frame.headroom(), 65);
+    assert_octets(&rt, frame.payload(), &[9, 6, 4, 8, 7].as_slice());
+    assert_same(&rt, &frame.headroom(), &65);
 }
 
 fn peer(port: u16) -> Peer {
@@ -51,16 +52,16 @@ fn a_cleared_batch_writes_over_its_places(rt: HostRuntime) -> Result<(), Fail> {
         &frame_of(&[9]),
         [7; 16],
     );
-    assert_eq!(rt; items.len(), 1);
+    assert_same(&rt, &items.len(), &1);
     let item = &items.as_slice()[0];
-    assert_eq!(rt; item.frame.payload(), [9].as_slice());
-    assert_eq!(rt; item.kind, ItemKind::Access(1));
+    assert_octets(&rt, item.frame.payload(), &[9].as_slice());
+    assert_same(&rt, &item.kind, &ItemKind::Access(1));
     let mut entries: Batch<Entry> = Batch::new(rt.alloc());
     entries.reserve(1)?;
     entries.push_entry(0, 3, 8, item, Claim::Claimed(Ip4(1)));
     let entry = &entries.as_slice()[0];
-    assert_eq!(rt; entry.item.from, peer(9));
-    assert_eq!(rt; entry.claim, Claim::Claimed(Ip4(1)));
+    assert_same(&rt, &entry.item.from, &peer(9));
+    assert_same(&rt, &entry.claim, &Claim::Claimed(Ip4(1)));
     let mut outs: Batch<OutRecord> = Batch::new(rt.alloc());
     outs.reserve(1)?;
     let at = At {
@@ -73,7 +74,7 @@ fn a_cleared_batch_writes_over_its_places(rt: HostRuntime) -> Result<(), Fail> {
     sent.reserve(1)?;
     sent.push_sent(&outs.as_slice()[0], true);
     let told = sent.into_vec();
-    assert!(rt; told[0].sent);
-    assert_eq!(rt; told[0].frame.as_slice(), [9].as_slice());
+    assert_holds(&rt, told[0].sent);
+    assert_octets(&rt, told[0].frame.as_slice(), &[9].as_slice());
     Ok(())
 }

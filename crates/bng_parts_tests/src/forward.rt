@@ -1,5 +1,6 @@
 ghost use Rattle.std.specs.Prelude.{◌≡◌, ◌≤◌, length};
 
+use crate::asserts::{assert_holds, assert_same};
 use bng_base::{AccessPort, DropCause, Fate, Frame, Ip4, Mac, Peer, SessionNo};
 use bng_forward::{
     Arrived, TermView, carried, down, frame_at, names_session, packet_from, put_in_frame,
@@ -87,8 +88,8 @@ fn goes_up(
     requires { length octets.now ≤ 64 }
 {
     let mut frame = frame_of(octets);
-    assert_eq!(rt; up(found, &mut frame), fate);
-    assert_eq!(rt; frame.payload(), after);
+    assert_same(rt, &up(found, &mut frame), &fate);
+    assert_same(rt, &frame.payload(), &after);
 }
 
 fn goes_down(rt: &impl Abort, holder: Option<TermView>, octets: &[u8], fate: Fate, after: &[u8])
@@ -97,10 +98,10 @@ fn goes_down(rt: &impl Abort, holder: Option<TermView>, octets: &[u8], fate: Fat
     let mut frame = frame_of(octets);
     match read(octets) {
         Ok(header) => {
-            assert_eq!(rt; down(holder, header, &mut frame), fate);
-            assert_eq!(rt; frame.payload(), after);
+            assert_same(rt, &down(holder, header, &mut frame), &fate);
+            assert_same(rt, &frame.payload(), &after);
         }
-        Err(_) => assert!(rt; false),
+        Err(_) => assert_holds(rt, false),
     }
 }
 
@@ -210,26 +211,26 @@ fn each_datagram_of_an_access_port_has_its_fate(rt: HostRuntime) {
             bytes[place] = octet;
         }
         let mut frame = frame_of(&bytes);
-        assert_eq!(rt; goes_to_core(false, &mut frame), fate);
+        assert_same(&rt, &goes_to_core(false, &mut frame), &fate);
     }
     let mut unknown = PADT;
     unknown[17] = 2;
     let mut frame = frame_of(&FRAME);
-    assert_eq!(rt; goes_to_core(true, &mut frame), malformed);
+    assert_same(&rt, &goes_to_core(true, &mut frame), &malformed);
     frame.set(&PADI);
-    assert_eq!(rt; goes_to_core(false, &mut frame), Fate::Consumed);
-    assert_eq!(rt; goes_to_core(true, &mut frame), malformed);
+    assert_same(&rt, &goes_to_core(false, &mut frame), &Fate::Consumed);
+    assert_same(&rt, &goes_to_core(true, &mut frame), &malformed);
     frame.set(&PADT);
-    assert_eq!(rt; goes_to_core(false, &mut frame), Fate::Consumed);
+    assert_same(&rt, &goes_to_core(false, &mut frame), &Fate::Consumed);
     frame.set(&unknown);
-    assert_eq!(rt; goes_to_core(false, &mut frame), no_session);
+    assert_same(&rt, &goes_to_core(false, &mut frame), &no_session);
 }
 
 #[test]
 fn a_padded_frame_is_opened_to_its_packet(rt: HostRuntime) {
     let mut frame = frame_of(&FRAME);
-    assert_eq!(rt; goes_to_core(false, &mut frame), Fate::Forwarded);
-    assert_eq!(rt; frame.payload(), UP_SENT.as_slice());
+    assert_same(&rt, &goes_to_core(false, &mut frame), &Fate::Forwarded);
+    assert_same(&rt, &frame.payload(), &UP_SENT.as_slice());
 }
 
 // The fate of a datagram of the core, where one address has a holder.
@@ -265,7 +266,7 @@ fn each_datagram_of_the_core_has_its_fate(rt: HostRuntime) {
     ];
     for (from, cut, packet, fate) in cases {
         let mut frame = frame_of(&packet);
-        assert_eq!(rt; goes_to_circuit(from, cut, &mut frame), fate);
+        assert_same(&rt, &goes_to_circuit(from, cut, &mut frame), &fate);
     }
 }
 
@@ -275,15 +276,15 @@ fn a_packet_of_the_core_becomes_a_frame_of_its_circuit(rt: HostRuntime) {
     let mut frame = frame_of(&DOWN);
     match read(&DOWN) {
         Ok(header) => {
-            assert_eq!(rt; down(Some(OPEN), header, &mut frame), Fate::Forwarded);
+            assert_same(&rt, &down(Some(OPEN), header, &mut frame), &Fate::Forwarded);
         }
-        Err(_) => assert!(rt; false),
+        Err(_) => assert_holds(&rt, false),
     }
-    assert_eq!(rt; frame.payload(), DOWN_SENT.as_slice());
+    assert_same(&rt, &frame.payload(), &DOWN_SENT.as_slice());
     put_in_frame(&access_port(), MAC, SessionNo(1025), &mut frame);
-    assert_eq!(rt; frame.payload(), FRAME_SENT.as_slice());
+    assert_same(&rt, &frame.payload(), &FRAME_SENT.as_slice());
     frame.set(&DOWN_SENT);
     let expired = Fate::Dropped(DropCause::Expired);
-    assert_eq!(rt; goes_to_circuit(core, false, &mut frame), expired);
-    assert_eq!(rt; frame.payload(), DOWN_SENT.as_slice());
+    assert_same(&rt, &goes_to_circuit(core, false, &mut frame), &expired);
+    assert_same(&rt, &frame.payload(), &DOWN_SENT.as_slice());
 }

@@ -1,6 +1,7 @@
 //! Lists of packets with the colours that RFC 2697 gives them.
 ghost use Rattle.std.specs.Prelude.{◌≡◌};
 
+use crate::asserts::assert_same;
 use bng_base::Rate;
 use bng_meter::Colour::{Green, Red, Yellow};
 use bng_meter::Meter;
@@ -23,7 +24,7 @@ fn a_packet_is_green_then_yellow_then_red(rt: HostRuntime) -> Result<(), Fail> {
         meter.take(1499, 1500),
         meter.take(1500, 1500),
     ];
-    assert_eq!(rt; colours, [Green, Yellow, Red, Red, Green]);
+    assert_same(&rt, &colours, &[Green, Yellow, Red, Red, Green]);
     Ok(())
 }
 
@@ -38,7 +39,7 @@ fn a_token_comes_at_the_first_millisecond_that_reaches_it(rt: HostRuntime) -> Re
         meter.take(667, 1),
         meter.take(1000, 1),
     ];
-    assert_eq!(rt; colours, [Green, Red, Green, Red, Green, Green]);
+    assert_same(&rt, &colours, &[Green, Red, Green, Red, Green, Green]);
     Ok(())
 }
 
@@ -53,8 +54,8 @@ fn tokens_fill_the_committed_bucket_and_then_the_excess_bucket(
         meter.take(2000, 500),
         meter.take(2000, 1),
     ];
-    assert_eq!(rt; emptied, [Green, Yellow]);
-    assert_eq!(rt; full, [Green, Yellow, Red]);
+    assert_same(&rt, &emptied, &[Green, Yellow]);
+    assert_same(&rt, &full, &[Green, Yellow, Red]);
     Ok(())
 }
 
@@ -70,6 +71,6 @@ fn a_day_of_silence_fills_both_buckets_at_any_rate(rt: HostRuntime) -> Result<()
         meter.take(86_400_005, u32::MAX),
         meter.take((1 << 60) - 1, u32::MAX),
     ];
-    assert_eq!(rt; colours, [Green, Green]);
+    assert_same(&rt, &colours, &[Green, Green]);
     Ok(())
 }

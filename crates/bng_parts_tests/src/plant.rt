@@ -1,3 +1,4 @@
+use crate::asserts::{assert_octets, assert_same};
 use bng_base::{
     Claim, ClockAnswer, Entry, Fate, Frame, Ip4, Item, ItemKind, Listed, Loose, Octets, OutRecord,
     Peer, Received, Role, RoundRecord,
@@ -45,7 +46,7 @@ fn a_script_is_given_in_turn(rt: HostRuntime) -> Result<(), Fail> {
         (Role::Access(1), Received::Empty),
         (Role::Control, Received::Empty),
     ] {
-        assert_eq!(rt; receive(&mut plant, role, &mut frame), want);
+        assert_same(&rt, &receive(&mut plant, role, &mut frame), &want);
     }
     plant.wait(100);
     for (role, want, len) in [
@@ -53,12 +54,12 @@ fn a_script_is_given_in_turn(rt: HostRuntime) -> Result<(), Fail> {
         (Role::Control, got(OPERATOR, false), 4),
         (Role::Core, got(PORT, true), 4096),
     ] {
-        assert_eq!(rt; receive(&mut plant, role, &mut frame), want);
-        assert_eq!(rt; frame.payload().len(), len);
+        assert_same(&rt, &receive(&mut plant, role, &mut frame), &want);
+        assert_same(&rt, &frame.payload().len(), &len);
     }
-    assert_eq!(rt; plant.faults(), 1);
-    assert_eq!(rt; plant.taken().len(), 3);
-    assert_eq!(rt; plant.heard().map(|heard| heard.len()), Some(8));
+    assert_same(&rt, &plant.faults(), &1);
+    assert_same(&rt, &plant.taken().len(), &3);
+    assert_same(&rt, &plant.heard().map(|heard| heard.len()), &Some(8));
     Ok(())
 }
 
@@ -67,16 +68,16 @@ fn binds_and_sends_are_kept_up_to_the_room(rt: HostRuntime) -> Result<(), Fail> 
     let alloc = rt.alloc();
     let mut plant = MemoryPlant::new(alloc, Vec::new(alloc), Vec::new(alloc), 1)?;
     for (role, want) in [(Role::Auth, Bound::Ok), (Role::Acct, Bound::Failed)] {
-        assert_eq!(rt; plant.bind(role, PORT, None), want);
+        assert_same(&rt, &plant.bind(role, PORT, None), &want);
     }
     let role = Role::Access(240);
-    assert_eq!(rt; plant.send(role, PORT, &[1; 4161]), Sending::Failed);
-    assert_eq!(rt; plant.send(role, PORT, &[1; 4160]), Sending::Sent);
-    assert_eq!(rt; plant.send(role, PORT, &[1]), Sending::Failed);
-    assert_eq!(rt; plant.faults(), 3);
-    assert_eq!(rt; plant.bound().len(), 1);
+    assert_same(&rt, &plant.send(role, PORT, &[1; 4161]), &Sending::Failed);
+    assert_same(&rt, &plant.send(role, PORT, &[1; 4160]), &Sending::Sent);
+    assert_same(&rt, &plant.send(role, PORT, &[1]), &Sending::Failed);
+    assert_same(&rt, &plant.faults(), &3);
+    assert_same(&rt, &plant.bound().len(), &1);
     for sent in plant.sent() {
-        assert_eq!(rt; sent.octets.as_slice().len(), 4160);
+        assert_same(&rt, &sent.octets.as_slice().len(), &4160);
     }
     plant.wait(1);
     plant.wait(2);
@@ -92,16 +93,16 @@ fn moment<C: Clock>(clock: &mut C) -> u64 {
 fn a_clock_moves_by_its_step(rt: HostRuntime) -> Result<(), Fail> {
     let alloc = rt.alloc();
     let mut clock = MemoryClock::new(alloc, 600, 1_700_000_000, 3)?;
-    assert_eq!(rt; moment(&mut clock), 600);
-    assert_eq!(rt; moment(&mut clock), 1200);
-    assert_eq!(rt; clock.wall(), 1_700_000_001);
+    assert_same(&rt, &moment(&mut clock), &600);
+    assert_same(&rt, &moment(&mut clock), &1200);
+    assert_same(&rt, &clock.wall(), &1_700_000_001);
     let answers = [
         ClockAnswer::Now(600),
         ClockAnswer::Now(1200),
         ClockAnswer::Wall(1_700_000_001),
     ];
-    assert_eq!(rt; clock.answers().ok_or("silent")?, answers.as_slice());
-    assert_eq!(rt; moment(&mut clock), 1800);
+    assert_same(&rt, &clock.answers().ok_or("silent")?, &answers.as_slice());
+    assert_same(&rt, &moment(&mut clock), &1800);
     assert!(rt; clock.answers().is_none(), "it stopped telling");
     Ok(())
 }
@@ -122,10 +123,10 @@ fn seeds_come_in_their_order_past_a_failing_call(rt: HostRuntime) -> Result<(), 
         Seeded::Seed([2; 32]),
         Seeded::Failed,
     ] {
-        assert_eq!(rt; seeded(&mut entropy), want);
+        assert_same(&rt, &seeded(&mut entropy), &want);
     }
-    assert_eq!(rt; entropy.faults(), 2);
-    assert_eq!(rt; entropy.given().len(), 2);
+    assert_same(&rt, &entropy.faults(), &2);
+    assert_same(&rt, &entropy.given().len(), &2);
     Ok(())
 }
 
@@ -155,12 +156,12 @@ fn a_file_is_read_by_its_name(rt: HostRuntime) -> Result<(), Fail> {
                 "{name}"
             ),
             Err(error) => {
-                assert_eq!(rt; error, FileError::Failed);
+                assert_same(&rt, &error, &FileError::Failed);
                 assert!(rt; want.is_none(), "{name}");
             }
         }
     }
-    assert_eq!(rt; files.faults(), 3);
+    assert_same(&rt, &files.faults(), &3);
     Ok(())
 }
 
@@ -178,10 +179,10 @@ fn a_failing_write_appends_a_front(rt: HostRuntime) -> Result<(), Fail> {
         ("two\n", Wrote::Failed),
         ("three\n", Wrote::Failed),
     ] {
-        assert_eq!(rt; wrote(&mut sink, text.as_bytes()), want);
+        assert_same(&rt, &wrote(&mut sink, text.as_bytes()), &want);
     }
-    assert_eq!(rt; sink.text(), b"one\ntwthre".as_slice());
-    assert_eq!(rt; sink.faults(), 2);
+    assert_octets(&rt, &sink.text(), b"one\ntwthre".as_slice());
+    assert_same(&rt, &sink.faults(), &2);
     Ok(())
 }
 
@@ -252,18 +253,18 @@ fn a_trace_keeps_whole_rounds_in_flat_lists(rt: HostRuntime) -> Result<(), Fail>
     let fail_at = vec![in alloc; 3]?;
     let mut trace = MemoryTrace::new(alloc, fail_at, 8, 8)?;
     let record = round(alloc, 7)?;
-    assert_eq!(rt; trace.start("trace"), Noted::Ok);
+    assert_same(&rt, &trace.start("trace"), &Noted::Ok);
     for want in [Noted::Ok, Noted::Failed, Noted::Ok, Noted::Failed] {
-        assert_eq!(rt; noted(&mut trace, &record), want);
+        assert_same(&rt, &noted(&mut trace, &record), &want);
     }
-    assert_eq!(rt; trace.faults(), 2);
+    assert_same(&rt, &trace.faults(), &2);
     for head in trace.heads() {
-        assert_eq!(rt; head.number, 7);
+        assert_same(&rt, &head.number, &7);
     }
-    assert_eq!(rt; trace.allowances(), [10, 20, 10, 20].as_slice());
+    assert_same(&rt, &trace.allowances(), &[10, 20, 10, 20].as_slice());
     for (entry, octet) in trace.entries().iter().zip([1, 2, 3, 1, 2, 3]) {
-        assert_eq!(rt; entry.item.frame.payload(), [octet].as_slice());
-        assert_eq!(rt; entry.item.frame.headroom(), 65);
+        assert_octets(&rt, entry.item.frame.payload(), &[octet].as_slice());
+        assert_same(&rt, &entry.item.frame.headroom(), &65);
     }
     let lens = [
         trace.heads().len(),
@@ -272,7 +273,7 @@ fn a_trace_keeps_whole_rounds_in_flat_lists(rt: HostRuntime) -> Result<(), Fail>
         trace.outs().len(),
         trace.refused().len(),
     ];
-    assert_eq!(rt; lens, [2, 6, 2, 2, 2]);
+    assert_same(&rt, &lens, &[2, 6, 2, 2, 2]);
     Ok(())
 }
 
@@ -280,8 +281,8 @@ fn a_trace_keeps_whole_rounds_in_flat_lists(rt: HostRuntime) -> Result<(), Fail>
 fn the_open_gate_and_no_trace_do_nothing(rt: HostRuntime) -> Result<(), Fail> {
     let record = round(rt.alloc(), 1)?;
     let mut none = NoTrace;
-    assert_eq!(rt; none.start("trace"), Noted::Ok);
-    assert_eq!(rt; noted(&mut none, &record), Noted::Ok);
+    assert_same(&rt, &none.start("trace"), &Noted::Ok);
+    assert_same(&rt, &noted(&mut none, &record), &Noted::Ok);
     OpenGate.at(0, 1);
     Ok(())
 }

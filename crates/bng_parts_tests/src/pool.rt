@@ -7,6 +7,7 @@ mod one_hand;
 mod plain;
 mod table;
 
+use crate::asserts::{assert_holds, assert_same};
 use bng_base::{Claim, Ip4, Range};
 use bng_pool::{Pool, PoolError, PoolSeat};
 use std::alloc::Global;
@@ -138,7 +139,10 @@ fn each_address_goes_to_one_of_two_threads(rt: HostRuntime) -> Result<(), Fail> 
         winners.push(AtomicU64::new(0))?;
     }
     all_claim(&rt, &pool, shards.as_mut_slice(), winners.as_slice());
-    assert!(rt; names_winners(&pool, &mut shards[0], winners.as_slice()));
+    assert_holds(
+        &rt,
+        names_winners(&pool, &mut shards[0], winners.as_slice()),
+    );
     Ok(())
 }
 
@@ -210,7 +214,7 @@ fn after_many_rounds_each_address_is_where_the_seats_say(rt: HostRuntime) -> Res
     ];
     for (found, last) in holders.into_iter().zip(&last) {
         let signed = last.load(Ordering::SeqCst);
-        assert_eq!(rt; found.map(|shard| u64::from(shard) + 1), Some(signed));
+        assert_same(&rt, &found.map(|shard| u64::from(shard) + 1), &Some(signed));
     }
     Ok(())
 }
@@ -219,13 +223,13 @@ fn after_many_rounds_each_address_is_where_the_seats_say(rt: HostRuntime) -> Res
 fn a_range_that_another_shard_holds_is_exhausted(rt: HostRuntime) -> Result<(), Fail> {
     let (pool, mut shards, _workers) = open_one(rt.alloc(), 3, 2)?;
     let other = &mut shards[1];
-    assert_eq!(rt; seek(&pool, other), Claim::Claimed(Ip4(FIRST)));
-    assert_eq!(rt; seek(&pool, other), Claim::Claimed(Ip4(FIRST + 1)));
-    assert_eq!(rt; seek(&pool, other), Claim::Claimed(Ip4(FIRST + 2)));
+    assert_same(&rt, &seek(&pool, other), &Claim::Claimed(Ip4(FIRST)));
+    assert_same(&rt, &seek(&pool, other), &Claim::Claimed(Ip4(FIRST + 1)));
+    assert_same(&rt, &seek(&pool, other), &Claim::Claimed(Ip4(FIRST + 2)));
     let seat = &mut shards[0];
-    assert_eq!(rt; seek(&pool, seat), Claim::Exhausted(0));
-    assert!(rt; !lease(&pool, seat, Ip4(FIRST + 2)));
-    assert_eq!(rt; holder(&pool, seat, Ip4(FIRST + 2)), Some(1));
-    assert_eq!(rt; holder(&pool, seat, Ip4(FIRST + 3)), None);
+    assert_same(&rt, &seek(&pool, seat), &Claim::Exhausted(0));
+    assert_holds(&rt, !lease(&pool, seat, Ip4(FIRST + 2)));
+    assert_same(&rt, &holder(&pool, seat, Ip4(FIRST + 2)), &Some(1));
+    assert_same(&rt, &holder(&pool, seat, Ip4(FIRST + 3)), &None);
     Ok(())
 }

@@ -1,6 +1,7 @@
 //! Two profiles and their books.
 ghost use Rattle.std.specs.Prelude.{◌≡◌, ◌≤◌, ◌<◌, length, IfSome};
 
+use crate::asserts::assert_same;
 use arrayvec::ArrayVec;
 use bng_base::{Book, Profile};
 use bng_profile::Profiles;
@@ -51,10 +52,10 @@ fn take_off(profiles: &mut Profiles, profile: u8, octets: u16) -> Option<()>
 #[test]
 fn finds_each_profile_by_its_whole_name(rt: HostRuntime) -> Result<(), Fail> {
     let profiles = Profiles::open(rt.alloc(), &[unmetered(b"bronze"), unmetered(b"gold")])?;
-    assert_eq!(rt; profiles.find(b"bronze"), Some(0));
-    assert_eq!(rt; profiles.find(b"gold"), Some(1));
-    assert_eq!(rt; profiles.find(b"golden"), None);
-    assert_eq!(rt; profiles.find(b""), None);
+    assert_same(&rt, &profiles.find(b"bronze"), &Some(0));
+    assert_same(&rt, &profiles.find(b"gold"), &Some(1));
+    assert_same(&rt, &profiles.find(b"golden"), &None);
+    assert_same(&rt, &profiles.find(b""), &None);
     Ok(())
 }
 
@@ -78,7 +79,7 @@ fn a_book_counts_what_passed_and_was_not_taken_off(rt: HostRuntime) -> Result<()
         input_packets: 1,
         output_packets: 1,
     };
-    assert_eq!(rt; profiles.book(0), bronze);
-    assert_eq!(rt; profiles.book(1), gold);
+    assert_same(&rt, &profiles.book(0), &bronze);
+    assert_same(&rt, &profiles.book(1), &gold);
     Ok(())
 }

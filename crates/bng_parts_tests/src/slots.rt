@@ -1,5 +1,6 @@
 ghost use Rattle.std.specs.Prelude.{◌≡◌, Some, None};
 
+use crate::asserts::assert_holds;
 use bng_base::{Circuit, Ip4, Mac, Peer, SessionNo, TermId, TunnelNo};
 use bng_slots::{Slots, Slotted};
 use std::process::Abort;
@@ -46,16 +47,16 @@ fn number_of(slots: &mut Slots<Blank>, tag: u16) -> Option<SessionNo> {
 fn the_lowest_number_is_given_first_and_given_again(rt: HostRuntime) -> Result<(), Fail> {
     let mut slots = Slots::open(rt.alloc(), 0)?;
     for tag in 1..1023 {
-        assert!(rt; number_of(&mut slots, tag) == Some(SessionNo(tag)));
+        assert_holds(&rt, number_of(&mut slots, tag) == Some(SessionNo(tag)));
     }
-    assert!(rt; slots.vacant().is_none());
+    assert_holds(&rt, slots.vacant().is_none());
     match slots.insert(Blank { tag: 2000 }) {
         Ok(_) => panic!(rt; "not full"),
-        Err(full) => assert!(rt; full.value.tag == 2000),
+        Err(full) => assert_holds(&rt, full.value.tag == 2000),
     }
-    assert!(rt; slots.remove(SessionNo(5)) == Some(Blank { tag: 5 }));
-    assert!(rt; slots.remove(SessionNo(5)).is_none());
-    assert!(rt; number_of(&mut slots, 3000) == Some(SessionNo(5)));
+    assert_holds(&rt, slots.remove(SessionNo(5)) == Some(Blank { tag: 5 }));
+    assert_holds(&rt, slots.remove(SessionNo(5)).is_none());
+    assert_holds(&rt, number_of(&mut slots, 3000) == Some(SessionNo(5)));
     Ok(())
 }
 
@@ -140,12 +141,12 @@ fn third() -> Line {
 // Puts a line under a number of shard 63 once nothing stands in its way.
 fn admit(rt: &impl Abort, slots: &mut Slots<Line>, n: u16, line: Line) {
     let number = SessionNo(n);
-    assert!(rt; slots.shard() == 63);
-    assert!(rt; 64_513 <= n && n <= 65_534);
-    assert!(rt; slots.get(number).is_none());
-    assert!(rt; slots.by_circuit(&line.circuit).is_none());
-    assert!(rt; slots.by_address(line.address).is_none());
-    assert!(rt; slots.by_term(&line.term).is_none());
+    assert_holds(rt, slots.shard() == 63);
+    assert_holds(rt, 64_513 <= n && n <= 65_534);
+    assert_holds(rt, slots.get(number).is_none());
+    assert_holds(rt, slots.by_circuit(&line.circuit).is_none());
+    assert_holds(rt, slots.by_address(line.address).is_none());
+    assert_holds(rt, slots.by_term(&line.term).is_none());
     slots.put(number, line);
 }
 
@@ -167,10 +168,10 @@ fn each_index_leads_to_its_session_until_it_is_removed(rt: HostRuntime) -> Resul
     let (low, high) = (Some(SessionNo(64_513)), Some(SessionNo(65_534)));
     admit(&rt, &mut slots, 65_534, pppoe(65_534));
     admit(&rt, &mut slots, 64_513, l2tp(64_513));
-    assert!(rt; found(&slots, &pppoe(65_534)) == (high, high, high));
-    assert!(rt; found(&slots, &l2tp(64_513)) == (low, low, low));
-    assert!(rt; slots.remove(SessionNo(65_534)).is_some());
-    assert!(rt; found(&slots, &pppoe(65_534)) == (None, None, None));
+    assert_holds(&rt, found(&slots, &pppoe(65_534)) == (high, high, high));
+    assert_holds(&rt, found(&slots, &l2tp(64_513)) == (low, low, low));
+    assert_holds(&rt, slots.remove(SessionNo(65_534)).is_some());
+    assert_holds(&rt, found(&slots, &pppoe(65_534)) == (None, None, None));
     Ok(())
 }
 
@@ -182,8 +183,8 @@ fn the_earliest_deadline_comes_first_and_then_the_lower_number(
     admit(&rt, &mut slots, 64_520, pppoe(64_520));
     admit(&rt, &mut slots, 64_530, l2tp(64_530));
     admit(&rt, &mut slots, 64_515, third());
-    assert!(rt; slots.earliest() == Some((2000, SessionNo(64_530))));
-    assert!(rt; slots.remove(SessionNo(64_530)).is_some());
-    assert!(rt; slots.earliest() == Some((3000, SessionNo(64_515))));
+    assert_holds(&rt, slots.earliest() == Some((2000, SessionNo(64_530))));
+    assert_holds(&rt, slots.remove(SessionNo(64_530)).is_some());
+    assert_holds(&rt, slots.earliest() == Some((3000, SessionNo(64_515))));
     Ok(())
 }

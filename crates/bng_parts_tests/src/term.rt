@@ -2,6 +2,7 @@
 
 ghost use Rattle.std.specs.Prelude.{◌≡◌};
 
+use crate::asserts::{assert_holds, assert_same};
 use bng_term::{Lifetime, Limits};
 use std::test::Fail;
 
@@ -32,7 +33,7 @@ fn causes_come_at_their_moments(rt: HostRuntime) -> Result<(), Fail> {
     ];
     for (session_timeout, idle_timeout, passed, now, cause) in rows {
         let mut term = Lifetime::new(timeouts(session_timeout, idle_timeout), 1_000);
-        assert_eq!(rt; term.look(u64::from(now), u64::from(passed)), cause);
+        assert_same(&rt, &term.look(u64::from(now), u64::from(passed)), &cause);
     }
     Ok(())
 }
@@ -40,12 +41,12 @@ fn causes_come_at_their_moments(rt: HostRuntime) -> Result<(), Fail> {
 #[test]
 fn a_packet_at_the_last_moment_keeps_the_term(rt: HostRuntime) -> Result<(), Fail> {
     let mut term = Lifetime::new(timeouts(3_600, 60), 0);
-    assert_eq!(rt; term.deadline(), Some(60_000));
-    assert_eq!(rt; term.look(60_000, 59_999), None);
-    assert_eq!(rt; term.deadline(), Some(119_999));
-    assert_eq!(rt; term.look(119_999, 59_999), Some(4));
-    assert_eq!(rt; term.look(3_600_000, 3_600_000), Some(5));
-    assert_eq!(rt; term.began(), 0);
+    assert_same(&rt, &term.deadline(), &Some(60_000));
+    assert_same(&rt, &term.look(60_000, 59_999), &None);
+    assert_same(&rt, &term.deadline(), &Some(119_999));
+    assert_same(&rt, &term.look(119_999, 59_999), &Some(4));
+    assert_same(&rt, &term.look(3_600_000, 3_600_000), &Some(5));
+    assert_same(&rt, &term.began(), &0);
     Ok(())
 }
 
@@ -57,20 +58,22 @@ fn interims_come_a_minute_apart(rt: HostRuntime) -> Result<(), Fail> {
         interim: Some(60),
     };
     let mut term = Lifetime::new(limits, 5_000);
-    assert_eq!(rt;
-        [term.interim_due(64_999), term.interim_due(65_000)],
-        [false, true]
+    assert_same(
+        &rt,
+        &[term.interim_due(64_999), term.interim_due(65_000)],
+        &[false, true],
     );
     term.report(65_010);
-    assert_eq!(rt;
-        [term.interim_due(125_009), term.interim_due(125_010)],
-        [false, true]
+    assert_same(
+        &rt,
+        &[term.interim_due(125_009), term.interim_due(125_010)],
+        &[false, true],
     );
-    assert_eq!(rt; term.deadline(), None);
+    assert_same(&rt, &term.deadline(), &None);
     term.change(timeouts(120, 0));
-    assert_eq!(rt; term.interim_at(), None);
-    assert!(rt; !term.interim_due((1 << 60) - 1));
-    assert_eq!(rt; term.deadline(), Some(125_000));
+    assert_same(&rt, &term.interim_at(), &None);
+    assert_holds(&rt, !term.interim_due((1 << 60) - 1));
+    assert_same(&rt, &term.deadline(), &Some(125_000));
     Ok(())
 }
 
@@ -78,7 +81,7 @@ fn interims_come_a_minute_apart(rt: HostRuntime) -> Result<(), Fail> {
 fn the_longest_timeouts_fit(rt: HostRuntime) -> Result<(), Fail> {
     let last = (1 << 60) - 1;
     let mut term = Lifetime::new(timeouts(u32::MAX, u32::MAX), last);
-    assert_eq!(rt; term.deadline(), Some(last + 4_294_967_295_000));
-    assert_eq!(rt; term.look(last, last), None);
+    assert_same(&rt, &term.deadline(), &Some(last + 4_294_967_295_000));
+    assert_same(&rt, &term.look(last, last), &None);
     Ok(())
 }

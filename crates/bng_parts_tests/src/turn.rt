@@ -2,6 +2,7 @@
 ghost use Rattle.std.specs.Prelude.{◌≡◌, ◌+◌, ◌^◌, ◌<◌, ℕ, false, length, slice_index_or};
 ghost use Rattle.bng_turn.specs.Ends.{new_seat};
 
+use crate::asserts::{assert_holds, assert_same};
 use bng_turn::{Booked, Turn, TurnSeat};
 use std::process::Abort;
 use std::sync::Wait;
@@ -91,15 +92,15 @@ fn each_seats_entries_stand_once_and_in_its_order(rt: HostRuntime) -> Result<(),
         Ok((turn, mut seats)) => {
             all_sign(&rt, &turn, seats.as_mut_slice(), 1000);
             let Roll { entries } = turn.close(seats);
-            assert_eq!(rt; entries.len(), 4000);
+            assert_same(&rt, &entries.len(), &4000);
             let mut next = [0u64; 4];
             for (seat, place) in entries {
-                assert!(rt; seat < 4);
+                assert_holds(&rt, seat < 4);
                 let seat = seat as usize;
-                assert_eq!(rt; next[seat], place);
+                assert_same(&rt, &next[seat], &place);
                 next[seat] = place.wrapping_add(1);
             }
-            assert_eq!(rt; next, [1000, 1000, 1000, 1000]);
+            assert_same(&rt, &next, &[1000, 1000, 1000, 1000]);
         }
     }
     Ok(())
@@ -117,8 +118,8 @@ fn a_seat_that_enters_twice_finds_its_first_entry(rt: HostRuntime) -> Result<(),
             let first = sign(&rt, &turn, seat, 0, 7);
             let second = sign(&rt, &turn, seat, 0, 8);
             let Roll { entries } = turn.close(seats);
-            assert_eq!(rt; (first, second), (None, Some((0, 7))));
-            assert_eq!(rt; entries.as_slice(), [(0, 7), (0, 8)].as_slice());
+            assert_same(&rt, &(first, second), &(None, Some((0, 7))));
+            assert_same(&rt, &entries.as_slice(), &[(0, 7), (0, 8)].as_slice());
         }
     }
     Ok(())
@@ -132,7 +133,7 @@ fn a_turn_in_which_nothing_was_done_gives_the_opening_state(rt: HostRuntime) -> 
         Err((refused, Roll { entries: _ })) => Err(refused)?,
         Ok((turn, seats)) => {
             let Roll { entries } = turn.close(seats);
-            assert_eq!(rt; entries.as_slice(), [(3, 9)].as_slice());
+            assert_same(&rt, &entries.as_slice(), &[(3, 9)].as_slice());
         }
     }
     Ok(())

@@ -1,3 +1,4 @@
+use crate::asserts::assert_same;
 use bng_words::read;
 use std::alloc::{AllocError, Global};
 use std::test::Fail;
@@ -78,7 +79,7 @@ fn reads_each_command(rt: HostRuntime) -> Result<(), Fail> {
         ),
     ];
     for (texts, wanted) in rows.iter() {
-        assert_eq!(rt; told(alloc, *texts)?.as_str(), *wanted);
+        assert_same(&rt, &told(alloc, *texts)?.as_str(), &*wanted);
     }
     Ok(())
 }
@@ -117,7 +118,7 @@ fn refuses_other_words(rt: HostRuntime) -> Result<(), Fail> {
         &["--rounds", "5", "serve", "a.toml"],
     ];
     for texts in rows.iter() {
-        assert_eq!(rt; told(alloc, *texts)?.as_str(), "Err(Refused)");
+        assert_same(&rt, &told(alloc, *texts)?.as_str(), &"Err(Refused)");
     }
     Ok(())
 }

@@ -2,6 +2,7 @@ ghost use Rattle.std.specs.Prelude.{◌≡◌, ◌<◌, ◌≤◌, ◌∷◌, []
 ghost use Rattle.bng_radius_wire.specs.Attributes.{Field};
 ghost use Rattle.bng_acct.specs.Request.{AreClasses};
 
+use crate::asserts::{assert_holds, assert_same};
 use arrayvec::ArrayVec;
 use bng_acct::{AcctRules, Moment, RecordNo, Spool, StatusType, TermFacts};
 use bng_base::{Book, Circuit, Frame, Ip4, Mac, Peer, SessionNo, TermId, TunnelNo};
@@ -87,9 +88,9 @@ fn form(
 ) -> RecordNo
     requires { (classes : List Field) × AreClasses classes facts.now.class.items }
 {
-    assert!(rt; facts.began <= now);
-    assert!(rt; spool.free() > 0);
-    assert!(rt; spool.open_number(facts.term, status).is_none());
+    assert_holds(rt, facts.began <= now);
+    assert_holds(rt, spool.free() > 0);
+    assert_holds(rt, spool.open_number(facts.term, status).is_none());
     let at = Moment {
         now,
         wall: 1_700_000_062,
@@ -130,9 +131,9 @@ fn records_have_the_octets_of_their_facts(rt: HostRuntime) -> Result<(), Fail> {
         let mut spool = Spool::open(rt.alloc(), &rules(64))?;
         let term = facts(term(1025, 1), circuit, 0x1_0000_0013, 0x3_0000_0007);
         let number = form(&rt, &mut spool, status, &term, now);
-        assert!(rt; spool.next(&mut frame) == Some(number));
+        assert_holds(&rt, spool.next(&mut frame) == Some(number));
         let text = hex::encode(rt.alloc(), frame.payload())?;
-        assert_eq!(rt; text.as_str(), octets);
+        assert_same(&rt, &text.as_str(), &octets);
     }
     Ok(())
 }
@@ -145,22 +146,22 @@ fn records_go_out_in_order_and_stay_until_acknowledged(rt: HostRuntime) -> Resul
     let start = form(&rt, &mut spool, StatusType::Start, &one, 1_000);
     let interim = form(&rt, &mut spool, StatusType::Interim, &one, 2_000);
     let stop = form(&rt, &mut spool, StatusType::Stop, &one, 3_000);
-    assert_eq!(rt; spool.free(), 63);
-    assert_eq!(rt; spool.unacked_stops(), 1);
-    assert!(rt; !spool.interim_free(&one.term));
+    assert_same(&rt, &spool.free(), &63);
+    assert_same(&rt, &spool.unacked_stops(), &1);
+    assert_holds(&rt, !spool.interim_free(&one.term));
     for number in [start, interim, stop] {
-        assert!(rt; spool.next(&mut frame) == Some(number));
-        assert!(rt; spool.knows(number));
+        assert_holds(&rt, spool.next(&mut frame) == Some(number));
+        assert_holds(&rt, spool.knows(number));
     }
-    assert!(rt; spool.next(&mut frame) == None);
+    assert_holds(&rt, spool.next(&mut frame) == None);
     spool.acked(interim);
-    assert!(rt; spool.interim_free(&one.term));
+    assert_holds(&rt, spool.interim_free(&one.term));
     spool.acked(stop);
-    assert_eq!(rt; spool.unacked_stops(), 0);
-    assert_eq!(rt; spool.free(), 63);
+    assert_same(&rt, &spool.unacked_stops(), &0);
+    assert_same(&rt, &spool.free(), &63);
     spool.acked(start);
-    assert!(rt; !spool.knows(start));
-    assert_eq!(rt; spool.free(), 64);
+    assert_holds(&rt, !spool.knows(start));
+    assert_same(&rt, &spool.free(), &64);
     Ok(())
 }
 
@@ -172,29 +173,29 @@ fn stops_alone_stay_and_are_listed_by_session_and_term(rt: HostRuntime) -> Resul
         let facts = facts(term(session, serial), PPPOE, 84, serial);
         let stop = form(&rt, &mut spool, StatusType::Stop, &facts, 3_000);
         let start = form(&rt, &mut spool, StatusType::Start, &facts, 3_000);
-        assert!(rt; start != stop);
+        assert_holds(&rt, start != stop);
     }
-    assert!(rt; spool.next(&mut frame).is_some());
+    assert_holds(&rt, spool.next(&mut frame).is_some());
     spool.stops_only();
-    assert_eq!(rt; spool.unacked_stops(), 3);
-    assert_eq!(rt; spool.free(), 61);
+    assert_same(&rt, &spool.unacked_stops(), &3);
+    assert_same(&rt, &spool.free(), &61);
     for (at, session, serial) in [(0, 1025, 1), (1, 1025, 7), (2, 1026, 2)] {
         match spool.unacked(at) {
             Some(facts) => {
-                assert!(rt; facts.term == term(session, serial));
-                assert!(rt; facts.circuit == PPPOE);
-                assert!(rt; facts.address == Ip4(0x0a00_0002));
-                assert_eq!(rt; facts.carried.input, 84);
-                assert_eq!(rt; facts.carried.output, serial);
+                assert_holds(&rt, facts.term == term(session, serial));
+                assert_holds(&rt, facts.circuit == PPPOE);
+                assert_holds(&rt, facts.address == Ip4(0x0a00_0002));
+                assert_same(&rt, &facts.carried.input, &84);
+                assert_same(&rt, &facts.carried.output, &serial);
             }
             None => assert!(rt; false, "it is not listed"),
         }
     }
-    assert!(rt; spool.unacked(3).is_none());
+    assert_holds(&rt, spool.unacked(3).is_none());
     for _ in 0..2 {
-        assert!(rt; spool.next(&mut frame).is_some());
+        assert_holds(&rt, spool.next(&mut frame).is_some());
     }
-    assert!(rt; spool.next(&mut frame) == None);
+    assert_holds(&rt, spool.next(&mut frame) == None);
     Ok(())
 }
 
@@ -212,9 +213,9 @@ fn acknowledge(rt: &impl Abort, spool: &mut Spool, numbers: &[RecordNo]) {
     for n in 0..MANY {
         match numbers.get(scattered(n)) {
             Some(number) => {
-                assert!(rt; spool.knows(*number));
+                assert_holds(rt, spool.knows(*number));
                 spool.acked(*number);
-                assert!(rt; !spool.knows(*number));
+                assert_holds(rt, !spool.knows(*number));
             }
             None => assert!(rt; false, "it has no number"),
         }
@@ -246,27 +247,27 @@ fn thousands_of_terms_come_and_go(rt: HostRuntime) -> Result<(), Fail> {
     let mut starts = Vec::new(rt.alloc());
     let mut stops = Vec::new(rt.alloc());
     fill(&rt, &mut spool, &mut starts, &mut stops)?;
-    assert_eq!(rt; spool.free(), 1);
-    assert_eq!(rt; spool.unacked_stops(), 20_000);
+    assert_same(&rt, &spool.free(), &1);
+    assert_same(&rt, &spool.unacked_stops(), &20_000);
     for at in 0..20_000u32 {
         match spool.unacked(at) {
-            Some(facts) => assert!(rt; facts.term == term(1025, u64::from(at) + 1)),
+            Some(facts) => assert_holds(&rt, facts.term == term(1025, u64::from(at) + 1)),
             None => assert!(rt; false, "it is not listed"),
         }
     }
-    assert!(rt; spool.unacked(20_000).is_none());
+    assert_holds(&rt, spool.unacked(20_000).is_none());
     acknowledge(&rt, &mut spool, starts.as_slice());
-    assert_eq!(rt; spool.free(), 1);
+    assert_same(&rt, &spool.free(), &1);
     for stop in &stops {
-        assert!(rt; spool.next(&mut frame) == Some(*stop));
+        assert_holds(&rt, spool.next(&mut frame) == Some(*stop));
     }
-    assert!(rt; spool.next(&mut frame) == None);
+    assert_holds(&rt, spool.next(&mut frame) == None);
     acknowledge(&rt, &mut spool, stops.as_slice());
-    assert_eq!(rt; spool.free(), 20_001);
-    assert_eq!(rt; spool.unacked_stops(), 0);
-    assert!(rt; spool.unacked(0).is_none());
+    assert_same(&rt, &spool.free(), &20_001);
+    assert_same(&rt, &spool.unacked_stops(), &0);
+    assert_holds(&rt, spool.unacked(0).is_none());
     fill(&rt, &mut spool, &mut starts, &mut stops)?;
-    assert_eq!(rt; spool.free(), 1);
-    assert_eq!(rt; spool.unacked_stops(), 20_000);
+    assert_same(&rt, &spool.free(), &1);
+    assert_same(&rt, &spool.unacked_stops(), &20_000);
     Ok(())
 }

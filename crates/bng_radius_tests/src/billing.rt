@@ -5,6 +5,7 @@ ghost use Rattle.bng_acct.specs.Request.{AreClasses};
 ghost use Rattle.bng_acct.specs.Spool.{open_of};
 ghost use Rattle.bng_acct.specs.declared.facts.StatusType.{StatusType};
 
+use crate::asserts::{assert_holds, assert_same};
 use arrayvec::ArrayVec;
 use bng_acct::{AcctRules, Moment, RecordNo, StatusType, TermFacts};
 use bng_base::{Book, Circuit, Frame, Ip4, Mac, Peer, SessionNo, TermId};
@@ -122,8 +123,8 @@ fn form(
     requires once { open_of facts.now.term status billing.old.spool.held ≡ None }
     ensures { (t : TermId) (s : StatusType) → (t ≡ facts.now.term → s ≡ status → ⊥) → open_of t s billing.new.spool.held ≡ open_of t s billing.old.spool.held }
 {
-    assert!(rt; facts.began <= now);
-    assert!(rt; billing.free() > 0);
+    assert_holds(rt, facts.began <= now);
+    assert_holds(rt, billing.free() > 0);
     let at = Moment {
         now,
         wall: 1_700_000_062,
@@ -149,7 +150,7 @@ fn form_starts(rt: &impl Abort, billing: &mut Billing)
 fn send(rt: &impl Abort, billing: &mut Billing, number: RecordNo, id: u8, now: u64) -> Frame {
     match billing.send(now) {
         Some((record, given, frame)) => {
-            assert!(rt; record == number && given == id);
+            assert_holds(rt, record == number && given == id);
             frame
         }
         None => {
@@ -163,8 +164,8 @@ fn send(rt: &impl Abort, billing: &mut Billing, number: RecordNo, id: u8, now: u
 fn resend(rt: &impl Abort, billing: &mut Billing, id: u8, frame: &Frame, now: u64) {
     match billing.resend(now) {
         Some((again, octets)) => {
-            assert!(rt; again == id);
-            assert!(rt; octets.payload() == frame.payload());
+            assert_holds(rt, again == id);
+            assert_holds(rt, octets.payload() == frame.payload());
         }
         None => assert!(rt; false, "no request is sent again"),
     }
@@ -180,7 +181,7 @@ fn hear(
     record: Option<RecordNo>,
 ) -> Result<(), Fail> {
     let octets = hex::decode(alloc, datagram)?;
-    assert!(rt; billing.take(from, octets.as_slice()) == record);
+    assert_holds(rt, billing.take(from, octets.as_slice()) == record);
     Ok(())
 }
 
@@ -195,7 +196,7 @@ fn send_octets(
 ) -> Result<(), Fail> {
     let frame = send(rt, billing, number, id, 63_000);
     let text = hex::encode(alloc, frame.payload())?;
-    assert!(rt; text.as_str() == octets);
+    assert_holds(rt, text.as_str() == octets);
     Ok(())
 }
 
@@ -237,14 +238,14 @@ fn send_and_hear(
 #[test]
 fn records_go_out_and_are_acknowledged_once(rt: HostRuntime) -> Result<(), Fail> {
     let mut billing = opened(rt.alloc())?;
-    assert!(rt; billing.server() == SERVER);
+    assert_holds(&rt, billing.server() == SERVER);
     let term = facts(1);
     let start = form(&rt, &mut billing, StatusType::Start, &term, 1_000);
     let stop = form(&rt, &mut billing, StatusType::Stop, &term, 63_000);
     send_and_hear(&rt, rt.alloc(), &mut billing, start, stop)?;
-    assert_eq!(rt; billing.unacked_stops(), 0);
-    assert_eq!(rt; billing.free(), 300);
-    assert!(rt; billing.deadline() == None);
+    assert_same(&rt, &billing.unacked_stops(), &0);
+    assert_same(&rt, &billing.free(), &300);
+    assert_holds(&rt, billing.deadline() == None);
     Ok(())
 }
 
@@ -253,13 +254,13 @@ fn a_request_is_sent_again_every_3_s_with_the_same_octets(rt: HostRuntime) -> Re
     let mut billing = opened(rt.alloc())?;
     let start = form(&rt, &mut billing, StatusType::Start, &facts(1), 1_000);
     let frame = send(&rt, &mut billing, start, 0, 0);
-    assert!(rt; billing.deadline() == Some(3_000));
-    assert!(rt; billing.resend(2_999).is_none());
+    assert_holds(&rt, billing.deadline() == Some(3_000));
+    assert_holds(&rt, billing.resend(2_999).is_none());
     for now in [3_000, 6_000] {
         resend(&rt, &mut billing, 0, &frame, now);
-        assert!(rt; billing.resend(now).is_none());
+        assert_holds(&rt, billing.resend(now).is_none());
     }
-    assert!(rt; billing.deadline() == Some(9_000));
+    assert_holds(&rt, billing.deadline() == Some(9_000));
     Ok(())
 }
 
@@ -267,30 +268,30 @@ fn a_request_is_sent_again_every_3_s_with_the_same_octets(rt: HostRuntime) -> Re
 fn at_most_256_requests_are_out_and_no_record_is_lost(rt: HostRuntime) -> Result<(), Fail> {
     let mut billing = opened(rt.alloc())?;
     form_starts(&rt, &mut billing);
-    assert_eq!(rt; billing.free(), 43);
+    assert_same(&rt, &billing.free(), &43);
     let mut first = None;
     for id in 0..=255u8 {
         match billing.send(0) {
             Some((number, given, _)) => {
-                assert_eq!(rt; given, id);
+                assert_same(&rt, &given, &id);
                 first = first.or(Some(number));
             }
             None => assert!(rt; false, "no record is handed out"),
         }
     }
-    assert!(rt; billing.send(0).is_none());
+    assert_holds(&rt, billing.send(0).is_none());
 
     billing.note(0, true);
     hear(&rt, rt.alloc(), &mut billing, SERVER, REPLY_TO_START, first)?;
-    assert_eq!(rt; billing.free(), 43);
+    assert_same(&rt, &billing.free(), &43);
     match billing.send(0) {
         Some((number, id, _)) => {
-            assert_eq!(rt; id, 0);
-            assert!(rt; Some(number) != first);
+            assert_same(&rt, &id, &0);
+            assert_holds(&rt, Some(number) != first);
         }
         None => assert!(rt; false, "the last record is not handed out"),
     }
-    assert!(rt; billing.send(0).is_none());
+    assert_holds(&rt, billing.send(0).is_none());
     hear(&rt, rt.alloc(), &mut billing, SERVER, REPLY_TO_START, None)?;
     Ok(())
 }
@@ -324,7 +325,7 @@ fn hear_the_stop(
     hear(rt, alloc, billing, SERVER, REPLY_TO_START, None)?;
     hear(rt, alloc, billing, SERVER, REPLY_TO_INTERIM, None)?;
     resend(rt, billing, 2, request, 3_000);
-    assert!(rt; billing.resend(3_000).is_none());
+    assert_holds(rt, billing.resend(3_000).is_none());
     hear(rt, alloc, billing, SERVER, REPLY_TO_STOP_2, Some(stop))
 }
 
@@ -334,15 +335,15 @@ fn at_the_stop_a_stop_alone_stays_out(rt: HostRuntime) -> Result<(), Fail> {
     let term = facts(1);
     let start = form(&rt, &mut billing, StatusType::Start, &term, 1_000);
     let interim = form(&rt, &mut billing, StatusType::Interim, &term, 63_000);
-    assert!(rt; !billing.interim_free(&term.term));
+    assert_holds(&rt, !billing.interim_free(&term.term));
     let stop = form(&rt, &mut billing, StatusType::Stop, &term, 63_000);
     let request = send_three(&rt, &mut billing, start, interim, stop);
     match billing.unacked(0) {
-        Some(facts) => assert!(rt; facts.term == term.term),
+        Some(facts) => assert_holds(&rt, facts.term == term.term),
         None => assert!(rt; false, "the Stop is not listed"),
     }
     hear_the_stop(&rt, rt.alloc(), &mut billing, stop, &request)?;
-    assert!(rt; billing.unacked(0).is_none());
-    assert_eq!(rt; billing.free(), 300);
+    assert_holds(&rt, billing.unacked(0).is_none());
+    assert_same(&rt, &billing.free(), &300);
     Ok(())
 }

@@ -1,3 +1,4 @@
+use crate::asserts::assert_same;
 use bng_base::Ip4;
 use bng_grant::grant_of;
 use std::alloc::{AllocError, Global};
@@ -74,13 +75,13 @@ fn each_attribute_gives_what_its_standard_says(rt: HostRuntime) -> Result<(), Fa
         let class = hex::decode(rt.alloc(), case.class)?;
         match grant_of(octets.as_slice()) {
             Some(grant) => {
-                assert_eq!(rt; grant.profile, case.profile);
-                assert_eq!(rt; grant.pool, case.pool);
-                assert_eq!(rt; grant.address, case.address);
-                assert_eq!(rt; grant.session_timeout, case.timeouts.0);
-                assert_eq!(rt; grant.idle_timeout, case.timeouts.1);
-                assert_eq!(rt; grant.interim, case.interim);
-                assert_eq!(rt; grant.class.as_slice(), class.as_slice());
+                assert_same(&rt, &grant.profile, &case.profile);
+                assert_same(&rt, &grant.pool, &case.pool);
+                assert_same(&rt, &grant.address, &case.address);
+                assert_same(&rt, &grant.session_timeout, &case.timeouts.0);
+                assert_same(&rt, &grant.idle_timeout, &case.timeouts.1);
+                assert_same(&rt, &grant.interim, &case.interim);
+                assert_same(&rt, &grant.class.as_slice(), &class.as_slice());
             }
             None => assert!(rt; false, "{} gives nothing", case.packet),
         }
@@ -142,7 +143,7 @@ fn classes_are_kept_while_they_fit(rt: HostRuntime) -> Result<(), Fail> {
         let octets = hex::decode(rt.alloc(), packet.as_slice())?;
         let class = hex::decode(rt.alloc(), class.as_slice())?;
         match grant_of(octets.as_slice()) {
-            Some(grant) => assert_eq!(rt; grant.class.as_slice(), class.as_slice()),
+            Some(grant) => assert_same(&rt, &grant.class.as_slice(), &class.as_slice()),
             None => assert!(rt; false, "{} octets give nothing", octets.len()),
         }
     }
@@ -162,7 +163,7 @@ fn what_is_no_packet_gives_nothing(rt: HostRuntime) -> Result<(), Fail> {
     for (packet, gives) in cases {
         let packet = joined(rt.alloc(), &packet)?;
         let octets = hex::decode(rt.alloc(), packet.as_slice())?;
-        assert_eq!(rt; grant_of(octets.as_slice()).is_some(), gives);
+        assert_same(&rt, &grant_of(octets.as_slice()).is_some(), &gives);
     }
     Ok(())
 }

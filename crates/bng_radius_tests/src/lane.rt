@@ -1,3 +1,4 @@
+use crate::asserts::{assert_holds, assert_same};
 use arrayvec::ArrayVec;
 use bng_access::NasRules;
 use bng_auth::{Credentials, Proof};
@@ -80,16 +81,16 @@ fn asked(lane: &mut Lane, ask: u64, now: u64) -> Option<(u8, Frame)> {
 #[test]
 fn a_reply_counts_once_and_after_its_request_was_sent(rt: HostRuntime) -> Result<(), Fail> {
     let mut lane = Lane::open(rt.alloc(), rules(3))?;
-    assert!(rt; lane.server() == SERVER);
+    assert_holds(&rt, lane.server() == SERVER);
     let (id, _) = asked(&mut lane, 7, 0).ok_or("no room")?;
-    assert_eq!(rt; id, 0);
+    assert_same(&rt, &id, &0);
 
     let right = hex::decode(rt.alloc(), ACCEPT)?;
     let of_another = hex::decode(rt.alloc(), ACCEPT_1)?;
     let changed = hex::decode(rt.alloc(), "020000149ef2e97b4e94755c8f16b6394f6e0594")?;
-    assert!(rt; lane.take(SERVER, right.as_slice()) == None);
+    assert_holds(&rt, lane.take(SERVER, right.as_slice()) == None);
     lane.note(0, false);
-    assert!(rt; lane.take(SERVER, right.as_slice()) == None);
+    assert_holds(&rt, lane.take(SERVER, right.as_slice()) == None);
     lane.note(0, true);
     let cases = [
         (STRANGER, right.as_slice(), None),
@@ -100,9 +101,9 @@ fn a_reply_counts_once_and_after_its_request_was_sent(rt: HostRuntime) -> Result
         (SERVER, right.as_slice(), None),
     ];
     for (from, octets, answer) in cases {
-        assert!(rt; lane.take(from, octets) == answer);
+        assert_holds(&rt, lane.take(from, octets) == answer);
     }
-    assert!(rt; lane.deadline() == None);
+    assert_holds(&rt, lane.deadline() == None);
     Ok(())
 }
 
@@ -113,21 +114,21 @@ fn a_request_is_sent_again_after_3_s_and_given_up_after_its_tries(
     let mut lane = Lane::open(rt.alloc(), rules(2))?;
     let (id, frame) = asked(&mut lane, 7, 0).ok_or("no room")?;
     lane.note(id, true);
-    assert!(rt; lane.deadline() == Some(3000));
-    assert!(rt; lane.resend(2999).is_none());
+    assert_holds(&rt, lane.deadline() == Some(3000));
+    assert_holds(&rt, lane.resend(2999).is_none());
     match lane.resend(3000) {
         Some((again, octets)) => {
-            assert_eq!(rt; again, id);
-            assert_eq!(rt; octets.payload(), frame.payload());
+            assert_same(&rt, &again, &id);
+            assert_same(&rt, &octets.payload(), &frame.payload());
         }
         None => assert!(rt; false, "it is not sent again"),
     }
-    assert!(rt; lane.resend(3000).is_none());
-    assert!(rt; lane.give_up(5999) == None);
-    assert!(rt; lane.resend(6000).is_none());
-    assert!(rt; lane.give_up(6000) == Some(number(7)));
-    assert!(rt; lane.give_up(6000) == None);
-    assert!(rt; lane.deadline() == None);
+    assert_holds(&rt, lane.resend(3000).is_none());
+    assert_holds(&rt, lane.give_up(5999) == None);
+    assert_holds(&rt, lane.resend(6000).is_none());
+    assert_holds(&rt, lane.give_up(6000) == Some(number(7)));
+    assert_holds(&rt, lane.give_up(6000) == None);
+    assert_holds(&rt, lane.deadline() == None);
     Ok(())
 }
 
@@ -136,18 +137,21 @@ fn an_identifier_is_given_again_and_was_not_sent_then(rt: HostRuntime) -> Result
     let mut lane = Lane::open(rt.alloc(), rules(2))?;
     for k in 0..256u64 {
         let (id, _) = asked(&mut lane, k, 0).ok_or("no room")?;
-        assert_eq!(rt; u64::from(id), k);
+        assert_same(&rt, &u64::from(id), &k);
         lane.note(id, true);
     }
-    assert!(rt; !lane.room());
-    assert!(rt; asked(&mut lane, 256, 0).is_none());
+    assert_holds(&rt, !lane.room());
+    assert_holds(&rt, asked(&mut lane, 256, 0).is_none());
 
     let reject = hex::decode(rt.alloc(), REJECT)?;
-    assert!(rt; lane.take(SERVER, reject.as_slice()) == Some(number(0)));
+    assert_holds(&rt, lane.take(SERVER, reject.as_slice()) == Some(number(0)));
     let (id, _) = asked(&mut lane, 256, 0).ok_or("no room")?;
-    assert_eq!(rt; id, 0);
-    assert!(rt; lane.take(SERVER, reject.as_slice()) == None);
+    assert_same(&rt, &id, &0);
+    assert_holds(&rt, lane.take(SERVER, reject.as_slice()) == None);
     lane.note(0, true);
-    assert!(rt; lane.take(SERVER, reject.as_slice()) == Some(number(256)));
+    assert_holds(
+        &rt,
+        lane.take(SERVER, reject.as_slice()) == Some(number(256)),
+    );
     Ok(())
 }

@@ -6,6 +6,8 @@ mod access;
 #[cfg(test)]
 mod acct;
 #[cfg(test)]
+mod asserts;
+#[cfg(test)]
 mod billing;
 #[cfg(test)]
 mod coa;

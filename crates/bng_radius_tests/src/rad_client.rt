@@ -1,3 +1,4 @@
+use crate::asserts::{assert_holds, assert_same};
 use arrayvec::ArrayVec;
 use bng_base::{Frame, Ip4, Peer, SessionNo};
 use bng_rad_client::{
@@ -71,10 +72,14 @@ fn a_reply_counts_once_and_signed(rt: HostRuntime) -> Result<(), Fail> {
     let (id, frame) = ask_bare(&mut client, Lane::Auth, owner, codes::ACCESS_REQUEST, 0).ok_or(
         "not sent",
     )?;
-    assert_eq!(rt; id, 0);
+    assert_same(&rt, &id, &0);
     let text = hex::encode(rt.alloc(), frame.payload())?;
-    assert_eq!(rt; text.as_str(), "010000140f403f9473978057bd83d5cb98f4227a");
-    assert!(rt; client.owner(Lane::Auth, 0) == Some(owner));
+    assert_same(
+        &rt,
+        &text.as_str(),
+        &"010000140f403f9473978057bd83d5cb98f4227a",
+    );
+    assert_holds(&rt, client.owner(Lane::Auth, 0) == Some(owner));
 
     let right = hex::decode(rt.alloc(), "020000149ef2e97b4e94755c8f16b6394f6e0595")?;
     let wrong = hex::decode(rt.alloc(), "020000149ef2e97b4e94755c8f16b6394f6e0594")?;
@@ -108,9 +113,9 @@ fn a_reply_counts_once_and_signed(rt: HostRuntime) -> Result<(), Fail> {
         ),
     ];
     for (from, bytes, answer) in cases {
-        assert!(rt; client.reply(Lane::Auth, from, bytes) == answer);
+        assert_holds(&rt, client.reply(Lane::Auth, from, bytes) == answer);
     }
-    assert!(rt; client.owner(Lane::Auth, 0) == None);
+    assert_holds(&rt, client.owner(Lane::Auth, 0) == None);
     Ok(())
 }
 
@@ -124,9 +129,9 @@ fn a_request_is_sent_again_every_3_s_and_given_up_after_tries(rt: HostRuntime) -
     let (_, frame) = ask_bare(&mut client, Lane::Auth, owner, codes::ACCESS_REQUEST, 0).ok_or(
         "not sent",
     )?;
-    assert!(rt; client.deadline(Lane::Auth) == Some(3000));
-    assert!(rt; client.deadline(Lane::Acct) == None);
-    assert!(rt; client.due(2999, false).is_none());
+    assert_holds(&rt, client.deadline(Lane::Auth) == Some(3000));
+    assert_holds(&rt, client.deadline(Lane::Acct) == None);
+    assert_holds(&rt, client.due(2999, false).is_none());
     match client.due(3000, false) {
         Some(
             DueRequest::Resend {
@@ -134,17 +139,17 @@ fn a_request_is_sent_again_every_3_s_and_given_up_after_tries(rt: HostRuntime) -
                 id: 0,
                 frame: again,
             },
-        ) => assert_eq!(rt; again.payload(), frame.payload()),
+        ) => assert_same(&rt, &again.payload(), &frame.payload()),
         _ => assert!(rt; false, "it is not sent again"),
     }
-    assert!(rt; client.due(3000, false).is_none());
-    assert!(rt; client.due(5999, true).is_none());
-    assert!(rt; client.due(6000, false).is_none());
+    assert_holds(&rt, client.due(3000, false).is_none());
+    assert_holds(&rt, client.due(5999, true).is_none());
+    assert_holds(&rt, client.due(6000, false).is_none());
     match client.due(6000, true) {
-        Some(DueRequest::TimedOut(whose)) => assert!(rt; whose == owner),
+        Some(DueRequest::TimedOut(whose)) => assert_holds(&rt, whose == owner),
         _ => assert!(rt; false, "it is not given up"),
     }
-    assert!(rt; client.owner(Lane::Auth, 0) == None);
+    assert_holds(&rt, client.owner(Lane::Auth, 0) == None);
 
     // An Accounting-Request is sent again without end.
     let owner = Owner::Record(RecordNo(7));
@@ -161,7 +166,7 @@ fn a_request_is_sent_again_every_3_s_and_given_up_after_tries(rt: HostRuntime) -
             ) => {}
             _ => assert!(rt; false, "it is not sent again at {k}"),
         }
-        assert!(rt; client.due(3000 * k, true).is_none());
+        assert_holds(&rt, client.due(3000 * k, true).is_none());
     }
     Ok(())
 }
@@ -170,20 +175,24 @@ fn a_request_is_sent_again_every_3_s_and_given_up_after_tries(rt: HostRuntime) -
 fn identifiers_go_round_and_the_257th_request_waits(rt: HostRuntime) -> Result<(), Fail> {
     let mut client = Client::open(rt.alloc(), &rules(2))?;
     for k in 0..256u32 {
-        assert!(rt; client.room(Lane::Acct));
+        assert_holds(&rt, client.room(Lane::Acct));
         let owner = Owner::Record(RecordNo(k));
         let (id, _) = ask_bare(&mut client, Lane::Acct, owner, codes::ACCOUNTING_REQUEST, 0).ok_or(
             "waits",
         )?;
-        assert_eq!(rt; u32::from(id), k);
+        assert_same(&rt, &u32::from(id), &k);
     }
-    assert!(rt; !client.room(Lane::Acct));
-    assert!(rt; client.room(Lane::Auth));
+    assert_holds(&rt, !client.room(Lane::Acct));
+    assert_holds(&rt, client.room(Lane::Auth));
     let late = Owner::Record(RecordNo(256));
-    assert!(rt; ask_bare(&mut client, Lane::Acct, late, codes::ACCOUNTING_REQUEST, 0).is_none());
+    assert_holds(
+        &rt,
+        ask_bare(&mut client, Lane::Acct, late, codes::ACCOUNTING_REQUEST, 0).is_none(),
+    );
     for id in [5, 3] {
-        assert!(rt;
-            client.withdraw(Lane::Acct, id) == Some(Owner::Record(RecordNo(u32::from(id))))
+        assert_holds(
+            &rt,
+            client.withdraw(Lane::Acct, id) == Some(Owner::Record(RecordNo(u32::from(id)))),
         );
         let (given, _) = ask_bare(
             &mut client,
@@ -192,9 +201,9 @@ fn identifiers_go_round_and_the_257th_request_waits(rt: HostRuntime) -> Result<(
             codes::ACCOUNTING_REQUEST,
             0,
         ).ok_or("waits")?;
-        assert_eq!(rt; given, id);
+        assert_same(&rt, &given, &id);
     }
-    assert!(rt; client.withdraw(Lane::Auth, 3) == None);
+    assert_holds(&rt, client.withdraw(Lane::Auth, 3) == None);
     Ok(())
 }
 
@@ -203,25 +212,25 @@ fn the_deadline_is_that_of_the_oldest_request(rt: HostRuntime) -> Result<(), Fai
     let mut client = Client::open(rt.alloc(), &rules(3))?;
     let owner = Owner::Record(RecordNo(1));
     let code = codes::ACCOUNTING_REQUEST;
-    assert!(rt; client.deadline(Lane::Acct) == None);
+    assert_holds(&rt, client.deadline(Lane::Acct) == None);
     for (now, first) in [(50, 3050), (20, 3020), (20, 3020), (90, 3020)] {
         ask_bare(&mut client, Lane::Acct, owner, code, now).ok_or("not sent")?;
-        assert!(rt; client.deadline(Lane::Acct) == Some(first));
+        assert_holds(&rt, client.deadline(Lane::Acct) == Some(first));
     }
-    assert!(rt; !client.is_due(3019));
-    assert!(rt; client.due(3019, false).is_none());
-    assert!(rt; client.is_due(3020));
+    assert_holds(&rt, !client.is_due(3019));
+    assert_holds(&rt, client.due(3019, false).is_none());
+    assert_holds(&rt, client.is_due(3020));
     for id in [1, 2] {
         match client.due(3020, false) {
-            Some(DueRequest::Resend { id: sent, .. }) => assert!(rt; sent == id),
+            Some(DueRequest::Resend { id: sent, .. }) => assert_holds(&rt, sent == id),
             _ => return Err(Fail::from("not sent again")),
         }
     }
-    assert!(rt; client.due(3020, false).is_none());
+    assert_holds(&rt, client.due(3020, false).is_none());
     for (id, first) in [(0, Some(3090)), (3, Some(6020)), (1, Some(6020)), (2, None)] {
-        assert!(rt; client.withdraw(Lane::Acct, id) == Some(owner));
-        assert!(rt; client.deadline(Lane::Acct) == first);
+        assert_holds(&rt, client.withdraw(Lane::Acct, id) == Some(owner));
+        assert_holds(&rt, client.deadline(Lane::Acct) == first);
     }
-    assert!(rt; client.withdraw(Lane::Acct, 2) == None);
+    assert_holds(&rt, client.withdraw(Lane::Acct, 2) == None);
     Ok(())
 }

@@ -1,3 +1,4 @@
+use crate::asserts::{assert_holds, assert_same};
 use bng_verdict::verdict_of;
 use std::test::Fail;
 
@@ -59,8 +60,8 @@ fn replies_say_yes_or_no_with_their_first_message(rt: HostRuntime) -> Result<(),
         let octets = hex::decode(rt.alloc(), reply)?;
         match verdict_of(octets.as_slice()) {
             Some(verdict) => {
-                assert_eq!(rt; verdict.yes, yes);
-                assert_eq!(rt; verdict.text.as_slice(), text.as_bytes());
+                assert_same(&rt, &verdict.yes, &yes);
+                assert_same(&rt, &verdict.text.as_slice(), &text.as_bytes());
             }
             None => assert!(rt; false, "{reply} says nothing"),
         }
@@ -82,7 +83,7 @@ fn what_answers_no_access_request_says_nothing(rt: HostRuntime) -> Result<(), Fa
     ];
     for reply in cases {
         let octets = hex::decode(rt.alloc(), reply)?;
-        assert!(rt; verdict_of(octets.as_slice()).is_none());
+        assert_holds(&rt, verdict_of(octets.as_slice()).is_none());
     }
     Ok(())
 }

@@ -2,6 +2,7 @@
 ghost use Rattle.std.specs.Prelude.{◌≡◌, ◌⊎◌, ◌+◌, ◌<◌, ◌≤◌, ◌^◌, [], ◌∷◌, IfOk, length, map, true};
 ghost use Rattle.bng_shard.specs.Sums.{AreLow, IsLow};
 
+use crate::asserts::{assert_holds, assert_same};
 use arrayvec::ArrayVec;
 use bng_base::{
     AccessPort, AuthKind, Book, Fate, Frame, Ip4, Item, ItemKind, Listed, Mac, NamedRange,
@@ -245,13 +246,13 @@ impl Bench {
     {
         // No round is going on now, which `prepare` asks.
         let _none = self.shard.drain();
-        assert!(rt; self.shard.begun() < 1 << 40);
-        assert!(rt; self.shard.prepare(alloc, 1, 1).is_ok());
-        assert!(rt; has_low_book(&self.shard));
-        assert!(rt; is_low(tally));
+        assert_holds(rt, self.shard.begun() < 1 << 40);
+        assert_holds(rt, self.shard.prepare(alloc, 1, 1).is_ok());
+        assert_holds(rt, has_low_book(&self.shard));
+        assert_holds(rt, is_low(tally));
         let fate = self.shard.step(&mut self.pool, 0, 0, now, &item, tally);
         let (journal, outs) = self.shard.drain();
-        assert_eq!(rt; journal.len(), 1);
+        assert_same(rt, &journal.len(), &1);
         (fate, outs.into_vec())
     }
 
@@ -278,16 +279,12 @@ impl Bench {
         requires whole { item.frame.headroom ≡ 64 }
     {
         let (_fate, outs) = self.handled(rt, alloc, tally, now, item);
-        assert!(rt; self.reap().is_none());
+        assert_holds(rt, self.reap().is_none());
         outs
     }
 }
 
 // Each check of a value is a function of its own: in a test, among all that is live there, its proof would take long.
-fn assert_octets(rt: &impl Abort, octets: &[u8], wanted: &[u8]) {
-    assert_eq!(rt; octets, wanted);
-}
-
 fn assert_count(rt: &impl Abort, count: usize, wanted: usize) {
     assert_eq!(rt; count, wanted);
 }

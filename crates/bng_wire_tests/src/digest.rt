@@ -1,3 +1,4 @@
+use crate::asserts::{assert_holds, assert_octets, assert_same};
 use bng_digest::{chap_value, hide_password, hmac_md5, hmac_md5_of, md5_of, unhide_avp};
 use std::test::Fail;
 
@@ -9,7 +10,7 @@ const AUTHENTICATOR: [u8; 16] = [
 #[test]
 fn texts_have_the_digest_of_one_text(rt: HostRuntime) -> Result<(), Fail> {
     let pieces = hex::encode(rt.alloc(), md5_of(&[b"message", b"", b" digest"]))?;
-    assert_eq!(rt; pieces.as_str(), "f96b697d7cb7938d525a2f31aaf161d0");
+    assert_same(&rt, &pieces.as_str(), &"f96b697d7cb7938d525a2f31aaf161d0");
     Ok(())
 }
 
@@ -35,12 +36,12 @@ fn hmac_has_the_values_of_rfc_2202(rt: HostRuntime) -> Result<(), Fail> {
         ),
     ];
     for (key, text, digest) in cases {
-        assert!(rt; key.len() <= 64);
+        assert_holds(&rt, key.len() <= 64);
         let whole = hex::encode(rt.alloc(), hmac_md5(key, text))?;
-        assert_eq!(rt; whole.as_str(), digest);
+        assert_same(&rt, &whole.as_str(), &digest);
     }
     let pieces = hex::encode(rt.alloc(), hmac_md5_of(&[0x0b; 16], &[b"Hi ", b"There"]))?;
-    assert_eq!(rt; pieces.as_str(), "9294727a3638bb1c13f48ef8158bfc9d");
+    assert_same(&rt, &pieces.as_str(), &"9294727a3638bb1c13f48ef8158bfc9d");
     Ok(())
 }
 
@@ -49,7 +50,7 @@ fn hmac_has_the_values_of_rfc_2202(rt: HostRuntime) -> Result<(), Fail> {
 fn chap_value_is_over_identifier_secret_and_challenge(rt: HostRuntime) -> Result<(), Fail> {
     let challenge = [0, 1, 2, 3, 4, 5, 6, 7, 8, 9, 10, 11, 12, 13, 14, 15];
     let value = hex::encode(rt.alloc(), chap_value(5, b"secret", &challenge))?;
-    assert_eq!(rt; value.as_str(), "0a9065cdcebbe49bd1f1d1fda6ce3ff9");
+    assert_same(&rt, &value.as_str(), &"0a9065cdcebbe49bd1f1d1fda6ce3ff9");
     Ok(())
 }
 
@@ -58,7 +59,7 @@ fn hides_the_password_of_rfc_2865(rt: HostRuntime) -> Result<(), Fail> {
     let mut block = *b"arctangent\0\0\0\0\0\0";
     hide_password(b"xyzzy5461", &AUTHENTICATOR, &mut block);
     let hidden = hex::encode(rt.alloc(), block)?;
-    assert_eq!(rt; hidden.as_str(), "0dbe708d93d413ce3196e43f782a0aee");
+    assert_same(&rt, &hidden.as_str(), &"0dbe708d93d413ce3196e43f782a0aee");
     Ok(())
 }
 
@@ -68,9 +69,10 @@ fn hides_each_block_under_the_hidden_one_before(rt: HostRuntime) -> Result<(), F
     let mut block = *b"a password of three blocks, forty octets\0\0\0\0\0\0\0\0";
     hide_password(b"xyzzy5461", &AUTHENTICATOR, &mut block);
     let hidden = hex::encode(rt.alloc(), block)?;
-    assert_eq!(rt;
-        hidden.as_str(),
-        "0dec639881c903c42d86c4501e0a7e86bd40b66ede181a7c0bbffb9d85284696787e7bd644e5f64cf498ecdea5b1e0ec"
+    assert_same(
+        &rt,
+        &hidden.as_str(),
+        &"0dec639881c903c42d86c4501e0a7e86bd40b66ede181a7c0bbffb9d85284696787e7bd644e5f64cf498ecdea5b1e0ec",
     );
     Ok(())
 }
@@ -82,7 +84,7 @@ fn reveals_what_another_hid(rt: HostRuntime) -> Result<(), Fail> {
     let vector = [0, 1, 2, 3, 4, 5, 6, 7, 8, 9, 10, 11, 12, 13, 14, 15];
     let mut host_name = [0x60, 0xfe, 0xcf, 0x5e, 0x78, 0xfc];
     unhide_avp(7, b"lac secret", &vector, &mut host_name);
-    assert_eq!(rt; &host_name, b"\0\x04lac1");
+    assert_octets(&rt, &host_name, b"\0\x04lac1");
 
     let mut proxy_name = [
         0x58, 0x09, 0xbd, 0xab, 0x5b, 0xfc, 0x9a, 0x55, 0x2e, 0x72, 0xc7, 0xa5, 0x3f, 0xbd, 0x95,
@@ -90,9 +92,10 @@ fn reveals_what_another_hid(rt: HostRuntime) -> Result<(), Fail> {
         0xc9, 0x43, 0x1a, 0xa3, 0x07, 0xc0, 0x3d,
     ];
     unhide_avp(33, b"s", &[0xff, 0x00], &mut proxy_name);
-    assert_eq!(rt;
+    assert_octets(
+        &rt,
         &proxy_name,
-        b"\0\x12user name of sixty\x00\x01\x02\x03\x04\x05\x06\x07\x08\x09\x0a\x0b\x0c\x0d\x0e\x0f\x10"
+        b"\0\x12user name of sixty\x00\x01\x02\x03\x04\x05\x06\x07\x08\x09\x0a\x0b\x0c\x0d\x0e\x0f\x10",
     );
 
     let mut challenge = [
@@ -100,6 +103,6 @@ fn reveals_what_another_hid(rt: HostRuntime) -> Result<(), Fail> {
         0x46,
     ];
     unhide_avp(11, b"xyzzy5461", &[], &mut challenge);
-    assert_eq!(rt; &challenge, b"\0\x0e0123456789abcd");
+    assert_octets(&rt, &challenge, b"\0\x0e0123456789abcd");
     Ok(())
 }

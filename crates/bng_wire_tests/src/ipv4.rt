@@ -1,5 +1,6 @@
 ghost use Rattle.std.specs.Prelude.{◌≤◌, length};
 
+use crate::asserts::{assert_holds, assert_octets, assert_same};
 use bng_base::{Frame, Ip4};
 use bng_ipv4::{Ipv4, ReadError, Written, lower_ttl, read, write};
 use std::process::Abort;
@@ -24,16 +25,16 @@ const SAID: Ipv4 = Ipv4 {
 
 #[test]
 fn reads_what_the_header_says(rt: HostRuntime) {
-    assert_eq!(rt; read(&PACKET), Ok(SAID));
+    assert_same(&rt, &read(&PACKET), &Ok(SAID));
     let mut padded = [0; 46];
     padded[..20].copy_from_slice(&PACKET);
-    assert_eq!(rt; read(&padded), Ok(SAID));
+    assert_same(&rt, &read(&padded), &Ok(SAID));
     let with_options = Ipv4 {
         header: 24,
         total: 24,
         ..SAID
     };
-    assert_eq!(rt; read(&WITH_OPTIONS), Ok(with_options));
+    assert_same(&rt, &read(&WITH_OPTIONS), &Ok(with_options));
 }
 
 #[test]
@@ -52,9 +53,9 @@ fn refuses_each_field_that_is_wrong(rt: HostRuntime) {
         if place < 20 {
             bytes[place] = octet;
         }
-        assert_eq!(rt; read(&bytes), Err(ReadError::Outside));
+        assert_same(&rt, &read(&bytes), &Err(ReadError::Outside));
     }
-    assert_eq!(rt; read(&PACKET[..19]), Err(ReadError::Outside));
+    assert_same(&rt, &read(&PACKET[..19]), &Err(ReadError::Outside));
 }
 
 fn lowered(rt: &impl Abort, before: &[u8; 20], after: &[u8; 20], more: &[u8])
@@ -65,11 +66,11 @@ fn lowered(rt: &impl Abort, before: &[u8; 20], after: &[u8; 20], more: &[u8])
     frame.put_back(more);
     match read(frame.payload()) {
         Ok(v) if v.ttl >= 2 => lower_ttl(&mut frame),
-        _ => assert!(rt; false),
+        _ => assert_holds(rt, false),
     }
-    assert!(rt; frame.payload().len() == 20 + more.len());
-    assert!(rt; frame.payload().starts_with(after));
-    assert!(rt; frame.payload().ends_with(more));
+    assert_holds(rt, frame.payload().len() == 20 + more.len());
+    assert_holds(rt, frame.payload().starts_with(after));
+    assert_holds(rt, frame.payload().ends_with(more));
 }
 
 #[test]
@@ -94,11 +95,11 @@ fn writes_one_spelling_and_reads_it_back(rt: HostRuntime) {
     ];
     let mut frame = Frame::new();
     match read(&WITH_OPTIONS) {
-        Ok(v) => assert_eq!(rt; write(&v, &mut frame), Written::Done),
-        Err(_) => assert!(rt; false),
+        Ok(v) => assert_same(&rt, &write(&v, &mut frame), &Written::Done),
+        Err(_) => assert_holds(&rt, false),
     }
-    assert_eq!(rt; frame.payload(), spelling.as_slice());
-    assert_eq!(rt; read(frame.payload()), read(&WITH_OPTIONS));
+    assert_same(&rt, &frame.payload(), &spelling.as_slice());
+    assert_same(&rt, &read(frame.payload()), &read(&WITH_OPTIONS));
 }
 
 #[test]
@@ -110,8 +111,8 @@ fn a_packet_of_4097_octets_is_full(rt: HostRuntime) {
     let mut frame = Frame::new();
     frame.set(&[7]);
     match read(&bytes) {
-        Ok(v) => assert_eq!(rt; write(&v, &mut frame), Written::Full),
-        Err(_) => assert!(rt; false),
+        Ok(v) => assert_same(&rt, &write(&v, &mut frame), &Written::Full),
+        Err(_) => assert_holds(&rt, false),
     }
-    assert_eq!(rt; frame.payload(), [7].as_slice());
+    assert_octets(&rt, frame.payload(), &[7].as_slice());
 }

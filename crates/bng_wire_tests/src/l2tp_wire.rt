@@ -1,3 +1,4 @@
+use crate::asserts::{assert_holds, assert_octets, assert_same};
 use bng_base::Frame;
 use bng_l2tp_wire::kind::{ASSIGNED_TUNNEL_ID, MESSAGE_TYPE, RESULT_CODE};
 use bng_l2tp_wire::{Avp, Control, Data, ReadError, Written, is_control};
@@ -12,34 +13,41 @@ const STOP: [u8; 38] = [
 
 #[test]
 fn reads_and_writes_a_stop_ccn(rt: HostRuntime) {
-    assert!(rt; is_control(&STOP));
+    assert_holds(&rt, is_control(&STOP));
     let stop = Control::read(&STOP).expect(&rt, "a control message");
-    assert_eq!(rt; (stop.tunnel, stop.session, stop.ns, stop.nr), (5, 0, 0, 1));
+    assert_same(
+        &rt,
+        &(stop.tunnel, stop.session, stop.ns, stop.nr),
+        &(5, 0, 0, 1),
+    );
     let wanted: [(u16, &[u8]); 3] = [
         (MESSAGE_TYPE, &[0, 4]),
         (ASSIGNED_TUNNEL_ID, &[0, 0]),
         (RESULT_CODE, &[0, 2, 0, 3]),
     ];
-    assert!(rt; stop.avps.len() == wanted.len());
+    assert_holds(&rt, stop.avps.len() == wanted.len());
     for (avp, (kind, value)) in stop.avps.as_slice().iter().zip(wanted) {
-        assert!(rt; avp.mandatory && !avp.hidden && avp.reserved == 0 && avp.vendor == 0);
-        assert_eq!(rt; avp.kind, kind);
-        assert_eq!(rt; avp.value, value);
+        assert_holds(
+            &rt,
+            avp.mandatory && !avp.hidden && avp.reserved == 0 && avp.vendor == 0,
+        );
+        assert_same(&rt, &avp.kind, &kind);
+        assert_same(&rt, &avp.value, &value);
     }
     let mut frame = Frame::new();
-    assert_eq!(rt; stop.write(&mut frame), Written::Done);
-    assert_eq!(rt; frame.payload(), STOP.as_slice());
+    assert_same(&rt, &stop.write(&mut frame), &Written::Done);
+    assert_same(&rt, &frame.payload(), &STOP.as_slice());
 }
 
 #[test]
 fn a_message_without_avps_only_acknowledges(rt: HostRuntime) {
     let zlb = [0xc8, 2, 0, 12, 0, 5, 0, 0, 0xff, 0xff, 0, 7];
     let read = Control::read(&zlb).expect(&rt, "a control message");
-    assert_eq!(rt; (read.tunnel, read.ns, read.nr), (5, 65_535, 7));
-    assert!(rt; read.avps.is_empty());
+    assert_same(&rt, &(read.tunnel, read.ns, read.nr), &(5, 65_535, 7));
+    assert_holds(&rt, read.avps.is_empty());
     let mut frame = Frame::new();
-    assert_eq!(rt; read.write(&mut frame), Written::Done);
-    assert_eq!(rt; frame.payload(), zlb.as_slice());
+    assert_same(&rt, &read.write(&mut frame), &Written::Done);
+    assert_same(&rt, &frame.payload(), &zlb.as_slice());
 }
 
 #[test]
@@ -47,14 +55,20 @@ fn reads_and_writes_one_avp(rt: HostRuntime) {
     // hidden, the lowest reserved bit, vendor 9, type 7; an octet stands after it
     let text = [0x44, 8, 0, 9, 0, 7, 0xab, 0xcd, 0xee];
     let avp = Avp::read(&text).expect(&rt, "an AVP");
-    assert!(rt; !avp.mandatory && avp.hidden && avp.reserved == 1);
-    assert_eq!(rt; (avp.vendor, avp.kind), (9, 7));
-    assert_eq!(rt; avp.value, [0xab, 0xcd].as_slice());
+    assert_holds(&rt, !avp.mandatory && avp.hidden && avp.reserved == 1);
+    assert_same(&rt, &(avp.vendor, avp.kind), &(9, 7));
+    assert_octets(&rt, &avp.value, &[0xab, 0xcd].as_slice());
     let mut frame = Frame::new();
-    assert_eq!(rt; avp.write(&mut frame), Written::Done);
-    assert_eq!(rt; frame.payload(), &text[..8]);
-    assert!(rt; matches!(Avp::read(&[0x80, 5, 0, 0, 0, 0]), Err(ReadError::Outside)));
-    assert!(rt; matches!(Avp::read(&[0x80, 7, 0, 0, 0, 0]), Err(ReadError::Outside)));
+    assert_same(&rt, &avp.write(&mut frame), &Written::Done);
+    assert_octets(&rt, frame.payload(), &text[..8]);
+    assert_holds(
+        &rt,
+        matches!(Avp::read(&[0x80, 5, 0, 0, 0, 0]), Err(ReadError::Outside)),
+    );
+    assert_holds(
+        &rt,
+        matches!(Avp::read(&[0x80, 7, 0, 0, 0, 0]), Err(ReadError::Outside)),
+    );
 }
 
 #[test]
@@ -77,15 +91,16 @@ fn refuses_what_is_no_control_message(rt: HostRuntime) {
         &[0xc8, 2, 0, 13, 0, 5, 0, 0, 0, 0, 0, 0, 0x80],
     ];
     for bytes in wrong {
-        assert!(rt; matches!(Control::read(bytes), Err(ReadError::Outside)));
+        assert_holds(&rt, matches!(Control::read(bytes), Err(ReadError::Outside)));
     }
     // octets past Length are padding, and the reserved bits are ignored
     let padded = [0xf8, 0x12, 0, 12, 0, 5, 0, 0, 0, 0, 0, 0, 0x80];
-    assert!(rt;
+    assert_holds(
+        &rt,
         Control::read(&padded)
             .expect(&rt, "a control message")
             .avps
-            .is_empty()
+            .is_empty(),
     );
 }
 
@@ -97,21 +112,27 @@ fn keeps_64_avps_and_no_more(rt: HostRuntime) {
     frame.set(&avps[..512]);
     frame.put_front(&[0xc8, 2, 0x02, 0x0c, 0, 5, 0, 0, 0, 0, 0, 0]);
     let read = Control::read(frame.payload()).expect(&rt, "a control message");
-    assert!(rt; read.avps.len() == 64);
+    assert_holds(&rt, read.avps.len() == 64);
     frame.set(&avps);
     frame.put_front(&[0xc8, 2, 0x02, 0x14, 0, 5, 0, 0, 0, 0, 0, 0]);
-    assert!(rt; matches!(Control::read(frame.payload()), Err(ReadError::TooMany)));
+    assert_holds(
+        &rt,
+        matches!(Control::read(frame.payload()), Err(ReadError::TooMany)),
+    );
     frame.set(&avps[..519]);
     frame.put_front(&[0xc8, 2, 0x02, 0x13, 0, 5, 0, 0, 0, 0, 0, 0]);
-    assert!(rt; matches!(Control::read(frame.payload()), Err(ReadError::Outside)));
+    assert_holds(
+        &rt,
+        matches!(Control::read(frame.payload()), Err(ReadError::Outside)),
+    );
 }
 
 // each is data for tunnel 5 and session 7 with the PPP octets c021 01
 fn is_the_same_data(rt: &impl Abort, bytes: &[u8]) {
-    assert!(rt; !is_control(bytes));
+    assert_holds(rt, !is_control(bytes));
     let data = Data::read(bytes).expect(rt, "a data message");
-    assert_eq!(rt; (data.tunnel, data.session), (5, 7));
-    assert_eq!(rt; data.ppp, [0xc0, 0x21, 1].as_slice());
+    assert_same(rt, &(data.tunnel, data.session), &(5, 7));
+    assert_octets(rt, &data.ppp, &[0xc0, 0x21, 1].as_slice());
 }
 
 #[test]
@@ -162,7 +183,7 @@ fn refuses_what_is_no_data_message(rt: HostRuntime) {
         &[0x08, 2, 0, 5, 0, 7, 1, 1],
     ];
     for bytes in wrong {
-        assert!(rt; matches!(Data::read(bytes), Err(ReadError::Outside)));
+        assert_holds(&rt, matches!(Data::read(bytes), Err(ReadError::Outside)));
     }
 }
 
@@ -175,10 +196,22 @@ fn writes_data_without_flags_and_begun_by_address_and_control(rt: HostRuntime) {
         ppp,
     };
     let mut frame = Frame::new();
-    assert_eq!(rt; data(&[0xc0, 0x21, 1]).write(&mut frame), Written::Done);
+    assert_same(
+        &rt,
+        &data(&[0xc0, 0x21, 1]).write(&mut frame),
+        &Written::Done,
+    );
     let wanted = [0, 2, 0, 5, 0, 7, 0xff, 3, 0xc0, 0x21, 1];
-    assert_eq!(rt; frame.payload(), wanted.as_slice());
-    assert_eq!(rt; data(&octets[..4088]).write(&mut frame), Written::Done);
-    assert_eq!(rt; data(&octets[..4089]).write(&mut frame), Written::Full);
-    assert_eq!(rt; frame.payload().len(), 4096);
+    assert_same(&rt, &frame.payload(), &wanted.as_slice());
+    assert_same(
+        &rt,
+        &data(&octets[..4088]).write(&mut frame),
+        &Written::Done,
+    );
+    assert_same(
+        &rt,
+        &data(&octets[..4089]).write(&mut frame),
+        &Written::Full,
+    );
+    assert_same(&rt, &frame.payload().len(), &4096);
 }

@@ -1,3 +1,4 @@
+use crate::asserts::{assert_holds, assert_same};
 use bng_base::Frame;
 use bng_ppp_wire::code::{CODE_REJECT, CONFIGURE_REJECT, CONFIGURE_REQUEST};
 use bng_ppp_wire::protocol::{IPCP, LCP};
@@ -19,21 +20,22 @@ fn lists(rt: &impl Abort, frame: &[u8], wanted: &[(u8, &[u8])]) {
     let ppp = Ppp::read(frame).expect(rt, "a frame");
     let packet = Packet::read(ppp.info).expect(rt, "a packet");
     let found = options(&packet).expect(rt, "options");
-    assert!(rt; found.len() == wanted.len());
+    assert_holds(rt, found.len() == wanted.len());
     for (option, (kind, value)) in found.as_slice().iter().zip(wanted) {
-        assert_eq!(rt; option.kind, *kind);
-        assert_eq!(rt; option.value, *value);
+        assert_same(rt, &option.kind, &*kind);
+        assert_same(rt, &option.value, &*value);
     }
 }
 
 #[test]
 fn reads_a_configure_request(rt: HostRuntime) {
     let ppp = Ppp::read(&REQUEST).expect(&rt, "a frame");
-    assert_eq!(rt; ppp.protocol, LCP);
+    assert_same(&rt, &ppp.protocol, &LCP);
     let packet = Packet::read(ppp.info).expect(&rt, "a packet");
-    assert_eq!(rt;
-        (packet.code, packet.id, packet.body.len()),
-        (CONFIGURE_REQUEST, 1, 14)
+    assert_same(
+        &rt,
+        &(packet.code, packet.id, packet.body.len()),
+        &(CONFIGURE_REQUEST, 1, 14),
     );
     let magic = [0x11, 0x22, 0x33, 0x44];
     let wanted: [(u8, &[u8]); 4] = [(1, &[5, 0xd4]), (5, &magic), (7, &[]), (8, &[])];
@@ -45,17 +47,17 @@ fn octets_past_the_length_are_padding(rt: HostRuntime) {
     // an IPCP request for 0.0.0.0 and a DNS server, in a frame padded by two octets
     let padded = [0x80, 0x21, 1, 1, 0, 0x0a, 3, 6, 0, 0, 0, 0, 0x81, 6];
     let ppp = Ppp::read(&padded).expect(&rt, "a frame");
-    assert_eq!(rt; ppp.protocol, IPCP);
+    assert_same(&rt, &ppp.protocol, &IPCP);
     let wanted: [(u8, &[u8]); 1] = [(3, &[0, 0, 0, 0])];
     lists(&rt, &padded, &wanted);
 }
 
 #[test]
 fn refuses_what_is_no_frame_packet_or_list(rt: HostRuntime) {
-    assert!(rt; matches!(Ppp::read(&[0xc0]), Err(ReadError::Outside)));
+    assert_holds(&rt, matches!(Ppp::read(&[0xc0]), Err(ReadError::Outside)));
     let short: [&[u8]; 4] = [&[1, 1, 0], &[1, 1, 0, 3], &[1, 1, 0, 5], &[]];
     for bytes in short {
-        assert!(rt; matches!(Packet::read(bytes), Err(ReadError::Outside)));
+        assert_holds(&rt, matches!(Packet::read(bytes), Err(ReadError::Outside)));
     }
     // an option of length 1, one past the end, a lone octet
     let wrong: [&[u8]; 3] = [&[1, 4, 5, 0xd4, 7, 1], &[1, 5, 5, 0xd4], &[7, 2, 8]];
@@ -65,7 +67,7 @@ fn refuses_what_is_no_frame_packet_or_list(rt: HostRuntime) {
             id: 1,
             body,
         };
-        assert!(rt; matches!(options(&packet), Err(ReadError::Outside)));
+        assert_holds(&rt, matches!(options(&packet), Err(ReadError::Outside)));
     }
 }
 
@@ -77,9 +79,18 @@ fn keeps_64_options_and_no_more(rt: HostRuntime) {
         id: 1,
         body,
     };
-    assert!(rt; options(&packet(&body[..128])).expect(&rt, "options").len() == 64);
-    assert!(rt; matches!(options(&packet(&body)), Err(ReadError::TooMany)));
-    assert!(rt; matches!(options(&packet(&body[..129])), Err(ReadError::Outside)));
+    assert_holds(
+        &rt,
+        options(&packet(&body[..128])).expect(&rt, "options").len() == 64,
+    );
+    assert_holds(
+        &rt,
+        matches!(options(&packet(&body)), Err(ReadError::TooMany)),
+    );
+    assert_holds(
+        &rt,
+        matches!(options(&packet(&body[..129])), Err(ReadError::Outside)),
+    );
 }
 
 #[test]
@@ -95,22 +106,22 @@ fn writes_a_reject_as_the_wire_has_it(rt: HostRuntime) {
             value: &[],
         },
     ];
-    assert_eq!(rt; write_options(&rejected, &mut list), Written::Done);
+    assert_same(&rt, &write_options(&rejected, &mut list), &Written::Done);
     let packet = Packet {
         code: CONFIGURE_REJECT,
         id: 1,
         body: list.payload(),
     };
     let mut info = Frame::new();
-    assert_eq!(rt; packet.write(&mut info), Written::Done);
+    assert_same(&rt, &packet.write(&mut info), &Written::Done);
     let ppp = Ppp {
         protocol: LCP,
         info: info.payload(),
     };
     let mut frame = Frame::new();
-    assert_eq!(rt; ppp.write(&mut frame), Written::Done);
+    assert_same(&rt, &ppp.write(&mut frame), &Written::Done);
     let wanted = [0xc0, 0x21, 4, 1, 0, 8, 7, 2, 8, 2];
-    assert_eq!(rt; frame.payload(), wanted.as_slice());
+    assert_same(&rt, &frame.payload(), &wanted.as_slice());
 }
 
 #[test]
@@ -122,15 +133,23 @@ fn full_is_one_octet_more_than_fits(rt: HostRuntime) {
         id: 1,
         body,
     };
-    assert_eq!(rt; packet(&octets[..4092]).write(&mut frame), Written::Done);
-    assert_eq!(rt; packet(&octets[..4093]).write(&mut frame), Written::Full);
-    assert_eq!(rt; frame.payload().len(), 4096);
+    assert_same(
+        &rt,
+        &packet(&octets[..4092]).write(&mut frame),
+        &Written::Done,
+    );
+    assert_same(
+        &rt,
+        &packet(&octets[..4093]).write(&mut frame),
+        &Written::Full,
+    );
+    assert_same(&rt, &frame.payload().len(), &4096);
     let ppp = |info| Ppp {
         protocol: LCP,
         info,
     };
-    assert_eq!(rt; ppp(&octets[..4094]).write(&mut frame), Written::Done);
-    assert_eq!(rt; ppp(&octets[..4095]).write(&mut frame), Written::Full);
+    assert_same(&rt, &ppp(&octets[..4094]).write(&mut frame), &Written::Done);
+    assert_same(&rt, &ppp(&octets[..4095]).write(&mut frame), &Written::Full);
 }
 
 // A number of two octets from 100 to 200, for which 150 is suggested, and one of four octets that is neither 0 nor 7, for

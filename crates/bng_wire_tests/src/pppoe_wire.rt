@@ -1,3 +1,4 @@
+use crate::asserts::{assert_holds, assert_octets, assert_same};
 use bng_base::{Frame, Mac};
 use bng_pppoe_wire::code::{PADI, PADO, PADR, PADS, PADT, SESSION_DATA};
 use bng_pppoe_wire::kind::{HOST_UNIQ, SERVICE_NAME};
@@ -26,29 +27,30 @@ const DATA: [u8; 60] = [
 #[test]
 fn reads_a_padi_and_its_tags(rt: HostRuntime) {
     let frame = Pppoe::read(&INITIATION).expect(&rt, "a frame");
-    assert!(rt; frame.discovery);
-    assert_eq!(rt; (frame.dst, frame.src), (BROADCAST, HOST));
-    assert_eq!(rt;
-        (frame.code, frame.session, frame.payload.len()),
-        (PADI, 0, 12)
+    assert_holds(&rt, frame.discovery);
+    assert_same(&rt, &(frame.dst, frame.src), &(BROADCAST, HOST));
+    assert_same(
+        &rt,
+        &(frame.code, frame.session, frame.payload.len()),
+        &(PADI, 0, 12),
     );
     let found = tags(&frame);
     let kinds: [u16; 2] = [SERVICE_NAME, HOST_UNIQ];
     let values: [&[u8]; 2] = [&[], &[0xa1, 0xb2, 0xc3, 0xd4]];
-    assert_eq!(rt; found.len(), 2);
+    assert_same(&rt, &found.len(), &2);
     for ((tag, kind), value) in found.as_slice().iter().zip(kinds).zip(values) {
-        assert_eq!(rt; tag.kind, kind);
-        assert_eq!(rt; tag.value, value);
+        assert_same(&rt, &tag.kind, &kind);
+        assert_same(&rt, &tag.value, &value);
     }
 }
 
 #[test]
 fn octets_past_the_length_are_padding(rt: HostRuntime) {
     let frame = Pppoe::read(&DATA).expect(&rt, "a frame");
-    assert!(rt; !frame.discovery);
-    assert_eq!(rt; (frame.dst, frame.src), (PORT, HOST));
-    assert_eq!(rt; (frame.code, frame.session), (SESSION_DATA, 0x0401));
-    assert_eq!(rt; frame.payload, &DATA[20..42]);
+    assert_holds(&rt, !frame.discovery);
+    assert_same(&rt, &(frame.dst, frame.src), &(PORT, HOST));
+    assert_same(&rt, &(frame.code, frame.session), &(SESSION_DATA, 0x0401));
+    assert_octets(&rt, frame.payload, &DATA[20..42]);
 }
 
 #[test]
@@ -60,10 +62,16 @@ fn refuses_each_field_that_is_wrong(rt: HostRuntime) {
         if place < 60 {
             bytes[place] = octet;
         }
-        assert!(rt; matches!(Pppoe::read(&bytes), Err(ReadError::Outside)));
+        assert_holds(&rt, matches!(Pppoe::read(&bytes), Err(ReadError::Outside)));
     }
-    assert!(rt; matches!(Pppoe::read(&DATA[..13]), Err(ReadError::Outside)));
-    assert!(rt; matches!(Pppoe::read(&DATA[..41]), Err(ReadError::Outside)));
+    assert_holds(
+        &rt,
+        matches!(Pppoe::read(&DATA[..13]), Err(ReadError::Outside)),
+    );
+    assert_holds(
+        &rt,
+        matches!(Pppoe::read(&DATA[..41]), Err(ReadError::Outside)),
+    );
 }
 
 // what is read of a discovery frame, None where it has too many tags
@@ -77,7 +85,7 @@ fn taken(rt: &impl Abort, code: u8, session: u16, payload: &[u8]) -> Option<bool
         payload,
     };
     let mut octets = Frame::new();
-    assert_eq!(rt; frame.write(&mut octets), Written::Done);
+    assert_same(rt, &frame.write(&mut octets), &Written::Done);
     match Pppoe::read(octets.payload()) {
         Ok(_) => Some(true),
         Err(ReadError::Outside) => Some(false),
@@ -103,7 +111,7 @@ fn a_request_asks_for_one_service(rt: HostRuntime) {
         (PADT, 1, &[1], false),
     ];
     for (code, session, payload, wanted) in cases {
-        assert_eq!(rt; taken(&rt, code, session, payload), Some(wanted));
+        assert_same(&rt, &taken(&rt, code, session, payload), &Some(wanted));
     }
 }
 
@@ -113,12 +121,12 @@ fn the_first_host_uniq_has_at_most_64_octets(rt: HostRuntime) {
     let mut payload = [0; 141];
     payload[..8].copy_from_slice(&[1, 1, 0, 0, 1, 3, 0, 64]);
     payload[72..76].copy_from_slice(&[1, 3, 0, 65]);
-    assert_eq!(rt; taken(&rt, PADI, 0, &payload[..72]), Some(true));
-    assert_eq!(rt; taken(&rt, PADI, 0, &payload), Some(true));
-    assert_eq!(rt; taken(&rt, PADT, 0, &payload[72..]), Some(true));
+    assert_same(&rt, &taken(&rt, PADI, 0, &payload[..72]), &Some(true));
+    assert_same(&rt, &taken(&rt, PADI, 0, &payload), &Some(true));
+    assert_same(&rt, &taken(&rt, PADT, 0, &payload[72..]), &Some(true));
     let mut longer = [0; 73];
     longer[..8].copy_from_slice(&[1, 1, 0, 0, 1, 3, 0, 65]);
-    assert_eq!(rt; taken(&rt, PADI, 0, &longer), Some(false));
+    assert_same(&rt, &taken(&rt, PADI, 0, &longer), &Some(false));
 }
 
 // a Service-Name and then empty tags of another type
@@ -138,11 +146,11 @@ fn keeps_64_tags_and_no_more(rt: HostRuntime) {
     let mut payload = [0; 260];
     fill_with_tags(&mut payload);
     let first = payload.get(..256).expect(&rt, "64 tags");
-    assert_eq!(rt; taken(&rt, PADI, 0, first), Some(true));
-    assert_eq!(rt; taken(&rt, PADI, 0, &payload), None);
+    assert_same(&rt, &taken(&rt, PADI, 0, first), &Some(true));
+    assert_same(&rt, &taken(&rt, PADI, 0, &payload), &None);
     // two Service-Names of which the second is past the 64th tag
     payload[256] = 1;
-    assert_eq!(rt; taken(&rt, PADI, 0, &payload), Some(false));
+    assert_same(&rt, &taken(&rt, PADI, 0, &payload), &Some(false));
 }
 
 #[test]
@@ -158,7 +166,7 @@ fn writes_a_frame_as_the_wire_has_it(rt: HostRuntime) {
             value: &[0xa1, 0xb2, 0xc3, 0xd4],
         },
     ];
-    assert_eq!(rt; write_tags(&asked, &mut list), Written::Done);
+    assert_same(&rt, &write_tags(&asked, &mut list), &Written::Done);
     let frame = Pppoe {
         dst: BROADCAST,
         src: HOST,
@@ -168,11 +176,11 @@ fn writes_a_frame_as_the_wire_has_it(rt: HostRuntime) {
         payload: list.payload(),
     };
     let mut octets = Frame::new();
-    assert_eq!(rt; frame.write(&mut octets), Written::Done);
-    assert_eq!(rt; octets.payload(), INITIATION.as_slice());
+    assert_same(&rt, &frame.write(&mut octets), &Written::Done);
+    assert_same(&rt, &octets.payload(), &INITIATION.as_slice());
     let data = Pppoe::read(&DATA).expect(&rt, "a frame");
-    assert_eq!(rt; data.write(&mut octets), Written::Done);
-    assert_eq!(rt; octets.payload(), &DATA[..42]);
+    assert_same(&rt, &data.write(&mut octets), &Written::Done);
+    assert_octets(&rt, octets.payload(), &DATA[..42]);
 }
 
 #[test]
@@ -187,7 +195,11 @@ fn full_is_one_octet_more_than_fits(rt: HostRuntime) {
         payload,
     };
     let mut written = Frame::new();
-    assert_eq!(rt; frame(&octets[..4076]).write(&mut written), Written::Done);
-    assert_eq!(rt; frame(&octets).write(&mut written), Written::Full);
-    assert_eq!(rt; written.payload().len(), 4096);
+    assert_same(
+        &rt,
+        &frame(&octets[..4076]).write(&mut written),
+        &Written::Done,
+    );
+    assert_same(&rt, &frame(&octets).write(&mut written), &Written::Full);
+    assert_same(&rt, &written.payload().len(), &4096);
 }

@@ -1,4 +1,5 @@
 use super::{ENDS, LISTS, changed, config_of, told};
+use crate::asserts::assert_same;
 use bng_config::fault_text;
 use std::alloc::{AllocError, Global};
 use std::test::Fail;
@@ -19,20 +20,22 @@ fn with_circuits(alloc: Global, count: usize) -> Result<String, AllocError> {
 fn there_may_be_no_circuits_and_1024(rt: HostRuntime) -> Result<(), Fail> {
     let alloc = rt.alloc();
     let none = with_circuits(alloc, 0)?;
-    assert_eq!(rt;
-        config_of(&rt, alloc, none.as_str())
+    assert_same(
+        &rt,
+        &config_of(&rt, alloc, none.as_str())
             .statics
             .as_slice()
             .len(),
-        0
+        &0,
     );
     let absent = changed(alloc, none.as_str(), "static = []\n", "")?;
-    assert_eq!(rt;
-        config_of(&rt, alloc, absent.as_str())
+    assert_same(
+        &rt,
+        &config_of(&rt, alloc, absent.as_str())
             .statics
             .as_slice()
             .len(),
-        0
+        &0,
     );
     let other = changed(alloc, none.as_str(), "static = []\n", "static = {}\n")?;
     let rows = [
@@ -42,7 +45,7 @@ fn there_may_be_no_circuits_and_1024(rt: HostRuntime) -> Result<(), Fail> {
     ];
     for (text, wanted) in rows {
         let fault = told(&rt, alloc, text.as_bytes());
-        assert_eq!(rt; fault_text(fault).as_str(), wanted);
+        assert_same(&rt, &fault_text(fault).as_str(), &wanted);
     }
     Ok(())
 }
@@ -62,7 +65,7 @@ fn there_are_no_more_circuits_than_terms(rt: HostRuntime) -> Result<(), Fail> {
         let text = changed(alloc, text.as_str(), "nas_ip", "TERMS, nas_ip")?;
         let text = changed(alloc, text.as_str(), "TERMS", terms)?;
         let fault = told(&rt, alloc, text.as_bytes());
-        assert_eq!(rt; fault_text(fault).as_str(), wanted);
+        assert_same(&rt, &fault_text(fault).as_str(), &wanted);
     }
     Ok(())
 }
@@ -90,14 +93,14 @@ fn a_user_has_1_to_128_octets_of_a_text(rt: HostRuntime) -> Result<(), Fail> {
         let text = changed(alloc, LISTS, "fixed2", user)?;
         let config = config_of(&rt, alloc, text.as_str());
         let statics = config.statics.as_slice();
-        assert_eq!(rt; statics.len(), 3);
-        assert_eq!(rt; statics[1].user.as_slice(), octets);
+        assert_same(&rt, &statics.len(), &3);
+        assert_same(&rt, &statics[1].user.as_slice(), &octets);
     }
     let longer = of_length(alloc, 129)?;
     for user in ["", longer.as_str()] {
         let text = changed(alloc, LISTS, "fixed2", user)?;
         let fault = told(&rt, alloc, text.as_bytes());
-        assert_eq!(rt; fault_text(fault).as_str(), "C5 static.2.user");
+        assert_same(&rt, &fault_text(fault).as_str(), &"C5 static.2.user");
     }
     Ok(())
 }

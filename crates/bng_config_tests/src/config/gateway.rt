@@ -1,4 +1,5 @@
 use super::{changed, config_of, told};
+use crate::asserts::{assert_octets, assert_same};
 use bng_base::AuthKind;
 use bng_config::{Config, fault_text};
 use std::alloc::{AllocError, Global};
@@ -34,15 +35,16 @@ fn a_gateway_needs_no_more_than_its_name(rt: HostRuntime) -> Result<(), Fail> {
         rt.alloc(),
         "gateway = { name = \"~!\", address = \"10.0.0.1\", nas_ip = \"192.168.1.16\" }",
     )?;
-    assert_eq!(rt; config.name.as_slice(), b"~!".as_slice());
-    assert_eq!(rt; config.shards, 4);
-    assert_eq!(rt; config.services.len(), 0);
-    assert_eq!(rt;
+    assert_octets(&rt, config.name.as_slice(), b"~!".as_slice());
+    assert_same(&rt, &config.shards, &4);
+    assert_same(&rt, &config.services.len(), &0);
+    assert_octets(
+        &rt,
         config.auth.as_slice(),
-        [AuthKind::Chap, AuthKind::Pap].as_slice()
+        &[AuthKind::Chap, AuthKind::Pap].as_slice(),
     );
-    assert_eq!(rt; config.echo, 30);
-    assert_eq!(rt; config.terms, 8192);
+    assert_same(&rt, &config.echo, &30);
+    assert_same(&rt, &config.terms, &8192);
     Ok(())
 }
 
@@ -54,9 +56,9 @@ fn the_ends_of_each_range_are_in_it(rt: HostRuntime) -> Result<(), Fail> {
         alloc,
         "gateway = { name = \"n\", address = \"10.0.0.1\", nas_ip = \"0.0.0.0\", shards = 1, terms = 64, echo = 0 }",
     )?;
-    assert_eq!(rt; lowest.shards, 1);
-    assert_eq!(rt; lowest.terms, 64);
-    assert_eq!(rt; lowest.echo, 0);
+    assert_same(&rt, &lowest.shards, &1);
+    assert_same(&rt, &lowest.terms, &64);
+    assert_same(&rt, &lowest.echo, &0);
     let line = changed(
         alloc,
         "gateway = { name = \"LONGEST\", address = \"10.0.0.1\", nas_ip = \"255.255.255.255\", shards = 64, terms = 262144, echo = 3600 }",
@@ -64,10 +66,10 @@ fn the_ends_of_each_range_are_in_it(rt: HostRuntime) -> Result<(), Fail> {
         LONGEST,
     )?;
     let highest = gateway_of(&rt, alloc, line.as_str())?;
-    assert_eq!(rt; highest.name.as_slice(), LONGEST.as_bytes());
-    assert_eq!(rt; highest.shards, 64);
-    assert_eq!(rt; highest.terms, 262_144);
-    assert_eq!(rt; highest.echo, 3600);
+    assert_same(&rt, &highest.name.as_slice(), &LONGEST.as_bytes());
+    assert_same(&rt, &highest.shards, &64);
+    assert_same(&rt, &highest.terms, &262_144);
+    assert_same(&rt, &highest.echo, &3600);
     Ok(())
 }
 
@@ -91,9 +93,9 @@ fn services_are_read_in_order(rt: HostRuntime) -> Result<(), Fail> {
         b"7",
         b"8",
     ];
-    assert_eq!(rt; config.services.len(), wanted.len());
+    assert_same(&rt, &config.services.len(), &wanted.len());
     for (service, octets) in config.services.as_slice().iter().zip(wanted) {
-        assert_eq!(rt; service.as_slice(), octets);
+        assert_same(&rt, &service.as_slice(), &octets);
     }
     Ok(())
 }
@@ -115,7 +117,7 @@ fn the_first_way_to_authenticate_comes_first(rt: HostRuntime) -> Result<(), Fail
             list,
         )?;
         let config = gateway_of(&rt, alloc, line.as_str())?;
-        assert_eq!(rt; config.auth.as_slice(), kinds);
+        assert_same(&rt, &config.auth.as_slice(), &kinds);
     }
     Ok(())
 }
@@ -244,7 +246,7 @@ fn each_broken_value_is_told_at_its_key(rt: HostRuntime) -> Result<(), Fail> {
     for (line, wanted) in BROKEN {
         let text = with_gateway(alloc, line)?;
         let fault = told(&rt, alloc, text.as_bytes());
-        assert_eq!(rt; fault_text(fault).as_str(), wanted);
+        assert_same(&rt, &fault_text(fault).as_str(), &wanted);
     }
     Ok(())
 }
@@ -263,7 +265,7 @@ fn a_text_of_65_octets_is_too_long(rt: HostRuntime) -> Result<(), Fail> {
         let line = changed(alloc, row, "LONGEST", LONGEST)?;
         let text = with_gateway(alloc, line.as_str())?;
         let fault = told(&rt, alloc, text.as_bytes());
-        assert_eq!(rt; fault_text(fault).as_str(), wanted);
+        assert_same(&rt, &fault_text(fault).as_str(), &wanted);
     }
     Ok(())
 }
@@ -310,9 +312,10 @@ fn the_keys_of_the_gateway_are_looked_at_first(rt: HostRuntime) -> Result<(), Fa
         ),
     ];
     for (line, wanted) in rows {
-        assert_eq!(rt;
-            fault_text(told(&rt, alloc, line.as_bytes())).as_str(),
-            wanted
+        assert_same(
+            &rt,
+            &fault_text(told(&rt, alloc, line.as_bytes())).as_str(),
+            &wanted,
         );
     }
     Ok(())

@@ -1,4 +1,5 @@
 use super::{changed, config_of, told};
+use crate::asserts::{assert_octets, assert_same};
 use bng_base::Ip4;
 use bng_config::fault_text;
 use itoa::Buffer;
@@ -20,15 +21,15 @@ const LONGEST: &str = "0123456789abcdefghijklmnopqrst-_";
 fn pools_may_have_all_addresses_that_there_is_room_for(rt: HostRuntime) -> Result<(), Fail> {
     let config = config_of(&rt, rt.alloc(), WHOLE);
     let pools = config.pools.as_slice();
-    assert_eq!(rt; pools.len(), 2);
-    assert_eq!(rt; pools[0].name.as_slice(), b"a".as_slice());
-    assert_eq!(rt; pools[1].range.last, Ip4(0x0a03_ff01));
+    assert_same(&rt, &pools.len(), &2);
+    assert_octets(&rt, pools[0].name.as_slice(), b"a".as_slice());
+    assert_same(&rt, &pools[1].range.last, &Ip4(0x0a03_ff01));
     let text = changed(rt.alloc(), WHOLE, "\"b\"", "\"LONGEST\"")?;
     let text = changed(rt.alloc(), text.as_str(), "LONGEST", LONGEST)?;
     let config = config_of(&rt, rt.alloc(), text.as_str());
     let pools = config.pools.as_slice();
-    assert_eq!(rt; pools.len(), 2);
-    assert_eq!(rt; pools[1].name.as_slice(), LONGEST.as_bytes());
+    assert_same(&rt, &pools.len(), &2);
+    assert_same(&rt, &pools[1].name.as_slice(), &LONGEST.as_bytes());
     Ok(())
 }
 
@@ -75,7 +76,7 @@ fn each_broken_pool_is_told_at_its_key(rt: HostRuntime) -> Result<(), Fail> {
     for (line, other, wanted) in rows {
         let text = changed(alloc, WHOLE, line, other)?;
         let fault = told(&rt, alloc, text.as_bytes());
-        assert_eq!(rt; fault_text(fault).as_str(), wanted);
+        assert_same(&rt, &fault_text(fault).as_str(), &wanted);
     }
     Ok(())
 }
@@ -101,7 +102,7 @@ fn each_broken_list_of_servers_is_told(rt: HostRuntime) -> Result<(), Fail> {
         )?;
         let text = changed(alloc, text.as_str(), "DNS", list)?;
         let fault = told(&rt, alloc, text.as_bytes());
-        assert_eq!(rt; fault_text(fault).as_str(), wanted);
+        assert_same(&rt, &fault_text(fault).as_str(), &wanted);
     }
     let text = changed(
         alloc,
@@ -110,7 +111,7 @@ fn each_broken_list_of_servers_is_told(rt: HostRuntime) -> Result<(), Fail> {
         "address = \"10.0.0.1\", dns = [\"192.0.2.1\"]",
     )?;
     let config = config_of(&rt, alloc, text.as_str());
-    assert_eq!(rt; config.dns.as_slice(), [Ip4(0xc000_0201)].as_slice());
+    assert_octets(&rt, config.dns.as_slice(), &[Ip4(0xc000_0201)].as_slice());
     Ok(())
 }
 
@@ -138,9 +139,9 @@ fn there_may_be_16_pools(rt: HostRuntime) -> Result<(), Fail> {
     let alloc = rt.alloc();
     let text = with_pools(alloc, 16)?;
     let config = config_of(&rt, alloc, text.as_str());
-    assert_eq!(rt; config.pools.as_slice().len(), 16);
+    assert_same(&rt, &config.pools.as_slice().len(), &16);
     let text = with_pools(alloc, 17)?;
     let fault = told(&rt, alloc, text.as_bytes());
-    assert_eq!(rt; fault_text(fault).as_str(), "C5 pool");
+    assert_same(&rt, &fault_text(fault).as_str(), &"C5 pool");
     Ok(())
 }

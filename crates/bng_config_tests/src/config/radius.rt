@@ -1,4 +1,5 @@
 use super::{changed, config_of, loopback, told};
+use crate::asserts::assert_same;
 use bng_config::fault_text;
 use std::test::Fail;
 
@@ -39,7 +40,7 @@ fn tries_are_1_to_10_and_else_4(rt: HostRuntime) -> Result<(), Fail> {
     let alloc = rt.alloc();
     for (line, tries) in [("tries = 1\n", 1), ("tries = 10\n", 10), ("", 4)] {
         let text = changed(alloc, WHOLE, "tries = 3\n", line)?;
-        assert_eq!(rt; config_of(&rt, alloc, text.as_str()).tries, tries);
+        assert_same(&rt, &config_of(&rt, alloc, text.as_str()).tries, &tries);
     }
     Ok(())
 }
@@ -56,7 +57,7 @@ fn a_secret_has_any_octets_of_a_text(rt: HostRuntime) -> Result<(), Fail> {
     for (secret, octets) in rows {
         let text = changed(alloc, WHOLE, "xyzzy5461", secret)?;
         let config = config_of(&rt, alloc, text.as_str());
-        assert_eq!(rt; config.secret.as_slice(), octets);
+        assert_same(&rt, &config.secret.as_slice(), &octets);
     }
     Ok(())
 }
@@ -67,8 +68,8 @@ fn the_server_may_have_the_end_of_a_socket(rt: HostRuntime) -> Result<(), Fail> 
     let text = changed(alloc, WHOLE, "127.0.0.1:1812", "127.0.0.1:9000")?;
     let text = changed(alloc, text.as_str(), "127.0.0.1:1813", "127.0.0.1:9000")?;
     let config = config_of(&rt, alloc, text.as_str());
-    assert_eq!(rt; config.auth_server, loopback(9000));
-    assert_eq!(rt; config.acct_server, loopback(9000));
+    assert_same(&rt, &config.auth_server, &loopback(9000));
+    assert_same(&rt, &config.acct_server, &loopback(9000));
     Ok(())
 }
 
@@ -111,7 +112,7 @@ fn each_broken_value_of_radius_is_told_at_its_key(rt: HostRuntime) -> Result<(),
     for (line, other, wanted) in rows {
         let text = changed(alloc, WHOLE, line, other)?;
         let fault = told(&rt, alloc, text.as_bytes());
-        assert_eq!(rt; fault_text(fault).as_str(), wanted);
+        assert_same(&rt, &fault_text(fault).as_str(), &wanted);
     }
     Ok(())
 }
@@ -122,7 +123,7 @@ fn a_secret_of_65_octets_is_too_long(rt: HostRuntime) -> Result<(), Fail> {
     let line = changed(alloc, WHOLE, "xyzzy5461", "_LONGEST")?;
     let text = changed(alloc, line.as_str(), "LONGEST", LONGEST)?;
     let fault = told(&rt, alloc, text.as_bytes());
-    assert_eq!(rt; fault_text(fault).as_str(), "C5 radius.secret");
+    assert_same(&rt, &fault_text(fault).as_str(), &"C5 radius.secret");
     Ok(())
 }
 
@@ -157,9 +158,9 @@ fn the_keys_of_radius_are_looked_at_last(rt: HostRuntime) -> Result<(), Fail> {
     let mut text = String::from_str(alloc, BROKEN)?;
     for (wanted, line, other) in rows {
         let fault = told(&rt, alloc, text.as_bytes());
-        assert_eq!(rt; fault_text(fault).as_str(), wanted);
+        assert_same(&rt, &fault_text(fault).as_str(), &wanted);
         text = changed(alloc, text.as_str(), line, other)?;
     }
-    assert_eq!(rt; config_of(&rt, alloc, text.as_str()).tries, 1);
+    assert_same(&rt, &config_of(&rt, alloc, text.as_str()).tries, &1);
     Ok(())
 }

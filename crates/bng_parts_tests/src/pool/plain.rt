@@ -5,6 +5,7 @@ ghost use Rattle.bng_pool.specs.Ranges.{HasAddress, ArePoolRanges};
 ghost use Rattle.bng_pool.specs.Tables.{entry, TableClaims, TableScans, TableFrees};
 
 use super::one_hand::{claim, give_back, look, scan};
+use crate::asserts::{assert_holds, assert_same};
 use bng_base::{Claim, Ip4, Range};
 use bng_pool::{Pool, PoolError, PoolSeat, seats_in_one_hand_are_a_table};
 use std::alloc::Global;
@@ -150,23 +151,27 @@ fn seats_of_one_thread_answer_as_a_table(rt: HostRuntime) -> Result<(), Fail> {
         let of_last = usize::from(last);
         let (one, two, three) = (Ip4(FIRST + 16), Ip4(FIRST + 17), Ip4(FIRST + 18));
         let mut plain = open_two(rt.alloc(), shards)?;
-        assert_eq!(rt; plain.look(one), None);
-        assert_eq!(rt; plain.scan(of_last, 0), Claim::Claimed(one));
-        assert_eq!(rt; take(&mut plain, 0, one), Some(Claim::Held(one)));
-        assert_eq!(rt; take(&mut plain, 0, three), Some(Claim::Claimed(three)));
-        assert_eq!(rt; take(&mut plain, 0, Ip4(FIRST + 19)), None);
-        assert_eq!(rt; plain.scan(of_last, 0), Claim::Claimed(two));
-        assert_eq!(rt; plain.scan(0, 0), Claim::Exhausted(0));
-        assert_eq!(rt; plain.scan(0, 1), Claim::Claimed(Ip4(FIRST)));
-        assert_eq!(rt; plain.look(one), Some(last));
-        assert_eq!(rt; plain.look(three), Some(0));
-        assert_eq!(rt; plain.look(Ip4(FIRST + 19)), None);
-        assert!(rt; free(&rt, &mut plain, last, two));
-        assert!(rt; !free(&rt, &mut plain, last, two));
-        assert_eq!(rt; plain.look(two), None);
-        assert_eq!(rt; plain.look(one), Some(last));
-        assert_eq!(rt; plain.scan(0, 0), Claim::Claimed(two));
-        assert_eq!(rt; plain.look(two), Some(0));
+        assert_same(&rt, &plain.look(one), &None);
+        assert_same(&rt, &plain.scan(of_last, 0), &Claim::Claimed(one));
+        assert_same(&rt, &take(&mut plain, 0, one), &Some(Claim::Held(one)));
+        assert_same(
+            &rt,
+            &take(&mut plain, 0, three),
+            &Some(Claim::Claimed(three)),
+        );
+        assert_same(&rt, &take(&mut plain, 0, Ip4(FIRST + 19)), &None);
+        assert_same(&rt, &plain.scan(of_last, 0), &Claim::Claimed(two));
+        assert_same(&rt, &plain.scan(0, 0), &Claim::Exhausted(0));
+        assert_same(&rt, &plain.scan(0, 1), &Claim::Claimed(Ip4(FIRST)));
+        assert_same(&rt, &plain.look(one), &Some(last));
+        assert_same(&rt, &plain.look(three), &Some(0));
+        assert_same(&rt, &plain.look(Ip4(FIRST + 19)), &None);
+        assert_holds(&rt, free(&rt, &mut plain, last, two));
+        assert_holds(&rt, !free(&rt, &mut plain, last, two));
+        assert_same(&rt, &plain.look(two), &None);
+        assert_same(&rt, &plain.look(one), &Some(last));
+        assert_same(&rt, &plain.scan(0, 0), &Claim::Claimed(two));
+        assert_same(&rt, &plain.look(two), &Some(0));
     }
     Ok(())
 }

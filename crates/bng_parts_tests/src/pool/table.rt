@@ -1,6 +1,7 @@
 //! A pool for one thread, call by call.
 ghost use Rattle.std.specs.Prelude.{◌≡◌, length, IfOk};
 
+use crate::asserts::assert_same;
 use bng_base::{Claim, Ip4, Range};
 use bng_pool::{PlainPool, PoolError};
 use std::alloc::Global;
@@ -132,7 +133,7 @@ fn a_pool_for_one_thread_answers_as_a_table(rt: HostRuntime) -> Result<(), Fail>
     ];
     let mut pool = open_two(rt.alloc())?;
     for (call, answer) in steps {
-        assert_eq!(rt; answer_to(&mut pool, call), answer);
+        assert_same(&rt, &answer_to(&mut pool, call), &answer);
     }
     Ok(())
 }

@@ -1,3 +1,4 @@
+use crate::asserts::{assert_holds, assert_same};
 use arrayvec::ArrayVec;
 use bng_base::{Frame, Ip4, Peer};
 use bng_coa::{Admitted, ChangeVerdict, CoaDesk, CoaRules, Ignored};
@@ -61,19 +62,19 @@ fn answers_the_requests_of_another_client(rt: HostRuntime) -> Result<(), Fail> {
     for (request, verdict, reply) in cases {
         let request = hex::decode(rt.alloc(), request)?;
         let mut frame = Frame::new();
-        assert!(rt; desk.in_hand() == 0);
+        assert_holds(&rt, desk.in_hand() == 0);
         match desk.admit(PEER, request.as_slice(), 1000, 1_700_000_000) {
             Admitted::New(number) => {
-                assert_eq!(rt; number, 0);
+                assert_same(&rt, &number, &0);
                 desk.answer(number, verdict, &mut frame);
             }
             _ => assert!(rt; false, "it is not new"),
         }
         let text = hex::encode(rt.alloc(), frame.payload())?;
-        assert_eq!(rt; text.as_str(), reply);
-        assert!(rt; desk.in_hand() == 0);
+        assert_same(&rt, &text.as_str(), &reply);
+        assert_holds(&rt, desk.in_hand() == 0);
         match desk.admit(PEER, request.as_slice(), 30_999, 1_700_000_000) {
-            Admitted::Repeat(again) => assert_eq!(rt; again.payload(), frame.payload()),
+            Admitted::Repeat(again) => assert_same(&rt, &again.payload(), &frame.payload()),
             _ => assert!(rt; false, "it is not repeated"),
         }
     }
@@ -88,7 +89,7 @@ fn passes_datagrams_over_for_their_first_cause(rt: HostRuntime) -> Result<(), Fa
     let mut desk = CoaDesk::open(rt.alloc(), &rules())?;
     let right = hex::decode(rt.alloc(), STAMPED)?;
     let mut wrong = hex::decode(rt.alloc(), STAMPED)?;
-    assert!(rt; wrong.len() > 5);
+    assert_holds(&rt, wrong.len() > 5);
     wrong[5] ^= 1;
     let reply = hex::decode(rt.alloc(), "29010014000000000000000000000000000000ff")?;
     let cases = [
@@ -100,25 +101,27 @@ fn passes_datagrams_over_for_their_first_cause(rt: HostRuntime) -> Result<(), Fa
         (PEER, right.as_slice(), 1_700_000_301, Ignored::Stale),
     ];
     for (from, bytes, wall, cause) in cases {
-        assert!(rt; desk.in_hand() == 0);
+        assert_holds(&rt, desk.in_hand() == 0);
         match desk.admit(from, bytes, 0, wall) {
-            Admitted::Ignored(why) => assert!(rt; why == cause),
+            Admitted::Ignored(why) => assert_holds(&rt, why == cause),
             _ => assert!(rt; false, "it is not ignored"),
         }
     }
-    assert!(rt; desk.in_hand() == 0);
-    assert!(rt;
+    assert_holds(&rt, desk.in_hand() == 0);
+    assert_holds(
+        &rt,
         matches!(
             desk.admit(PEER, right.as_slice(), 0, 1_700_000_300),
             Admitted::New(0)
-        )
+        ),
     );
-    assert!(rt; desk.in_hand() == 1);
-    assert!(rt;
+    assert_holds(&rt, desk.in_hand() == 1);
+    assert_holds(
+        &rt,
         matches!(
             desk.admit(PEER, right.as_slice(), 0, 1_700_000_300),
             Admitted::InHand
-        )
+        ),
     );
     Ok(())
 }
@@ -140,13 +143,14 @@ fn repeats_proxy_states_and_the_first_state(rt: HostRuntime) -> Result<(), Fail>
         _ => assert!(rt; false, "it is not new"),
     }
     let text = hex::encode(rt.alloc(), frame.payload())?;
-    assert_eq!(rt; text.as_str(), PROXIED_NAK);
-    assert!(rt; desk.in_hand() == 0);
-    assert!(rt;
+    assert_same(&rt, &text.as_str(), &PROXIED_NAK);
+    assert_holds(&rt, desk.in_hand() == 0);
+    assert_holds(
+        &rt,
         matches!(
             desk.admit(PEER, request.as_slice(), 30_000, 0),
             Admitted::New(0)
-        )
+        ),
     );
     Ok(())
 }

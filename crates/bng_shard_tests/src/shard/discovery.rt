@@ -1,9 +1,10 @@
 ghost use Rattle.std.specs.Prelude.{◌<◌, ◌^◌};
 
 use super::{
-    Bench, NOTHING, ONE, PADI, assert_count, assert_due, assert_octets, assert_sessions, item,
-    octets, open_bench, padi, request, rules,
+    Bench, NOTHING, ONE, PADI, assert_count, assert_due, assert_sessions, item, octets, open_bench,
+    padi, request, rules,
 };
+use crate::asserts::{assert_octets, assert_same};
 use bng_base::ItemKind;
 use std::alloc::Global;
 use std::process::Abort;
@@ -82,9 +83,10 @@ fn a_full_shard_refuses_and_is_free_again_where_no_host_goes_on(
     let mut bench = open_bench(alloc, rules(alloc)?, ONE)?;
     for host in 1..1023 {
         let outs = request(&rt, alloc, &mut bench, host);
-        assert_eq!(rt;
-            octets(&outs, 0).get(16..18),
-            Some(host.to_be_bytes().as_slice())
+        assert_same(
+            &rt,
+            &octets(&outs, 0).get(16..18),
+            &Some(host.to_be_bytes().as_slice()),
         );
     }
     assert_sessions(&rt, &bench.shard, 1022);

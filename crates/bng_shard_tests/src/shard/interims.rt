@@ -4,6 +4,7 @@ ghost use Rattle.bng_shard.specs.Interims.{AwaitsInterims};
 use super::logins::accepted_by;
 use super::verdicts::ACCEPT;
 use super::{Bench, NOTHING, TWO, open_bench, rules_with};
+use crate::asserts::assert_same;
 use bng_base::{Book, OutRecord, SessionNo, Static, TermId};
 use bng_shard::{ReportedTerm, Reports};
 use std::alloc::Global;
@@ -40,17 +41,19 @@ fn an_interim_is_due_each_interval_and_taken_once(rt: HostRuntime) -> Result<(),
         session: SessionNo(2),
         serial: 2,
     };
-    assert_eq!(rt; taken(&bench, &mut reports, 59_999), None);
-    assert_eq!(rt;
-        taken(&bench, &mut reports, 60_000),
-        Some((second, NOTHING))
+    assert_same(&rt, &taken(&bench, &mut reports, 59_999), &None);
+    assert_same(
+        &rt,
+        &taken(&bench, &mut reports, 60_000),
+        &Some((second, NOTHING)),
     );
-    assert_eq!(rt; taken(&bench, &mut reports, 60_000), None);
-    assert_eq!(rt; taken(&bench, &mut reports, 119_999), None);
-    assert_eq!(rt;
-        taken(&bench, &mut reports, 120_000),
-        Some((second, NOTHING))
+    assert_same(&rt, &taken(&bench, &mut reports, 60_000), &None);
+    assert_same(&rt, &taken(&bench, &mut reports, 119_999), &None);
+    assert_same(
+        &rt,
+        &taken(&bench, &mut reports, 120_000),
+        &Some((second, NOTHING)),
     );
-    assert_eq!(rt; taken(&bench, &mut reports, 120_000), None);
+    assert_same(&rt, &taken(&bench, &mut reports, 120_000), &None);
     Ok(())
 }

@@ -2,9 +2,10 @@ ghost use Rattle.std.specs.Prelude.{◌≡◌, ◌≤◌, length};
 
 use super::verdicts::{ACCEPT, ACK, PASSWORD, REQUEST, in_session_of, verdict};
 use super::{
-    Bench, NOTHING, ONE, TO_IT, assert_count, assert_due, assert_octets, assert_sessions, item,
-    octets, open_bench, peer, request, rules_with, span,
+    Bench, NOTHING, ONE, TO_IT, assert_count, assert_due, assert_sessions, item, octets,
+    open_bench, peer, request, rules_with, span,
 };
+use crate::asserts::{assert_holds, assert_octets, assert_same};
 use bng_base::{DropCause, Fate, Ip4, Item, ItemKind, OutRecord};
 use std::alloc::Global;
 use std::process::Abort;
@@ -95,18 +96,18 @@ fn pass(rt: &impl Abort, alloc: Global, bench: &mut Bench, now: u32) {
     let mut tally = NOTHING;
     let packet = in_session_of(1, FROM_IT);
     let (fate, _sent) = bench.handled(rt, alloc, &mut tally, u64::from(now), packet);
-    assert!(rt; fate == Fate::Forwarded);
+    assert_holds(rt, fate == Fate::Forwarded);
 }
 
 // A packet of the first host and one towards it have this fate.
 fn assert_fate(rt: &impl Abort, alloc: Global, bench: &mut Bench, fate: Fate) {
     let mut tally = NOTHING;
     let (up, _sent_up) = bench.handled(rt, alloc, &mut tally, 0, in_session_of(1, FROM_IT));
-    assert!(rt; up == fate);
+    assert_holds(rt, up == fate);
     let mut core = item(ItemKind::Core, &TO_IT);
     core.from = peer(9001);
     let (down, _sent_down) = bench.handled(rt, alloc, &mut tally, 0, core);
-    assert!(rt; down == fate);
+    assert_holds(rt, down == fate);
 }
 
 // IPCP opens for the first host.
@@ -118,35 +119,35 @@ fn open_ipcp(rt: &impl Abort, alloc: Global, bench: &mut Bench) {
 // The term that began is told, with this number, and once.
 fn assert_tells(rt: &impl Abort, bench: &mut Bench, serial: u64) {
     let Some(told) = bench.fresh() else {
-        assert!(rt; false);
+        assert_holds(rt, false);
         return;
     };
-    assert_eq!(rt; told.term.serial, serial);
-    assert_eq!(rt; told.address, ADDRESS);
-    assert!(rt; bench.fresh().is_none());
+    assert_same(rt, &told.term.serial, &serial);
+    assert_same(rt, &told.address, &ADDRESS);
+    assert_holds(rt, bench.fresh().is_none());
 }
 
 // The Authenticate-Nak says that there is no address, and LCP does Close.
 fn assert_refused(rt: &impl Abort, outs: &[OutRecord]) {
     assert_count(rt, outs.len(), 2);
     assert_count(rt, octets(outs, 0).len(), 37);
-    assert_eq!(rt; span(outs, 0, 20, 37), NO_ADDRESS.as_slice());
+    assert_same(rt, &span(outs, 0, 20, 37), &NO_ADDRESS.as_slice());
     assert_octets(rt, span(outs, 1, 20, 23), b"\xc0\x21\x05");
 }
 
 // The term that ended leaves: of the first host, with this number and by this cause; its address is held until then.
 fn assert_reaps(rt: &impl Abort, bench: &mut Bench, serial: u64, cause: u8) {
-    assert_eq!(rt; bench.pool.look(ADDRESS), Some(0));
+    assert_same(rt, &bench.pool.look(ADDRESS), &Some(0));
     let Some(ended) = bench.reap() else {
-        assert!(rt; false);
+        assert_holds(rt, false);
         return;
     };
-    assert_eq!(rt; ended.term.serial, serial);
-    assert_eq!(rt; ended.address, ADDRESS);
-    assert_eq!(rt; ended.user.as_slice(), b"u0".as_slice());
-    assert_eq!(rt; ended.cause, cause);
-    assert_eq!(rt; bench.pool.look(ADDRESS), None);
-    assert!(rt; bench.reap().is_none());
+    assert_same(rt, &ended.term.serial, &serial);
+    assert_same(rt, &ended.address, &ADDRESS);
+    assert_octets(rt, ended.user.as_slice(), b"u0".as_slice());
+    assert_same(rt, &ended.cause, &cause);
+    assert_same(rt, &bench.pool.look(ADDRESS), &None);
+    assert_holds(rt, bench.reap().is_none());
 }
 
 #[test]
@@ -156,8 +157,8 @@ fn an_accept_begins_a_term_that_is_told_once(rt: HostRuntime) -> Result<(), Fail
     let outs = accepted(&rt, alloc, &mut bench, 1, 1);
     assert_count(&rt, outs.len(), 2);
     assert_octets(&rt, span(&outs, 1, 20, 32), OWN);
-    assert_eq!(rt; bench.pool.look(ADDRESS), Some(0));
-    assert_eq!(rt; bench.shard.allowance(), 1);
+    assert_same(&rt, &bench.pool.look(ADDRESS), &Some(0));
+    assert_same(&rt, &bench.shard.allowance(), &1);
     assert_tells(&rt, &mut bench, 1);
     Ok(())
 }
@@ -191,7 +192,7 @@ fn an_address_that_is_held_is_given_to_nobody_else(rt: HostRuntime) -> Result<()
     assert_reaps(&rt, &mut bench, 1, 1);
     let third = accepted(&rt, alloc, &mut bench, 3, 3);
     assert_count(&rt, third.len(), 2);
-    assert_eq!(rt; bench.pool.look(ADDRESS), Some(0));
+    assert_same(&rt, &bench.pool.look(ADDRESS), &Some(0));
     Ok(())
 }
 
@@ -202,16 +203,32 @@ fn a_term_ends_when_it_was_silent_or_lasted_too_long(rt: HostRuntime) -> Result<
     assert_due(&rt, bench.shard.due(), Some(30_000));
     pass(&rt, alloc, &mut bench, 20_000);
     // what passed is known when the deadline comes, which moves then
-    assert_eq!(rt; ticked(&rt, alloc, &mut bench, 30_000), (0, Some(50_000)));
+    assert_same(
+        &rt,
+        &ticked(&rt, alloc, &mut bench, 30_000),
+        &(0, Some(50_000)),
+    );
     // no packet for 30 seconds: the term ends, and the link by a Terminate-Request
-    assert_eq!(rt; ticked(&rt, alloc, &mut bench, 50_000), (1, Some(53_000)));
+    assert_same(
+        &rt,
+        &ticked(&rt, alloc, &mut bench, 50_000),
+        &(1, Some(53_000)),
+    );
     assert_reaps(&rt, &mut bench, 1, 4);
     // packets do not let it last for more than 60 seconds
     let mut bench = limited(&rt, alloc)?;
     pass(&rt, alloc, &mut bench, 29_999);
     pass(&rt, alloc, &mut bench, 59_998);
-    assert_eq!(rt; ticked(&rt, alloc, &mut bench, 59_999), (0, Some(60_000)));
-    assert_eq!(rt; ticked(&rt, alloc, &mut bench, 60_000), (1, Some(63_000)));
+    assert_same(
+        &rt,
+        &ticked(&rt, alloc, &mut bench, 59_999),
+        &(0, Some(60_000)),
+    );
+    assert_same(
+        &rt,
+        &ticked(&rt, alloc, &mut bench, 60_000),
+        &(1, Some(63_000)),
+    );
     assert_reaps(&rt, &mut bench, 1, 5);
     Ok(())
 }

@@ -8,9 +8,9 @@ ghost use Rattle.std.specs.List.{All};
 ghost use Rattle.bng_slots.specs.Sessions.{IsNumberOf};
 
 use super::{
-    Bench, NOTHING, TO_IT, TWO, assert_count, assert_octets, assert_sessions, item, peer, request,
-    rules, span,
+    Bench, NOTHING, TO_IT, TWO, assert_count, assert_sessions, item, peer, request, rules, span,
 };
+use crate::asserts::{assert_holds, assert_octets, assert_same};
 use arrayvec::ArrayVec;
 use bng_base::{
     Charge, Circuit, DropCause, Fate, Frame, Ip4, ItemKind, Mac, Octets, OutRecord, Role,
@@ -105,13 +105,13 @@ fn a_packet_counts_for_its_term(rt: HostRuntime) -> Result<(), Fail> {
         input: true,
         octets: 84,
     };
-    assert_eq!(rt; charge_first(&mut shard, &circuit, &packet), charged);
+    assert_same(&rt, &charge_first(&mut shard, &circuit, &packet), &charged);
     let carried = Some(Traffic {
         input: 84,
         output: 0,
     });
-    assert_eq!(rt; shard.carried(Ip4(0x0a000002)), carried);
-    assert_eq!(rt; shard.carried(Ip4(0x0a000003)), None);
+    assert_same(&rt, &shard.carried(Ip4(0x0a000002)), &carried);
+    assert_same(&rt, &shard.carried(Ip4(0x0a000003)), &None);
     Ok(())
 }
 
@@ -160,7 +160,7 @@ fn bench_of(
     for _ in circuits {
         let _held = pool.scan(1, 0);
     }
-    assert!(rt; are_held(&pool, circuits));
+    assert_holds(rt, are_held(&pool, circuits));
     Ok(Bench { shard, pool })
 }
 
@@ -217,11 +217,11 @@ fn assert_fate(rt: &impl Abort, alloc: Global, bench: &mut Bench, fate: Fate) {
     let mut tally = NOTHING;
     let access = item(ItemKind::Access(1), &FROM_IT);
     let (up, _sent_up) = bench.handled(rt, alloc, &mut tally, 0, access);
-    assert!(rt; up == fate);
+    assert_holds(rt, up == fate);
     let mut core = item(ItemKind::Core, &TO_IT);
     core.from = peer(9001);
     let (down, _sent_down) = bench.handled(rt, alloc, &mut tally, 0, core);
-    assert!(rt; down == fate);
+    assert_holds(rt, down == fate);
 }
 
 // The outs of an End of the shard 1.
@@ -235,22 +235,22 @@ fn end(rt: &impl Abort, alloc: Global, bench: &mut Bench) -> Vec<OutRecord> {
 
 // This term leaves next, and its address becomes free.
 fn assert_reaps(rt: &impl Abort, bench: &mut Bench, term: (TermId, Circuit, Ip4)) {
-    assert!(rt; bench.pool.look(term.2).is_some());
+    assert_holds(rt, bench.pool.look(term.2).is_some());
     let reaped = bench.reap();
-    assert!(rt; reaped.as_ref().is_some_and(|ended| is_end(ended, term)));
-    assert!(rt; bench.pool.look(term.2).is_none());
+    assert_holds(rt, reaped.as_ref().is_some_and(|ended| is_end(ended, term)));
+    assert_holds(rt, bench.pool.look(term.2).is_none());
 }
 
 // No term is left that ended, and no session.
 fn assert_all_left(rt: &impl Abort, bench: &mut Bench) {
-    assert!(rt; bench.reap().is_none());
+    assert_holds(rt, bench.reap().is_none());
     assert_sessions(rt, &bench.shard, 0);
 }
 
 // At this place this term is there.
 fn assert_term(rt: &impl Abort, bench: &Bench, place: usize, term: (TermId, Circuit, Ip4)) {
     let shown = bench.shard.term(place);
-    assert!(rt; shown.as_ref().is_some_and(|shown| is_term(shown, term)));
+    assert_holds(rt, shown.as_ref().is_some_and(|shown| is_term(shown, term)));
 }
 
 #[test]
@@ -280,10 +280,10 @@ fn terms_are_shown_by_their_numbers_until_they_leave(rt: HostRuntime) -> Result<
     let _outs = end(&rt, alloc, &mut bench);
     assert_term(&rt, &bench, 0, first);
     assert_term(&rt, &bench, 1, second);
-    assert!(rt; bench.shard.term(2).is_none());
+    assert_holds(&rt, bench.shard.term(2).is_none());
     assert_reaps(&rt, &mut bench, first);
     assert_term(&rt, &bench, 0, second);
-    assert!(rt; bench.shard.term(1).is_none());
+    assert_holds(&rt, bench.shard.term(1).is_none());
     Ok(())
 }
 
@@ -301,11 +301,12 @@ fn a_stop_says_what_its_term_carried(rt: HostRuntime) -> Result<(), Fail> {
     carried.input = 84;
     carried.input_packets = 1;
     let reaped = bench.reap();
-    assert!(rt;
+    assert_holds(
+        &rt,
         reaped
             .as_ref()
-            .is_some_and(|ended| ended.carried == carried)
+            .is_some_and(|ended| ended.carried == carried),
     );
-    assert_eq!(rt; bench.shard.carried(Ip4(0x0a000002)), None);
+    assert_same(&rt, &bench.shard.carried(Ip4(0x0a000002)), &None);
     Ok(())
 }

@@ -1,9 +1,9 @@
 ghost use Rattle.std.specs.Prelude.{◌≡◌, ◌≤◌, length};
 
 use super::{
-    Bench, NOTHING, ONE, assert_count, assert_octets, item, octets, open_bench, request, rules,
-    span, text,
+    Bench, NOTHING, ONE, assert_count, item, octets, open_bench, request, rules, span, text,
 };
+use crate::asserts::{assert_holds, assert_octets, assert_same};
 use arrayvec::ArrayVec;
 use bng_base::{Item, ItemKind, OutRecord, SessionNo};
 use bng_shard::Handed;
@@ -98,17 +98,17 @@ fn judged(rt: &impl Abort, alloc: Global, reply: &[u8; 24]) -> Result<Vec<OutRec
         session: SessionNo(1),
         ask: 1,
     };
-    assert_eq!(rt; asked, Some(number));
+    assert_same(rt, &asked, &Some(number));
     let again = hear(rt, alloc, &mut bench, in_session(AGAIN));
     assert_count(rt, again.len(), 0);
-    assert!(rt; bench.shard.asked(&mut handed).is_none());
+    assert_holds(rt, bench.shard.asked(&mut handed).is_none());
     let other_question = hear(rt, alloc, &mut bench, verdict(1, 2, reply));
     assert_count(rt, other_question.len(), 0);
     let other_session = hear(rt, alloc, &mut bench, verdict(2, 1, reply));
     assert_count(rt, other_session.len(), 0);
     let outs = hear(rt, alloc, &mut bench, verdict(1, 1, reply));
     let mut none = Handed::open(alloc)?;
-    assert!(rt; bench.shard.asked(&mut none).is_none());
+    assert_holds(rt, bench.shard.asked(&mut none).is_none());
     let late = hear(rt, alloc, &mut bench, verdict(1, 1, reply));
     assert_count(rt, late.len(), 0);
     Ok(outs)

@@ -1,3 +1,4 @@
+use crate::asserts::assert_same;
 use bng_radius_wire::{ReadError, codes, kinds, read};
 use std::test::Fail;
 
@@ -10,12 +11,16 @@ fn octets_past_the_length_are_padding(rt: HostRuntime) -> Result<(), Fail> {
     )?;
     match read(octets.as_slice()) {
         Ok(packet) => {
-            assert_eq!(rt; packet.code, codes::ACCESS_ACCEPT);
-            assert_eq!(rt; packet.id, 0);
-            assert_eq!(rt; packet.attributes.len(), 3);
-            assert_eq!(rt; packet.attributes[0].kind, kinds::SERVICE_TYPE);
-            assert_eq!(rt; packet.attributes[0].value, [0, 0, 0, 1].as_slice());
-            assert_eq!(rt; packet.attributes[2].value, [192, 168, 1, 3].as_slice());
+            assert_same(&rt, &packet.code, &codes::ACCESS_ACCEPT);
+            assert_same(&rt, &packet.id, &0);
+            assert_same(&rt, &packet.attributes.len(), &3);
+            assert_same(&rt, &packet.attributes[0].kind, &kinds::SERVICE_TYPE);
+            assert_same(&rt, &packet.attributes[0].value, &[0, 0, 0, 1].as_slice());
+            assert_same(
+                &rt,
+                &packet.attributes[2].value,
+                &[192, 168, 1, 3].as_slice(),
+            );
         }
         Err(_) => assert!(rt; false, "the octets are outside the grammar"),
     }
@@ -40,7 +45,7 @@ fn wrong_lengths_are_outside_the_grammar(rt: HostRuntime) -> Result<(), Fail> {
         let octets = hex::decode(rt.alloc(), text)?;
         match read(octets.as_slice()) {
             Ok(_) => assert!(rt; false, "{text} was read"),
-            Err(error) => assert_eq!(rt; error, ReadError::Outside),
+            Err(error) => assert_same(&rt, &error, &ReadError::Outside),
         }
     }
     Ok(())
@@ -56,11 +61,11 @@ fn sixty_five_attributes_are_too_many(rt: HostRuntime) {
     }
     match read(&octets) {
         Ok(_) => assert!(rt; false, "65 attributes were read"),
-        Err(error) => assert_eq!(rt; error, ReadError::TooMany),
+        Err(error) => assert_same(&rt, &error, &ReadError::TooMany),
     }
     octets[3] = 148;
     match read(&octets) {
-        Ok(packet) => assert_eq!(rt; packet.attributes.len(), 64),
+        Ok(packet) => assert_same(&rt, &packet.attributes.len(), &64),
         Err(_) => assert!(rt; false, "64 attributes were not read"),
     }
 }

@@ -4,6 +4,7 @@ ghost use Rattle.bng_radius_wire.specs.Attributes.{Fits, fields};
 ghost use Rattle.bng_radius_wire.specs.Grammar.{whole};
 ghost use Rattle.bng_radius_wire.specs.Digests.{CanBeSigned};
 
+use crate::asserts::{assert_holds, assert_same};
 use arrayvec::ArrayVec;
 use bng_radius_wire::{
     Attribute, Frame, Radius, Written, codes, kinds, sign_reply, sign_request, write,
@@ -59,9 +60,10 @@ fn signs_requests_as_another_client_does(rt: HostRuntime) -> Result<(), Fail> {
         attributes,
     };
     let text = hex::encode(rt.alloc(), request_signed(&accounting, SECRET).payload())?;
-    assert_eq!(rt;
-        text.as_str(),
-        "045f002a6c080dcacb4fef0457a5f63750c99a5a01066e656d6f2806000000012c0a3030303030303031"
+    assert_same(
+        &rt,
+        &text.as_str(),
+        &"045f002a6c080dcacb4fef0457a5f63750c99a5a01066e656d6f2806000000012c0a3030303030303031",
     );
 
     let mut attributes = ArrayVec::new();
@@ -79,9 +81,10 @@ fn signs_requests_as_another_client_does(rt: HostRuntime) -> Result<(), Fail> {
         attributes,
     };
     let text = hex::encode(rt.alloc(), request_signed(&change, SECRET).payload())?;
-    assert_eq!(rt;
-        text.as_str(),
-        "2ba4003cacebcf5aafe792afe50a6236615cb59e01066e656d6f2c0a30303030303030310b06676f6c645012654031f869aa4f6ebec38ceea037e973"
+    assert_same(
+        &rt,
+        &text.as_str(),
+        &"2ba4003cacebcf5aafe792afe50a6236615cb59e01066e656d6f2c0a30303030303030310b06676f6c645012654031f869aa4f6ebec38ceea037e973",
     );
 
     let mut attributes = ArrayVec::new();
@@ -94,9 +97,10 @@ fn signs_requests_as_another_client_does(rt: HostRuntime) -> Result<(), Fail> {
         attributes,
     };
     let text = hex::encode(rt.alloc(), request_signed(&disconnect, SECRET).payload())?;
-    assert_eq!(rt;
-        text.as_str(),
-        "28b60030b4f3a9afd25f5f728b99a77a335d82242c0a30303030303030315012e6bcb59c0eb272fa4d0198f274484c93"
+    assert_same(
+        &rt,
+        &text.as_str(),
+        &"28b60030b4f3a9afd25f5f728b99a77a335d82242c0a30303030303030315012e6bcb59c0eb272fa4d0198f274484c93",
     );
     Ok(())
 }
@@ -119,9 +123,10 @@ fn fills_the_message_authenticator_of_rfc_5997(rt: HostRuntime) -> Result<(), Fa
         attributes,
     };
     let text = hex::encode(rt.alloc(), request_signed(&status, SECRET).payload())?;
-    assert_eq!(rt;
-        text.as_str(),
-        "0cda00268a54f4686fb394c52866e302185d062350125a665e2e1e8411f3e243822097c84fa3"
+    assert_same(
+        &rt,
+        &text.as_str(),
+        &"0cda00268a54f4686fb394c52866e302185d062350125a665e2e1e8411f3e243822097c84fa3",
     );
     Ok(())
 }
@@ -157,12 +162,13 @@ fn signs_a_reply_as_another_server_does(rt: HostRuntime) -> Result<(), Fail> {
         attributes,
     };
     let mut frame = Frame::new();
-    assert!(rt; write(&accept, &mut frame) == Written::Done);
+    assert_holds(&rt, write(&accept, &mut frame) == Written::Done);
     sign_reply(&mut frame, &request, SECRET);
     let text = hex::encode(rt.alloc(), frame.payload())?;
-    assert_eq!(rt;
-        text.as_str(),
-        "0207003993902e405dcaff94c1c89a8741045dd106060000000208060a0000021907636c6173735012c15e9831b938805e053875ca899d9314"
+    assert_same(
+        &rt,
+        &text.as_str(),
+        &"0207003993902e405dcaff94c1c89a8741045dd106060000000208060a0000021907636c6173735012c15e9831b938805e053875ca899d9314",
     );
     Ok(())
 }

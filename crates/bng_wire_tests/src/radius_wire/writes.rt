@@ -2,6 +2,7 @@ ghost use Rattle.std.specs.Prelude.{◌≤◌};
 ghost use Rattle.std.specs.List.{AllByRecursion};
 ghost use Rattle.bng_radius_wire.specs.Attributes.{Fits, field, fields};
 
+use crate::asserts::{assert_holds, assert_octets, assert_same};
 use arrayvec::ArrayVec;
 use bng_digest::hide_password;
 use bng_radius_wire::{Attribute, Frame, Radius, Written, codes, kinds, write};
@@ -39,11 +40,12 @@ fn writes_the_access_request_of_rfc_2865(rt: HostRuntime) -> Result<(), Fail> {
         attributes,
     };
     let mut frame = Frame::new();
-    assert!(rt; write(&request, &mut frame) == Written::Done);
+    assert_holds(&rt, write(&request, &mut frame) == Written::Done);
     let text = hex::encode(rt.alloc(), frame.payload())?;
-    assert_eq!(rt;
-        text.as_str(),
-        "010000380f403f9473978057bd83d5cb98f4227a01066e656d6f02120dbe708d93d413ce3196e43f782a0aee0406c0a80110050600000003"
+    assert_same(
+        &rt,
+        &text.as_str(),
+        &"010000380f403f9473978057bd83d5cb98f4227a01066e656d6f02120dbe708d93d413ce3196e43f782a0aee0406c0a80110050600000003",
     );
     Ok(())
 }
@@ -75,6 +77,6 @@ fn a_packet_of_more_than_4096_octets_leaves_the_frame(rt: HostRuntime) {
     };
     let mut frame = Frame::new();
     frame.set(b"before");
-    assert!(rt; write(&packet, &mut frame) == Written::Full);
-    assert_eq!(rt; frame.payload(), b"before".as_slice());
+    assert_holds(&rt, write(&packet, &mut frame) == Written::Full);
+    assert_octets(&rt, frame.payload(), b"before".as_slice());
 }
