@@ -1,4 +1,4 @@
-use crate::asserts::{assert_holds, assert_octets, assert_same};
+use crate::asserts::{assert_count, assert_holds, assert_octets, assert_same};
 use bng_base::{AccessPort, AuthKind, Ip4, Mac, NamedRange, Peer, SessionNo, Static};
 use bng_config::{Config, ConfigError, Fault, Key, fault_text, read};
 use std::alloc::{AllocError, Global};
@@ -124,7 +124,7 @@ fn assert_kinds(rt: &impl Abort, kinds: &[AuthKind], wanted: &[AuthKind]) {
 }
 
 fn assert_ports(rt: &impl Abort, access: &[AccessPort], ends: &[(u16, u16, u8)]) {
-    assert_same(rt, &access.len(), &ends.len());
+    assert_count(rt, access.len(), ends.len());
     for (port, (local, peer, mac)) in access.iter().zip(ends) {
         assert_peer(rt, port.local, *local);
         assert_peer(rt, port.peer, *peer);
@@ -133,7 +133,7 @@ fn assert_ports(rt: &impl Abort, access: &[AccessPort], ends: &[(u16, u16, u8)])
 }
 
 fn assert_pools(rt: &impl Abort, pools: &[NamedRange], ranges: &[(&[u8], u32, u32)]) {
-    assert_same(rt, &pools.len(), &ranges.len());
+    assert_count(rt, pools.len(), ranges.len());
     for (pool, (name, first, last)) in pools.iter().zip(ranges) {
         assert_octets(rt, pool.name.as_slice(), *name);
         assert_address(rt, pool.range.first, *first);
@@ -142,7 +142,7 @@ fn assert_pools(rt: &impl Abort, pools: &[NamedRange], ranges: &[(&[u8], u32, u3
 }
 
 fn assert_circuits(rt: &impl Abort, statics: &[Static], rows: &[(u8, u8, u16, u32, &[u8])]) {
-    assert_same(rt, &statics.len(), &rows.len());
+    assert_count(rt, statics.len(), rows.len());
     for (circuit, (port, mac, session, address, user)) in statics.iter().zip(rows) {
         assert_number(rt, u64::from(circuit.port), u64::from(*port));
         assert_mac(rt, circuit.mac, *mac);
@@ -157,13 +157,13 @@ fn assert_circuits(rt: &impl Abort, statics: &[Static], rows: &[(u8, u8, u16, u3
 fn assert_gateway(rt: &impl Abort, config: &Config) {
     assert_octets(rt, config.name.as_slice(), b"bng1");
     assert_number(rt, u64::from(config.shards), 4);
-    assert_same(rt, &config.services.len(), &1);
+    assert_count(rt, config.services.len(), 1);
     assert_octets(rt, config.services.as_slice()[0].as_slice(), b"inet");
     assert_kinds(rt, config.auth.as_slice(), &[AuthKind::Chap, AuthKind::Pap]);
     assert_number(rt, u64::from(config.echo), 30);
     assert_number(rt, u64::from(config.terms), 8192);
     assert_address(rt, config.address, 0x0a00_0001);
-    assert_same(rt, &config.dns.len(), &0);
+    assert_count(rt, config.dns.len(), 0);
 }
 
 // Its sockets, and what it knows of its servers.
@@ -341,9 +341,9 @@ fn keys_that_are_not_named_are_not_looked_at(rt: HostRuntime) -> Result<(), Fail
 fn want_of_memory_is_no_fault(rt: HostRuntime) {
     match read(rt.alloc(), LISTS.as_bytes()) {
         Ok(config) => {
-            assert_same(&rt, &config.access.as_slice().len(), &2);
-            assert_same(&rt, &config.pools.as_slice().len(), &2);
-            assert_same(&rt, &config.statics.as_slice().len(), &3);
+            assert_count(&rt, config.access.as_slice().len(), 2);
+            assert_count(&rt, config.pools.as_slice().len(), 2);
+            assert_count(&rt, config.statics.as_slice().len(), 3);
         }
         Err(error) => assert_same(&rt, &error, &ConfigError::OutOfMemory),
     }

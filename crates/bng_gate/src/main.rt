@@ -1,6 +1,8 @@
 //! The program: it makes the real objects, calls `run`, and ends with its answer.
 #![tactic(auto)]
 
+#[cfg(test)]
+mod asserts;
 mod laws;
 mod real;
 mod saying;

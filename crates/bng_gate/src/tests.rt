@@ -1,4 +1,5 @@
 //! Whole runs over the outside in memory.
+use crate::asserts::{assert_holds, assert_same};
 use crate::top::run;
 use bng_base::{Ip4, Peer, Role};
 use bng_plant::{
@@ -191,7 +192,7 @@ fn script_of(alloc: Global, list: &[(Role, u16, &[u8])]) -> Result<Vec<Arrival>,
 fn sends(rt: &impl Abort, ended: &Ended, wanted: &[(Role, u16, &[u8])]) {
     let sent = ended.plant.sent().iter();
     let others = sent.filter(|datagram| datagram.role != Role::Acct).count();
-    assert_eq!(rt; others, wanted.len());
+    assert_same(rt, &others, &wanted.len());
     sends_from(rt, ended, 0, wanted);
 }
 
@@ -200,9 +201,9 @@ fn sends_from(rt: &impl Abort, ended: &Ended, place: usize, wanted: &[(Role, u16
     let sent = ended.plant.sent().iter();
     let others = sent.filter(|datagram| datagram.role != Role::Acct);
     for (datagram, (role, port, octets)) in others.skip(place).zip(wanted) {
-        assert_eq!(rt; datagram.role, *role);
-        assert_eq!(rt; datagram.peer, loopback(*port));
-        assert_eq!(rt; datagram.octets.as_slice(), *octets);
+        assert_same(rt, &datagram.role, role);
+        assert_same(rt, &datagram.peer, &loopback(*port));
+        assert_same(rt, &datagram.octets.as_slice(), octets);
     }
 }
 
@@ -221,12 +222,12 @@ fn accounts(rt: &impl Abort, ended: &Ended, place: usize, attributes: &[&[u8]]) 
     let sent = ended.plant.sent();
     assert!(rt; place < sent.len());
     let datagram = &sent[place];
-    assert_eq!(rt; datagram.role, Role::Acct);
-    assert_eq!(rt; datagram.peer, loopback(1813));
+    assert_same(rt, &datagram.role, &Role::Acct);
+    assert_same(rt, &datagram.peer, &loopback(1813));
     let octets = datagram.octets.as_slice();
-    assert_eq!(rt; octets.first(), Some(&4));
+    assert_same(rt, &octets.first(), &Some(&4));
     for attribute in attributes {
-        assert!(rt; has(octets, attribute));
+        assert_holds(rt, has(octets, attribute));
     }
 }
 

@@ -1,4 +1,4 @@
-use crate::asserts::{assert_holds, assert_octets, assert_same};
+use crate::asserts::{assert_count, assert_holds, assert_octets, assert_same};
 use arrayvec::ArrayVec;
 use bng_base::{Frame, Mac, SessionNo, Written};
 use bng_discovery::{Answer, ErrorTag, PortRules, answer, confirm, offer, refuse, terminate};
@@ -159,7 +159,7 @@ fn a_pado_names_the_gateway_the_services_and_the_cookie(rt: HostRuntime) {
         assert_holds(&rt, frame.discovery);
         let mut pado = Frame::new();
         assert_same(&rt, &offer(&frame, &port, &mut pado), &Written::Done);
-        assert_same(&rt, &pado.payload().len(), &68);
+        assert_count(&rt, pado.payload().len(), 68);
         assert_holds(&rt, pado.payload().starts_with(&OFFER));
         assert_holds(&rt, pado.payload().ends_with(&ANY_AGAIN[8..24]));
     }

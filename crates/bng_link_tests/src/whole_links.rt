@@ -1,4 +1,4 @@
-use crate::asserts::{assert_holds, assert_octets, assert_same};
+use crate::asserts::{assert_count, assert_holds, assert_octets, assert_same};
 use crate::whole_fixtures::{
     CHALLENGE, CHAP_ACK, PAP_ACK, PAP_REQUEST, RANDOM, REQUEST, RESPONSE, hear, opened, rules,
     sent, served, tell, verdict, verdict_with,
@@ -217,7 +217,7 @@ fn a_peer_without_an_address_gets_its_reply_and_no_ipcp(rt: HostRuntime) {
         let mut link = opened(&rules, ack);
         assert_holds(&rt, hear(&mut link, &rules, request).asked.is_some());
         let yes = tell(&mut link, &rules, verdict_with(true, None, b"hi"), 0);
-        assert_same(&rt, &yes.outs().len(), &1);
+        assert_count(&rt, yes.outs().len(), 1);
         assert_same(&rt, &sent(&yes, 0), &reply);
         assert_holds(&rt, link.deadline().is_none());
         for heard in NOT_BEGUN {

@@ -1,4 +1,5 @@
 //! What a test compares, each comparison in a function of its own: the prover carries all that is alive at such a place through it.
+ghost use Rattle.std.specs.Prelude.{◌≡◌, true};
 
 use std::fmt::Debug;
 use std::process::Abort;
@@ -13,7 +14,16 @@ pub(crate) fn assert_octets(rt: &impl Abort, found: &[u8], wanted: &[u8]) {
     assert_eq!(rt; found, wanted);
 }
 
+/// The test fails where there is another number of something.
+pub(crate) fn assert_count(rt: &impl Abort, found: usize, wanted: usize)
+    ensures { found ≡ wanted }
+{
+    assert_eq!(rt; found, wanted);
+}
+
 /// The test fails where this does not hold.
-pub(crate) fn assert_holds(rt: &impl Abort, holds: bool) {
+pub(crate) fn assert_holds(rt: &impl Abort, holds: bool)
+    ensures { holds ≡ true }
+{
     assert!(rt; holds);
 }

@@ -1,6 +1,6 @@
 ghost use Rattle.std.specs.Prelude.{◌≡◌, ◌≤◌, length};
 
-use crate::asserts::{assert_holds, assert_octets, assert_same};
+use crate::asserts::{assert_count, assert_holds, assert_octets, assert_same};
 use bng_base::{At, Batch, Claim, Entry, Frame, Ip4, Item, ItemKind, OutRecord, Peer, Role};
 use std::process::Abort;
 use std::test::Fail;
@@ -52,7 +52,7 @@ fn a_cleared_batch_writes_over_its_places(rt: HostRuntime) -> Result<(), Fail> {
         &frame_of(&[9]),
         [7; 16],
     );
-    assert_same(&rt, &items.len(), &1);
+    assert_count(&rt, items.len(), 1);
     let item = &items.as_slice()[0];
     assert_octets(&rt, item.frame.payload(), &[9].as_slice());
     assert_same(&rt, &item.kind, &ItemKind::Access(1));

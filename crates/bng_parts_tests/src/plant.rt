@@ -1,4 +1,4 @@
-use crate::asserts::{assert_octets, assert_same};
+use crate::asserts::{assert_count, assert_octets, assert_same};
 use bng_base::{
     Claim, ClockAnswer, Entry, Fate, Frame, Ip4, Item, ItemKind, Listed, Loose, Octets, OutRecord,
     Peer, Received, Role, RoundRecord,
@@ -55,10 +55,10 @@ fn a_script_is_given_in_turn(rt: HostRuntime) -> Result<(), Fail> {
         (Role::Core, got(PORT, true), 4096),
     ] {
         assert_same(&rt, &receive(&mut plant, role, &mut frame), &want);
-        assert_same(&rt, &frame.payload().len(), &len);
+        assert_count(&rt, frame.payload().len(), len);
     }
     assert_same(&rt, &plant.faults(), &1);
-    assert_same(&rt, &plant.taken().len(), &3);
+    assert_count(&rt, plant.taken().len(), 3);
     assert_same(&rt, &plant.heard().map(|heard| heard.len()), &Some(8));
     Ok(())
 }
@@ -75,9 +75,9 @@ fn binds_and_sends_are_kept_up_to_the_room(rt: HostRuntime) -> Result<(), Fail> 
     assert_same(&rt, &plant.send(role, PORT, &[1; 4160]), &Sending::Sent);
     assert_same(&rt, &plant.send(role, PORT, &[1]), &Sending::Failed);
     assert_same(&rt, &plant.faults(), &3);
-    assert_same(&rt, &plant.bound().len(), &1);
+    assert_count(&rt, plant.bound().len(), 1);
     for sent in plant.sent() {
-        assert_same(&rt, &sent.octets.as_slice().len(), &4160);
+        assert_count(&rt, sent.octets.as_slice().len(), 4160);
     }
     plant.wait(1);
     plant.wait(2);
@@ -126,7 +126,7 @@ fn seeds_come_in_their_order_past_a_failing_call(rt: HostRuntime) -> Result<(), 
         assert_same(&rt, &seeded(&mut entropy), &want);
     }
     assert_same(&rt, &entropy.faults(), &2);
-    assert_same(&rt, &entropy.given().len(), &2);
+    assert_count(&rt, entropy.given().len(), 2);
     Ok(())
 }
 

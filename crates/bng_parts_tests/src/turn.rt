@@ -2,7 +2,7 @@
 ghost use Rattle.std.specs.Prelude.{◌≡◌, ◌+◌, ◌^◌, ◌<◌, ℕ, false, length, slice_index_or};
 ghost use Rattle.bng_turn.specs.Ends.{new_seat};
 
-use crate::asserts::{assert_holds, assert_same};
+use crate::asserts::{assert_count, assert_holds, assert_same};
 use bng_turn::{Booked, Turn, TurnSeat};
 use std::process::Abort;
 use std::sync::Wait;
@@ -92,7 +92,7 @@ fn each_seats_entries_stand_once_and_in_its_order(rt: HostRuntime) -> Result<(),
         Ok((turn, mut seats)) => {
             all_sign(&rt, &turn, seats.as_mut_slice(), 1000);
             let Roll { entries } = turn.close(seats);
-            assert_same(&rt, &entries.len(), &4000);
+            assert_count(&rt, entries.len(), 4000);
             let mut next = [0u64; 4];
             for (seat, place) in entries {
                 assert_holds(&rt, seat < 4);

@@ -2,7 +2,7 @@
 ghost use Rattle.std.specs.Prelude.{◌≡◌, ◌⊎◌, ◌+◌, ◌<◌, ◌≤◌, ◌^◌, [], ◌∷◌, IfOk, length, map, true};
 ghost use Rattle.bng_shard.specs.Sums.{AreLow, IsLow};
 
-use crate::asserts::{assert_holds, assert_same};
+use crate::asserts::{assert_count, assert_holds};
 use arrayvec::ArrayVec;
 use bng_base::{
     AccessPort, AuthKind, Book, Fate, Frame, Ip4, Item, ItemKind, Listed, Mac, NamedRange,
@@ -252,7 +252,7 @@ impl Bench {
         assert_holds(rt, is_low(tally));
         let fate = self.shard.step(&mut self.pool, 0, 0, now, &item, tally);
         let (journal, outs) = self.shard.drain();
-        assert_same(rt, &journal.len(), &1);
+        assert_count(rt, journal.len(), 1);
         (fate, outs.into_vec())
     }
 
@@ -285,10 +285,6 @@ impl Bench {
 }
 
 // Each check of a value is a function of its own: in a test, among all that is live there, its proof would take long.
-fn assert_count(rt: &impl Abort, count: usize, wanted: usize) {
-    assert_eq!(rt; count, wanted);
-}
-
 fn assert_sessions(rt: &impl Abort, shard: &Shard, wanted: u32) {
     assert_eq!(rt; shard.sessions(), wanted);
 }

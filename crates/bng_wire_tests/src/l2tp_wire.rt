@@ -1,4 +1,4 @@
-use crate::asserts::{assert_holds, assert_octets, assert_same};
+use crate::asserts::{assert_count, assert_holds, assert_octets, assert_same};
 use bng_base::Frame;
 use bng_l2tp_wire::kind::{ASSIGNED_TUNNEL_ID, MESSAGE_TYPE, RESULT_CODE};
 use bng_l2tp_wire::{Avp, Control, Data, ReadError, Written, is_control};
@@ -213,5 +213,5 @@ fn writes_data_without_flags_and_begun_by_address_and_control(rt: HostRuntime) {
         &data(&octets[..4089]).write(&mut frame),
         &Written::Full,
     );
-    assert_same(&rt, &frame.payload().len(), &4096);
+    assert_count(&rt, frame.payload().len(), 4096);
 }

@@ -1,4 +1,4 @@
-use crate::asserts::{assert_holds, assert_same};
+use crate::asserts::{assert_count, assert_holds, assert_same};
 use bng_base::Frame;
 use bng_ppp_wire::code::{CODE_REJECT, CONFIGURE_REJECT, CONFIGURE_REQUEST};
 use bng_ppp_wire::protocol::{IPCP, LCP};
@@ -143,7 +143,7 @@ fn full_is_one_octet_more_than_fits(rt: HostRuntime) {
         &packet(&octets[..4093]).write(&mut frame),
         &Written::Full,
     );
-    assert_same(&rt, &frame.payload().len(), &4096);
+    assert_count(&rt, frame.payload().len(), 4096);
     let ppp = |info| Ppp {
         protocol: LCP,
         info,

@@ -1,4 +1,4 @@
-use crate::asserts::{assert_holds, assert_octets, assert_same};
+use crate::asserts::{assert_count, assert_holds, assert_octets, assert_same};
 use bng_base::{Frame, Mac};
 use bng_pppoe_wire::code::{PADI, PADO, PADR, PADS, PADT, SESSION_DATA};
 use bng_pppoe_wire::kind::{HOST_UNIQ, SERVICE_NAME};
@@ -37,7 +37,7 @@ fn reads_a_padi_and_its_tags(rt: HostRuntime) {
     let found = tags(&frame);
     let kinds: [u16; 2] = [SERVICE_NAME, HOST_UNIQ];
     let values: [&[u8]; 2] = [&[], &[0xa1, 0xb2, 0xc3, 0xd4]];
-    assert_same(&rt, &found.len(), &2);
+    assert_count(&rt, found.len(), 2);
     for ((tag, kind), value) in found.as_slice().iter().zip(kinds).zip(values) {
         assert_same(&rt, &tag.kind, &kind);
         assert_same(&rt, &tag.value, &value);
@@ -201,5 +201,5 @@ fn full_is_one_octet_more_than_fits(rt: HostRuntime) {
         &Written::Done,
     );
     assert_same(&rt, &frame(&octets).write(&mut written), &Written::Full);
-    assert_same(&rt, &written.payload().len(), &4096);
+    assert_count(&rt, written.payload().len(), 4096);
 }

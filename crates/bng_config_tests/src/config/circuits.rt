@@ -1,5 +1,5 @@
 use super::{ENDS, LISTS, changed, config_of, told};
-use crate::asserts::assert_same;
+use crate::asserts::{assert_count, assert_same};
 use bng_config::fault_text;
 use std::alloc::{AllocError, Global};
 use std::test::Fail;
@@ -20,22 +20,22 @@ fn with_circuits(alloc: Global, count: usize) -> Result<String, AllocError> {
 fn there_may_be_no_circuits_and_1024(rt: HostRuntime) -> Result<(), Fail> {
     let alloc = rt.alloc();
     let none = with_circuits(alloc, 0)?;
-    assert_same(
+    assert_count(
         &rt,
-        &config_of(&rt, alloc, none.as_str())
+        config_of(&rt, alloc, none.as_str())
             .statics
             .as_slice()
             .len(),
-        &0,
+        0,
     );
     let absent = changed(alloc, none.as_str(), "static = []\n", "")?;
-    assert_same(
+    assert_count(
         &rt,
-        &config_of(&rt, alloc, absent.as_str())
+        config_of(&rt, alloc, absent.as_str())
             .statics
             .as_slice()
             .len(),
-        &0,
+        0,
     );
     let other = changed(alloc, none.as_str(), "static = []\n", "static = {}\n")?;
     let rows = [
@@ -93,7 +93,7 @@ fn a_user_has_1_to_128_octets_of_a_text(rt: HostRuntime) -> Result<(), Fail> {
         let text = changed(alloc, LISTS, "fixed2", user)?;
         let config = config_of(&rt, alloc, text.as_str());
         let statics = config.statics.as_slice();
-        assert_same(&rt, &statics.len(), &3);
+        assert_count(&rt, statics.len(), 3);
         assert_same(&rt, &statics[1].user.as_slice(), &octets);
     }
     let longer = of_length(alloc, 129)?;

@@ -1,5 +1,5 @@
 use super::{changed, config_of, told};
-use crate::asserts::{assert_octets, assert_same};
+use crate::asserts::{assert_count, assert_octets, assert_same};
 use bng_base::AuthKind;
 use bng_config::{Config, fault_text};
 use std::alloc::{AllocError, Global};
@@ -37,10 +37,10 @@ fn a_gateway_needs_no_more_than_its_name(rt: HostRuntime) -> Result<(), Fail> {
     )?;
     assert_octets(&rt, config.name.as_slice(), b"~!".as_slice());
     assert_same(&rt, &config.shards, &4);
-    assert_same(&rt, &config.services.len(), &0);
-    assert_octets(
+    assert_count(&rt, config.services.len(), 0);
+    assert_same(
         &rt,
-        config.auth.as_slice(),
+        &config.auth.as_slice(),
         &[AuthKind::Chap, AuthKind::Pap].as_slice(),
     );
     assert_same(&rt, &config.echo, &30);
@@ -93,7 +93,7 @@ fn services_are_read_in_order(rt: HostRuntime) -> Result<(), Fail> {
         b"7",
         b"8",
     ];
-    assert_same(&rt, &config.services.len(), &wanted.len());
+    assert_count(&rt, config.services.len(), wanted.len());
     for (service, octets) in config.services.as_slice().iter().zip(wanted) {
         assert_same(&rt, &service.as_slice(), &octets);
     }

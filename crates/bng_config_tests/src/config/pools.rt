@@ -1,5 +1,5 @@
 use super::{changed, config_of, told};
-use crate::asserts::{assert_octets, assert_same};
+use crate::asserts::{assert_count, assert_octets, assert_same};
 use bng_base::Ip4;
 use bng_config::fault_text;
 use itoa::Buffer;
@@ -21,14 +21,14 @@ const LONGEST: &str = "0123456789abcdefghijklmnopqrst-_";
 fn pools_may_have_all_addresses_that_there_is_room_for(rt: HostRuntime) -> Result<(), Fail> {
     let config = config_of(&rt, rt.alloc(), WHOLE);
     let pools = config.pools.as_slice();
-    assert_same(&rt, &pools.len(), &2);
+    assert_count(&rt, pools.len(), 2);
     assert_octets(&rt, pools[0].name.as_slice(), b"a".as_slice());
     assert_same(&rt, &pools[1].range.last, &Ip4(0x0a03_ff01));
     let text = changed(rt.alloc(), WHOLE, "\"b\"", "\"LONGEST\"")?;
     let text = changed(rt.alloc(), text.as_str(), "LONGEST", LONGEST)?;
     let config = config_of(&rt, rt.alloc(), text.as_str());
     let pools = config.pools.as_slice();
-    assert_same(&rt, &pools.len(), &2);
+    assert_count(&rt, pools.len(), 2);
     assert_same(&rt, &pools[1].name.as_slice(), &LONGEST.as_bytes());
     Ok(())
 }
@@ -111,7 +111,7 @@ fn each_broken_list_of_servers_is_told(rt: HostRuntime) -> Result<(), Fail> {
         "address = \"10.0.0.1\", dns = [\"192.0.2.1\"]",
     )?;
     let config = config_of(&rt, alloc, text.as_str());
-    assert_octets(&rt, config.dns.as_slice(), &[Ip4(0xc000_0201)].as_slice());
+    assert_same(&rt, &config.dns.as_slice(), &[Ip4(0xc000_0201)].as_slice());
     Ok(())
 }
 
@@ -139,7 +139,7 @@ fn there_may_be_16_pools(rt: HostRuntime) -> Result<(), Fail> {
     let alloc = rt.alloc();
     let text = with_pools(alloc, 16)?;
     let config = config_of(&rt, alloc, text.as_str());
-    assert_same(&rt, &config.pools.as_slice().len(), &16);
+    assert_count(&rt, config.pools.as_slice().len(), 16);
     let text = with_pools(alloc, 17)?;
     let fault = told(&rt, alloc, text.as_bytes());
     assert_same(&rt, &fault_text(fault).as_str(), &"C5 pool");

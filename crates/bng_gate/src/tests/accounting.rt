@@ -8,6 +8,7 @@ use super::{
     CONFIGURATION, Ended, PACKET, SERVE, assert_err, assert_status, frame_of, loopback, run_at,
     seed,
 };
+use crate::asserts::{assert_holds, assert_same};
 use bng_base::Role;
 use bng_plant::{Arrival, MemoryClock, MemoryPlant, NoTrace};
 use std::alloc::{AllocError, Global};
@@ -103,10 +104,13 @@ fn a_start_is_sent_again_until_it_is_acknowledged(rt: HostRuntime) -> Result<(),
         assert_status(&rt, &ended, 6);
         let sent = ended.plant.sent().iter();
         let starts = sent.filter(|datagram| datagram.octets.as_slice() == start.as_slice());
-        assert_eq!(rt; starts.count(), sends);
+        assert_same(&rt, &starts.count(), &sends);
         // `stopping` and the Stop come after them, and the Stop alone once no session is left.
         let mut rest = ended.plant.sent().iter().skip(sends + 2);
-        assert!(rt; rest.all(|datagram| datagram.octets.as_slice().get(1) == Some(&1)));
+        assert_holds(
+            &rt,
+            rest.all(|datagram| datagram.octets.as_slice().get(1) == Some(&1)),
+        );
     }
     Ok(())
 }
@@ -129,10 +133,11 @@ fn a_stop_is_waited_for_until_it_is_acknowledged(rt: HostRuntime) -> Result<(), 
     let ended = run_slow(&rt, alloc, script)?;
     assert_status(&rt, &ended, 0);
     assert_err(&rt, &ended, b"");
-    assert!(rt;
+    assert_holds(
+        &rt,
         ended.out.text().starts_with(
-            b"stopped in=84 out=20\nlive in=0 out=0\ntotal in=84 out=20\nworker 0 in=84 out=20\n"
-        )
+            b"stopped in=84 out=20\nlive in=0 out=0\ntotal in=84 out=20\nworker 0 in=84 out=20\n",
+        ),
     );
     let requests: [&str; 2] = [START, STOP];
     let sent = ended.plant.sent().iter();
@@ -140,9 +145,9 @@ fn a_stop_is_waited_for_until_it_is_acknowledged(rt: HostRuntime) -> Result<(), 
     for request in requests {
         let request = hex::decode(alloc, request)?;
         let record = records.next().expect(&rt, "a record");
-        assert_eq!(rt; record.octets.as_slice(), request.as_slice());
+        assert_same(&rt, &record.octets.as_slice(), &request.as_slice());
     }
-    assert!(rt; records.next().is_none());
+    assert_holds(&rt, records.next().is_none());
     Ok(())
 }
 

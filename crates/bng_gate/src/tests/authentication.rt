@@ -7,6 +7,7 @@ use super::host::{
 use super::{
     Ended, SERVE, accounts, assert_status, loopback, run_at, run_over, seed, sends, sends_from,
 };
+use crate::asserts::assert_same;
 use bng_base::Role;
 use bng_plant::{Arrival, MemoryClock, MemoryPlant, NoTrace};
 use std::alloc::{AllocError, Global};
@@ -201,7 +202,7 @@ pub(super) fn sends_after(
     ];
     let sent = ended.plant.sent().iter();
     let others = sent.filter(|datagram| datagram.role != Role::Acct).count();
-    assert_eq!(rt; others.saturating_sub(front.len()), rest.len());
+    assert_same(rt, &others.saturating_sub(front.len()), &rest.len());
     sends_from(rt, ended, 0, &front);
     sends_from(rt, ended, front.len(), rest);
     Ok(())
@@ -306,7 +307,7 @@ fn a_request_that_did_not_go_has_no_reply(rt: HostRuntime) -> Result<(), Fail> {
     // Five binds, the receives of Control, of Acct, of Auth, five times of the access port and of the core, the sends of three frames,
     // and then that of the request.
     let ended = run_pap(&rt, alloc, script, 1000, &[18])?;
-    assert_eq!(rt; ended.plant.faults(), 1);
+    assert_same(&rt, &ended.plant.faults(), &1);
     let passed = framed(alloc, &TO_HOST, PASSED)?;
     let port = Role::Access(1);
     let own = framed(alloc, &TO_HOST, OWN_ADDRESS)?;

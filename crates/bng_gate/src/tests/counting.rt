@@ -1,6 +1,7 @@
 //! What a desk has counted, while it serves and in the end.
 use super::forwarding::{FROM_CORE, PADDED, SPOOFED};
 use super::{PACKET, SEED, TWO_PORTS, frame_of, script_of};
+use crate::asserts::assert_same;
 use crate::serving::{finish, serve};
 use crate::top::open_desk;
 use bng_base::{Book, Role};
@@ -49,27 +50,29 @@ fn sums_count_octets_packets_terms_stops_and_drops(rt: HostRuntime) -> Result<()
     };
     // The one of a foreign source is Spoofed, the cause with the number 4.
     let drops = [0, 0, 0, 0, 1, 0, 0, 0, 0];
-    assert_eq!(rt;
-        served,
-        Sums {
+    assert_same(
+        &rt,
+        &served,
+        &Sums {
             stopped: nothing,
             live: sent,
             total: sent,
             terms: 2,
             stops: 0,
             drops,
-        }
+        },
     );
-    assert_eq!(rt;
-        ended,
-        Sums {
+    assert_same(
+        &rt,
+        &ended,
+        &Sums {
             stopped: sent,
             live: nothing,
             total: sent,
             terms: 2,
             stops: 2,
             drops,
-        }
+        },
     );
     Ok(())
 }

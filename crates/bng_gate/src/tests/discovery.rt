@@ -3,6 +3,7 @@ use super::host::{HOST, PADS, PADT, SESSIONS, request};
 use super::{
     SERVE, assert_out, assert_status, loopback, run_over, run_told, script_of, seed, sends,
 };
+use crate::asserts::{assert_holds, assert_same};
 use bng_base::Role;
 use bng_plant::{Arrival, MemoryPlant, NoTrace};
 use std::test::Fail;
@@ -170,11 +171,11 @@ fn a_shard_has_1022_sessions(rt: HostRuntime) -> Result<(), Fail> {
     for number in 1..HOSTS {
         let [high, low] = number.to_be_bytes();
         let pads = replies.next().expect(&rt, "a PADS");
-        assert_eq!(rt; pads.get(4..6), Some([high, low].as_slice()));
-        assert_eq!(rt; pads.get(16..18), Some([high, low].as_slice()));
+        assert_same(&rt, &pads.get(4..6), &Some([high, low].as_slice()));
+        assert_same(&rt, &pads.get(16..18), &Some([high, low].as_slice()));
     }
     let last = replies.next().expect(&rt, "a PADS");
-    assert_eq!(rt; last, FULL.as_slice());
-    assert!(rt; replies.next().is_none());
+    assert_same(&rt, &last, &FULL.as_slice());
+    assert_holds(&rt, replies.next().is_none());
     Ok(())
 }

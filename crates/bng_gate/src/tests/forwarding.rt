@@ -3,6 +3,7 @@ use super::{
     CONFIGURATION, PACKET, SERVE, TWO_PORTS, accounts, assert_err, assert_out, assert_sent,
     assert_status, frame_and_stop, loopback, run_over, script_of, sends,
 };
+use crate::asserts::{assert_count, assert_holds, assert_octets, assert_same};
 use bng_base::Role;
 use std::test::Fail;
 
@@ -135,22 +136,23 @@ fn a_packet_is_forwarded_with_ttl_and_sum_changed(rt: HostRuntime) -> Result<(),
     );
     let sent = ended.plant.sent();
     // The packet, the Start, `stopping` and the Stop, and in 30 s ten times the Stop again, 3 s after the time before.
-    assert_eq!(rt; sent.len(), 14);
-    assert_eq!(rt; sent[0].role, Role::Core);
-    assert_eq!(rt; sent[0].peer, loopback(9001));
+    assert_count(&rt, sent.len(), 14);
+    assert_same(&rt, &sent[0].role, &Role::Core);
+    assert_same(&rt, &sent[0].peer, &loopback(9001));
     let packet = sent[0].octets.as_slice();
-    assert_eq!(rt; packet.len(), 84);
-    assert_eq!(rt; &packet[..20], FORWARDED.as_slice());
-    assert!(rt; packet[20..].iter().all(|octet| *octet == 7));
+    assert_count(&rt, packet.len(), 84);
+    assert_same(&rt, &packet[..20], &FORWARDED.as_slice());
+    assert_holds(&rt, packet[20..].iter().all(|octet| *octet == 7));
     accounts(&rt, &ended, 1, &[START, SESSION_ID]);
-    assert_eq!(rt; sent[2].role, Role::Control);
-    assert_eq!(rt; sent[2].octets.as_slice(), b"stopping\n".as_slice());
+    assert_same(&rt, &sent[2].role, &Role::Control);
+    assert_octets(&rt, sent[2].octets.as_slice(), b"stopping\n".as_slice());
     accounts(&rt, &ended, 3, &[STOP, SESSION_ID, PACKET_IN, NOTHING_OUT]);
     let stop = sent[3].octets.as_slice();
-    assert!(rt;
+    assert_holds(
+        &rt,
         sent.iter()
             .skip(4)
-            .all(|again| again.octets.as_slice() == stop)
+            .all(|again| again.octets.as_slice() == stop),
     );
     Ok(())
 }
@@ -320,7 +322,7 @@ fn what_does_not_pass_is_counted_by_its_cause(rt: HostRuntime) -> Result<(), Fai
         b"stopped in=0 out=0\nlive in=0 out=0\ntotal in=0 out=0\nworker 0 in=0 out=0\nstatic 10.0.0.2 in=0 out=0\ndrop Malformed 2\ndrop NoSession 3\ndrop NotOpen 0\ndrop Expired 1\ndrop Spoofed 0\ndrop TooBig 0\ndrop Exceeded 0\ndrop LinkFailed 0\ndrop WantOfMemory 0\n",
     );
     let sent = ended.plant.sent();
-    assert_eq!(rt; sent.len(), 14);
-    assert_eq!(rt; sent[0].octets.as_slice().get(15), Some(&7));
+    assert_count(&rt, sent.len(), 14);
+    assert_same(&rt, &sent[0].octets.as_slice().get(15), &Some(&7));
     Ok(())
 }

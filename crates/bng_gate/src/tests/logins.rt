@@ -8,6 +8,7 @@ use super::host::{ACKED, PADT, REQUEST, TO_HOST, framed, from_host, request};
 use super::{
     Ended, SERVE, assert_err, assert_out, assert_status, has, loopback, run_at, seed, sends_from,
 };
+use crate::asserts::{assert_holds, assert_same};
 use bng_base::Role;
 use bng_plant::{Arrival, MemoryClock, MemoryPlant, NoTrace};
 use std::alloc::{AllocError, Global};
@@ -216,10 +217,10 @@ pub(super) fn records(
     for octets in wanted {
         let octets = hex::decode(alloc, *octets)?;
         let record = records.next().expect(rt, "a record");
-        assert_eq!(rt; record.peer, loopback(1813));
-        assert_eq!(rt; record.octets.as_slice(), octets.as_slice());
+        assert_same(rt, &record.peer, &loopback(1813));
+        assert_same(rt, &record.octets.as_slice(), &octets.as_slice());
     }
-    assert!(rt; records.next().is_none());
+    assert_holds(rt, records.next().is_none());
     Ok(())
 }
 
@@ -332,8 +333,14 @@ fn where_the_pool_is_used_up_an_accept_is_no_login(rt: HostRuntime) -> Result<()
 fn records_are_of_the_first_host(rt: &impl Abort, ended: &Ended) {
     let sent = ended.plant.sent().iter();
     for record in sent.filter(|datagram| datagram.role == Role::Acct) {
-        assert!(rt; has(record.octets.as_slice(), b"\x05\x06\x00\x00\x0c\x01"));
-        assert!(rt; has(record.octets.as_slice(), b"\x08\x06\x0a\x00\x00\x02"));
+        assert_holds(
+            rt,
+            has(record.octets.as_slice(), b"\x05\x06\x00\x00\x0c\x01"),
+        );
+        assert_holds(
+            rt,
+            has(record.octets.as_slice(), b"\x08\x06\x0a\x00\x00\x02"),
+        );
     }
 }
 

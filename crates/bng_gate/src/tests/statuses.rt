@@ -3,6 +3,7 @@ use super::{
     CONFIGURATION, PACKET, SERVE, TWO_PORTS, assert_err, assert_sent, assert_status,
     frame_and_stop, loopback, run_over, run_told, seed,
 };
+use crate::asserts::{assert_holds, assert_same};
 use bng_base::Role;
 use bng_plant::{MemoryPlant, MemoryTrace, NoTrace};
 use std::test::Fail;
@@ -123,7 +124,10 @@ fn without_a_seed_nothing_is_bound(rt: HostRuntime) -> Result<(), Fail> {
     )?;
     assert_status(&rt, &ended, 3);
     assert_err(&rt, &ended, b"bng: cannot open seed\n");
-    assert!(rt; ended.plant.bound().is_empty() && ended.out.text().is_empty());
+    assert_holds(
+        &rt,
+        ended.plant.bound().is_empty() && ended.out.text().is_empty(),
+    );
     Ok(())
 }
 
@@ -149,15 +153,15 @@ fn a_round_that_the_trace_does_not_take_is_the_last(rt: HostRuntime) -> Result<(
         )?;
         assert_status(&rt, &ended, 5);
         assert_err(&rt, &ended, b"bng: trace failed\n");
-        assert!(rt; ended.out.text().is_empty());
+        assert_holds(&rt, ended.out.text().is_empty());
         // The packet went to the core before that, and the Start of the circuit and its Stop to the server.
         assert_sent(&rt, &ended, sent);
         match ended.plant.sent() {
             [first, ..] => {
-                assert_eq!(rt; first.role, Role::Core);
-                assert_eq!(rt; first.peer, loopback(9001));
+                assert_same(&rt, &first.role, &Role::Core);
+                assert_same(&rt, &first.peer, &loopback(9001));
             }
-            [] => assert!(rt; false),
+            [] => assert_holds(&rt, false),
         }
     }
     Ok(())

@@ -1,4 +1,5 @@
 use super::{Opening, Refusal, line_of, status};
+use crate::asserts::assert_same;
 use bng_config::{Fault, Key};
 
 #[test]
@@ -58,10 +59,10 @@ fn a_run_that_fails_says_so_in_one_line(rt: HostRuntime) {
         (Refusal::OutputFailed, 5, "bng: output failed\n", "", ""),
     ];
     for (refusal, wanted, front, middle, back) in rows {
-        assert_eq!(rt; status(refusal), wanted);
+        assert_same(&rt, &status(refusal), &wanted);
         let line = line_of(refusal);
-        assert_eq!(rt; line.front, front);
-        assert_eq!(rt; line.middle.as_str(), middle);
-        assert_eq!(rt; line.back, back);
+        assert_same(&rt, &line.front, &front);
+        assert_same(&rt, &line.middle.as_str(), &middle);
+        assert_same(&rt, &line.back, &back);
     }
 }

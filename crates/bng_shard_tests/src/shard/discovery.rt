@@ -1,10 +1,10 @@
 ghost use Rattle.std.specs.Prelude.{◌<◌, ◌^◌};
 
 use super::{
-    Bench, NOTHING, ONE, PADI, assert_count, assert_due, assert_sessions, item, octets, open_bench,
-    padi, request, rules,
+    Bench, NOTHING, ONE, PADI, assert_due, assert_sessions, item, octets, open_bench, padi,
+    request, rules,
 };
-use crate::asserts::{assert_octets, assert_same};
+use crate::asserts::{assert_count, assert_octets, assert_same};
 use bng_base::ItemKind;
 use std::alloc::Global;
 use std::process::Abort;

@@ -2,10 +2,10 @@ ghost use Rattle.std.specs.Prelude.{◌≡◌, ◌≤◌, length};
 
 use super::verdicts::{ACCEPT, ACK, PASSWORD, REQUEST, in_session_of, verdict};
 use super::{
-    Bench, NOTHING, ONE, TO_IT, assert_count, assert_due, assert_sessions, item, octets,
-    open_bench, peer, request, rules_with, span,
+    Bench, NOTHING, ONE, TO_IT, assert_due, assert_sessions, item, octets, open_bench, peer,
+    request, rules_with, span,
 };
-use crate::asserts::{assert_holds, assert_octets, assert_same};
+use crate::asserts::{assert_count, assert_holds, assert_octets, assert_same};
 use bng_base::{DropCause, Fate, Ip4, Item, ItemKind, OutRecord};
 use std::alloc::Global;
 use std::process::Abort;

@@ -7,10 +7,8 @@ ghost use Rattle.bng_pool.specs.Tables.{entry};
 ghost use Rattle.std.specs.List.{All};
 ghost use Rattle.bng_slots.specs.Sessions.{IsNumberOf};
 
-use super::{
-    Bench, NOTHING, TO_IT, TWO, assert_count, assert_sessions, item, peer, request, rules, span,
-};
-use crate::asserts::{assert_holds, assert_octets, assert_same};
+use super::{Bench, NOTHING, TO_IT, TWO, assert_sessions, item, peer, request, rules, span};
+use crate::asserts::{assert_count, assert_holds, assert_octets, assert_same};
 use arrayvec::ArrayVec;
 use bng_base::{
     Charge, Circuit, DropCause, Fate, Frame, Ip4, ItemKind, Mac, Octets, OutRecord, Role,

@@ -1,9 +1,7 @@
 ghost use Rattle.std.specs.Prelude.{◌≡◌, ◌≤◌, length};
 
-use super::{
-    Bench, NOTHING, ONE, assert_count, item, octets, open_bench, request, rules, span, text,
-};
-use crate::asserts::{assert_holds, assert_octets, assert_same};
+use super::{Bench, NOTHING, ONE, item, octets, open_bench, request, rules, span, text};
+use crate::asserts::{assert_count, assert_holds, assert_octets, assert_same};
 use arrayvec::ArrayVec;
 use bng_base::{Item, ItemKind, OutRecord, SessionNo};
 use bng_shard::Handed;

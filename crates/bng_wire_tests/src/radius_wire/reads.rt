@@ -1,4 +1,4 @@
-use crate::asserts::assert_same;
+use crate::asserts::{assert_count, assert_same};
 use bng_radius_wire::{ReadError, codes, kinds, read};
 use std::test::Fail;
 
@@ -13,7 +13,7 @@ fn octets_past_the_length_are_padding(rt: HostRuntime) -> Result<(), Fail> {
         Ok(packet) => {
             assert_same(&rt, &packet.code, &codes::ACCESS_ACCEPT);
             assert_same(&rt, &packet.id, &0);
-            assert_same(&rt, &packet.attributes.len(), &3);
+            assert_count(&rt, packet.attributes.len(), 3);
             assert_same(&rt, &packet.attributes[0].kind, &kinds::SERVICE_TYPE);
             assert_same(&rt, &packet.attributes[0].value, &[0, 0, 0, 1].as_slice());
             assert_same(
@@ -65,7 +65,7 @@ fn sixty_five_attributes_are_too_many(rt: HostRuntime) {
     }
     octets[3] = 148;
     match read(&octets) {
-        Ok(packet) => assert_same(&rt, &packet.attributes.len(), &64),
+        Ok(packet) => assert_count(&rt, packet.attributes.len(), 64),
         Err(_) => assert!(rt; false, "64 attributes were not read"),
     }
 }
