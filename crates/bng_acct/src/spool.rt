@@ -206,7 +206,7 @@ impl Spool {
     }
 
     /// The number of a term's open record of a kind.
-    pub(crate) fn open_number(&self, term: TermId, status: StatusType) -> Option<u32>
+    pub fn open_number(&self, term: TermId, status: StatusType) -> Option<u32>
         ensures { result ≡ open_of term status self.now.held }
     {
         let held = self.roster.get(term)?;

@@ -220,6 +220,12 @@ fn told(rt: &impl Abort, alloc: Global, text: &[u8]) -> Fault {
     }
 }
 
+/// This is told of a configuration.
+fn assert_told(rt: &impl Abort, alloc: Global, text: String, wanted: &str) {
+    let fault = told(rt, alloc, text.as_bytes());
+    assert_same(rt, &fault_text(fault).as_str(), &wanted);
+}
+
 /// The text with what stands in one line's place, where it stands last.
 fn changed(alloc: Global, whole: &str, line: &str, other: &str) -> Result<String, AllocError> {
     let mut text = String::new(alloc);
@@ -231,80 +237,81 @@ fn changed(alloc: Global, whole: &str, line: &str, other: &str) -> Result<String
     Ok(text)
 }
 
+/// What stands in the lists, what is put in its place, and what is told then.
+const BROKEN_RULES: &[(&str, &str, &str)] = &[
+    ("control.local = \"127.0.0.1:9002\"", "", "C5 control.local"),
+    ("127.0.0.1:9002", "127.0.0.1", "C5 control.local"),
+    ("127.0.0.1:9002", "127.0.0.1:0", "C5 control.local"),
+    ("127.0.0.1:9002", "127.0.0.1:65536", "C5 control.local"),
+    ("127.0.0.1:9002", "127.0.0.01:9002", "C5 control.local"),
+    ("local = \"127.0.0.1:9000\", ", "", "C5 core.local"),
+    ("127.0.0.1:9000", "127.0.0.1:9002", "C5 core.local"),
+    ("127.0.0.1:9001", "127.0.0.256:9001", "C5 core.peer"),
+    (
+        "local = \"127.0.0.1:9010\"",
+        "local = 9010",
+        "C5 access.1.local",
+    ),
+    ("127.0.0.1:9010", "127.0.0.1:9002", "C5 access.1.local"),
+    ("127.0.0.1:9010", "127.0.0.1:9000", "C5 access.1.local"),
+    ("127.0.0.1:9020", "127.0.0.1:9010", "C5 access.2.local"),
+    ("peer = \"127.0.0.1:9021\"", "", "C5 access.2.peer"),
+    ("02:00:00:00:00:ff", "02:00:00:00:00:FF", "C5 access.2.mac"),
+    ("port = 1", "port = 0", "C5 static.1.port"),
+    ("port = 1", "port = 3", "C5 static.1.port"),
+    ("port = 2", "", "C5 static.3.port"),
+    ("port = 2", "port = \"2\"", "C5 static.3.port"),
+    ("02:00:00:00:00:03", "02:00:00:00:00:3", "C5 static.3.mac"),
+    ("session = 1025", "session = 1023", "C5 static.1.session"),
+    ("session = 1025", "session = 1024", "C5 static.1.session"),
+    ("session = 65534", "session = 65535", "C5 static.2.session"),
+    ("session = 65534", "session = -1", "C5 static.2.session"),
+    ("shards = 64", "shards = 63", "C5 static.2.session"),
+    ("shards = 64", "shards = 1", "C5 static.1.session"),
+    ("session = 65534", "session = 1025", "C5 static.2.session"),
+    ("session = 1\n", "session = 1025\n", "C5 static.3.session"),
+    ("255.255.255.255", "10.0.0.2", "C5 static.3.address"),
+    ("255.255.255.255", "255.255.255.256", "C5 static.3.address"),
+    ("255.255.255.255", "10.0.0.102", "C5 static.3.address"),
+    ("255.255.255.255", "10.0.0.1", "C5 static.3.address"),
+    ("user = \"fixed1\"", "", "C5 static.1.user"),
+    ("\"fixed2\"", "\"\"", "C5 static.2.user"),
+    ("\"fixed3\"", "3", "C5 static.3.user"),
+];
+
 #[test]
 fn each_rule_is_told_at_its_key(rt: HostRuntime) -> Result<(), Fail> {
-    let rows = [
-        ("control.local = \"127.0.0.1:9002\"", "", "C5 control.local"),
-        ("127.0.0.1:9002", "127.0.0.1", "C5 control.local"),
-        ("127.0.0.1:9002", "127.0.0.1:0", "C5 control.local"),
-        ("127.0.0.1:9002", "127.0.0.1:65536", "C5 control.local"),
-        ("127.0.0.1:9002", "127.0.0.01:9002", "C5 control.local"),
-        ("local = \"127.0.0.1:9000\", ", "", "C5 core.local"),
-        ("127.0.0.1:9000", "127.0.0.1:9002", "C5 core.local"),
-        ("127.0.0.1:9001", "127.0.0.256:9001", "C5 core.peer"),
-        (
-            "local = \"127.0.0.1:9010\"",
-            "local = 9010",
-            "C5 access.1.local",
-        ),
-        ("127.0.0.1:9010", "127.0.0.1:9002", "C5 access.1.local"),
-        ("127.0.0.1:9010", "127.0.0.1:9000", "C5 access.1.local"),
-        ("127.0.0.1:9020", "127.0.0.1:9010", "C5 access.2.local"),
-        ("peer = \"127.0.0.1:9021\"", "", "C5 access.2.peer"),
-        ("02:00:00:00:00:ff", "02:00:00:00:00:FF", "C5 access.2.mac"),
-        ("port = 1", "port = 0", "C5 static.1.port"),
-        ("port = 1", "port = 3", "C5 static.1.port"),
-        ("port = 2", "", "C5 static.3.port"),
-        ("port = 2", "port = \"2\"", "C5 static.3.port"),
-        ("02:00:00:00:00:03", "02:00:00:00:00:3", "C5 static.3.mac"),
-        ("session = 1025", "session = 1023", "C5 static.1.session"),
-        ("session = 1025", "session = 1024", "C5 static.1.session"),
-        ("session = 65534", "session = 65535", "C5 static.2.session"),
-        ("session = 65534", "session = -1", "C5 static.2.session"),
-        ("shards = 64", "shards = 63", "C5 static.2.session"),
-        ("shards = 64", "shards = 1", "C5 static.1.session"),
-        ("session = 65534", "session = 1025", "C5 static.2.session"),
-        ("session = 1\n", "session = 1025\n", "C5 static.3.session"),
-        ("255.255.255.255", "10.0.0.2", "C5 static.3.address"),
-        ("255.255.255.255", "255.255.255.256", "C5 static.3.address"),
-        ("255.255.255.255", "10.0.0.102", "C5 static.3.address"),
-        ("255.255.255.255", "10.0.0.1", "C5 static.3.address"),
-        ("user = \"fixed1\"", "", "C5 static.1.user"),
-        ("\"fixed2\"", "\"\"", "C5 static.2.user"),
-        ("\"fixed3\"", "3", "C5 static.3.user"),
-    ];
     let alloc = rt.alloc();
-    for (line, other, wanted) in rows {
-        let text = changed(alloc, LISTS, line, other)?;
-        let fault = told(&rt, alloc, text.as_bytes());
-        assert_same(&rt, &fault_text(fault).as_str(), &wanted);
+    for (line, other, wanted) in BROKEN_RULES {
+        assert_told(&rt, alloc, changed(alloc, LISTS, line, other)?, wanted);
     }
     Ok(())
 }
 
+/// What stands where the access ports do, and what is told then.
+const FORMS: &[(&str, &str)] = &[
+    ("", "C5 access"),
+    ("access = []", "C5 access"),
+    ("access = 1", "C5 access"),
+    ("access = { local = \"127.0.0.1:9010\" }", "C5 access"),
+    ("access = [1]", "C5 access.1.local"),
+    (
+        "access = [1, 1, 1, 1, 1, 1, 1, 1, 1, 1, 1, 1, 1, 1, 1, 1]",
+        "C5 access.1.local",
+    ),
+    (
+        "access = [1, 1, 1, 1, 1, 1, 1, 1, 1, 1, 1, 1, 1, 1, 1, 1, 1]",
+        "C5 access",
+    ),
+];
+
 #[test]
 fn the_lists_have_their_forms(rt: HostRuntime) -> Result<(), Fail> {
-    let rows = [
-        ("", "C5 access"),
-        ("access = []", "C5 access"),
-        ("access = 1", "C5 access"),
-        ("access = { local = \"127.0.0.1:9010\" }", "C5 access"),
-        ("access = [1]", "C5 access.1.local"),
-        (
-            "access = [1, 1, 1, 1, 1, 1, 1, 1, 1, 1, 1, 1, 1, 1, 1, 1]",
-            "C5 access.1.local",
-        ),
-        (
-            "access = [1, 1, 1, 1, 1, 1, 1, 1, 1, 1, 1, 1, 1, 1, 1, 1, 1]",
-            "C5 access",
-        ),
-    ];
     let alloc = rt.alloc();
-    for (line, wanted) in rows {
+    for (line, wanted) in FORMS {
         let mut text = String::from_str(alloc, ENDS)?;
         text.push_str(line)?;
-        let fault = told(&rt, alloc, text.as_bytes());
-        assert_same(&rt, &fault_text(fault).as_str(), &wanted);
+        assert_told(&rt, alloc, text, wanted);
     }
     Ok(())
 }

@@ -215,17 +215,24 @@ fn entry(octet: u8) -> Entry {
     }
 }
 
-/// A round of two shards, the first with one entry and the second with two.
-fn round(alloc: Global, number: u64) -> Result<RoundRecord, AllocError> {
+/// The journals of two shards, the first with one entry and the second with two.
+fn journals(alloc: Global) -> Result<Vec<Listed<Entry>>, AllocError> {
     let one = Listed::of(vec![in alloc; entry(1)]?);
     let two = Listed::of(vec![in alloc; entry(2), entry(3)]?);
-    let loose = Loose {
+    Ok(vec![in alloc; one, two]?)
+}
+
+fn loose() -> Loose {
+    Loose {
         seat: 0,
         place: 1,
         item: item(4),
         fate: Fate::Consumed,
-    };
-    let out = OutRecord {
+    }
+}
+
+fn out() -> OutRecord {
+    OutRecord {
         shard: 1,
         seat: 0,
         place: 0,
@@ -234,16 +241,24 @@ fn round(alloc: Global, number: u64) -> Result<RoundRecord, AllocError> {
         frame: Octets::of(Frame::new()),
         charge: None,
         sent: true,
-    };
+    }
+}
+
+/// A round of these two shards.
+fn round(alloc: Global, number: u64) -> Result<RoundRecord, AllocError> {
+    let allowances = Listed::of(vec![in alloc; 10, 20]?);
+    let loose = Listed::of(vec![in alloc; loose()]?);
+    let outs = Listed::of(vec![in alloc; out()]?);
+    let refused = Listed::of(vec![in alloc; item(5)]?);
     Ok(RoundRecord {
         number,
         moment: 600,
         wall: 1_700_000_000,
-        allowances: Listed::of(vec![in alloc; 10, 20]?),
-        journals: Listed::of(vec![in alloc; one, two]?),
-        loose: Listed::of(vec![in alloc; loose]?),
-        outs: Listed::of(vec![in alloc; out]?),
-        refused: Listed::of(vec![in alloc; item(5)]?),
+        allowances,
+        journals: Listed::of(journals(alloc)?),
+        loose,
+        outs,
+        refused,
     })
 }
 

@@ -1,4 +1,4 @@
-use super::{changed, config_of, told};
+use super::{assert_told, changed, config_of, told};
 use crate::asserts::{assert_count, assert_octets, assert_same};
 use bng_base::AuthKind;
 use bng_config::{Config, fault_text};
@@ -123,7 +123,7 @@ fn the_first_way_to_authenticate_comes_first(rt: HostRuntime) -> Result<(), Fail
 }
 
 // The broken texts of a gateway, each with what is told of it.
-const BROKEN: [(&str, &str); 36] = [
+const BROKEN: &[(&str, &str)] = &[
     ("", "C5 gateway.name"),
     ("gateway = 1", "C5 gateway.name"),
     ("gateway = [{ name = \"bng1\" }]", "C5 gateway.name"),
@@ -244,9 +244,7 @@ const BROKEN: [(&str, &str); 36] = [
 fn each_broken_value_is_told_at_its_key(rt: HostRuntime) -> Result<(), Fail> {
     let alloc = rt.alloc();
     for (line, wanted) in BROKEN {
-        let text = with_gateway(alloc, line)?;
-        let fault = told(&rt, alloc, text.as_bytes());
-        assert_same(&rt, &fault_text(fault).as_str(), &wanted);
+        assert_told(&rt, alloc, with_gateway(alloc, line)?, wanted);
     }
     Ok(())
 }
@@ -263,9 +261,7 @@ fn a_text_of_65_octets_is_too_long(rt: HostRuntime) -> Result<(), Fail> {
     ];
     for (row, wanted) in rows {
         let line = changed(alloc, row, "LONGEST", LONGEST)?;
-        let text = with_gateway(alloc, line.as_str())?;
-        let fault = told(&rt, alloc, text.as_bytes());
-        assert_same(&rt, &fault_text(fault).as_str(), &wanted);
+        assert_told(&rt, alloc, with_gateway(alloc, line.as_str())?, wanted);
     }
     Ok(())
 }

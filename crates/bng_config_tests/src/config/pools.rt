@@ -1,4 +1,4 @@
-use super::{changed, config_of, told};
+use super::{assert_told, changed, config_of, told};
 use crate::asserts::{assert_count, assert_octets, assert_same};
 use bng_base::Ip4;
 use bng_config::fault_text;
@@ -33,50 +33,50 @@ fn pools_may_have_all_addresses_that_there_is_room_for(rt: HostRuntime) -> Resul
     Ok(())
 }
 
+/// What stands in a configuration, what is put in its place, and what is told then.
+const BROKEN_POOLS: &[(&str, &str, &str)] = &[
+    ("pool = [", "pools = [", "C5 pool"),
+    ("pool = [", "pool = {} # [", "C5 pool"),
+    ("pool = [", "pool = [] # [", "C5 pool"),
+    ("name = \"b\", ", "", "C5 pool.2.name"),
+    ("name = \"b\"", "name = 2", "C5 pool.2.name"),
+    ("name = \"b\"", "name = \"\"", "C5 pool.2.name"),
+    ("name = \"b\"", "name = \"B\"", "C5 pool.2.name"),
+    ("name = \"b\"", "name = \"b.1\"", "C5 pool.2.name"),
+    ("name = \"b\"", "name = \"a\"", "C5 pool.2.name"),
+    ("first = \"10.4.0.0\", ", "", "C5 pool.1.first"),
+    ("first = \"10.4.0.0\"", "first = 1", "C5 pool.1.first"),
+    ("10.4.0.0", "10.4.0", "C5 pool.1.first"),
+    (", last = \"10.4.0.255\"", "", "C5 pool.1.last"),
+    ("10.4.0.255", "10.4.0.256", "C5 pool.1.last"),
+    ("10.4.0.0", "10.4.1.0", "C5 pool.1.last"),
+    ("10.3.255.1", "10.4.0.0", "C5 pool.2.last"),
+    ("10.3.255.1", "10.3.255.2", "C5 pool.2.last"),
+    ("10.4.0.255", "10.8.0.0", "C5 pool.1.last"),
+    ("10.0.0.1\"", "10.4.0.255\"", "C5 pool.1.last"),
+    ("10.0.0.1\"", "10.0.0.2\"", "C5 pool.2.last"),
+    (
+        "first = \"10.0.0.2\"",
+        "first = \"10.0.0.3\"",
+        "C5 static.1.address",
+    ),
+    (
+        "\"10.0.0.2\", user",
+        "\"10.4.1.0\", user",
+        "C5 static.1.address",
+    ),
+    (
+        "\"10.0.0.2\", user",
+        "\"10.0.0.1\", user",
+        "C5 static.1.address",
+    ),
+];
+
 #[test]
 fn each_broken_pool_is_told_at_its_key(rt: HostRuntime) -> Result<(), Fail> {
-    let rows = [
-        ("pool = [", "pools = [", "C5 pool"),
-        ("pool = [", "pool = {} # [", "C5 pool"),
-        ("pool = [", "pool = [] # [", "C5 pool"),
-        ("name = \"b\", ", "", "C5 pool.2.name"),
-        ("name = \"b\"", "name = 2", "C5 pool.2.name"),
-        ("name = \"b\"", "name = \"\"", "C5 pool.2.name"),
-        ("name = \"b\"", "name = \"B\"", "C5 pool.2.name"),
-        ("name = \"b\"", "name = \"b.1\"", "C5 pool.2.name"),
-        ("name = \"b\"", "name = \"a\"", "C5 pool.2.name"),
-        ("first = \"10.4.0.0\", ", "", "C5 pool.1.first"),
-        ("first = \"10.4.0.0\"", "first = 1", "C5 pool.1.first"),
-        ("10.4.0.0", "10.4.0", "C5 pool.1.first"),
-        (", last = \"10.4.0.255\"", "", "C5 pool.1.last"),
-        ("10.4.0.255", "10.4.0.256", "C5 pool.1.last"),
-        ("10.4.0.0", "10.4.1.0", "C5 pool.1.last"),
-        ("10.3.255.1", "10.4.0.0", "C5 pool.2.last"),
-        ("10.3.255.1", "10.3.255.2", "C5 pool.2.last"),
-        ("10.4.0.255", "10.8.0.0", "C5 pool.1.last"),
-        ("10.0.0.1\"", "10.4.0.255\"", "C5 pool.1.last"),
-        ("10.0.0.1\"", "10.0.0.2\"", "C5 pool.2.last"),
-        (
-            "first = \"10.0.0.2\"",
-            "first = \"10.0.0.3\"",
-            "C5 static.1.address",
-        ),
-        (
-            "\"10.0.0.2\", user",
-            "\"10.4.1.0\", user",
-            "C5 static.1.address",
-        ),
-        (
-            "\"10.0.0.2\", user",
-            "\"10.0.0.1\", user",
-            "C5 static.1.address",
-        ),
-    ];
     let alloc = rt.alloc();
-    for (line, other, wanted) in rows {
-        let text = changed(alloc, WHOLE, line, other)?;
-        let fault = told(&rt, alloc, text.as_bytes());
-        assert_same(&rt, &fault_text(fault).as_str(), &wanted);
+    for (line, other, wanted) in BROKEN_POOLS {
+        assert_told(&rt, alloc, changed(alloc, WHOLE, line, other)?, wanted);
     }
     Ok(())
 }
@@ -101,8 +101,7 @@ fn each_broken_list_of_servers_is_told(rt: HostRuntime) -> Result<(), Fail> {
             "address = \"10.0.0.1\", DNS",
         )?;
         let text = changed(alloc, text.as_str(), "DNS", list)?;
-        let fault = told(&rt, alloc, text.as_bytes());
-        assert_same(&rt, &fault_text(fault).as_str(), &wanted);
+        assert_told(&rt, alloc, text, wanted);
     }
     let text = changed(
         alloc,

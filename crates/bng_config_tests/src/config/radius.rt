@@ -1,4 +1,4 @@
-use super::{changed, config_of, loopback, told};
+use super::{assert_told, changed, config_of, loopback, told};
 use crate::asserts::assert_same;
 use bng_config::fault_text;
 use std::test::Fail;
@@ -73,46 +73,46 @@ fn the_server_may_have_the_end_of_a_socket(rt: HostRuntime) -> Result<(), Fail> 
     Ok(())
 }
 
+/// What stands in a configuration, what is put in its place, and what is told then.
+const BROKEN_VALUES: &[(&str, &str, &str)] = &[
+    (", nas_ip = \"192.168.1.16\"", "", "C5 gateway.nas_ip"),
+    ("192.168.1.16", "192.168.1", "C5 gateway.nas_ip"),
+    ("192.168.1.16", "192.168.1.016", "C5 gateway.nas_ip"),
+    ("192.168.1.16", "192.168.1.16:1", "C5 gateway.nas_ip"),
+    ("\"192.168.1.16\"", "3232235792", "C5 gateway.nas_ip"),
+    ("[radius]", "[radios]", "C5 radius.auth_local"),
+    ("auth_local", "auth_locals", "C5 radius.auth_local"),
+    ("127.0.0.1:9003", "127.0.0.1", "C5 radius.auth_local"),
+    ("127.0.0.1:9003", "127.0.0.1:9002", "C5 radius.auth_local"),
+    ("127.0.0.1:9003", "127.0.0.1:9000", "C5 radius.auth_local"),
+    ("127.0.0.1:9003", "127.0.0.1:9010", "C5 radius.auth_local"),
+    ("127.0.0.1:9003", "127.0.0.1:9020", "C5 radius.auth_local"),
+    ("auth_server", "auth_servers", "C5 radius.auth_server"),
+    ("127.0.0.1:1812", "127.0.0.1:0", "C5 radius.auth_server"),
+    ("acct_local", "acct_locals", "C5 radius.acct_local"),
+    ("127.0.0.1:9004", "127.0.0.1", "C5 radius.acct_local"),
+    ("127.0.0.1:9004", "127.0.0.1:9003", "C5 radius.acct_local"),
+    ("127.0.0.1:9004", "127.0.0.1:9002", "C5 radius.acct_local"),
+    ("127.0.0.1:9004", "127.0.0.1:9000", "C5 radius.acct_local"),
+    ("127.0.0.1:9004", "127.0.0.1:9010", "C5 radius.acct_local"),
+    ("127.0.0.1:9004", "127.0.0.1:9020", "C5 radius.acct_local"),
+    ("acct_server", "acct_servers", "C5 radius.acct_server"),
+    ("127.0.0.1:1813", "127.0.0.1:0", "C5 radius.acct_server"),
+    ("secret", "secrets", "C5 radius.secret"),
+    ("xyzzy5461", "", "C5 radius.secret"),
+    ("\"xyzzy5461\"", "5461", "C5 radius.secret"),
+    ("tries = 3", "tries = 0", "C5 radius.tries"),
+    ("tries = 3", "tries = 11", "C5 radius.tries"),
+    ("tries = 3", "tries = -1", "C5 radius.tries"),
+    ("tries = 3", "tries = 257", "C5 radius.tries"),
+    ("tries = 3", "tries = \"3\"", "C5 radius.tries"),
+];
+
 #[test]
 fn each_broken_value_of_radius_is_told_at_its_key(rt: HostRuntime) -> Result<(), Fail> {
-    let rows = [
-        (", nas_ip = \"192.168.1.16\"", "", "C5 gateway.nas_ip"),
-        ("192.168.1.16", "192.168.1", "C5 gateway.nas_ip"),
-        ("192.168.1.16", "192.168.1.016", "C5 gateway.nas_ip"),
-        ("192.168.1.16", "192.168.1.16:1", "C5 gateway.nas_ip"),
-        ("\"192.168.1.16\"", "3232235792", "C5 gateway.nas_ip"),
-        ("[radius]", "[radios]", "C5 radius.auth_local"),
-        ("auth_local", "auth_locals", "C5 radius.auth_local"),
-        ("127.0.0.1:9003", "127.0.0.1", "C5 radius.auth_local"),
-        ("127.0.0.1:9003", "127.0.0.1:9002", "C5 radius.auth_local"),
-        ("127.0.0.1:9003", "127.0.0.1:9000", "C5 radius.auth_local"),
-        ("127.0.0.1:9003", "127.0.0.1:9010", "C5 radius.auth_local"),
-        ("127.0.0.1:9003", "127.0.0.1:9020", "C5 radius.auth_local"),
-        ("auth_server", "auth_servers", "C5 radius.auth_server"),
-        ("127.0.0.1:1812", "127.0.0.1:0", "C5 radius.auth_server"),
-        ("acct_local", "acct_locals", "C5 radius.acct_local"),
-        ("127.0.0.1:9004", "127.0.0.1", "C5 radius.acct_local"),
-        ("127.0.0.1:9004", "127.0.0.1:9003", "C5 radius.acct_local"),
-        ("127.0.0.1:9004", "127.0.0.1:9002", "C5 radius.acct_local"),
-        ("127.0.0.1:9004", "127.0.0.1:9000", "C5 radius.acct_local"),
-        ("127.0.0.1:9004", "127.0.0.1:9010", "C5 radius.acct_local"),
-        ("127.0.0.1:9004", "127.0.0.1:9020", "C5 radius.acct_local"),
-        ("acct_server", "acct_servers", "C5 radius.acct_server"),
-        ("127.0.0.1:1813", "127.0.0.1:0", "C5 radius.acct_server"),
-        ("secret", "secrets", "C5 radius.secret"),
-        ("xyzzy5461", "", "C5 radius.secret"),
-        ("\"xyzzy5461\"", "5461", "C5 radius.secret"),
-        ("tries = 3", "tries = 0", "C5 radius.tries"),
-        ("tries = 3", "tries = 11", "C5 radius.tries"),
-        ("tries = 3", "tries = -1", "C5 radius.tries"),
-        ("tries = 3", "tries = 257", "C5 radius.tries"),
-        ("tries = 3", "tries = \"3\"", "C5 radius.tries"),
-    ];
     let alloc = rt.alloc();
-    for (line, other, wanted) in rows {
-        let text = changed(alloc, WHOLE, line, other)?;
-        let fault = told(&rt, alloc, text.as_bytes());
-        assert_same(&rt, &fault_text(fault).as_str(), &wanted);
+    for (line, other, wanted) in BROKEN_VALUES {
+        assert_told(&rt, alloc, changed(alloc, WHOLE, line, other)?, wanted);
     }
     Ok(())
 }
@@ -137,29 +137,31 @@ static = [{ port = 1, mac = "02:00:00:00:00:01", session = 1025, address = "10.0
 radius = { auth_local = "127.0.0.1:9010", auth_server = "127.0.0.1", acct_local = "127.0.0.1:9003", acct_server = "127.0.0.2", secret = "", tries = 0 }
 "#;
 
+/// What is told, what stands there, and what mends it.
+const LATER_KEYS: &[(&str, &str, &str)] = &[
+    ("C5 static.1.address", "10.0.0", "10.0.0.2"),
+    ("C5 static.1.user", "user = \"\"", "user = \"fixed1\""),
+    ("C5 gateway.nas_ip", "192.168.1", "192.168.1.16"),
+    (
+        "C5 radius.auth_local",
+        "auth_local = \"127.0.0.1:9010\"",
+        "auth_local = \"127.0.0.1:9003\"",
+    ),
+    ("C5 radius.auth_server", "127.0.0.1\"", "127.0.0.1:1812\""),
+    ("C5 radius.acct_local", "127.0.0.1:9003", "127.0.0.1:9004"),
+    ("C5 radius.acct_server", "127.0.0.2\"", "127.0.0.2:1813\""),
+    ("C5 radius.secret", "secret = \"\"", "secret = \"s\""),
+    ("C5 radius.tries", "tries = 0", "tries = 1"),
+];
+
 #[test]
 fn the_keys_of_radius_are_looked_at_last(rt: HostRuntime) -> Result<(), Fail> {
-    let rows = [
-        ("C5 static.1.address", "10.0.0", "10.0.0.2"),
-        ("C5 static.1.user", "user = \"\"", "user = \"fixed1\""),
-        ("C5 gateway.nas_ip", "192.168.1", "192.168.1.16"),
-        (
-            "C5 radius.auth_local",
-            "auth_local = \"127.0.0.1:9010\"",
-            "auth_local = \"127.0.0.1:9003\"",
-        ),
-        ("C5 radius.auth_server", "127.0.0.1\"", "127.0.0.1:1812\""),
-        ("C5 radius.acct_local", "127.0.0.1:9003", "127.0.0.1:9004"),
-        ("C5 radius.acct_server", "127.0.0.2\"", "127.0.0.2:1813\""),
-        ("C5 radius.secret", "secret = \"\"", "secret = \"s\""),
-        ("C5 radius.tries", "tries = 0", "tries = 1"),
-    ];
     let alloc = rt.alloc();
     let mut text = String::from_str(alloc, BROKEN)?;
-    for (wanted, line, other) in rows {
-        let fault = told(&rt, alloc, text.as_bytes());
-        assert_same(&rt, &fault_text(fault).as_str(), &wanted);
-        text = changed(alloc, text.as_str(), line, other)?;
+    for (wanted, line, other) in LATER_KEYS {
+        let mended = changed(alloc, text.as_str(), line, other)?;
+        assert_told(&rt, alloc, text, wanted);
+        text = mended;
     }
     assert_same(&rt, &config_of(&rt, alloc, text.as_str()).tries, &1);
     Ok(())
