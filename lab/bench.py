@@ -113,8 +113,9 @@ def compare(tool, shards, rounds, seconds):
         octets = {"up": 0, "down": 0}
         lost = 0
         print(f"\n{shards} shards, saturated: {rounds} runs of {seconds} s at each size, in turns")
-        for kind, way, size in results:
-            for turn in range(rounds + 1):
+        # Row by row in each turn, so that a slow minute of the machine falls on all rows alike.
+        for turn in range(rounds + 1):
+            for kind, way, size in results:
                 for lab, runs in zip((plain, ours), results[kind, way, size]):
                     # The first turn warms up.
                     run = measure(tool, lab, subscribers[kind], way, size, seconds if turn else 0.2)

@@ -141,7 +141,7 @@ fn a_packet_is_forwarded_with_ttl_and_sum_changed(rt: HostRuntime) -> Result<(),
     assert_same(&rt, &sent[0].peer, &loopback(9001));
     let packet = sent[0].octets.as_slice();
     assert_count(&rt, packet.len(), 84);
-    assert_same(&rt, &packet[..20], &FORWARDED.as_slice());
+    assert_octets(&rt, &packet[..20], FORWARDED.as_slice());
     assert_holds(&rt, packet[20..].iter().all(|octet| *octet == 7));
     accounts(&rt, &ended, 1, &[START, SESSION_ID]);
     assert_same(&rt, &sent[2].role, &Role::Control);
