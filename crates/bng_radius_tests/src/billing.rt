@@ -200,13 +200,18 @@ fn send_octets(
     Ok(())
 }
 
+// Notes what became of a send. Nothing is said of it, so that no proof looks into the list of what was sent.
+fn note(billing: &mut Billing, id: u8, sent: bool) {
+    billing.note(id, sent);
+}
+
 // Hears the reply to the Start before it was sent, and where the send failed; and then sends both.
 fn hear_too_soon(rt: &impl Abort, alloc: Global, billing: &mut Billing) -> Result<(), Fail> {
     hear(rt, alloc, billing, SERVER, REPLY_TO_START, None)?;
-    billing.note(0, false);
+    note(billing, 0, false);
     hear(rt, alloc, billing, SERVER, REPLY_TO_START, None)?;
-    billing.note(0, true);
-    billing.note(1, true);
+    note(billing, 0, true);
+    note(billing, 1, true);
     Ok(())
 }
 
@@ -281,7 +286,7 @@ fn at_most_256_requests_are_out_and_no_record_is_lost(rt: HostRuntime) -> Result
     }
     assert_holds(&rt, billing.send(0).is_none());
 
-    billing.note(0, true);
+    note(&mut billing, 0, true);
     hear(&rt, rt.alloc(), &mut billing, SERVER, REPLY_TO_START, first)?;
     assert_same(&rt, &billing.free(), &43);
     match billing.send(0) {
@@ -308,7 +313,7 @@ fn send_three(
     send(rt, billing, interim, 1, 0);
     let last = send(rt, billing, stop, 2, 0);
     for id in 0..3 {
-        billing.note(id, true);
+        note(billing, id, true);
     }
     last
 }
