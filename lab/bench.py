@@ -15,7 +15,7 @@ import sys
 import tempfile
 
 from crowd import mac_of, open_sessions
-from gateway import HOME, Lab, frame, packet
+from gateway import BNG, Lab, frame, packet
 
 BUILDING = 4 * 3600
 SIZES = (64, 576, 1400)
@@ -60,7 +60,7 @@ def logged_in(lab):
 
 
 def measure(tool, lab, who, way, size, seconds, rate=None):
-    before = Spent(lab.program.pid)
+    before = Spent(lab.pid)
     if way == "up":
         ends, to = (lab.access.fileno(), lab.core.fileno()), "access"
         octets = frame(packet(who.address, length=size), subscriber=who.mac, session=who.session)
@@ -74,7 +74,7 @@ def measure(tool, lab, who, way, size, seconds, rate=None):
         command, input=octets, stdout=subprocess.PIPE, pass_fds=ends, timeout=seconds + 20, check=True
     )
     came, lost, took = done.stdout.split()
-    after = Spent(lab.program.pid)
+    after = Spent(lab.pid)
     count = max(int(came), 1)
     used = (after.seconds - before.seconds) * 1e6 / count
     faults = (after.faults - before.faults) / count
@@ -98,7 +98,7 @@ def table(results):
 
 
 def serve(lab):
-    lab.start([os.path.join(HOME, "bng"), "serve", lab.configuration], patience=BUILDING, stderr=None)
+    lab.start([BNG, "serve", lab.configuration], patience=BUILDING, stderr=None)
 
 
 def compare(tool, shards, rounds, seconds):
@@ -153,7 +153,7 @@ def remember(terms):
         serve(lab)
         if terms:
             open_sessions(lab, terms)
-        with open(f"/proc/{lab.program.pid}/statm", encoding="ascii") as file:
+        with open(f"/proc/{lab.pid}/statm", encoding="ascii") as file:
             held = int(file.read().split()[1]) * PAGE
         print(f"{terms:6} {held / 1e6:10.1f}")
         lab.send(b"stop", lab.control, "control")

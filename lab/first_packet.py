@@ -1,9 +1,8 @@
 """Shows one packet of one subscriber on its way through the real gateway, over sockets of the loopback."""
 
-import os
 import sys
 
-from gateway import HOME, Lab, frame, packet
+from gateway import BNG, Lab, frame, packet
 
 BUILDING = 4 * 3600
 
@@ -30,7 +29,7 @@ def main():
     with Lab() as lab:
         with open(lab.configuration, encoding="utf-8") as file:
             show("The configuration:", file.read().splitlines())
-        lab.start([os.path.join(HOME, "bng"), "serve", lab.configuration], patience=BUILDING, stderr=None)
+        lab.start([BNG, "serve", lab.configuration], patience=BUILDING, stderr=None)
         sent = frame(packet())
         show(
             f"A frame goes in at the access port {lab.ports['access']}, {len(sent)} octets:",

@@ -15,6 +15,7 @@ import radius
 HOME = os.path.dirname(os.path.dirname(os.path.abspath(__file__)))
 CRATE = os.path.join(HOME, "crates", "bng_gate")
 PROGRAM = os.path.join(CRATE, "out", "bng_gate")
+BNG = os.path.join(HOME, "bng")
 LOOPBACK = "127.0.0.1"
 
 CONFIGURATION = """\
@@ -227,6 +228,14 @@ class Lab:
             if time.monotonic() > end:
                 raise RuntimeError(f"the gateway had no sockets after {patience} seconds")
             time.sleep(0.02)
+
+    @property
+    def pid(self):
+        """The process of the gateway: the one that `bng serve` started and waits for, or else the one that was started here."""
+        own = self.program.pid
+        with open(f"/proc/{own}/task/{own}/children", encoding="ascii") as file:
+            children = file.read().split()
+        return int(children[0]) if children else own
 
     def send(self, octets, end=None, to="access"):
         """Sends from one of our sockets, by default the subscriber's side, to an end of the gateway."""

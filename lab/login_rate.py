@@ -4,7 +4,6 @@ anything. The subscribers, the core and the server are the same script for both,
 the gateway's own processor time a login say more than the rate."""
 
 import hashlib
-import os
 import select
 import socket
 import subprocess
@@ -15,7 +14,7 @@ import time
 import radius
 from bench import BUILDING, Spent
 from crowd import AT_ONCE, Crowd, mac_of, open_sessions
-from gateway import HOME, LOOPBACK, Lab
+from gateway import BNG, LOOPBACK, Lab
 from gateway import packet as ipv4_packet
 from pppoe import AC_COOKIE, AC_NAME, CHALLENGE, CHAP, CONFIGURE_ACK, CONFIGURE_NAK, CONFIGURE_REQUEST, DATA, DISCOVERY, IPCP, IPV4
 from pppoe import LCP, PADI, PADO, PADR, PADS, RESPONSE, SESSION, SUCCESS, Frame, Packet, frame_octets, number_at, options_octets
@@ -127,11 +126,11 @@ def bare():
 def ours(before):
     """The seconds of a thousand logins, and the gateway's processor microseconds a login, with so many sessions there."""
     with Lab("shards = 16\necho = 0\nterms = 32768\n", session=1, last="10.0.255.254") as lab:
-        lab.start([os.path.join(HOME, "bng"), "serve", lab.configuration], patience=BUILDING, stderr=None)
+        lab.start([BNG, "serve", lab.configuration], patience=BUILDING, stderr=None)
         open_sessions(lab, before)
-        used = Spent(lab.program.pid).seconds
+        used = Spent(lab.pid).seconds
         took = logins(lab, before)
-        used = Spent(lab.program.pid).seconds - used
+        used = Spent(lab.pid).seconds - used
         lab.send(b"stop", lab.control, "control")
         lab.end(60)
         return took, used * 1e6 / LOGINS

@@ -9,6 +9,7 @@ import threading
 import time
 
 from gateway import CRATE, PROGRAM, USAGE, Lab, delivery, frame, is_built, packet, report, run, tried, udp
+from habits import keeps_an_operators_habits
 from logins import authenticates, gives_up_on_a_silent_server
 from leases import leases_addresses
 from records import records_a_circuit, tells_a_stop_that_nobody_acknowledges
@@ -223,6 +224,7 @@ def try_all(checks):
         refuses_bad_beginnings(checks)
         refuses_bad_configurations(checks)
         says_when_nobody_takes_its_report(checks)
+        keeps_an_operators_habits(checks)
     else:
         print("smoke: the built program is missing or older than its sources: runs under rt try, and only three times")
         os.chdir(CRATE)

@@ -1,0 +1,82 @@
+"""How an operator stops the program by its script, and what lab/smoke asks of that."""
+
+import os
+import signal
+import subprocess
+import time
+
+from gateway import BNG, Lab, frame, packet, report
+
+# What the script says, and of which status, of a configuration that no gateway serves.
+UNANSWERED = "bng: no gateway answers at 127.0.0.1:{}\n"
+
+
+def told(*words):
+    """What the script answers to these words: its status, standard output and standard error."""
+    done = subprocess.run([BNG, *words], stdin=subprocess.DEVNULL, capture_output=True, timeout=20, text=True)
+    return done.returncode, done.stdout, done.stderr
+
+
+def ends_with_its_report(checks, what, act):
+    """A gateway that serves by the script, took a packet and is then stopped in this way: what the way gave."""
+    with Lab() as lab:
+        lab.start([BNG, "serve", lab.configuration])
+        lab.send(frame(packet()))
+        checks.same(f"a packet comes to the core before {what}", lab.receive(lab.core)[0], packet(ttl=63))
+        given = act(lab)
+        checks.same(f"after {what} there is the report and status 0", lab.end(), (0, report(84), ""))
+        return given
+
+
+def stops_as_it_is_told(checks):
+    ends_with_its_report(checks, "SIGTERM to the script alone", lambda lab: os.kill(lab.program.pid, signal.SIGTERM))
+    # A terminal sends it to all of the processes that it started.
+    ends_with_its_report(checks, "an interrupt", lambda lab: os.killpg(lab.program.pid, signal.SIGINT))
+    answer = ends_with_its_report(checks, "bng stop", lambda lab: told("stop", lab.configuration))
+    checks.same("bng stop prints the gateway's answer", answer, (0, "stopping\n", ""))
+
+
+def stops_before_it_listens(checks):
+    with Lab() as lab:
+        command = [BNG, "serve", lab.configuration]
+        pipes = {"stdin": subprocess.DEVNULL, "stdout": subprocess.PIPE, "stderr": subprocess.PIPE}
+        lab.program = subprocess.Popen(command, start_new_session=True, **pipes)
+        time.sleep(0.05)
+        os.kill(lab.program.pid, signal.SIGTERM)
+        # The signal may also find the script before it has started the program.
+        status, out, _ = lab.end()
+        checks.same("a SIGTERM right after the start ends it", (status, out) in ((0, report()), (-signal.SIGTERM, "")), True)
+
+
+def ends_at_a_second_signal(checks):
+    with Lab(acknowledges=False) as lab:
+        lab.start([BNG, "serve", lab.configuration])
+        os.kill(lab.program.pid, signal.SIGTERM)
+        time.sleep(0.5)
+        checks.same("while nobody acknowledges its Stop it waits", lab.program.poll(), None)
+        os.kill(lab.program.pid, signal.SIGTERM)
+        checks.same("a second SIGTERM ends it at once", lab.end(5), (128 + signal.SIGTERM, "", ""))
+
+
+def says_where_nobody_listens(checks):
+    with Lab() as lab:
+        said = UNANSWERED.format(lab.ports["control"])
+        checks.same("bng stop says that no gateway answers", told("stop", lab.configuration), (1, "", said))
+        table = f'[control]\nlocal = "127.0.0.1:{lab.ports["control"]}"\n'
+        with open(lab.configuration, encoding="utf-8") as file:
+            text = file.read().replace(table, "")
+        key = f'127.0.0.1:{lab.ports["control"]}'
+        for line in (f'control.local = "{key}"', f"control = {{ local = '{key}' }} # the word stop"):
+            path = lab.write("other.toml", f"{line}\n{text}")
+            checks.same(f"it reads the key {line.split(' =')[0]}", told("stop", path), (1, "", said))
+        path = lab.write("other.toml", text)
+        says = f"bng: {path} does not say where Control listens: it has no control.local\n"
+        checks.same("a configuration without control.local stops nothing", told("stop", path), (1, "", says))
+    checks.same("bng stop wants a configuration", told("stop"), (1, "", "usage: bng stop CONFIG\n"))
+
+
+def keeps_an_operators_habits(checks):
+    stops_as_it_is_told(checks)
+    stops_before_it_listens(checks)
+    ends_at_a_second_signal(checks)
+    says_where_nobody_listens(checks)
