@@ -30,8 +30,9 @@ def ends_with_its_report(checks, what, act):
 
 def stops_as_it_is_told(checks):
     ends_with_its_report(checks, "SIGTERM to the script alone", lambda lab: os.kill(lab.program.pid, signal.SIGTERM))
-    # A terminal sends it to all of the processes that it started.
+    # A terminal sends these to all of the processes that it started.
     ends_with_its_report(checks, "an interrupt", lambda lab: os.killpg(lab.program.pid, signal.SIGINT))
+    ends_with_its_report(checks, "a hangup", lambda lab: os.killpg(lab.program.pid, signal.SIGHUP))
     answer = ends_with_its_report(checks, "bng stop", lambda lab: told("stop", lab.configuration))
     checks.same("bng stop prints the gateway's answer", answer, (0, "stopping\n", ""))
 
