@@ -113,7 +113,8 @@ def is_built():
     if not os.access(PROGRAM, os.X_OK):
         return False
     crates = os.path.join(HOME, "crates")
-    sources = [os.path.join(crates, crate, part) for crate in os.listdir(crates) for part in ("src", "specs")]
+    made_of = [crate for crate in os.listdir(crates) if not crate.endswith("_tests")]
+    sources = [os.path.join(crates, crate, part) for crate in made_of for part in ("src", "specs")]
     listed = os.path.getmtime(os.path.join(HOME, "crates.txt"))
     return max(newest(*sources), listed) <= os.path.getmtime(PROGRAM)
 

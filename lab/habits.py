@@ -7,9 +7,6 @@ import time
 
 from gateway import BNG, Lab, frame, packet, report
 
-# What the script says, and of which status, of a configuration that no gateway serves.
-UNANSWERED = "bng: no gateway answers at 127.0.0.1:{}\n"
-
 
 def told(*words):
     """What the script answers to these words: its status, standard output and standard error."""
@@ -30,6 +27,7 @@ def ends_with_its_report(checks, what, act):
 
 def stops_as_it_is_told(checks):
     ends_with_its_report(checks, "SIGTERM to the script alone", lambda lab: os.kill(lab.program.pid, signal.SIGTERM))
+    ends_with_its_report(checks, "SIGTERM to all", lambda lab: os.killpg(lab.program.pid, signal.SIGTERM))
     # A terminal sends these to all of the processes that it started.
     ends_with_its_report(checks, "an interrupt", lambda lab: os.killpg(lab.program.pid, signal.SIGINT))
     ends_with_its_report(checks, "a hangup", lambda lab: os.killpg(lab.program.pid, signal.SIGHUP))
@@ -39,14 +37,12 @@ def stops_as_it_is_told(checks):
 
 def stops_before_it_listens(checks):
     with Lab() as lab:
-        command = [BNG, "serve", lab.configuration]
         pipes = {"stdin": subprocess.DEVNULL, "stdout": subprocess.PIPE, "stderr": subprocess.PIPE}
-        lab.program = subprocess.Popen(command, start_new_session=True, **pipes)
-        time.sleep(0.05)
+        lab.program = subprocess.Popen([BNG, "serve", lab.configuration], start_new_session=True, **pipes)
+        # Until the script has set its traps, it ends by the signal itself.
+        time.sleep(0.5)
         os.kill(lab.program.pid, signal.SIGTERM)
-        # The signal may also find the script before it has started the program.
-        status, out, _ = lab.end()
-        checks.same("a SIGTERM right after the start ends it", (status, out) in ((0, report()), (-signal.SIGTERM, "")), True)
+        checks.same("a SIGTERM soon after the start ends it", lab.end(), (0, report(), ""))
 
 
 def ends_at_a_second_signal(checks):
@@ -56,22 +52,21 @@ def ends_at_a_second_signal(checks):
         time.sleep(0.5)
         checks.same("while nobody acknowledges its Stop it waits", lab.program.poll(), None)
         os.kill(lab.program.pid, signal.SIGTERM)
-        checks.same("a second SIGTERM ends it at once", lab.end(5), (128 + signal.SIGTERM, "", ""))
+        checks.same("a second SIGTERM kills it, without a report", lab.end(5)[:2], (128 + signal.SIGKILL, ""))
 
 
 def says_where_nobody_listens(checks):
     with Lab() as lab:
-        said = UNANSWERED.format(lab.ports["control"])
+        end = f"127.0.0.1:{lab.ports['control']}"
+        said = f"bng: no gateway answers at {end}\n"
         checks.same("bng stop says that no gateway answers", told("stop", lab.configuration), (1, "", said))
-        table = f'[control]\nlocal = "127.0.0.1:{lab.ports["control"]}"\n'
         with open(lab.configuration, encoding="utf-8") as file:
-            text = file.read().replace(table, "")
-        key = f'127.0.0.1:{lab.ports["control"]}'
-        for line in (f'control.local = "{key}"', f"control = {{ local = '{key}' }} # the word stop"):
+            text = file.read().replace(f'[control]\nlocal = "{end}"\n', "")
+        for line in (f'control.local = "{end}"\r', f"control = {{ local = '{end}' }} # the word stop"):
             path = lab.write("other.toml", f"{line}\n{text}")
             checks.same(f"it reads the key {line.split(' =')[0]}", told("stop", path), (1, "", said))
         path = lab.write("other.toml", text)
-        says = f"bng: {path} does not say where Control listens: it has no control.local\n"
+        says = "bng: the configuration does not say where Control listens: it has no control.local\n"
         checks.same("a configuration without control.local stops nothing", told("stop", path), (1, "", says))
     checks.same("bng stop wants a configuration", told("stop"), (1, "", "usage: bng stop CONFIG\n"))
 

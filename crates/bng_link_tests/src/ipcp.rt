@@ -72,7 +72,7 @@ fn answer(alloc: Global, body: &[u8], rules: &IpcpRules) -> Result<String, Alloc
 fn requests_are_judged_by_lease_and_servers(rt: HostRuntime) -> Result<(), Fail> {
     for (body, want) in JUDGED.iter() {
         let text = answer(rt.alloc(), body, &RULES)?;
-        assert_same(&rt, &text.as_str(), &*want);
+        assert_same(&rt, &text.as_str(), want);
     }
     Ok(())
 }

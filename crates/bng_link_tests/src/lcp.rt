@@ -76,7 +76,7 @@ fn answer(alloc: Global, body: &[u8], rules: &LcpRules) -> Result<String, AllocE
 fn requests_are_judged_by_type_length_and_value(rt: HostRuntime) -> Result<(), Fail> {
     for (body, want) in JUDGED.iter() {
         let text = answer(rt.alloc(), body, &RULES)?;
-        assert_same(&rt, &text.as_str(), &*want);
+        assert_same(&rt, &text.as_str(), want);
     }
     Ok(())
 }

@@ -79,7 +79,7 @@ fn reads_each_command(rt: HostRuntime) -> Result<(), Fail> {
         ),
     ];
     for (texts, wanted) in rows.iter() {
-        assert_same(&rt, &told(alloc, *texts)?.as_str(), &*wanted);
+        assert_same(&rt, &told(alloc, *texts)?.as_str(), wanted);
     }
     Ok(())
 }

@@ -104,7 +104,7 @@ fn requests_have_the_octets_of_their_questions(rt: HostRuntime) -> Result<(), Fa
     for (question, octets) in &cases {
         write(&rules(), SECRET, question, &AUTHENTICATOR, &mut frame);
         let text = hex::encode(rt.alloc(), frame.payload())?;
-        assert_same(&rt, &text.as_str(), &*octets);
+        assert_same(&rt, &text.as_str(), octets);
     }
     Ok(())
 }

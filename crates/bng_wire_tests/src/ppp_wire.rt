@@ -22,8 +22,8 @@ fn lists(rt: &impl Abort, frame: &[u8], wanted: &[(u8, &[u8])]) {
     let found = options(&packet).expect(rt, "options");
     assert_holds(rt, found.len() == wanted.len());
     for (option, (kind, value)) in found.as_slice().iter().zip(wanted) {
-        assert_same(rt, &option.kind, &*kind);
-        assert_same(rt, &option.value, &*value);
+        assert_same(rt, &option.kind, kind);
+        assert_same(rt, &option.value, value);
     }
 }
 

@@ -1,12 +1,12 @@
-ghost use Rattle.std.specs.Prelude.{◌≡◌, ◌<◌, ◌^◌, ℕ, Some, true};
+ghost use Rattle.std.specs.Prelude.{◌<◌, ◌^◌};
 ghost use Rattle.bng_shard.specs.Interims.{AwaitsInterims};
 
 use super::logins::accepted_by;
 use super::verdicts::ACCEPT;
 use super::{Bench, NOTHING, TWO, open_bench, rules_with};
 use crate::asserts::assert_same;
-use bng_base::{Book, OutRecord, SessionNo, Static, TermId};
-use bng_shard::{ReportedTerm, Reports};
+use bng_base::{Book, SessionNo, TermId};
+use bng_shard::Reports;
 use std::alloc::Global;
 use std::process::Abort;
 use std::test::Fail;
