@@ -1,10 +1,13 @@
 -- A configuration that is read keeps the rules.
-use Rattle.std.proofs.Common.{◌≡◌, ◌≢◌, ℕ, zero, suc, ◌-◌, ◌<◌, ◌≤◌, List, [], ◌∷◌, ◌++◌, length, map, Some, get_or, sym, subst, ◌∙◌, arith, inl, inr}
+use Rattle.std.proofs.Common.{◌≡◌, ◌≢◌, ℕ, zero, suc, ◌-◌, ◌<◌, ◌≤◌, List, [], ◌∷◌, ◌++◌, length, map, Some, get_or, sym, ap, subst, ◌∙◌, arith, inl, inr}
 use Rattle.std.specs.List.{AllPairs, All}
+use Rattle.std.specs.Prelude.{codes}
 use Rattle.std.proofs.lemmas.List.{length-map, get_or-map}
+use Rattle.std.proofs.lemmas.List.Elements.{All-from_recursion}
 use Rattle.std.proofs.lemmas.Option.{same_Some}
 use Rattle.toml.specs.Data.{Data, Items, array, table}
 use Rattle.bng_base.specs.declared.address.Peer.{Peer}
+use Rattle.bng_base.specs.declared.book.Profile.{Profile}
 use Rattle.bng_base.specs.declared.settings.AccessPort.{AccessPort}
 use Rattle.bng_base.specs.declared.settings.Static.{Static}
 use Rattle.bng_config.specs.declared.config.Config.{Config}
@@ -12,8 +15,8 @@ use Rattle.bng_config.specs.declared.fault.Key.{Key}
 use Rattle.bng_config.specs.declared.fault.Key.TheVariants.{Access, Pools, Statics, RadiusAuthLocal, RadiusAcctLocal}
 use Rattle.bng_config.specs.Keys.{path_of, gateway_keys, end_keys, access_keys, pool_keys, static_keys, radius_keys}
 use Rattle.bng_config.specs.Pools.{HasAddress, ArePoolsBeside, ranges_of}
-use Rattle.bng_config.specs.Configuration.{StandsAt, IsFit, IsAddress, IsSound, AreSound, value_at, entries, item_count, port_keys, range_keys, circuit_keys, shards_of, terms_of, most_shards, fewest_terms, most_terms, longest_echo, most_tries, Configures, IsRead}
-use Rattle.bng_config.specs.Rules.{IsGatewayName, IsServiceName, IsPoolName, IsSharedSecret, IsUserName, IsSessionOf, IsPlaced, KeepsRules, ends_of}
+use Rattle.bng_config.specs.Configuration.{StandsAt, IsFit, IsAddress, IsSound, AreSound, value_at, entries, item_count, port_keys, range_keys, circuit_keys, shards_of, terms_of, most_shards, fewest_terms, most_terms, longest_echo, most_tries, default_profile, Configures, IsRead}
+use Rattle.bng_config.specs.Rules.{IsGatewayName, IsServiceName, IsLabelOctet, IsPoolName, IsProfileName, IsSharedSecret, IsUserName, IsSessionOf, IsPlaced, KeepsRules, ends_of}
 use Rattle.bng_config.proofs.Spellings.{same_items}
 use Rattle.bng_config.proofs.New.{other_end, other_label, other_session, other_address}
 use Rattle.bng_config.proofs.Defaults.{known_shards, known_terms, range_or, services_kept, servers_kept, kinds_kept}
@@ -58,6 +61,32 @@ few_of document (inr h) =
     let list = h.is.form.0 in
     let fits = h.is.form.1 in
     (rw (entries_of document Statics h.value list.items h.found list.list) list.few, rw (entries_of document Statics h.value fits.items h.found fits.list) fits.few)
+
+-- The profile that there is -----------------------------------------------------------------------------------------------------
+
+letter : (octet : ℕ) → 97 ≤ octet → octet ≤ 122 → IsLabelOctet octet
+letter octet low high = inl (low, high)
+
+default_name : IsProfileName default_profile.name.items
+default_name = record {
+  some = omega arith;
+  short = omega arith;
+  octets = All-from_recursion IsLabelOctet (codes "default")
+      (letter 100 (omega arith) (omega arith),
+      (letter 101 (omega arith) (omega arith),
+      (letter 102 (omega arith) (omega arith),
+      (letter 97 (omega arith) (omega arith),
+      (letter 117 (omega arith) (omega arith),
+      (letter 108 (omega arith) (omega arith),
+      (letter 116 (omega arith) (omega arith), tt)))))));
+}
+
+default_named : All (λ p. IsProfileName p.name.items) (default_profile ∷ [])
+default_named zero d less = default_name
+default_named (suc i) d less = absurd (omega arith)
+
+default_alone : AllPairs (λ a b. a.name.items ≢ b.name.items) (default_profile ∷ [])
+default_alone i j d less long = absurd (omega arith)
 
 module _ (document : Data) (c : Config) (h : Configures document c) where
   sound_rest : AreSound document (end_keys ++ behind document)
@@ -253,6 +282,15 @@ module _ (document : Data) (c : Config) (h : Configures document c) where
   tries : (1 ≤ c.tries) × (c.tries ≤ 10)
   tries = range_or 1 most_tries 4 c.tries (omega arith) (omega arith) h.tries
 
+  one_profile : length c.profiles ≡ 1
+  one_profile = ap length h.profiles
+
+  profiled : All (λ s. s.profile < length c.profiles) c.statics
+  profiled i d less =
+      let first = (h.statics i d less).profile in
+      let one = one_profile in
+      omega arith
+
   pub kept : KeepsRules c
   kept =
       let count = port_count in
@@ -264,6 +302,7 @@ module _ (document : Data) (c : Config) (h : Configures document c) where
       let room = circuits.1 in
       let same = h.all_circuits in
       let known = known_terms document c.terms h.terms in
+      let one = one_profile in
       record {
         name = name;
         some_shard = shards.0;
@@ -296,6 +335,11 @@ module _ (document : Data) (c : Config) (h : Configures document c) where
         ends = ends;
         sessions = sessions;
         addresses = addresses;
+        some_profile = omega arith;
+        few_profiles = omega arith;
+        profile_names = subst (λ (ps : List Profile). All (λ p. IsProfileName p.name.items) ps) (sym h.profiles) default_named;
+        different_profiles = subst (λ (ps : List Profile). AllPairs (λ a b. a.name.items ≢ b.name.items) ps) (sym h.profiles) default_alone;
+        profiled = profiled;
       }
 
 pub read_keeps : (text : List ℕ) (c : Config) → IsRead text c → KeepsRules c

@@ -200,6 +200,7 @@ one_configuration document a b p q =
     let accounts : a.acct_local ≡ b.acct_local = one_at IsPeer peer_once a.acct_local b.acct_local p.acct_local q.acct_local in
     let accountants : a.acct_server ≡ b.acct_server = one_at IsPeer peer_once a.acct_server b.acct_server p.acct_server q.acct_server in
     let secrets : a.secret ≡ b.secret = one_at IsSecret secret_once a.secret b.secret p.secret q.secret in
+    let profiles : a.profiles ≡ b.profiles = p.profiles ∙ sym q.profiles in
     let tries : a.tries ≡ b.tries = one_or (IsNumber 1 most_tries) (λ n. n ≡ 4) (range_once 1 most_tries) (λ x y e f. e ∙ sym f) a.tries b.tries p.tries q.tries in
     λ i. record {
       name = names i;
@@ -223,6 +224,7 @@ one_configuration document a b p q =
       address = owns i;
       dns = servers_of_names i;
       pools = pools i;
+      profiles = profiles i;
     }
 
 -- a text says one configuration

@@ -9,6 +9,7 @@ use Rattle.bng_base.specs.declared.address.Ip4.{Ip4}
 use Rattle.bng_base.specs.declared.address.Mac.{Mac}
 use Rattle.bng_base.specs.declared.address.Peer.{Peer}
 use Rattle.bng_base.specs.declared.address.SessionNo.{SessionNo}
+use Rattle.bng_base.specs.declared.book.Profile.{Profile}
 use Rattle.bng_base.specs.declared.settings.AccessPort.{AccessPort}
 use Rattle.bng_base.specs.declared.settings.AuthKind.{AuthKind}
 use Rattle.bng_base.specs.declared.settings.AuthKind.TheVariants.{Chap, Pap}
@@ -341,7 +342,11 @@ pub record IsCircuit (document : Data) (place : ℕ) (circuit : Static) : Type 0
   pub user : StandsAt document (StaticUser place) (λ d. IsUser d circuit.user)
   pub profile : circuit.profile ≡ 0
 
--- no key is missing or outside its form, and the configuration is what stands at the keys
+-- the profile that there is: its name is `default`, and it meters nothing
+abbrev pub default_profile : Profile
+default_profile = record { name = record { items = codes "default" }; up = None; down = None }
+
+-- no key is missing or outside its form, and the configuration is what stands at the keys, with one profile
 pub record Configures (document : Data) (c : Config) : Type 0 where
   pub sound : AreSound document (keys document)
   pub name : StandsAt document GatewayName (λ d. IsName d c.name)
@@ -367,6 +372,7 @@ pub record Configures (document : Data) (c : Config) : Type 0 where
   pub acct_server : StandsAt document RadiusAcctServer (λ d. IsPeer d c.acct_server)
   pub secret : StandsAt document RadiusSecret (λ d. IsSecret d c.secret)
   pub tries : StandsOr document RadiusTries (λ d. IsNumber 1 most_tries d c.tries) (c.tries ≡ 4)
+  pub profiles : c.profiles ≡ default_profile ∷ []
 
 -- the text is UTF-8, and is TOML for these members
 pub record IsDocument (text : List ℕ) (members : Members) : Type 0 where

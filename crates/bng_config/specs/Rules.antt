@@ -42,6 +42,10 @@ pub record IsPoolName (name : List ℕ) : Type 0 where
   pub short : length name ≤ 32
   pub octets : All IsLabelOctet name
 
+-- and that of a profile
+abbrev pub IsProfileName : List ℕ → Type 0
+IsProfileName = IsPoolName
+
 -- a number of a session of one of this many shards: the shard, from 0, times 1,024, and an index of 1 to 1,022
 pub record IsSessionOf (shards number : ℕ) : Type 0 where
   pub shard : number / 1024 < shards
@@ -66,7 +70,8 @@ pub record IsPlaced (ports : ℕ) (s : Static) : Type 0 where
 -- authenticate, none twice, and at most 3,600 s between Echo-Requests; 1 to 16 ports, and 1 to 16 pools with different
 -- names, whose ranges are apart and without the gateway's own address; at most 1,024 circuits and no more than there is
 -- room for terms, each on a port, with a session of one of the shards, an address of a pool and a name of its user; a
--- secret, and 1 to 10 sends of an Access-Request; no two sockets have one end, and no two circuits one session or address
+-- secret, and 1 to 10 sends of an Access-Request; no two sockets have one end, and no two circuits one session or address;
+-- 1 to 16 profiles with different names, and each circuit has one of them
 pub record KeepsRules (c : Config) : Type 0 where
   pub name : IsGatewayName c.name.items
   pub some_shard : 1 ≤ c.shards
@@ -99,3 +104,8 @@ pub record KeepsRules (c : Config) : Type 0 where
   pub ends : AllPairs (λ a b. a ≢ b) (ends_of c)
   pub sessions : AllPairs (λ a b. a.session ≢ b.session) c.statics
   pub addresses : AllPairs (λ a b. a.address ≢ b.address) c.statics
+  pub some_profile : 1 ≤ length c.profiles
+  pub few_profiles : length c.profiles ≤ 16
+  pub profile_names : All (λ p. IsProfileName p.name.items) c.profiles
+  pub different_profiles : AllPairs (λ a b. a.name.items ≢ b.name.items) c.profiles
+  pub profiled : All (λ s. s.profile < length c.profiles) c.statics

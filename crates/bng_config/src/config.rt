@@ -1,5 +1,5 @@
 use arrayvec::ArrayVec;
-use bng_base::{AccessPort, AuthKind, Ip4, Listed, NamedRange, Peer, Static};
+use bng_base::{AccessPort, AuthKind, Ip4, Listed, NamedRange, Peer, Profile, Static};
 
 /// What the gateway serves: its name, of 1 to 64 printable octets of ASCII without space; the number of its shards, 1 to
 /// 64; the services that it offers beside any, at most 8 of 1 to 64 octets each; the ways to authenticate that it asks
@@ -37,6 +37,9 @@ pub struct Config {
     /// The pools of addresses for subscribers, 1 to 16. Their names are different, 1 to 32 of `a` to `z`, `0` to `9`, `-`
     /// and `_` each; no address is in two of them; together they have at most 262,144; each circuit's address is in one.
     pub pools: Listed<NamedRange>,
+    /// The profiles that subscribers are metered by, 1 to 16. Their names are different, 1 to 32 of `a` to `z`, `0` to `9`, `-`
+    /// and `_` each, and each circuit's profile is a place, from 0, of this list.
+    pub profiles: Listed<Profile>,
 }
 
 impl Drop for Config {
@@ -63,6 +66,7 @@ impl Drop for Config {
             address: _,
             dns: _,
             pools: _,
+            profiles: _,
         } = self;
     }
 }

@@ -15,6 +15,7 @@ mod mac;
 mod names;
 mod peer;
 mod pools;
+mod profiles;
 mod radius;
 mod reading;
 mod session;

@@ -13,6 +13,7 @@ use crate::ends::ends_of;
 use crate::fault::{ConfigError, Fault};
 use crate::gateway::gateway_of;
 use crate::pools::pools_of;
+use crate::profiles::profiles_of;
 use crate::radius::radius_of;
 use bng_base::Listed;
 use std::alloc::Global;
@@ -74,6 +75,7 @@ fn configuration_of(alloc: Global, document: &Value) -> Result<Config, ConfigErr
         ends.core_local,
         access.as_slice(),
     )?;
+    let profiles = profiles_of(alloc)?;
     Ok(Config {
         name: gateway.name,
         shards: gateway.shards,
@@ -96,5 +98,6 @@ fn configuration_of(alloc: Global, document: &Value) -> Result<Config, ConfigErr
         address: gateway.address,
         dns: gateway.dns,
         pools: Listed::of(pools),
+        profiles: Listed::of(profiles),
     })
 }

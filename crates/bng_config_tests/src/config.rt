@@ -1,5 +1,5 @@
 use crate::asserts::{assert_count, assert_holds, assert_octets, assert_same};
-use bng_base::{AccessPort, AuthKind, Ip4, Mac, NamedRange, Peer, SessionNo, Static};
+use bng_base::{AccessPort, AuthKind, Ip4, Mac, NamedRange, Peer, Profile, SessionNo, Static};
 use bng_config::{Config, ConfigError, Fault, Key, fault_text, read};
 use std::alloc::{AllocError, Global};
 use std::process::Abort;
@@ -153,6 +153,14 @@ fn assert_circuits(rt: &impl Abort, statics: &[Static], rows: &[(u8, u8, u16, u3
     }
 }
 
+// The one profile that there is meters nothing.
+fn assert_profiles(rt: &impl Abort, profiles: &[Profile]) {
+    assert_count(rt, profiles.len(), 1);
+    assert_octets(rt, profiles[0].name.as_slice(), b"default");
+    assert_holds(rt, profiles[0].up.is_none());
+    assert_holds(rt, profiles[0].down.is_none());
+}
+
 // What the gateway is, of a configuration.
 fn assert_gateway(rt: &impl Abort, config: &Config) {
     assert_octets(rt, config.name.as_slice(), b"bng1");
@@ -190,6 +198,7 @@ fn a_whole_configuration_is_read(rt: HostRuntime) {
     assert_pools(&rt, config.pools.as_slice(), &ranges);
     let circuits: [(u8, u8, u16, u32, &[u8]); 1] = [(1, 1, 1025, 0x0a00_0002, b"fixed1")];
     assert_circuits(&rt, config.statics.as_slice(), &circuits);
+    assert_profiles(&rt, config.profiles.as_slice());
 }
 
 #[test]

@@ -1,7 +1,7 @@
-use Rattle.std.proofs.Common.{◌≡◌, arith}
+use Rattle.std.proofs.Common.{◌≡◌, sym, subst, ◌∙◌, arith}
 use Rattle.std.proofs.lemmas.Result.{err_from_is_err_and}
 use Rattle.toml.specs.View.{view}
-use Rattle.bng_config.specs.Configuration.{IsFirstOf, IsFirstFault, port_keys, range_keys, circuit_keys, most_shards}
+use Rattle.bng_config.specs.Configuration.{IsFirstOf, IsFirstFault, IsKeyOrMemory, port_keys, range_keys, circuit_keys, most_shards}
 use Rattle.bng_config.proofs.Defaults.{known_shards, known_terms, range_or}
 use Rattle.bng_config.proofs.Parts.{first_of_gateway, first_of_ends, first_of_ports, first_of_pools, first_of_circuits, first_of_radius, sound_keys, told_of}
 use Rattle.bng_config.proofs.reading.configuration_of.Goals as goal
@@ -41,6 +41,11 @@ returns-in_err-radius-clause-refused c =
     let p = err_from_is_err_and c.from_residual-in_err-radius.result c.from_residual-in_err-radius.ensures.1 in
     rw (p.1, p.2) (first_of_radius (view c.args.document.now) c.in_err-radius.field-0.0 c.in_ok-gateway.ensures.sound c.in_ok-ends.ensures.sound c.in_ok-access.ensures.sound c.in_ok-pools.ensures.sound c.in_ok-statics.ensures.sound
     c.in_err-radius.ensures.refused)
+
+pub returns-in_err-profiles-clause-refused : goal.returns-in_err-profiles-clause-refused
+returns-in_err-profiles-clause-refused c =
+    let p = err_from_is_err_and c.from_residual-in_err-profiles.result c.from_residual-in_err-profiles.ensures.1 in
+    rw (p.1, p.2) (subst (IsKeyOrMemory (IsFirstFault (view c.args.document.now))) (sym c.in_err-profiles.ensures.refused) tt)
 
 pub circuits_of-requires-clause-shards : goal.circuits_of-requires-clause-shards
 circuits_of-requires-clause-shards c = known_shards (view c.args.document.now) c.in_ok-gateway.gateway.shards c.in_ok-gateway.ensures.found.shards
@@ -85,4 +90,5 @@ returns-clause-found c =
       acct_server = radius.acct_server;
       secret = radius.secret;
       tries = radius.tries;
+      profiles = c.of-4.ensures ∙ c.in_ok-profiles.ensures.found;
     }
