@@ -1,5 +1,5 @@
 -- The two token buckets of RFC 2697, filled token by token.
-use Rattle.std.specs.Prelude.{ℕ, zero, suc, ◌+◌, ◌-◌, ◌*◌, ◌/◌, nat_lt, nat_le, List, [], ◌∷◌, if◌then◌else◌}
+use Rattle.std.specs.Prelude.{ℕ, zero, suc, ◌+◌, ◌-◌, ◌*◌, ◌/◌, ◌≤◌, nat_lt, nat_le, Bool, true, false, List, [], ◌∷◌, if◌then◌else◌}
 use Rattle.bng_base.specs.declared.book.Rate.{Rate}
 use Rattle.bng_meter.specs.declared.colour.Colour.{Colour}
 use Rattle.bng_meter.specs.declared.colour.Colour.TheVariants.{Green, Yellow, Red}
@@ -62,3 +62,22 @@ after b (x ∷ xs) = after (taken b x) xs
 abbrev pub colours : Buckets → List Offer → List Colour
 colours b [] = []
 colours b (x ∷ xs) = colour_of (filled b x.0) x.1 ∷ colours (taken b x) xs
+
+-- the moments of these packets never fall, from this one on
+abbrev pub Rise : ℕ → List Offer → Type 0
+Rise from [] = Unit {0}
+Rise from (x ∷ xs) = (from ≤ x.0) × Rise x.0 xs
+
+abbrev pub is_red : Colour → Bool
+is_red Green = false
+is_red Yellow = false
+is_red Red = true
+
+-- the buckets after a packet that is forgotten where it is red: then they stay wholly as they were, the moment of the last packet too
+abbrev pub kept : Buckets → Offer → Buckets
+kept b offer = if is_red (colour_of (filled b offer.0) offer.1) then b else taken b offer
+
+-- the colours of a list of packets, of which each red one is forgotten
+abbrev pub colours_kept : Buckets → List Offer → List Colour
+colours_kept b [] = []
+colours_kept b (x ∷ xs) = colour_of (filled b x.0) x.1 ∷ colours_kept (kept b x) xs

@@ -46,6 +46,13 @@ impl Meter {
         }
     }
 
+    /// The moment of the last packet that it coloured, in milliseconds, and that of its start where there was none.
+    pub fn last(&self) -> u64
+        ensures { result ≡ self.now.last }
+    {
+        self.last
+    }
+
     /// Colours a packet of so many octets at that moment, which is not before that of the last packet, and takes its
     /// tokens. RFC 2697 section 3, colour-blind.
     pub fn take(&mut self, now: u64, octets: u32) -> Colour

@@ -1,10 +1,10 @@
 //! Lists of packets with the colours that RFC 2697 gives them.
-ghost use Rattle.std.specs.Prelude.{◌≡◌};
+ghost use Rattle.std.specs.Prelude.{◌≡◌, ◌≤◌};
 
 use crate::asserts::assert_same;
 use bng_base::Rate;
 use bng_meter::Colour::{Green, Red, Yellow};
-use bng_meter::Meter;
+use bng_meter::{Colour, Meter, red_packets_need_no_note};
 use std::test::Fail;
 
 // A meter that starts at 0.
@@ -40,6 +40,39 @@ fn a_token_comes_at_the_first_millisecond_that_reaches_it(rt: HostRuntime) -> Re
         meter.take(1000, 1),
     ];
     assert_same(&rt, &colours, &[Green, Red, Green, Red, Green, Green]);
+    Ok(())
+}
+
+// Takes the tokens of a packet, and forgets it where it is red.
+fn take_or_forget(meter: &mut Meter, now: u64, octets: u32) -> Colour
+    requires { meter.old.last ≤ now }
+    ensures { meter.new.last ≤ now }
+{
+    let mut after = *meter;
+    let colour = after.take(now, octets);
+    if colour != Red {
+        *meter = after;
+    }
+    colour
+}
+
+#[test]
+fn a_red_packet_may_be_forgotten(rt: HostRuntime) -> Result<(), Fail> {
+    red_packets_need_no_note();
+    let mut meter = meter(3, 1, 0);
+    let colours = [
+        take_or_forget(&mut meter, 0, 1),
+        take_or_forget(&mut meter, 333, 1),
+        take_or_forget(&mut meter, 334, 1),
+        take_or_forget(&mut meter, 666, 1),
+    ];
+    assert_same(&rt, &colours, &[Green, Red, Green, Red]);
+    assert_same(&rt, &meter.last(), &334);
+    let later = [
+        take_or_forget(&mut meter, 667, 1),
+        take_or_forget(&mut meter, 1000, 1),
+    ];
+    assert_same(&rt, &later, &[Green, Green]);
     Ok(())
 }
 

@@ -1,5 +1,5 @@
 -- Profiles by name, and the book of each.
-use Rattle.std.specs.Prelude.{◌≡◌, ℕ, ◌^◌, ◌≤◌, Bool, List, map, slice_get, Some}
+use Rattle.std.specs.Prelude.{◌≡◌, ℕ, ◌+◌, ◌^◌, ◌<◌, ◌≤◌, Bool, List, map, slice_get, Some}
 use Rattle.bng_base.specs.declared.book.Book.{Book}
 use Rattle.bng_base.specs.declared.book.Profile.{Profile}
 use Rattle.bng_base.specs.Books.{octets_in, packets_in}
@@ -16,12 +16,9 @@ names_of profiles = map (λ p. p.name.items) profiles
 abbrev pub AreDifferent : List (List ℕ) → Type 0
 AreDifferent names = (i j : ℕ) (name : List ℕ) → slice_get names i ≡ Some name → slice_get names j ≡ Some name → i ≡ j
 
--- no sum of the book is above 2 ^ 63
-pub record IsBelow (b : Book) : Type 0 where
-  pub input : b.input ≤ 2 ^ 63
-  pub output : b.output ≤ 2 ^ 63
-  pub input_packets : b.input_packets ≤ 2 ^ 63
-  pub output_packets : b.output_packets ≤ 2 ^ 63
+-- the book has room for so many octets and one packet more in that direction
+abbrev pub HasRoom : Book → Bool → ℕ → Type 0
+HasRoom b input octets = (octets_in input b + octets < 2 ^ 64) × (packets_in input b + 1 < 2 ^ 64)
 
 -- the book holds so many octets and one packet in that direction
 abbrev pub Holds : Book → Bool → ℕ → Type 0

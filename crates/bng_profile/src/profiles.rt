@@ -1,7 +1,8 @@
 //! The list of profiles.
-ghost use Rattle.std.specs.Prelude.{◌≡◌, ◌<◌, ◌≤◌, ℕ, map, length, replicate, slice_get, slice_set, IfOk, IfSome, IfNone, IsTrue};
+ghost use Rattle.std.specs.Prelude.{◌≡◌, ◌<◌, ◌≤◌, ℕ, map, length, position, replicate, slice_get, slice_set, IfOk, IfSome, IfNone, IsTrue};
+ghost use Rattle.std.specs.Str.{bytes_eq};
 ghost use mathlib.Core.Logic.{◌↔◌};
-ghost use Rattle.bng_profile.specs.Books.{AreDifferent, names_of, IsBelow, Holds};
+ghost use Rattle.bng_profile.specs.Books.{AreDifferent, names_of, HasRoom, Holds};
 ghost use Rattle.bng_base.specs.Books.{empty_book, entered, taken_off};
 
 use arrayvec::ArrayVec;
@@ -60,11 +61,19 @@ impl Profiles {
         Ok(Profiles { names, books })
     }
 
+    /// How many profiles there are, 16 at most. Their places are those below.
+    pub fn count(&self) -> u8
+        ensures { result ≡ length self.now.books }
+    {
+        self.books.len() as u8
+    }
+
     /// The place of the profile with that name, None exactly where no profile has it.
     pub fn find(&self, name: &[u8]) -> Option<u8>
         ensures found { IfSome result (λ k. slice_get self.now.names k ≡ Some name.now) }
         ensures only { (k : ℕ) → slice_get self.now.names k ≡ Some name.now → result ≡ Some k }
         ensures unknown { (result ≡ None) ↔ ((k : ℕ) → ¬ (slice_get self.now.names k ≡ Some name.now)) }
+        ensures place { result ≡ position (λ n. bytes_eq n name.now) self.now.names }
     {
         match place_of(self.names.as_slice(), name) {
             Some(place) => Some(place as u8),
@@ -81,11 +90,10 @@ impl Profiles {
     }
 
     /// Counts a packet of so many octets (its IPv4 total length) in the book of the profile at that place, input (from the
-    /// subscriber) or output. Condition: no sum of the book is above 2^63.
+    /// subscriber) or output. Condition: no sum of that direction passes 2^64 - 1.
     pub fn pass(&mut self, profile: u8, input: bool, octets: u16)
         requires profile { profile < length self.old.books }
-        requires octets { octets ≤ 4096 }
-        requires sums { (b : _) → slice_get self.old.books profile ≡ Some b → IsBelow b }
+        requires room { (b : _) → slice_get self.old.books profile ≡ Some b → HasRoom b input octets }
         ensures names { self.new.names ≡ self.old.names }
         ensures places { length self.new.books ≡ length self.old.books }
         ensures books { (b : _) → slice_get self.old.books profile ≡ Some b
@@ -94,10 +102,10 @@ impl Profiles {
         self.books[usize::from(profile)].enter(input, octets);
     }
 
-    /// Takes a packet that was counted off the book of the profile at that place, as where its send failed.
+    /// Takes a packet that was counted off the book of the profile at that place, as where its send failed. Condition: it is in
+    /// the book.
     pub fn take_off(&mut self, profile: u8, input: bool, octets: u16)
         requires profile { profile < length self.old.books }
-        requires octets { octets ≤ 4096 }
         requires held { (b : _) → slice_get self.old.books profile ≡ Some b → Holds b input octets }
         ensures names { self.new.names ≡ self.old.names }
         ensures places { length self.new.books ≡ length self.old.books }
@@ -125,6 +133,7 @@ fn copied(name: &ArrayVec<u8, 32>) -> ArrayVec<u8, 32>
 fn place_of(names: &[ArrayVec<u8, 32>], name: &[u8]) -> Option<usize>
     ensures found { IfSome result (λ k. slice_get (map (λ n. n.items) names.now) k ≡ Some name.now) }
     ensures unknown { IfNone result ((k : ℕ) → ¬ (slice_get (map (λ n. n.items) names.now) k ≡ Some name.now)) }
+    ensures place { result ≡ position (λ n. bytes_eq n name.now) (map (λ n. n.items) names.now) }
 {
     for (place, other) in names.iter().enumerate() {
         if is_named(other, name) {
