@@ -1,5 +1,6 @@
 -- The shards of a desk that was just opened.
-use Rattle.std.proofs.Common.{◌≡◌, ℕ, ◌*◌, ◌<◌, ◌≤◌, ◌^◌, Bool, true, false, cond, List, [], ◌∷◌, Option, None, Some, map, length, get_or, refl, sym, ap, subst, ◌∙◌, arith}
+use Rattle.std.proofs.Common.{◌≡◌, ℕ, ◌*◌, ◌<◌, ◌≤◌, ◌^◌, Bool, true, false, cond, List, [], ◌∷◌, Option, None, Some, map, length, replicate, get_or, refl, sym, ap, subst, ◌∙◌, arith}
+use Rattle.std.proofs.lemmas.List.{get_or-replicate, length-replicate}
 use Rattle.std.specs.Option.{IfSome}
 use Rattle.std.specs.List.{All, range_with_len, sum_by}
 use Rattle.std.proofs.lemmas.List.Elements.{All-map}
@@ -53,6 +54,10 @@ none_carried q pick input (k ∷ ks) =
 pub empty_low : (most : ℕ) → IsLow most empty_book
 empty_low most q input = omega (arith, nothing_in q input)
 
+empties_low : (most n : ℕ) → AreLow most (replicate n empty_book)
+empties_low most n i lt =
+    subst (IsLow most) (sym (get_or-replicate n i empty_book empty_book (omega (arith, lt, length-replicate n empty_book)))) (empty_low most)
+
 -- Shards ----------------------------------------------------------------------------------------------------------------
 
 module _ (rules : Rules) (statics : ℕ → List Static) (now : ℕ) where
@@ -84,7 +89,7 @@ module _ (rules : Rules) (statics : ℕ → List Static) (now : ℕ) where
       subst (λ (v : ShardView ShardState Entry). RowsAreLow most v.rows) (sym (fresh_at n k d lt)) (λ q input. omega (arith, none_carried q is_any input (keys (terms_of (fresh k).state))))
 
   pub fresh_books : (most n : ℕ) → All (λ v. AreLow most v.books) (map fresh (range_with_len 0 n))
-  fresh_books most n k d lt = subst (λ (v : ShardView ShardState Entry). AreLow most v.books) (sym (fresh_at n k d lt)) (one_low most empty_book (empty_low most))
+  fresh_books most n k d lt = subst (λ (v : ShardView ShardState Entry). AreLow most v.books) (sym (fresh_at n k d lt)) (empties_low most (length rules.profiles))
 
   -- and no circuit has carried anything
   kept_none : (input : Bool) (l : Line) (ns : List ℕ) → sum_by (kept_in input l) (map fresh ns) ≡ 0
@@ -123,15 +128,16 @@ fresh_sum rules statics now ns counts = record {
 }
 
 -- a desk with such shards, in which nothing has happened
-pub kept_fresh : (d : Desk) (statics : ℕ → List Static) (now : ℕ) (cs : List Static) → d.shards ≡ map (λ n. opened n d.rules (statics n) now) (range_with_len 0 d.rules.shards) → All HasFewSessions d.shards → d.lines ≡ map line_of cs → (let x : Stopped = record { carried = d.stopped_book; stops = d.stops } in x) ≡ no_stops → live_terms d.shards ≡ begun_in d.shards → 1 ≤ length d.rules.access → length d.rules.access ≤ 16 → 1 ≤ d.rules.shards → d.rules.shards ≤ 64
+pub kept_fresh : (d : Desk) (statics : ℕ → List Static) (now : ℕ) (cs : List Static) → d.shards ≡ map (λ n. opened n d.rules (statics n) now) (range_with_len 0 d.rules.shards) → All HasFewSessions d.shards → d.lines ≡ map line_of cs → (let x : Stopped = record { carried = d.stopped_book; stops = d.stops } in x) ≡ no_stops → live_terms d.shards ≡ begun_in d.shards → 1 ≤ length d.rules.access → length d.rules.access ≤ 16 → length d.rules.profiles ≤ 16 → 1 ≤ d.rules.shards → d.rules.shards ≤ 64
     → HasPools d.rules.pools d.pool.ranges → d.pool.shards ≡ d.rules.shards → All (HoldsOwn d.pool.table) d.shards → All (KeepsTerms d.moment) d.shards → d.rounds ≤ 2 ^ 40 → d.turns ≡ 0 → d.endings ≡ 0 → d.unopened ≡ 0 → d.closed ≡ false → d.told ≡ 0 → d.drawn ≡ 1 → d.drops ≡ no_drops → d.tallies ≡ empty_book ∷ [] → d.kept ≡ [] → d.handed ≡ map (λ n. none_handed) (range_with_len 0 d.rules.shards) → d.reports ≡ map (λ n. no_reports) (range_with_len 0 d.rules.shards) → d.closing ≡ d.moment → d.graces ≡ 0 → AreBilled (keys_in d.shards) d.billing → KnowsBegun d.shards d.billing → IsKept d
-kept_fresh d statics now cs shards few lines stopped counts some_port few_ports some_shard few_shards pools places held terms most turns endings unopened closed told drawn drops tallies kept handed reports closing graces billed knows =
+kept_fresh d statics now cs shards few lines stopped counts some_port few_ports few_profiles some_shard few_shards pools places held terms most turns endings unopened closed told drawn drops tallies kept handed reports closing graces billed knows =
     let staying = subst (λ (is : List Item). AreKept d is) (sym kept) (none_kept d) in
     let unended : IsUnended d = record { endings = endings; unopened = unopened; closed = closed; graces = graces } in
     let count = ap (λ (xs : List (ShardView ShardState Entry)). length xs) shards ∙ length-map-range_with_len (λ (n : ℕ). opened n d.rules (statics n) now) 0 d.rules.shards in
     record {
       some_port = some_port;
       few_ports = few_ports;
+      few_profiles = few_profiles;
       shards = count;
       some_shard = some_shard;
       few_shards = few_shards;

@@ -64,6 +64,7 @@ module _ (d : Desk) (w : Works) (heard billing : BillingState) (moment : ℕ) (q
   kept_graced k g later = record {
     some_port = k.some_port;
     few_ports = k.few_ports;
+    few_profiles = k.few_profiles;
     shards = k.shards;
     some_shard = k.some_shard;
     few_shards = k.few_shards;

@@ -191,6 +191,7 @@ kept_served d w stopped moment told k serves turns later l up staying verdicts =
     record {
       some_port = k.some_port;
       few_ports = k.few_ports;
+      few_profiles = k.few_profiles;
       shards = l.shards ∙ k.shards;
       some_shard = k.some_shard;
       few_shards = k.few_shards;
@@ -254,6 +255,7 @@ pub kept_ended : (d : Desk) (w : Works) (unopened : ℕ) (closed : Bool) (closin
 kept_ended d w unopened closed closing moment told k over near later before l up staying = record {
   some_port = k.some_port;
   few_ports = k.few_ports;
+  few_profiles = k.few_profiles;
   shards = l.shards ∙ k.shards;
   some_shard = k.some_shard;
   few_shards = k.few_shards;

@@ -10,6 +10,7 @@ use Rattle.bng_acct.specs.declared.held.Held.{Held}
 use Rattle.bng_acct.specs.Roster.{of_term, same}
 use Rattle.bng_base.specs.declared.address.SessionNo.{SessionNo}
 use Rattle.bng_base.specs.declared.circuit.TermId.{TermId}
+use Rattle.bng_base.specs.declared.book.Profile.{Profile}
 use Rattle.bng_base.specs.declared.item.Entry.{Entry}
 use Rattle.bng_base.specs.declared.settings.Static.{Static}
 use Rattle.bng_billing.specs.State.{BillingState}
@@ -22,7 +23,7 @@ use Rattle.bng_config.specs.Rules.{IsSessionOf, KeepsRules}
 use Rattle.bng_shard.specs.declared.rules.Rules.{Rules}
 use Rattle.bng_shard.specs.Lasting.{IsTenureOf}
 use Rattle.bng_shard.specs.Opening.{circuit_at, in_order, tenures_after}
-use Rattle.bng_shard.specs.Protocol.{ShardState, opened, profiles_there, term_in, terms_of}
+use Rattle.bng_shard.specs.Protocol.{ShardState, opened, term_in, terms_of}
 use Rattle.bng_shard.specs.Tenures.{Tenure}
 use Rattle.bng_shard.proofs.InOrder.{sum_in_order}
 use Rattle.bng_shard.proofs.Numbered.{tenures_opened}
@@ -227,13 +228,13 @@ knows_there moment vs b order keeps known t h found =
 number_of : (s : Static) (shards : ℕ) → IsSessionOf shards s.session.0 → IsNumberOf (shard_of s) s.session.0
 number_of s shards is = (omega (arith, is.low), omega (arith, is.high))
 
--- the circuits of a configuration are of the shards and on the ports of its rules
-pub are_served : (config : Config) (r : Rules) → KeepsRules config → All (λ c. c.profile < profiles_there) config.statics → r.shards ≡ config.shards → length r.access ≡ length config.access → AreServed r config.statics
+-- the circuits of a configuration are of the shards and on the ports of its rules, and have its profiles
+pub are_served : (config : Config) (r : Rules) → KeepsRules config → r.profiles ≡ config.profiles → r.shards ≡ config.shards → length r.access ≡ length config.access → AreServed r config.statics
 are_served config r k profiles shards ports = record {
   inside = λ i d lt. omega (arith, (k.sharded i d lt).shard, shards);
   own = λ i d lt. number_of (get_or config.statics i d) config.shards (k.sharded i d lt);
   sessions = k.sessions;
   addresses = k.addresses;
   ports = λ i d lt. ((k.placed i d lt).low, omega (arith, (k.placed i d lt).high, ports));
-  profiles = profiles;
+  profiles = λ i d lt. omega (arith, k.profiled i d lt, ap (λ (ps : List Profile). length ps) profiles);
 }

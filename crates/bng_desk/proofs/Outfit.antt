@@ -1,19 +1,22 @@
--- What a desk is opened with: what its ports offer, its pools, and the circuits of each shard.
-use Rattle.std.proofs.Common.{◌≡◌, ◌≢◌, ℕ, zero, suc, ◌+◌, ◌<◌, ◌≤◌, ◌==◌, Bool, true, false, cond, if◌then◌else◌, List, [], ◌∷◌, ◌++◌, option_map, map, filter, length, take, get_or, set, eqb, refl, sym, ap, subst, ◌∙◌, arith, append-nil, length-set, get_or-set_same, get_or-set_other}
+-- What a desk is opened with: what its ports offer, its pools and profiles, and the circuits of each shard.
+use Rattle.std.proofs.Common.{◌≡◌, ◌≢◌, ⊎_elim, ℕ, zero, suc, ◌+◌, ◌<◌, ◌≤◌, ◌==◌, Bool, true, false, cond, if◌then◌else◌, List, [], ◌∷◌, ◌++◌, Some, None, option_map, map, filter, length, take, get_or, slice_get, set, eqb, refl, sym, ap, subst, ◌∙◌, arith, append-nil, length-set, get_or-set_same, get_or-set_other}
 use Rattle.std.specs.List.{All, AllPairs, range_with_len}
-use Rattle.std.proofs.lemmas.Bool.{false≢true}
+use Rattle.std.proofs.lemmas.Bool.{cases_lt, false≢true}
 use Rattle.std.proofs.lemmas.Bool.Decides.{nat_tests}
 use Rattle.std.proofs.lemmas.List.{get_or-map, get_or_at, length-append, length-map, length-take-le, take_more}
 use Rattle.std.proofs.lemmas.List.Elements.{All-filter, filter-append, filter_passes}
 use Rattle.std.proofs.lemmas.List.FromFn.{fill_by_all, get_or-map-range_with_len, length-map-range_with_len}
 use Rattle.std.proofs.lemmas.List.Kept.{AllPairs-filter}
+use Rattle.std.proofs.lemmas.Option.{same_Some}
 use Rattle.arrayvec.specs.ArrayVec.{ArrayVec}
+use Rattle.bng_base.specs.declared.book.Profile.{Profile}
 use Rattle.bng_base.specs.declared.settings.AccessPort.{AccessPort}
 use Rattle.bng_base.specs.declared.settings.NamedRange.{NamedRange}
 use Rattle.bng_base.specs.declared.settings.Static.{Static}
 use Rattle.bng_discovery.specs.declared.port.PortRules.{PortRules}
+use Rattle.bng_profile.specs.Books.{AreDifferent, names_of}
 use Rattle.bng_shard.specs.declared.rules.Rules.{Rules}
-use Rattle.bng_shard.specs.Protocol.{HasPools, profiles_there}
+use Rattle.bng_shard.specs.Protocol.{HasPools}
 use Rattle.bng_slots.specs.Sessions.{IsNumberOf}
 use Rattle.bng_desk.specs.Opening.{AreOffersOf, AreServed, IsOfferOf, shard_of}
 
@@ -48,6 +51,26 @@ ranges_of [] k p e = absurd cc
 ranges_of (x ∷ pools) zero p e = ap (option_map (λ (q : NamedRange). q.range)) e
 ranges_of (x ∷ pools) (suc k) p e = ranges_of pools k p e
 
+-- Profiles --------------------------------------------------------------------------------------------------------------
+
+-- the name at a place is that of the profile there
+name_at : (ps : List Profile) (k : ℕ) (name : List ℕ) (d : Profile) → slice_get (names_of ps) k ≡ Some name → (k < length ps) × ((get_or ps k d).name.items ≡ name)
+name_at [] k name d e = absurd cc
+name_at (p ∷ ps) zero name d e = (omega arith, same_Some _ _ e)
+name_at (p ∷ ps) (suc k) name d e =
+    let rest = name_at ps k name d e in
+    (omega (arith, rest.0), rest.1)
+
+-- profiles of which no two have the same name have different names
+pub names_differ : (ps : List Profile) → AllPairs (λ a b. a.name.items ≢ b.name.items) ps → AreDifferent (names_of ps)
+names_differ ps apart i j name e f =
+    let d : Profile = record { name = record { items = [] }; up = None; down = None } in
+    let one = name_at ps i name d e in
+    let other = name_at ps j name d f in
+    ⊎_elim (λ (lt : i < j). absurd (apart i j d lt other.0 (one.1 ∙ sym other.1)))
+    (λ (le : j ≤ i). ⊎_elim (λ (lt : j < i). absurd (apart j i d lt one.0 (other.1 ∙ sym one.1))) (λ (low : i ≤ j). omega (arith, le, low)) (cases_lt j i))
+    (cases_lt i j)
+
 -- Circuits --------------------------------------------------------------------------------------------------------------
 
 abbrev pub of_shard : List Static → ℕ → List Static
@@ -65,7 +88,7 @@ pub record AreOf (r : Rules) (n : ℕ) (circuits : List Static) : Type 0 where
   pub sessions : AllPairs (λ a b. a.session ≢ b.session) circuits
   pub addresses : AllPairs (λ a b. a.address ≢ b.address) circuits
   pub ports : All (λ c. (1 ≤ c.port) × (c.port ≤ length r.access)) circuits
-  pub profiles : All (λ c. c.profile < profiles_there) circuits
+  pub profiles : All (λ c. c.profile < length r.profiles) circuits
 
 pub are_of : (r : Rules) (circuits : List Static) (n : ℕ) → AreServed r circuits → AreOf r n (of_shard circuits n)
 are_of r circuits n are =
@@ -78,7 +101,7 @@ are_of r circuits n are =
       sessions = AllPairs-filter (λ (a b : Static). a.session ≢ b.session) p circuits are.sessions;
       addresses = AllPairs-filter (λ (a b : Static). a.address ≢ b.address) p circuits are.addresses;
       ports = All-filter p (λ (x : Static). (1 ≤ x.port) × (x.port ≤ length r.access)) circuits are.ports;
-      profiles = All-filter p (λ (x : Static). x.profile < profiles_there) circuits are.profiles;
+      profiles = All-filter p (λ (x : Static). x.profile < length r.profiles) circuits are.profiles;
     }
 
 module _ {V : Type 0} (f : V → List Static) where

@@ -7,8 +7,10 @@ use Rattle.bng_base.specs.declared.book.Book.{Book}
 use Rattle.bng_base.specs.declared.item.Entry.{Entry}
 use Rattle.bng_base.specs.declared.item.Item.{Item}
 use Rattle.bng_base.specs.declared.item.ItemKind.TheVariants.{Tick}
+use Rattle.bng_engine.specs.Books.{book_at}
 use Rattle.bng_engine.specs.Calls.{Kept}
 use Rattle.bng_engine.specs.Calls.{Moves}
+use Rattle.bng_engine.specs.Quantities.{Octets, in_book}
 use Rattle.bng_engine.specs.Showing.{with_journal}
 use Rattle.bng_engine.specs.Turns.{TurnOf}
 use Rattle.bng_engine.specs.Views.{Row, ShardView}
@@ -21,7 +23,7 @@ use Rattle.bng_shard.specs.Protocol.{ShardState, Handled, pppoe, deadline_of, se
 use Rattle.bng_desk.specs.declared.line.Line.{Line}
 use Rattle.bng_desk.specs.Items.{for_shard, is_due, ticks_of}
 use Rattle.bng_desk.specs.Kept.{rested}
-use Rattle.bng_desk.specs.Model.{begun_in, sessions_in, carried_on, live_of, live_terms, plus_traffic, traffic_at}
+use Rattle.bng_desk.specs.Model.{begun_in, sessions_in, carried_on, live_of, live_terms, plus_traffic, traffic_at, traffic_under}
 use Rattle.bng_desk.specs.Round.{Round, IsRound, left_by, views_of, view_of, view_after}
 use Rattle.bng_desk.specs.Taking.{IsLeftBy, live_by}
 use Rattle.bng_desk.specs.Turn.{deadline_in}
@@ -49,6 +51,19 @@ carried_rested vs l = ap (plus_traffic l.stopped) (traffic_rested vs _ l.address
 pub all_carried_rested : (vs : Shards) (ls : List Line) → map (carried_on vs) ls ≡ map (carried_on (map rested vs)) ls
 all_carried_rested vs [] = refl
 all_carried_rested vs (l ∷ ls) = ap (λ (t : Traffic). t ∷ map (carried_on vs) ls) (sym (carried_rested vs l)) ∙ ap (λ (ts : List Traffic). carried_on (map rested vs) l ∷ ts) (all_carried_rested vs ls)
+
+-- what was sent under a profile, and under each
+under_rested : (vs : Shards) (place : ℕ) → traffic_under (map rested vs) place ≡ traffic_under vs place
+under_rested vs place =
+    let by = λ (input : Bool) (v : ShardView ShardState Entry). in_book Octets input (book_at place v.books) in
+    let ins = sum_map rested (by true) vs in
+    let outs = sum_map rested (by false) vs in
+    λ i. record { input = ins i; output = outs i }
+
+pub all_under_rested : (vs : Shards) (places : List ℕ) → map (traffic_under vs) places ≡ map (traffic_under (map rested vs)) places
+all_under_rested vs [] = refl
+all_under_rested vs (p ∷ places) =
+    ap (λ (t : Traffic). t ∷ map (traffic_under vs) places) (sym (under_rested vs p)) ∙ ap (λ (ts : List Traffic). traffic_under (map rested vs) p ∷ ts) (all_under_rested vs places)
 
 -- what the terms carried that have no Stop yet
 pub live_rested : (vs : Shards) → live_of (map rested vs) ≡ live_of vs

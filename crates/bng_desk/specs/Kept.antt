@@ -59,7 +59,7 @@ pub record Stays (shards : ℕ) (items : List Item) : Type 0 where
   pub few : length verdicts ≤ verdicts_most
   pub one_each : (ends ≡ []) ⊎ AreEndsOf shards ends
 
--- One port to sixteen, one shard to 64 in their order, all by the desk's rules, with nothing of a round in them and at most 1,022
+-- One port to sixteen, sixteen profiles at most, one shard to 64 in their order, all by the desk's rules, with nothing of a round in them and at most 1,022
 -- sessions in each, one seat. Its terms hold their addresses, have numbers that it gave, and have a Start each. No sum is above what the
 -- turns so far could add, and none wraps before the last; what was carried with a circuit's address, by Stops and by rows, stands in the
 -- seat's tally, and what all Stops and all rows say is exactly that tally; each term that began has its Stop, or has none yet. What stays of a round that was not opened are verdicts, and Ends in the ending alone. Of each shard there is a list of the
@@ -68,6 +68,7 @@ pub record Stays (shards : ℕ) (items : List Item) : Type 0 where
 pub record IsKept (d : Desk) : Type 0 where
   pub some_port : 1 ≤ length d.rules.access
   pub few_ports : length d.rules.access ≤ 16
+  pub few_profiles : length d.rules.profiles ≤ 16
   pub shards : length d.shards ≡ d.rules.shards
   pub some_shard : 1 ≤ d.rules.shards
   pub few_shards : d.rules.shards ≤ 64

@@ -1,13 +1,14 @@
 -- The desk as contracts see it.
 use Rattle.std.specs.Prelude.{◌≡◌, ℕ, ◌+◌, ◌-◌, ◌*◌, ◌/◌, Bool, true, false, ◌==◌, ◌||◌, ◌&&◌, not, List, Option, Some, None, length, map, sum_by, slice_get, nat_le, if◌then◌else◌}
-use Rattle.std.specs.List.{All, flat_map}
+use Rattle.std.specs.List.{All, flat_map, range_with_len}
 use Rattle.bng_acct.specs.Spool.{unacked_stops}
 use Rattle.bng_base.specs.declared.address.Ip4.{Ip4}
 use Rattle.bng_base.specs.declared.book.Book.{Book}
 use Rattle.bng_base.specs.declared.item.Entry.{Entry}
 use Rattle.bng_base.specs.declared.item.Item.{Item}
 use Rattle.bng_billing.specs.State.{BillingState}
-use Rattle.bng_engine.specs.Quantities.{Octets, Packets}
+use Rattle.bng_engine.specs.Books.{book_at}
+use Rattle.bng_engine.specs.Quantities.{Octets, Packets, in_book}
 use Rattle.bng_engine.specs.Sums.{has_lease, is_any, stopped_where}
 use Rattle.bng_engine.specs.Terms.{Key, Stop, keys}
 use Rattle.bng_engine.specs.Views.{ShardView, Row, rows_where}
@@ -186,6 +187,17 @@ sums_of d = record {
 
 abbrev pub all_carried : Desk → List Traffic
 all_carried d = map (carried_on d.shards) d.lines
+
+-- what was sent under the profile at a place, in octets, as the books of these shards say
+abbrev pub traffic_under : List (ShardView ShardState Entry) → ℕ → Traffic
+traffic_under shards place = record {
+  input = sum_by (λ v. in_book Octets true (book_at place v.books)) shards;
+  output = sum_by (λ v. in_book Octets false (book_at place v.books)) shards;
+}
+
+-- of each profile, in the order of the rules
+abbrev pub by_profile : Desk → List Traffic
+by_profile d = map (traffic_under d.shards) (range_with_len 0 (length d.rules.profiles))
 
 -- what a seat passed, and did not take off again: the octets of the packets that were sent of its items
 abbrev pub traffic_by : Book → Traffic

@@ -24,7 +24,7 @@ use Rattle.bng_pool.specs.Plain.{PlainView}
 use Rattle.bng_pool.specs.Tables.{entry}
 use Rattle.bng_shard.specs.declared.rules.Rules.{Rules}
 use Rattle.bng_shard.specs.Interims.{Reports, no_reports}
-use Rattle.bng_shard.specs.Protocol.{ShardState, opened, profiles_there}
+use Rattle.bng_shard.specs.Protocol.{ShardState, opened}
 use Rattle.bng_shard.specs.Questions.{none_handed}
 use Rattle.bng_slots.specs.Sessions.{IsNumberOf}
 use Rattle.bng_desk.specs.declared.line.Line.{Line}
@@ -64,6 +64,7 @@ pub record AreRules (config : Config) (seed : List ℕ) (r : Rules) : Type 0 whe
   pub access : r.access ≡ config.access
   pub offers : AreOffers config seed config.access r.offers
   pub pools : r.pools ≡ config.pools
+  pub profiles : r.profiles ≡ config.profiles
   pub name : r.link.name.items ≡ config.name.items
   pub address : r.link.address ≡ config.address
   pub dns : r.link.dns ≡ dns_of config.dns.items
@@ -87,15 +88,15 @@ pub record IsOpenedPool (config : Config) (pool : PlainView) : Type 0 where
   pub shards : pool.shards ≡ config.shards
   pub table : (a : ℕ) → entry pool.table a ≡ option_map shard_of (circuit_with config.statics a)
 
--- The circuits are of the shards and on the ports that there are, with the first profile, and no two have the same session number
--- or the same address.
+-- The circuits are of the shards and on the ports that there are, each with a profile that there is, and no two have the same session
+-- number or the same address.
 pub record AreServed (r : Rules) (circuits : List Static) : Type 0 where
   pub inside : All (λ c. shard_of c < r.shards) circuits
   pub own : All (λ c. IsNumberOf (shard_of c) c.session.0) circuits
   pub sessions : AllPairs (λ a b. a.session ≢ b.session) circuits
   pub addresses : AllPairs (λ a b. a.address ≢ b.address) circuits
   pub ports : All (λ c. (1 ≤ c.port) × (c.port ≤ length r.access)) circuits
-  pub profiles : All (λ c. c.profile < profiles_there) circuits
+  pub profiles : All (λ c. c.profile < length r.profiles) circuits
 
 -- the circuits of a shard, in the order of the configuration
 abbrev pub statics_of : Config → ℕ → List Static

@@ -5,6 +5,7 @@ use Rattle.bng_acct.specs.declared.facts.TermFacts.{TermFacts}
 use Rattle.bng_acct.specs.Texts.{session_id, port_id}
 use Rattle.bng_base.specs.declared.address.Ip4.{Ip4}
 use Rattle.bng_base.specs.declared.book.Book.{Book}
+use Rattle.bng_base.specs.declared.book.Profile.{Profile}
 use Rattle.bng_config.specs.Address.{address_text}
 use Rattle.bng_base.specs.declared.fate.DropCause.{DropCause}
 use Rattle.bng_base.specs.declared.fate.DropCause.TheVariants.{Malformed, NoSession, NotOpen, Expired, Spoofed, TooBig, Exceeded, LinkFailed, WantOfMemory}
@@ -45,6 +46,16 @@ abbrev pub worker_lines : ℕ → List Traffic → List ℕ
 worker_lines number [] = []
 worker_lines number (t ∷ ts) = worker_line number t ++ worker_lines (number + 1) ts
 
+-- the octets of a profile
+abbrev pub profile_line : List ℕ → Traffic → List ℕ
+profile_line name t = codes "profile " ++ name ++ quantities t.input t.output
+
+-- a line for each profile
+abbrev pub profile_lines : List Profile → List Traffic → List ℕ
+profile_lines [] traffic = []
+profile_lines (p ∷ ps) [] = []
+profile_lines (p ∷ ps) (t ∷ ts) = profile_line p.name.items t ++ profile_lines ps ts
+
 -- the octets of a circuit
 abbrev pub static_line : Ip4 → Traffic → List ℕ
 static_line address t = codes "static " ++ address_text address ++ quantities t.input t.output
@@ -64,14 +75,15 @@ drop_lines _ [] = []
 drop_lines [] (items ∷ others) = []
 drop_lines (cause ∷ more) (items ∷ others) = drop_line cause items ++ drop_lines more others
 
--- of what the Stops say, what the terms carried that have no Stop yet, and both together the octets; each worker, each circuit, and what
--- was dropped by each cause
-abbrev pub report_text : Book → Book → Book → List Traffic → List Line → List Traffic → List ℕ → List ℕ
-report_text stopped live total workers circuits traffic drops =
+-- of what the Stops say, what the terms carried that have no Stop yet, and both together the octets; each worker, each profile, each
+-- circuit, and what was dropped by each cause
+abbrev pub report_text : Book → Book → Book → List Traffic → List Profile → List Traffic → List Line → List Traffic → List ℕ → List ℕ
+report_text stopped live total workers profiles under circuits traffic drops =
     traffic_line (codes "stopped") (traffic_by stopped)
     ++ traffic_line (codes "live") (traffic_by live)
     ++ traffic_line (codes "total") (traffic_by total)
     ++ worker_lines 0 workers
+    ++ profile_lines profiles under
     ++ static_lines circuits traffic
     ++ drop_lines causes drops
 

@@ -3,7 +3,7 @@ ghost use Rattle.std.specs.Prelude.{◌≡◌, IfOk};
 
 use crate::desk::DeskError;
 use arrayvec::ArrayVec;
-use bng_base::{AccessPort, AuthKind, Listed, NamedRange};
+use bng_base::{AccessPort, AuthKind, Listed, NamedRange, Profile};
 use bng_discovery::PortRules;
 use bng_ppp::LinkRules;
 use bng_shard::Rules;
@@ -119,6 +119,33 @@ pub(crate) fn pools_copied(
     Ok(copies)
 }
 
+// The same profile again.
+fn profile_copied(profile: &Profile) -> Profile
+    ensures { result ≡ profile.now }
+{
+    Profile {
+        name: copied(&profile.name),
+        up: profile.up,
+        down: profile.down,
+    }
+}
+
+/// The same profiles again.
+pub(crate) fn profiles_copied(
+    alloc: Global,
+    profiles: &[Profile],
+) -> Result<Vec<Profile>, DeskError>
+    ensures { IfOk result (λ copies. copies.items ≡ profiles.now) }
+{
+    let Ok(mut copies) = Vec::with_capacity(alloc, profiles.len()) else {
+        return Err(DeskError::OutOfMemory);
+    };
+    for profile in profiles {
+        copies.push_reserved(profile_copied(profile));
+    }
+    Ok(copies)
+}
+
 /// The same rules again, for one shard more.
 pub(crate) fn rules_copied(alloc: Global, rules: &Rules) -> Result<Rules, DeskError>
     ensures { IfOk result (λ copy. copy ≡ rules.now) }
@@ -126,12 +153,14 @@ pub(crate) fn rules_copied(alloc: Global, rules: &Rules) -> Result<Rules, DeskEr
     let access = ports_copied(alloc, rules.access.as_slice())?;
     let offers = offers_copied(alloc, rules.offers.as_slice())?;
     let pools = pools_copied(alloc, rules.pools.as_slice())?;
+    let profiles = profiles_copied(alloc, rules.profiles.as_slice())?;
     Ok(Rules {
         shards: rules.shards,
         core_peer: rules.core_peer,
         access: Listed::of(access),
         offers: Listed::of(offers),
         pools: Listed::of(pools),
+        profiles: Listed::of(profiles),
         link: link_copied(&rules.link),
     })
 }

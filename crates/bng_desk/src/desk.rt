@@ -4,8 +4,7 @@ ghost use Rattle.bng_acct.specs.Spool.{unacked_stops};
 ghost use Rattle.bng_base.specs.declared.settings.NamedRange.{NamedRange};
 ghost use Rattle.bng_config.specs.Rules.{KeepsRules};
 ghost use Rattle.bng_pool.specs.Ranges.{ArePoolRanges, HasAddress};
-ghost use Rattle.bng_shard.specs.Protocol.{profiles_there};
-ghost use Rattle.bng_desk.specs.Model.{state_of, all_carried, live_terms, sessions_in, sums_of, total_of, traffic_by, HasOneRule, grace_most, graces_most};
+ghost use Rattle.bng_desk.specs.Model.{state_of, all_carried, by_profile, live_terms, sessions_in, sums_of, total_of, traffic_by, HasOneRule, grace_most, graces_most};
 ghost use Rattle.bng_desk.specs.Opening.{IsOpened};
 ghost use Rattle.bng_desk.specs.Report.{report_text, stop_lines};
 
@@ -158,9 +157,8 @@ fn stands(over: bool, ended: bool, done: bool, starved: bool) -> DeskState
 }
 
 impl Desk {
-    /// A desk that serves this configuration, whose circuits have the first profile, for so many turns at most, 1 to 2^40. `now` is the
-    /// moment of the opening in milliseconds, below 2^60, and `wall` its second on the wall. Of `seed` all random octets are drawn, the
-    /// key of the cookies first.
+    /// A desk that serves this configuration for so many turns at most, 1 to 2^40. `now` is the moment of the opening in milliseconds,
+    /// below 2^60, and `wall` its second on the wall. Of `seed` all random octets are drawn, the key of the cookies first.
     pub fn open(
         alloc: Global,
         mut config: Config,
@@ -172,7 +170,6 @@ impl Desk {
         requires some { 1 ≤ rounds }
         requires most { rounds ≤ 2 ^ 40 }
         requires rules { KeepsRules config }
-        requires profiles { All (λ c. c.profile < profiles_there) config.statics }
         requires pools { ArePoolRanges (map (λ (p : NamedRange). p.range) config.pools) }
         requires within { All (λ c. HasAddress (map (λ (p : NamedRange). p.range) config.pools) c.address.0) config.statics }
         ensures { IfOk result (λ d. IsOpened config rounds seed now wall d) }
@@ -243,23 +240,33 @@ impl Desk {
     }
 
     /// Appends the report: the octets in and out that the Stops say that were formed so far, those of the terms that have no Stop yet,
-    /// and both together, which are those of all packets that were sent; those of each worker and of each provisioned circuit; and the
-    /// drops by cause.
+    /// and both together, which are those of all packets that were sent; those of each worker, of each profile and of each provisioned
+    /// circuit; and the drops by cause.
     pub fn report(&self, alloc: Global, out: &mut Vec<u8>) -> Result<(), DeskError>
-        ensures appended { OnOk result (out.new.items ≡ out.old.items ++ report_text (sums_of self.now).stopped (sums_of self.now).live (sums_of self.now).total (map traffic_by self.now.tallies) self.now.lines (all_carried self.now) (sums_of self.now).drops) }
+        ensures appended { OnOk result (out.new.items ≡ out.old.items ++ report_text (sums_of self.now).stopped (sums_of self.now).live (sums_of self.now).total (map traffic_by self.now.tallies) self.now.rules.profiles (by_profile self.now) self.now.lines (all_carried self.now) (sums_of self.now).drops) }
         ensures adds_up { (sums_of self.now).total ≡ total_of self.now.tallies }
         ensures kept { OnErr result (out.new.items ≡ out.old.items) }
     {
         let lines = self.works.accounts.lines();
-        let Ok(traffic) = all_carried(alloc, self.works.shards.as_slice(), lines) else {
+        let shards = self.works.shards.as_slice();
+        let Ok(traffic) = all_carried(alloc, shards, lines) else {
             return Err(DeskError::OutOfMemory);
         };
         let sums = self.sums();
         let workers = [octets_of(self.works.tally)];
-        let Ok(text) = report(alloc, &sums, &workers, lines, traffic.as_slice()) else {
+        let profiles = self.rules.profiles.as_slice();
+        let Ok(text) = report(
+            alloc,
+            &sums,
+            &workers,
+            profiles,
+            shards,
+            lines,
+            traffic.as_slice(),
+        ) else {
             return Err(DeskError::OutOfMemory);
         };
-        match out.extend_from_slice(text.as_bytes()) {
+        match out.extend_from_slice(text.as_slice()) {
             Ok(()) => Ok(()),
             Err(_) => Err(DeskError::OutOfMemory),
         }

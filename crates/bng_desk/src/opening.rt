@@ -5,6 +5,7 @@ ghost use Rattle.bng_acct.specs.Roster.{same};
 ghost use Rattle.bng_base.specs.declared.settings.NamedRange.{NamedRange};
 ghost use Rattle.bng_pool.specs.Ranges.{ArePoolRanges, HasAddress};
 ghost use Rattle.bng_pool.specs.Tables.{entry};
+ghost use Rattle.bng_profile.specs.Books.{AreDifferent, names_of};
 ghost use Rattle.bng_shard.specs.Interims.{no_reports};
 ghost use Rattle.bng_shard.specs.Lasting.{AreTenures};
 ghost use Rattle.bng_shard.specs.Protocol.{opened};
@@ -15,7 +16,9 @@ ghost use Rattle.bng_desk.specs.Model.{keys_in};
 ghost use Rattle.bng_desk.specs.Taking.{HasFewSessions, HasRows};
 
 use crate::accounts::{Accounts, NO_STOPS};
-use crate::copying::{all_copied, copied, kinds_copied, pools_copied, ports_copied, rules_copied};
+use crate::copying::{
+    all_copied, copied, kinds_copied, pools_copied, ports_copied, profiles_copied, rules_copied,
+};
 use crate::desk::DeskError;
 use crate::line::Line;
 use crate::starts::start_all;
@@ -47,16 +50,18 @@ pub(crate) fn rules(
     config: &Config,
     offers: Vec<PortRules>,
 ) -> Result<Rules, DeskError>
-    ensures { IfOk result (λ r. r ≡ record { shards = config.now.shards; core_peer = config.now.core_peer; access = config.now.access; offers = offers.items; pools = config.now.pools; link = record { name = config.now.name; address = config.now.address; dns = dns_of config.now.dns.items; auth = config.now.auth; echo = config.now.echo } }) }
+    ensures { IfOk result (λ r. r ≡ record { shards = config.now.shards; core_peer = config.now.core_peer; access = config.now.access; offers = offers.items; pools = config.now.pools; profiles = config.now.profiles; link = record { name = config.now.name; address = config.now.address; dns = dns_of config.now.dns.items; auth = config.now.auth; echo = config.now.echo } }) }
 {
     let access = ports_copied(alloc, config.access.as_slice())?;
     let pools = pools_copied(alloc, config.pools.as_slice())?;
+    let profiles = profiles_copied(alloc, config.profiles.as_slice())?;
     Ok(Rules {
         shards: config.shards,
         core_peer: config.core_peer,
         access: Listed::of(access),
         offers: Listed::of(offers),
         pools: Listed::of(pools),
+        profiles: Listed::of(profiles),
         link: LinkRules {
             name: copied(&config.name),
             address: config.address,
@@ -278,6 +283,9 @@ pub(crate) fn shards(
 ) -> Result<Vec<Shard>, DeskError>
     requires few { rules.now.shards ≤ 64 }
     requires few_pools { length rules.now.pools ≤ 16 }
+    requires some_profile { 0 < length rules.now.profiles }
+    requires few_profiles { length rules.now.profiles ≤ 16 }
+    requires different { AreDifferent (names_of rules.now.profiles) }
     requires circuits { AreServed rules.now circuits.items }
     requires offers { length rules.now.offers ≡ length rules.now.access }
     requires auth { 0 < length rules.now.link.auth.items }

@@ -1,12 +1,14 @@
-ghost use Rattle.std.specs.Prelude.{◌≡◌, ◌++◌, IfOk, OnOk, length, string_bytes};
+ghost use Rattle.std.specs.Prelude.{◌≡◌, ◌≤◌, ◌++◌, codes, IfOk, OnOk, length, map, string_bytes};
+ghost use Rattle.std.specs.List.{All, range_with_len};
 ghost use Rattle.bng_config.specs.Address.{address_text};
-ghost use Rattle.bng_desk.specs.Model.{traffic_by};
-ghost use Rattle.bng_desk.specs.Report.{report_text, traffic_line, worker_line, worker_lines, static_line, static_lines, drop_line, drop_lines, causes, quantities, cause_name};
+ghost use Rattle.bng_desk.specs.Model.{traffic_by, traffic_under};
+ghost use Rattle.bng_desk.specs.Report.{report_text, traffic_line, worker_line, worker_lines, profile_line, profile_lines, static_line, static_lines, drop_line, drop_lines, causes, quantities, cause_name};
 
 use crate::line::Line;
-use crate::sums::Sums;
-use bng_base::{Book, DropCause, Ip4};
-use bng_shard::Traffic;
+use crate::sums::{Sums, sent_under};
+use arrayvec::ArrayVec;
+use bng_base::{Book, DropCause, Ip4, Profile};
+use bng_shard::{Shard, Traffic};
 use std::alloc::{AllocError, Global};
 
 /// The causes, by number.
@@ -23,24 +25,45 @@ const CAUSES: [DropCause; 9] = [
 ];
 
 /// The report: the octets that the Stops say, those that the terms carried that have no Stop yet, and both together; a line for each
-/// worker, from 0, and for each circuit; and the items dropped by each cause. There is one traffic for each circuit.
+/// worker, from 0, for each profile, with what was sent under it as the books of the shards say, and for each circuit; and the items
+/// dropped by each cause. There is one traffic for each circuit.
 pub(crate) fn report(
     alloc: Global,
     sums: &Sums,
     workers: &[Traffic],
+    profiles: &[Profile],
+    shards: &[Shard],
     circuits: &[Line],
     traffic: &[Traffic],
-) -> Result<String, AllocError>
+) -> Result<Vec<u8>, AllocError>
+    requires few_profiles { length profiles.now ≤ 16 }
+    requires few_shards { length shards.now ≤ 64 }
+    requires books { All (λ v. length v.state.rules.profiles ≡ length profiles.now) shards.now }
     requires circuits { length traffic.now ≡ length circuits.now }
-    ensures { IfOk result (λ text. string_bytes text ≡ report_text sums.now.stopped sums.now.live sums.now.total workers.now circuits.now traffic.now sums.now.drops) }
+    ensures { IfOk result (λ text. text.items ≡ report_text sums.now.stopped sums.now.live sums.now.total workers.now profiles.now (map (traffic_under shards.now) (range_with_len 0 (length profiles.now))) circuits.now traffic.now sums.now.drops) }
+{
+    let totals = total_lines(alloc, sums, workers)?;
+    let mut statics = String::new(alloc);
+    push_static_lines(&mut statics, circuits, traffic)?;
+    let mut drops = String::new(alloc);
+    push_drop_lines(&mut drops, &sums.drops)?;
+    let mut text = Vec::new(alloc);
+    text.extend_from_slice(totals.as_bytes())?;
+    push_profile_lines(alloc, &mut text, profiles, shards)?;
+    text.extend_from_slice(statics.as_bytes())?;
+    text.extend_from_slice(drops.as_bytes())?;
+    Ok(text)
+}
+
+// The lines of the Stops, of the terms that are left and of both, and of the workers.
+fn total_lines(alloc: Global, sums: &Sums, workers: &[Traffic]) -> Result<String, AllocError>
+    ensures { IfOk result (λ text. string_bytes text ≡ traffic_line (codes "stopped") (traffic_by sums.now.stopped) ++ traffic_line (codes "live") (traffic_by sums.now.live) ++ traffic_line (codes "total") (traffic_by sums.now.total) ++ worker_lines 0 workers.now) }
 {
     let mut text = String::new(alloc);
     push_line(&mut text, "stopped", octets_of(sums.stopped))?;
     push_line(&mut text, "live", octets_of(sums.live))?;
     push_line(&mut text, "total", octets_of(sums.total))?;
     push_worker_lines(&mut text, workers)?;
-    push_static_lines(&mut text, circuits, traffic)?;
-    push_drop_lines(&mut text, &sums.drops)?;
     Ok(text)
 }
 
@@ -75,6 +98,40 @@ fn push_worker_line(text: &mut String, number: usize, carried: Traffic) -> Resul
 {
     write!(text, "worker {number}")?;
     push_quantities(text, u128::from(carried.input), u128::from(carried.output))
+}
+
+fn push_profile_lines(
+    alloc: Global,
+    text: &mut Vec<u8>,
+    profiles: &[Profile],
+    shards: &[Shard],
+) -> Result<(), AllocError>
+    requires few_profiles { length profiles.now ≤ 16 }
+    requires few_shards { length shards.now ≤ 64 }
+    requires books { All (λ v. length v.state.rules.profiles ≡ length profiles.now) shards.now }
+    ensures { OnOk result (text.new.items ≡ text.old.items ++ profile_lines profiles.now (map (traffic_under shards.now) (range_with_len 0 (length profiles.now)))) }
+{
+    for (place, profile) in profiles.iter().enumerate() {
+        let (input, output) = sent_under(shards, place as u8);
+        push_profile_line(alloc, text, &profile.name, input, output)?;
+    }
+    Ok(())
+}
+
+fn push_profile_line(
+    alloc: Global,
+    text: &mut Vec<u8>,
+    name: &ArrayVec<u8, 32>,
+    input: u128,
+    output: u128,
+) -> Result<(), AllocError>
+    ensures { OnOk result (text.new.items ≡ text.old.items ++ profile_line name.now.items (record { input = input; output = output })) }
+{
+    let mut sent = String::new(alloc);
+    push_quantities(&mut sent, input, output)?;
+    text.extend_from_slice(b"profile ")?;
+    text.extend_from_slice(name.as_slice())?;
+    text.extend_from_slice(sent.as_bytes())
 }
 
 fn push_static_lines(

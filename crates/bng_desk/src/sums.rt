@@ -2,7 +2,7 @@
 ghost use Rattle.std.specs.Prelude.{◌≡◌, ◌≤◌, ◌<◌, ◌+◌, ◌/◌, ◌^◌, Bool, IfOk, length, map, slice_get};
 ghost use Rattle.std.specs.List.{All};
 ghost use Rattle.bng_engine.specs.Quantities.{Quantity, in_book};
-ghost use Rattle.bng_desk.specs.Model.{begun_in, sessions_in, carried_on, live_of, plus_book, plus_traffic, traffic_at, traffic_or};
+ghost use Rattle.bng_desk.specs.Model.{begun_in, sessions_in, carried_on, live_of, plus_book, plus_traffic, traffic_at, traffic_or, traffic_under};
 ghost use Rattle.bng_desk.specs.Taking.{CarriesWithin, LinesWithin, far};
 ghost use Rattle.bng_shard.specs.Protocol.{row_at};
 
@@ -132,6 +132,23 @@ pub(crate) fn all_carried(
         traffic.push_reserved(carried_on(shards, line));
     }
     Ok(traffic)
+}
+
+/// What was sent under the profile at this place, in octets in and out, as the books of the shards say.
+pub(crate) fn sent_under(shards: &[Shard], place: u8) -> (u128, u128)
+    requires few { length shards.now ≤ 64 }
+    requires there { All (λ v. place < length v.state.rules.profiles) shards.now }
+    ensures input { result.0 ≡ (traffic_under shards.now place).input }
+    ensures output { result.1 ≡ (traffic_under shards.now place).output }
+{
+    let mut input: u128 = 0;
+    let mut output: u128 = 0;
+    for shard in shards {
+        let book = shard.book(place);
+        input += u128::from(book.input);
+        output += u128::from(book.output);
+    }
+    (input, output)
 }
 
 /// What the terms of all shards carried that have no Stop yet.

@@ -5,6 +5,7 @@ use Rattle.std.proofs.lemmas.List.FromFn.{map-range_with_len_more, length-map-ra
 use Rattle.bng_base.specs.declared.item.Entry.{Entry}
 use Rattle.bng_base.specs.declared.settings.Static.{Static}
 use Rattle.bng_engine.specs.Views.{ShardView}
+use Rattle.bng_profile.specs.Books.{AreDifferent, names_of}
 use Rattle.bng_shard.specs.declared.rules.Rules.{Rules}
 use Rattle.bng_shard.specs.Protocol.{opened}
 use Rattle.bng_shard.specs.Protocol.{ShardState}
@@ -87,3 +88,12 @@ overflow_add-number c =
 
 pub open-requires-clause-few_pools : goal.open-requires-clause-few_pools
 open-requires-clause-few_pools c = omega (arith, c.requires.few_pools, ap (λ (r : Rules). length r.pools) c.in_ok-own.ensures)
+
+pub open-requires-clause-some_profile : goal.open-requires-clause-some_profile
+open-requires-clause-some_profile c = omega (arith, c.requires.some_profile, ap (λ (r : Rules). length r.profiles) c.in_ok-own.ensures)
+
+pub open-requires-clause-few_profiles : goal.open-requires-clause-few_profiles
+open-requires-clause-few_profiles c = omega (arith, c.requires.few_profiles, ap (λ (r : Rules). length r.profiles) c.in_ok-own.ensures)
+
+pub open-requires-clause-different : goal.open-requires-clause-different
+open-requires-clause-different c = subst (λ (r : Rules). AreDifferent (names_of r.profiles)) (sym c.in_ok-own.ensures) c.requires.different

@@ -2,6 +2,7 @@ use Rattle.std.proofs.Common.{◌≡◌, ℕ, ◌+◌, ◌^◌, ◌<◌, ◌==�
 use Rattle.std.specs.List.{All, AllPairs, AllZip, range_with_len}
 use Rattle.std.proofs.lemmas.List.{length-map}
 use Rattle.bng_base.specs.declared.book.Book.{Book}
+use Rattle.bng_base.specs.declared.book.Profile.{Profile}
 use Rattle.bng_base.specs.declared.book.Range.{Range}
 use Rattle.bng_base.specs.declared.item.Entry.{Entry}
 use Rattle.bng_base.specs.declared.item.Item.{Item}
@@ -16,6 +17,7 @@ use Rattle.bng_engine.specs.Lists.{AnyOf}
 use Rattle.bng_engine.specs.Terms.{Key, keys}
 use Rattle.bng_engine.specs.Views.{ShardView}
 use Rattle.bng_discovery.specs.declared.port.PortRules.{PortRules}
+use Rattle.bng_profile.specs.Books.{AreDifferent, names_of}
 use Rattle.bng_shard.specs.declared.rules.Rules.{Rules}
 use Rattle.bng_shard.specs.Interims.{Reports, no_reports}
 use Rattle.bng_shard.specs.Lasting.{AreTenures}
@@ -36,7 +38,7 @@ use Rattle.bng_desk.proofs.Beginning.{IsTermOf}
 use Rattle.bng_desk.proofs.Fresh.{fresh_all, fresh_order, fresh_rested, kept_fresh}
 use Rattle.bng_desk.proofs.Leases.{opened_holds}
 use Rattle.bng_desk.proofs.OpenedTerms.{are_served, few_terms, knows_there, opened_keeps, terms_apart, terms_opened}
-use Rattle.bng_desk.proofs.Outfit.{of_shard, offers_count, ranges_of}
+use Rattle.bng_desk.proofs.Outfit.{names_differ, of_shard, offers_count, ranges_of}
 use Rattle.bng_desk.proofs.Returning.{HoldsOwn}
 use Rattle.bng_desk.proofs.desk.Desk.open.Goals as goal
 use Rattle.bng_desk.proofs.desk.Desk.open.Goals.{After-as_slice-2, After-new-4}
@@ -48,7 +50,7 @@ module _ (c : After-new-4) where
   abbrev made : Rules
   made = c.in_ok-rules.rules
 
-  made_as : made ≡ record { shards = c.args.config.shards; core_peer = c.args.config.core_peer; access = c.args.config.access; offers = c.in_ok-offers.offers.items; pools = c.args.config.pools; link = record { name = c.args.config.name; address = c.args.config.address; dns = dns_of c.args.config.dns.items; auth = c.args.config.auth; echo = c.args.config.echo } }
+  made_as : made ≡ record { shards = c.args.config.shards; core_peer = c.args.config.core_peer; access = c.args.config.access; offers = c.in_ok-offers.offers.items; pools = c.args.config.pools; profiles = c.args.config.profiles; link = record { name = c.args.config.name; address = c.args.config.address; dns = dns_of c.args.config.dns.items; auth = c.args.config.auth; echo = c.args.config.echo } }
   made_as = c.in_ok-rules.ensures
 
   circuits : c.into_vec.result.items ≡ c.args.config.statics
@@ -106,6 +108,7 @@ module _ (c : After-new-4) where
     access = ap (λ (r : Rules). r.access) made_as;
     offers = offers_are;
     pools = ap (λ (r : Rules). r.pools) made_as;
+    profiles = ap (λ (r : Rules). r.profiles) made_as;
     name = ap (λ (r : Rules). r.link.name.items) made_as;
     address = ap (λ (r : Rules). r.link.address) made_as;
     dns = ap (λ (r : Rules). r.link.dns) made_as;
@@ -114,7 +117,7 @@ module _ (c : After-new-4) where
   }
 
   served : AreServed made c.args.config.statics
-  served = are_served c.args.config made c.requires.rules c.requires.profiles (ap (λ (r : Rules). r.shards) made_as) (ap (λ (r : Rules). length r.access) made_as)
+  served = are_served c.args.config made c.requires.rules (ap (λ (r : Rules). r.profiles) made_as) (ap (λ (r : Rules). r.shards) made_as) (ap (λ (r : Rules). length r.access) made_as)
 
   -- each circuit's address is held by its shard
   held : All (HoldsOwn c.in_ok-pool.pool.table) c.in_ok-opens.opens.items
@@ -147,6 +150,7 @@ invariant_of-result c =
     let rules = are_rules c in (
       kept_fresh _ (statics c) c.args.now c.args.config.statics (shards_are c) c.in_ok-opens.ensures.sessions (lines_are c) (stopped_is c) (counts c)
           (omega (arith, c.requires.rules.some_port, ap (λ (ps : List AccessPort). length ps) rules.access)) (omega (arith, c.requires.rules.few_ports, ap (λ (ps : List AccessPort). length ps) rules.access))
+          (omega (arith, c.requires.rules.few_profiles, ap (λ (ps : List Profile). length ps) rules.profiles))
           (omega (arith, c.requires.rules.some_shard, rules.shards)) (omega (arith, c.requires.rules.few_shards, rules.shards))
           (pools c) ((is_pool c).shards ∙ sym rules.shards) (held c) (terms c)
           c.requires.most refl refl refl refl refl (ap (λ (x : Drawn). x.drawn) (draws_are c)) refl (tallies_are c) c.in_ok-kept.ensures.0 (handed_are c) (none_reported c) refl refl
@@ -220,7 +224,7 @@ returns c =
 pub shards-requires-clause-circuits : goal.shards-requires-clause-circuits
 shards-requires-clause-circuits c =
     subst (λ (cs : List Static). AreServed c.in_ok-rules.rules cs) (sym (c.into_vec.ensures ∙ c.replace-circuits.ensures.value))
-    (are_served c.args.config c.in_ok-rules.rules c.requires.rules c.requires.profiles (ap (λ (r : Rules). r.shards) c.in_ok-rules.ensures) (ap (λ (r : Rules). length r.access) c.in_ok-rules.ensures))
+    (are_served c.args.config c.in_ok-rules.rules c.requires.rules (ap (λ (r : Rules). r.profiles) c.in_ok-rules.ensures) (ap (λ (r : Rules). r.shards) c.in_ok-rules.ensures) (ap (λ (r : Rules). length r.access) c.in_ok-rules.ensures))
 
 pub accounts-requires-clause-most : goal.accounts-requires-clause-most
 accounts-requires-clause-most c = omega (arith, ap (λ (rules : BillingRules). rules.acct.terms) c.billing_rules-billing.ensures, c.requires.rules.few_terms)
@@ -228,7 +232,7 @@ accounts-requires-clause-most c = omega (arith, ap (λ (rules : BillingRules). r
 -- the terms of the opening
 module _ (c : After-as_slice-2) where
   served_by : AreServed c.in_ok-rules.rules c.args.config.statics
-  served_by = are_served c.args.config c.in_ok-rules.rules c.requires.rules c.requires.profiles (ap (λ (r : Rules). r.shards) c.in_ok-rules.ensures) (ap (λ (r : Rules). length r.access) c.in_ok-rules.ensures)
+  served_by = are_served c.args.config c.in_ok-rules.rules c.requires.rules (ap (λ (r : Rules). r.profiles) c.in_ok-rules.ensures) (ap (λ (r : Rules). r.shards) c.in_ok-rules.ensures) (ap (λ (r : Rules). length r.access) c.in_ok-rules.ensures)
 
   there : c.as_slice-2.result.now ≡ map (λ n. opened n c.in_ok-rules.rules (of_shard c.args.config.statics n) c.args.now) (range_with_len 0 c.in_ok-rules.rules.shards)
   there =
@@ -281,3 +285,13 @@ shards-requires-clause-offers c =
 
 pub shards-requires-clause-few_pools : goal.shards-requires-clause-few_pools
 shards-requires-clause-few_pools c = omega (arith, ap (λ (r : Rules). length r.pools) c.in_ok-rules.ensures, length-map c.args.config.pools (λ (p : NamedRange). p.range), c.requires.pools.few)
+
+pub shards-requires-clause-some_profile : goal.shards-requires-clause-some_profile
+shards-requires-clause-some_profile c = omega (arith, ap (λ (r : Rules). length r.profiles) c.in_ok-rules.ensures, c.requires.rules.some_profile)
+
+pub shards-requires-clause-few_profiles : goal.shards-requires-clause-few_profiles
+shards-requires-clause-few_profiles c = omega (arith, ap (λ (r : Rules). length r.profiles) c.in_ok-rules.ensures, c.requires.rules.few_profiles)
+
+pub shards-requires-clause-different : goal.shards-requires-clause-different
+shards-requires-clause-different c =
+    subst (λ (ps : List Profile). AreDifferent (names_of ps)) (sym (ap (λ (r : Rules). r.profiles) c.in_ok-rules.ensures)) (names_differ c.args.config.profiles c.requires.rules.different_profiles)

@@ -167,6 +167,7 @@ invariant_of-self g c =
       record {
         some_port = was.some_port;
         few_ports = was.few_ports;
+        few_profiles = was.few_profiles;
         shards = was.shards;
         some_shard = was.some_shard;
         few_shards = was.few_shards;
