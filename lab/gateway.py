@@ -88,8 +88,9 @@ def delivery(payload):
 
 
 def totals(total=0, out=0):
-    """The first lines of the report after serving: by then each term has its Stop, and there is one worker."""
-    return [f"stopped in={total} out={out}", "live in=0 out=0", f"total in={total} out={out}", f"worker 0 in={total} out={out}"]
+    """The first lines of the report after serving: by then each term has its Stop, and there is one worker and one profile."""
+    whole = f"in={total} out={out}"
+    return [f"stopped {whole}", "live in=0 out=0", f"total {whole}", f"worker 0 {whole}", f"profile default {whole}"]
 
 
 def report(total=0, out=0, **drops):

@@ -135,4 +135,4 @@ def leases_addresses(checks, command, patience):
         checks.same("the circuit has its Stop too", sorted(stops), [1025, host.session])
         checks.same("a subscriber with a term gets a PADT at the stop", host.hear(), padt(host))
         status, out, _ = lab.end()
-        checks.same("the total is that of all subscribers", (status, out.splitlines()[:5]), (0, [*totals(168, 168), "static 10.0.0.2 in=0 out=0"]))
+        checks.same("the total is that of all subscribers", (status, out.splitlines()[:6]), (0, [*totals(168, 168), "static 10.0.0.2 in=0 out=0"]))

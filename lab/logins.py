@@ -169,7 +169,7 @@ def authenticates(checks, command, patience):
         checks.same("stop is answered with peers accepted", lab.stop(), b"stopping\n")
         checks.same("each gets a PADT at the stop", (accepted.hear(), host.hear()), (padt(accepted), padt(host)))
         status, out, _ = lab.end()
-        checks.same("logins are no packets", (status, out.splitlines()[:4]), (0, totals()))
+        checks.same("logins are no packets", (status, out.splitlines()[:5]), (0, totals()))
         checks.same("nothing more was sent to any subscriber", line.is_quiet(), True)
 
 

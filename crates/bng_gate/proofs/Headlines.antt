@@ -3,6 +3,7 @@ use Rattle.std.proofs.Common.{◌≡◌, ◌⊎◌, inl, inr, ℕ, Bool, List, [
 use Rattle.std.specs.Prelude.{◌↔◌, zip}
 use Rattle.std.specs.List.{All, AllByRecursion, AllZip, Contains, sum_by}
 use Rattle.bng_base.specs.declared.book.Book.{Book}
+use Rattle.bng_base.specs.declared.book.Profile.{Profile}
 use Rattle.bng_base.specs.declared.outside.Datagram.{Datagram}
 use Rattle.bng_base.specs.declared.outside.Heard.{Heard}
 use Rattle.bng_base.specs.Chain.{Chain}
@@ -15,14 +16,14 @@ use Rattle.bng_config.specs.Rules.{KeepsRules}
 use Rattle.bng_config.proofs.Kept.{read_keeps}
 use Rattle.bng_engine.specs.Accounted.{Accounted, nothing_yet as new_history, opening as nothing_yet}
 use Rattle.bng_engine.specs.Histories.{ShardTurn}
-use Rattle.bng_engine.specs.Laws.{Opens, RightRound, RunFrom, RowsAccountOnWire, sends_of, stops_of}
+use Rattle.bng_engine.specs.Laws.{BooksAccount, Opens, RightRound, RunFrom, RowsAccountOnWire, sends_of, stops_of}
 use Rattle.bng_engine.specs.Quantities.{Quantity, empty_book}
 use Rattle.bng_engine.specs.Sums.{is_any}
 use Rattle.bng_engine.specs.Terms.{Key}
 use Rattle.bng_engine.specs.Views.{DeskView, ShardView, rows_where}
 use Rattle.bng_engine.specs.Wire.{went}
 use Rattle.bng_engine.proofs.Openings.{refused_keeps, opening_accounted}
-use Rattle.bng_engine.proofs.Runs.{rounds_are_right, run_conserves_at, rows_account_on_wire}
+use Rattle.bng_engine.proofs.Runs.{books_account, rounds_are_right, run_conserves_at, rows_account, rows_account_on_wire}
 use Rattle.bng_engine.proofs.Turns.{balanced}
 use Rattle.bng_shard.specs.declared.rules.Rules.{Rules}
 use Rattle.bng_shard.specs.declared.sums.Traffic.{Traffic}
@@ -33,7 +34,7 @@ use Rattle.bng_desk.specs.declared.drops.Drops.{Drops}
 use Rattle.bng_desk.specs.declared.line.Line.{Line}
 use Rattle.bng_desk.specs.Accounting.{FormedRecord}
 use Rattle.bng_desk.specs.Counting.{by_number}
-use Rattle.bng_desk.specs.Model.{Desk, all_stopped as all_say, carried_on, all_carried, line_after, live_of, plus_book, state_of, total_of, traffic_by}
+use Rattle.bng_desk.specs.Model.{Desk, all_stopped as all_say, by_profile, carried_on, all_carried, line_after, live_of, plus_book, state_of, total_of, traffic_by}
 use Rattle.bng_desk.specs.Opening.{billing_rules, line_of, opened_shards}
 use Rattle.bng_desk.specs.Report.{report_text}
 use Rattle.bng_desk.specs.Round.{view_of, views_of}
@@ -44,7 +45,7 @@ use Rattle.bng_gate.specs.Recorded.{Recorded, formed_of}
 use Rattle.bng_gate.specs.Replied.{AreReplied}
 use Rattle.bng_gate.specs.Reported.{ReportsLive}
 use Rattle.bng_gate.specs.Unanswered.{unanswered_of, NamesStops}
-use Rattle.bng_gate.specs.Headline.{AreStopped, HaveTerms, calls_in_run, Headline, IsSafe, IsQuiet, StopsAccount, WasSafe, all_terms_of, all_traffic, terms_of_run, total_in}
+use Rattle.bng_gate.specs.Headline.{AreStopped, HaveTerms, calls_in_run, Headline, AddsUpTo, IsSafe, IsQuiet, StopsAccount, WasSafe, all_profile_traffic, all_terms_of, all_traffic, terms_of_run, total_in}
 use Rattle.bng_gate.specs.Rounds.{rounds_in, rounds_of, plant_of, on_data, drops_of_run}
 use Rattle.bng_gate.specs.Unchanged.{NothingIsInvented}
 use Rattle.bng_gate.specs.Run.{World, turns_most, outside, Prepares, Course, Runs, report_of, IsReady, IsUntouched, WantsToServe, Why, IsUnwritten, RunEnds}
@@ -57,7 +58,7 @@ use Rattle.bng_gate.proofs.Going.{stands_itself}
 use Rattle.bng_gate.proofs.Invented.{HaveRules, nothing_invented, opened_rules, stages_invent_nothing}
 use Rattle.bng_gate.proofs.Keys.{IsOurs}
 use Rattle.bng_gate.proofs.Leaving.{HasNoRows, HasNoTerms, IsEmpty, all_stopped, ended_empty, rows_gone, rows_say_none, shards_say_none, terms_gone}
-use Rattle.bng_gate.proofs.Lines.{lines_gone, one_worker, report_told, stopped_gone, tallies_gone}
+use Rattle.bng_gate.proofs.Lines.{lines_gone, one_worker, report_told, rules_gone, stopped_gone, tallies_gone}
 use Rattle.bng_gate.proofs.LoginsGranted.{logins_granted}
 use Rattle.bng_gate.proofs.Openings.{opens}
 use Rattle.bng_gate.proofs.Owning.{sends_ours}
@@ -69,10 +70,7 @@ use Rattle.bng_gate.proofs.Staging.{stages_acknowledged, stages_heard, stages_ta
 use Rattle.bng_gate.proofs.Stopping.{run_causes, run_causes_known, run_stays, run_terms}
 use Rattle.bng_gate.proofs.Telling.{sent_are, taken_are, unsent_failed}
 use Rattle.bng_gate.proofs.Traffic.{live_none, plus_none, stopped_same, stops_account, total_same, traffic_same}
-
--- each circuit of a configuration that is read has the first profile
-first_profiles : (text : List ℕ) (config : Config) → IsRead text config → All (λ c. c.profile ≡ 0) config.statics
-first_profiles text config read i d less = (read.configures.statics i d less).profile
+use Rattle.bng_gate.proofs.Under.{all_add_up, under_same}
 
 module _ (text : List ℕ) (config : Config) (read : IsRead text config) (seed : List ℕ) (old new : World) (course : Course config seed (outside old) (outside new)) where
   rules : KeepsRules config
@@ -98,7 +96,7 @@ module _ (text : List ℕ) (config : Config) (read : IsRead text config) (seed :
   start_is = ap (λ (d : Desk). view_of d.shards d.pool d.tallies) course.begins.is_opened.desk
 
   start_opens : Opens pppoe start
-  start_opens = subst (Opens pppoe) (sym start_is) (opens r config now course.begins.is_opened.pool rules course.begins.is_opened.is_pool (first_profiles text config read))
+  start_opens = subst (Opens pppoe) (sym start_is) (opens r config now course.begins.is_opened.pool rules course.begins.is_opened.is_pool course.begins.is_opened.are_rules.profiles)
 
   shards_are : start.shards ≡ views_of (opened_shards config r now)
   shards_are = ap (λ (d : Desk). views_of d.shards) course.begins.is_opened.desk
@@ -120,6 +118,9 @@ module _ (text : List ℕ) (config : Config) (read : IsRead text config) (seed :
 
   on_wire : RowsAccountOnWire pppoe rounds end
   on_wire = rows_account_on_wire pppoe pppoe_laws start end goes.history rounds goes.run accounted
+
+  books : BooksAccount pppoe start rounds end
+  books = books_account pppoe pppoe_laws start end goes.history rounds goes.run accounted
 
   -- each term is live or has its Stop, and what was sent is theirs
   terms : AllZip HaveTerms goes.history.shards (terms_of_run config rounds)
@@ -151,6 +152,14 @@ module _ (text : List ℕ) (config : Config) (read : IsRead text config) (seed :
 
   lines : course.last.lines ≡ map (line_after (stops_of rounds)) (map line_of config.statics)
   lines = lines_gone course.opening course.last (rounds_in course.turns course.endings) follows ∙ ap (λ (d : Desk). map (line_after (stops_of rounds)) d.lines) course.begins.is_opened.desk
+
+  -- the profiles of the last desk are those of the configuration, and what it says of each is what was sent under it
+  profiles : course.last.rules.profiles ≡ config.profiles
+  profiles =
+      ap (λ (x : Rules). x.profiles) (rules_gone course.opening course.last (rounds_in course.turns course.endings) follows) ∙ ap (λ (d : Desk). d.rules.profiles) course.begins.is_opened.desk ∙ course.begins.is_opened.are_rules.profiles
+
+  under : by_profile course.last ≡ all_profile_traffic config rounds
+  under = under_same config r now start end rounds books course.last refl profiles
 
   -- what was sent, as the plant tells it
   abbrev sent : List Datagram
@@ -240,6 +249,9 @@ module _ (text : List ℕ) (config : Config) (read : IsRead text config) (seed :
     stopped_all_say =
         stopped_gone course.opening course.last (rounds_in course.turns course.endings) follows ∙ ap (λ (d : Desk). plus_book d.stopped_book (all_say (stops_of rounds))) course.begins.is_opened.desk ∙ stopped_same sent (stops_of rounds) exact
 
+    add_up : AddsUpTo (total_in sent) (all_profile_traffic config rounds)
+    add_up = all_add_up config r now start end rounds books shards_are course.begins.is_opened.are_rules.profiles sent exact (rows_account pppoe pppoe_laws start end goes.history rounds goes.run accounted) rows_none
+
     none_live : live_of course.last.shards ≡ empty_book
     none_live = live_none course.last.shards (λ q input. shards_say_none q is_any input course.last.shards no_rows)
 
@@ -249,22 +261,26 @@ module _ (text : List ℕ) (config : Config) (read : IsRead text config) (seed :
         ∙ ap (λ (b : Book). let ts : List Traffic = traffic_by b ∷ [] in ts) total
 
     -- the report, by what the Stops say and what is live, of which the total is made
-    abbrev report_by : Book → Book → Book → List Traffic → List Line → List Traffic → Drops → List ℕ
-    report_by stopped live total workers lines traffic drops = report_text stopped live total workers lines traffic (by_number drops)
+    abbrev report_by : Book → Book → Book → List Traffic → List Profile → List Traffic → List Line → List Traffic → Drops → List ℕ
+    report_by stopped live total workers metered passed lines traffic drops = report_text stopped live total workers metered passed lines traffic (by_number drops)
 
-    report : report_of course.last ≡ report_text (total_in sent) empty_book (total_in sent) (traffic_by (total_in sent) ∷ []) (map line_of config.statics) (all_traffic config sent) (by_number (drops_of_run course.turns course.endings))
+    report : report_of course.last ≡ report_text (total_in sent) empty_book (total_in sent) (traffic_by (total_in sent) ∷ []) config.profiles (all_profile_traffic config rounds) (map line_of config.statics) (all_traffic config sent) (by_number (drops_of_run course.turns course.endings))
     report =
         let sum = total_in sent in
         let one : List Traffic = traffic_by sum ∷ [] in
         let d = course.last in
-        ap (λ (b : Book). report_by b (live_of d.shards) (plus_book b (live_of d.shards)) (map traffic_by d.tallies) d.lines (all_carried d) d.drops) stopped_all_say
-        ∙ ap (λ (b : Book). report_by sum b (plus_book sum b) (map traffic_by d.tallies) d.lines (all_carried d) d.drops) none_live
-        ∙ ap (λ (b : Book). report_by sum empty_book b (map traffic_by d.tallies) d.lines (all_carried d) d.drops) (plus_none sum)
-        ∙ ap (λ (ws : List Traffic). report_by sum empty_book sum ws d.lines (all_carried d) d.drops) workers
-        ∙ ap (λ (ls : List Line). report_by sum empty_book sum one ls (map (carried_on d.shards) ls) d.drops) lines
-        ∙ ap (λ (ts : List Traffic). report_by sum empty_book sum one (map (line_after (stops_of rounds)) (map line_of config.statics)) ts d.drops) (traffic_same sent (stops_of rounds) exact d.shards no_rows config.statics)
-        ∙ report_told sum empty_book sum one (stops_of rounds) (map line_of config.statics) (all_traffic config sent) (by_number d.drops)
-        ∙ ap (λ (x : Drops). report_by sum empty_book sum one (map line_of config.statics) (all_traffic config sent) x) drops
+        let ps = config.profiles in
+        let us = all_profile_traffic config rounds in
+        ap (λ (b : Book). report_by b (live_of d.shards) (plus_book b (live_of d.shards)) (map traffic_by d.tallies) d.rules.profiles (by_profile d) d.lines (all_carried d) d.drops) stopped_all_say
+        ∙ ap (λ (b : Book). report_by sum b (plus_book sum b) (map traffic_by d.tallies) d.rules.profiles (by_profile d) d.lines (all_carried d) d.drops) none_live
+        ∙ ap (λ (b : Book). report_by sum empty_book b (map traffic_by d.tallies) d.rules.profiles (by_profile d) d.lines (all_carried d) d.drops) (plus_none sum)
+        ∙ ap (λ (ws : List Traffic). report_by sum empty_book sum ws d.rules.profiles (by_profile d) d.lines (all_carried d) d.drops) workers
+        ∙ ap (λ (ts : List Traffic). report_by sum empty_book sum one d.rules.profiles ts d.lines (all_carried d) d.drops) under
+        ∙ ap (λ (xs : List Profile). report_by sum empty_book sum one xs us d.lines (all_carried d) d.drops) profiles
+        ∙ ap (λ (ls : List Line). report_by sum empty_book sum one ps us ls (map (carried_on d.shards) ls) d.drops) lines
+        ∙ ap (λ (ts : List Traffic). report_by sum empty_book sum one ps us (map (line_after (stops_of rounds)) (map line_of config.statics)) ts d.drops) (traffic_same sent (stops_of rounds) exact d.shards no_rows config.statics)
+        ∙ report_told sum empty_book sum one ps us (stops_of rounds) (map line_of config.statics) (all_traffic config sent) (by_number d.drops)
+        ∙ ap (λ (x : Drops). report_by sum empty_book sum one ps us (map line_of config.statics) (all_traffic config sent) x) drops
 
     -- no Stop is open exactly where each was acknowledged
     answered : (unanswered_of course.last ≡ []) ↔ StopsAreAcknowledged (calls_in_run config seed old new course)
@@ -286,6 +302,7 @@ module _ (text : List ℕ) (config : Config) (read : IsRead text config) (status
     stopped = stopped_all text config read seed old new turned run.ended;
     exact = exact text config read seed old new turned run.ended;
     printed = subst (λ (text : List ℕ). Grows old.out.bytes new.out.bytes text) (report text config read seed old new turned run.ended) run.reports.printed;
+    profiles_add_up = add_up text config read seed old new turned run.ended;
     acknowledged = λ s. (answered text config read seed old new turned run.ended).0 (none s);
     unacknowledged = λ s. let names = some s in (λ all. names.some ((answered text config read seed old new turned run.ended).1 all), names);
   }

@@ -51,6 +51,7 @@ pub mod Recording
 pub mod Addressing
 pub mod AddressedLive
 pub mod Traffic
+pub mod Under
 pub mod Drops
 pub mod Arising
 pub mod Passing

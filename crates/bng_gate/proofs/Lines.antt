@@ -4,6 +4,7 @@ use Rattle.std.specs.List.{flat_map}
 use Rattle.std.proofs.lemmas.List.Sums.{sum_by-append, sum_by-cons}
 use Rattle.bng_base.specs.declared.address.Ip4.{Ip4}
 use Rattle.bng_base.specs.declared.book.Book.{Book}
+use Rattle.bng_base.specs.declared.book.Profile.{Profile}
 use Rattle.bng_base.specs.Chain.{Chain}
 use Rattle.bng_engine.specs.Histories.{stops_in}
 use Rattle.bng_engine.specs.Laws.{stops_of}
@@ -15,7 +16,7 @@ use Rattle.bng_shard.specs.declared.sums.Traffic.{Traffic}
 use Rattle.bng_shard.specs.Protocol.{ShardState, Handled}
 use Rattle.bng_desk.specs.declared.line.Line.{Line}
 use Rattle.bng_desk.specs.Model.{Desk, all_stopped, line_after, plus_book, plus_traffic, stopped_of, total_of, traffic_by}
-use Rattle.bng_desk.specs.Report.{causes, drop_lines, report_text, static_line, static_lines, traffic_line, worker_lines}
+use Rattle.bng_desk.specs.Report.{causes, drop_lines, profile_lines, report_text, static_line, static_lines, traffic_line, worker_lines}
 use Rattle.bng_desk.specs.Round.{Round}
 use Rattle.bng_desk.proofs.InAll.{book_is, plus_in, stopped_in_all}
 use Rattle.bng_gate.specs.Rounds.{turns_of}
@@ -120,6 +121,13 @@ one_worker (b ∷ []) e =
     (sym (traffic_is (traffic_by (total_of (b ∷ []))) b.input b.output (omega (arith, sum_by-cons (λ (x : Book). x.input) b [])) (omega (arith, sum_by-cons (λ (x : Book). x.output) b []))))
 one_worker (b ∷ c ∷ bs) e = absurd (omega (arith, e))
 
+-- Rules ----------------------------------------------------------------------------------------------------------------
+
+-- by what the desk works stays
+pub rules_gone : (d d' : Desk) (rounds : List (Option Round)) → Chain Follows d rounds d' → d'.rules ≡ d.rules
+rules_gone d d' [] run = ap (λ (x : Desk). x.rules) run
+rules_gone d d' (round ∷ rounds) run = rules_gone run.0 d' rounds run.2 ∙ run.1.rules
+
 -- The report -----------------------------------------------------------------------------------------------------------
 
 -- it names a circuit by its address alone
@@ -128,9 +136,9 @@ lines_told stops [] ts = refl
 lines_told stops (l ∷ ls) [] = refl
 lines_told stops (l ∷ ls) (t ∷ ts) = ap (λ (x : List ℕ). static_line l.address t ++ x) (lines_told stops ls ts)
 
-pub report_told : (stopped live total : Book) (workers : List Traffic) (stops : List Stop) (ls : List Line) (ts : List Traffic) (drops : List ℕ)
-    → report_text stopped live total workers (map (line_after stops) ls) ts drops ≡ report_text stopped live total workers ls ts drops
-report_told stopped live total workers stops ls ts drops =
+pub report_told : (stopped live total : Book) (workers : List Traffic) (profiles : List Profile) (under : List Traffic) (stops : List Stop) (ls : List Line) (ts : List Traffic) (drops : List ℕ)
+    → report_text stopped live total workers profiles under (map (line_after stops) ls) ts drops ≡ report_text stopped live total workers profiles under ls ts drops
+report_told stopped live total workers profiles under stops ls ts drops =
     ap
-    (λ (x : List ℕ). traffic_line (codes "stopped") (traffic_by stopped) ++ traffic_line (codes "live") (traffic_by live) ++ traffic_line (codes "total") (traffic_by total) ++ worker_lines 0 workers ++ x ++ drop_lines causes drops)
+    (λ (x : List ℕ). traffic_line (codes "stopped") (traffic_by stopped) ++ traffic_line (codes "live") (traffic_by live) ++ traffic_line (codes "total") (traffic_by total) ++ worker_lines 0 workers ++ profile_lines profiles under ++ x ++ drop_lines causes drops)
     (lines_told stops ls ts)

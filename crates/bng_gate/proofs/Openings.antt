@@ -1,14 +1,16 @@
 -- A desk that was opened over a configuration: its terms are those of the circuits.
 use Rattle.std.proofs.Common.{◌≡◌, ◌||◌, ℕ, zero, suc, ◌+◌, ◌*◌, Bool, true, false, List, [], ◌∷◌, Option, Some, None, is_some, ◌/◌, cond, map, length, refl, sym, ap, ◌∙◌, arith, eqb, zero-add}
-use Rattle.std.specs.Prelude.{filter}
+use Rattle.std.specs.Prelude.{filter, replicate, ◌<◌}
 use Rattle.std.specs.Option.{option_map}
 use Rattle.std.specs.List.{All, AllByRecursion, sum_by, count_by, range_with_len}
+use Rattle.std.proofs.lemmas.List.{get_or-replicate, length-replicate}
 use Rattle.std.proofs.lemmas.Bool.{eqb-true, ne_eqb}
 use Rattle.std.proofs.lemmas.List.Elements.{recursion_from_All}
 use Rattle.std.proofs.lemmas.List.Kept.{AllPairs-filter}
 use Rattle.std.proofs.lemmas.List.Sums.{sum_by-cons}
 use Rattle.std.proofs.lemmas.Nat.{div-add-mod'}
 use Rattle.bng_base.specs.declared.address.Ip4.{Ip4}
+use Rattle.bng_base.specs.declared.book.Profile.{Profile}
 use Rattle.bng_base.specs.declared.settings.Static.{Static}
 use Rattle.bng_config.specs.declared.config.Config.{Config}
 use Rattle.bng_config.specs.Rules.{KeepsRules, IsSessionOf}
@@ -29,7 +31,7 @@ use Rattle.bng_pool.specs.Tables.{Table, entry}
 use Rattle.bng_shard.specs.declared.rules.Rules.{Rules}
 use Rattle.bng_slots.specs.Sessions.{IsNumberOf}
 use Rattle.bng_shard.specs.Opening.{in_order, opened_slots, tenure_from, tenures_after}
-use Rattle.bng_shard.specs.Protocol.{ShardState, Handled, key_in, profiles_there, pppoe, opened, term_in, terms_of}
+use Rattle.bng_shard.specs.Protocol.{ShardState, Handled, key_in, pppoe, opened, term_in, terms_of}
 use Rattle.bng_shard.proofs.InOrder as ordered
 use Rattle.bng_desk.specs.Opening.{IsOpenedPool, circuit_with, opened_shards, shard_of, statics_of}
 use Rattle.bng_desk.specs.Round.{views_of, view_of, held_by}
@@ -102,13 +104,16 @@ one_empty : AreEmpty (empty_book ∷ [])
 one_empty zero lt = refl
 one_empty (suc i) lt = absurd (omega (arith, lt))
 
--- each circuit has the one profile that there is
-abbrev IsFirst : Static → Type 0
-IsFirst c = c.profile ≡ 0
+all_empty : (n : ℕ) → AreEmpty (replicate n empty_book)
+all_empty n i lt = get_or-replicate n i empty_book empty_book (omega (arith, lt, length-replicate n empty_book))
 
-first_profiles : (now n : ℕ) (cs : List Static) → AllByRecursion IsFirst cs → HaveProfiles profiles_there (terms_from now n cs)
-first_profiles now n [] h = tt
-first_profiles now n (c ∷ cs) h = (omega (arith, h.0), first_profiles now (n + 1) cs h.1)
+-- each circuit has a profile that there is
+abbrev HasOneOf : ℕ → Static → Type 0
+HasOneOf profiles c = c.profile < profiles
+
+their_profiles : (profiles now n : ℕ) (cs : List Static) → AllByRecursion (HasOneOf profiles) cs → HaveProfiles profiles (terms_from now n cs)
+their_profiles profiles now n [] h = tt
+their_profiles profiles now n (c ∷ cs) h = (h.0, their_profiles profiles now (n + 1) cs h.1)
 
 -- no term has ended
 abbrev pub IsLive : Term → Type 0
@@ -133,7 +138,7 @@ module _ (r : Rules) (now : ℕ) where
   abbrev fresh : ℕ → List Static → ShardState
   fresh number cs = record { rules = r; slots = opened_slots number cs now }
 
-  new_shard : (number : ℕ) (cs : List Static) → AllByRecursion (λ c. IsNumberOf number c.session.0) cs → AllByRecursion IsFirst cs → IsNew pppoe (with_journal {E = Handled} (opened number r cs now) [])
+  new_shard : (number : ℕ) (cs : List Static) → AllByRecursion (λ c. IsNumberOf number c.session.0) cs → AllByRecursion (HasOneOf (length r.profiles)) cs → IsNew pppoe (with_journal {E = Handled} (opened number r cs now) [])
   new_shard number cs own profiles =
       let circuits = in_order number cs in
       record {
@@ -145,15 +150,15 @@ module _ (r : Rules) (now : ℕ) where
         };
         fit = λ f. ap (sum_by f) (keys_of_new (keys (terms_of (fresh number cs))));
         rows = new_say_nothing (keys (terms_of (fresh number cs)));
-        profiled = first_profiles now 0 circuits (ordered.all_in_order IsFirst number cs profiles);
-        profiles = refl;
-        books = one_empty;
+        profiled = their_profiles (length r.profiles) now 0 circuits (ordered.all_in_order (HasOneOf (length r.profiles)) number cs profiles);
+        profiles = length-replicate (length r.profiles) empty_book;
+        books = all_empty (length r.profiles);
       }
 
-  new_shards : (config : Config) → KeepsRules config → (ns : List ℕ) → AllByRecursion IsFirst config.statics → AllByRecursion (IsNew pppoe) (views_of (map (λ n. opened n r (statics_of config n) now) ns))
+  new_shards : (config : Config) → KeepsRules config → (ns : List ℕ) → AllByRecursion (HasOneOf (length r.profiles)) config.statics → AllByRecursion (IsNew pppoe) (views_of (map (λ n. opened n r (statics_of config n) now) ns))
   new_shards config rules [] profiles = tt
   new_shards config rules (n ∷ ns) profiles = (
-    new_shard n (statics_of config n) (shard_own config rules n) (all_filter IsFirst (λ c. eqb (shard_of c) n) config.statics profiles),
+    new_shard n (statics_of config n) (shard_own config rules n) (all_filter (HasOneOf (length r.profiles)) (λ c. eqb (shard_of c) n) config.statics profiles),
     new_shards config rules ns profiles,
   )
 
@@ -225,9 +230,10 @@ pool_holds : (config : Config) (pool : PlainView) → IsOpenedPool config pool �
 pool_holds config pool is a = held_entry a pool.table ∙ ap is_some (is.table a) ∙ mapped_some (circuit_with config.statics a)
 
 -- the desk at its opening holds each circuit's term with its address, and nothing else
-pub opens : (r : Rules) (config : Config) (now : ℕ) (pool : PlainView) → KeepsRules config → IsOpenedPool config pool → All (λ c. c.profile ≡ 0) config.statics → Opens pppoe (view_of (opened_shards config r now) pool (empty_book ∷ []))
+pub opens : (r : Rules) (config : Config) (now : ℕ) (pool : PlainView) → KeepsRules config → IsOpenedPool config pool → r.profiles ≡ config.profiles → Opens pppoe (view_of (opened_shards config r now) pool (empty_book ∷ []))
 opens r config now pool rules is profiles = record {
-  new = new_shards r now config rules (range_with_len 0 config.shards) (recursion_from_All IsFirst config.statics profiles);
+  new = new_shards r now config rules (range_with_len 0 config.shards)
+      (recursion_from_All (HasOneOf (length r.profiles)) config.statics (λ i d lt. omega (arith, rules.profiled i d lt, ap (λ (ps : List Profile). length ps) profiles)));
   holds = λ a.
       holders_are r now config rules a (range_with_len 0 config.shards) ∙ sum_shards config rules (λ (c : Static). one_if (eqb (address_in c) a)) ∙ held_once a config.statics (addresses_apart config rules)
       ∙ sym (ap one_if (pool_holds config pool is a));

@@ -109,7 +109,7 @@ module _ (sent : List Datagram) (stops : List Stop) (exact : StopsAccount stops 
       ∙ ap (λ (ts : List Traffic). traffic_of sent c ∷ ts) (traffic_same cs)
 
 -- what all Stops say is what was sent
-stops_say : (sent : List Datagram) (stops : List Stop) → StopsAccount stops sent → (q : Quantity) (input : Bool) → stopped_where q is_any input stops ≡ in_book q input (total_in sent)
+pub stops_say : (sent : List Datagram) (stops : List Stop) → StopsAccount stops sent → (q : Quantity) (input : Bool) → stopped_where q is_any input stops ≡ in_book q input (total_in sent)
 stops_say sent stops exact Octets true = exact.all_input Octets
 stops_say sent stops exact Octets false = exact.all_output Octets
 stops_say sent stops exact Packets true = exact.all_input Packets

@@ -1,5 +1,5 @@
 -- What a run says in the subject's own words.
-use Rattle.std.specs.Prelude.{◌≡◌, ℕ, ◌+◌, ◌++◌, true, false, List, [], ◌∷◌, Option, None, Some, filter, length, map, take, drop, slice_get, count_by, zip}
+use Rattle.std.specs.Prelude.{◌≡◌, ℕ, ◌+◌, ◌++◌, true, false, List, [], ◌∷◌, Option, None, Some, filter, length, map, take, drop, slice_get, count_by, sum_by, zip}
 use Rattle.std.specs.List.{All, AllZip, Contains, flat_map, range_with_len}
 use Rattle.byteorder.specs.Endian.{big_from}
 use Rattle.bng_base.specs.declared.address.Ip4.{Ip4}
@@ -23,6 +23,7 @@ use Rattle.bng_base.specs.Told.{Grows, GrowsIfTold}
 use Rattle.bng_billing.specs.Calls.{BillingCall, StopsAreAcknowledged}
 use Rattle.bng_config.specs.declared.config.Config.{Config}
 use Rattle.bng_engine.specs.Accounted.{Balanced}
+use Rattle.bng_engine.specs.Books.{sent_under}
 use Rattle.bng_engine.specs.Exact.{ConservedAt}
 use Rattle.bng_engine.specs.Histories.{History, NextRound, ShardHistory, ShardTurn, sends_in}
 use Rattle.bng_engine.specs.Lists.{AnyOf}
@@ -105,6 +106,23 @@ total_in sent = record {
 -- of each circuit, in the order of the configuration
 abbrev pub all_traffic : Config → List Datagram → List Traffic
 all_traffic config sent = map (traffic_of sent) config.statics
+
+-- What these rounds sent under the profile at this place, in octets: the packets whose charges name it, which is the profile of their
+-- term as each was handled.
+abbrev pub profile_traffic : List (List (ShardTurn Handled)) → ℕ → Traffic
+profile_traffic rounds place = record {
+  input = sent_under Octets place true (sends_of rounds);
+  output = sent_under Octets place false (sends_of rounds);
+}
+
+-- of each profile, in the order of the configuration
+abbrev pub all_profile_traffic : Config → List (List (ShardTurn Handled)) → List Traffic
+all_profile_traffic config rounds = map (profile_traffic rounds) (range_with_len 0 (length config.profiles))
+
+-- all of these together are this
+pub record AddsUpTo (total : Book) (parts : List Traffic) : Type 0 where
+  pub input : sum_by (λ (t : Traffic). t.input) parts ≡ total.input
+  pub output : sum_by (λ (t : Traffic). t.output) parts ≡ total.output
 
 -- the terms of the circuits, each in the shard of its number, numbered there by rising session number
 abbrev pub keys_of_circuits : Config → List (List Key)
@@ -245,9 +263,11 @@ pub record Headline (config : Config) (status : ℕ) (old new : World) : Type 0 
   pub stopped : AllZip AreStopped safe.history.shards (terms_of_run config (rounds_of run.completes.course.turns run.completes.course.endings))
   pub exact : StopsAccount (stops_of (rounds_of run.completes.course.turns run.completes.course.endings)) safe.sent
   -- What the Stops say, as it is printed, is the octets of all packets that were sent. Nothing is printed as live, so that the total printed
-  -- is that same number, and it is what is printed for the one worker. The octets printed for a circuit are those of the packets from its
+  -- is that same number, and it is what is printed for the one worker. For each profile of the configuration the octets are printed that
+  -- the rounds sent under it, and these add up to all that was sent. The octets printed for a circuit are those of the packets from its
   -- address and to it. The drops printed are those of the rounds, and of those that could not be opened.
-  pub printed : Grows old.out.bytes new.out.bytes (report_text (total_in safe.sent) empty_book (total_in safe.sent) (traffic_by (total_in safe.sent) ∷ []) (map line_of config.statics) (all_traffic config safe.sent) (by_number (drops_of_run run.completes.course.turns run.completes.course.endings)))
+  pub printed : Grows old.out.bytes new.out.bytes (report_text (total_in safe.sent) empty_book (total_in safe.sent) (traffic_by (total_in safe.sent) ∷ []) config.profiles (all_profile_traffic config (rounds_of run.completes.course.turns run.completes.course.endings)) (map line_of config.statics) (all_traffic config safe.sent) (by_number (drops_of_run run.completes.course.turns run.completes.course.endings)))
+  pub profiles_add_up : AddsUpTo (total_in safe.sent) (all_profile_traffic config (rounds_of run.completes.course.turns run.completes.course.endings))
   -- With status 0 each Stop that was formed was acknowledged by a datagram that was heard later. With status 6 some was not, and the
   -- lines of those that were not were written.
   pub acknowledged : status ≡ 0 → StopsAreAcknowledged (calls_in_run config seed old new run.completes.course)

@@ -12,7 +12,7 @@ use Rattle.bng_config.specs.declared.config.Config.{Config}
 use Rattle.bng_config.specs.declared.fault.Fault.{Fault}
 use Rattle.bng_config.specs.Configuration.{IsRead, HasFault}
 use Rattle.bng_desk.specs.declared.desk.DeskState.TheVariants.{Ended, Starved}
-use Rattle.bng_desk.specs.Model.{Desk, state_of, all_carried, sums_of, traffic_by}
+use Rattle.bng_desk.specs.Model.{Desk, state_of, all_carried, by_profile, sums_of, traffic_by}
 use Rattle.bng_desk.specs.Opening.{IsOpened}
 use Rattle.bng_desk.specs.Report.{report_text}
 use Rattle.bng_gate.specs.declared.texts.Opening.{Opening}
@@ -260,7 +260,7 @@ pub record FailsToNote (config : Config) (seed : List ℕ) (old new : Outside) :
 -- The report ----------------------------------------------------------------------------------------------------------------
 
 abbrev pub report_of : Desk → List ℕ
-report_of d = report_text (sums_of d).stopped (sums_of d).live (sums_of d).total (map traffic_by d.tallies) d.lines (all_carried d) (sums_of d).drops
+report_of d = report_text (sums_of d).stopped (sums_of d).live (sums_of d).total (map traffic_by d.tallies) d.rules.profiles (by_profile d) d.lines (all_carried d) (sums_of d).drops
 
 -- the report of a desk that did not starve was written
 pub record Reports (last : Desk) (out out' : SinkTold) : Type 0 where

@@ -1,12 +1,10 @@
 //! The top call.
-ghost use Rattle.std.specs.Prelude.{◌≡◌, ◌+◌, ◌<◌, ◌≤◌, ◌⊎◌, ℕ, List, [], ◌∷◌, false, IsSome, OnOk, OnErr, IfNone, IfOk, IfErr, IfSome, length};
-ghost use Rattle.std.specs.List.{All};
+ghost use Rattle.std.specs.Prelude.{◌≡◌, ◌+◌, ◌≤◌, ◌⊎◌, ℕ, List, [], ◌∷◌, false, IsSome, OnOk, OnErr, IfNone, IfOk, IfErr, IfSome, length};
 ghost use Rattle.bng_base.specs.Told.{Grows, SinkTold};
 ghost use Rattle.bng_config.specs.declared.config.Config.{Config as Settings};
 ghost use Rattle.bng_config.specs.declared.fault.Fault.{Fault as Rule};
 ghost use Rattle.bng_config.specs.Configuration.{HasFault};
 ghost use Rattle.bng_config.specs.Rules.{KeepsRules};
-ghost use Rattle.bng_shard.specs.Protocol.{profiles_there};
 ghost use Rattle.bng_gate.specs.Headline.{Headline, IsQuiet, WasSafe};
 ghost use Rattle.bng_gate.specs.Words.{Serves};
 ghost use Rattle.bng_gate.specs.Words.{texts as words_of};
@@ -42,7 +40,6 @@ const TURNS_MOST: u64 = 1 << 40;
 fn prepare<F: Files>(alloc: Global, words: &Vec<String>, files: &mut F) -> Result<Config, Refusal>
     ensures prepared { IfOk result (λ config. Prepares (words_of words.now.items) (F.told files.old) (F.told files.new) config) }
     ensures keeps { IfOk result (λ config. KeepsRules config) }
-    ensures profiles { IfOk result (λ config. All (λ c. c.profile < profiles_there) config.statics) }
     ensures refused { IfErr result (λ refusal. IsUnprepared (words_of words.now.items) (F.told files.old) (F.told files.new) refusal) }
 {
     let Some(name) = words::read(words) else {
@@ -156,7 +153,6 @@ fn make_ready<E: Entropy, F: Files>(
     ensures prepared { IfOk result (λ ready. Prepares (words_of words.now.items) (F.told files.old) (F.told files.new) ready.config) }
     ensures seeded { IfOk result (λ ready. Seeds (E.told entropy.old) (E.told entropy.new) ready.seed) }
     ensures keeps { IfOk result (λ ready. KeepsRules ready.config) }
-    ensures profiles { IfOk result (λ ready. All (λ c. c.profile < profiles_there) ready.config.statics) }
     ensures refused { IfErr result (λ refusal. IsUnready (words_of words.now.items) (F.told files.old) (F.told files.new) (E.told entropy.old) (E.told entropy.new) refusal) }
 {
     let config = match prepare(alloc, words, files) {
@@ -178,7 +174,6 @@ pub(crate) fn open_desk<P: Plant, C: Clock>(
     clock: &mut C,
 ) -> Result<Desk, Refusal>
     requires rules { KeepsRules config }
-    requires profiles { All (λ c. c.profile < profiles_there) config.statics }
     ensures opened { IfOk result (λ desk. Begins config seed (P.told plant.old) (P.told plant.new) (C.told clock.old) (C.told clock.new) desk) }
     ensures refused { IfErr result (λ refusal. IsUnbegun config (P.told plant.old) (P.told plant.new) (C.told clock.old) (C.told clock.new) refusal) }
 {
@@ -252,7 +247,6 @@ where
     R: Threads + Wait + Sync,
     G: Gate + Sync,
     requires rules { KeepsRules ready.config }
-    requires profiles { All (λ c. c.profile < profiles_there) ready.config.statics }
     ensures served { IfOk result (λ desk. CompletesTo ready.config ready.seed
         (record { plant = P.told plant.old; clock = C.told clock.old; trace = T.told trace.old })
         (record { plant = P.told plant.new; clock = C.told clock.new; trace = T.told trace.new }) desk) }

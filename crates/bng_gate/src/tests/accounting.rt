@@ -136,7 +136,7 @@ fn a_stop_is_waited_for_until_it_is_acknowledged(rt: HostRuntime) -> Result<(), 
     assert_holds(
         &rt,
         ended.out.text().starts_with(
-            b"stopped in=84 out=20\nlive in=0 out=0\ntotal in=84 out=20\nworker 0 in=84 out=20\n",
+            b"stopped in=84 out=20\nlive in=0 out=0\ntotal in=84 out=20\nworker 0 in=84 out=20\nprofile default in=84 out=20\n",
         ),
     );
     let requests: [&str; 2] = [START, STOP];

@@ -51,7 +51,7 @@ fn a_link_comes_to_opened_and_answers_echoes(rt: HostRuntime) -> Result<(), Fail
     assert_out(
         &rt,
         &ended,
-        b"stopped in=0 out=0\nlive in=0 out=0\ntotal in=0 out=0\nworker 0 in=0 out=0\ndrop Malformed 0\ndrop NoSession 0\ndrop NotOpen 1\ndrop Expired 0\ndrop Spoofed 0\ndrop TooBig 0\ndrop Exceeded 0\ndrop LinkFailed 0\ndrop WantOfMemory 0\n",
+        b"stopped in=0 out=0\nlive in=0 out=0\ntotal in=0 out=0\nworker 0 in=0 out=0\nprofile default in=0 out=0\ndrop Malformed 0\ndrop NoSession 0\ndrop NotOpen 1\ndrop Expired 0\ndrop Spoofed 0\ndrop TooBig 0\ndrop Exceeded 0\ndrop LinkFailed 0\ndrop WantOfMemory 0\n",
     );
     let asked = framed(alloc, &TO_HOST, &ASKED)?;
     let rejected = framed(alloc, &TO_HOST, &REJECTED)?;

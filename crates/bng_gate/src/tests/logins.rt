@@ -255,7 +255,7 @@ fn a_subscriber_logs_in_and_is_accounted_for(rt: HostRuntime) -> Result<(), Fail
     assert_out(
         &rt,
         &ended,
-        b"stopped in=40 out=28\nlive in=0 out=0\ntotal in=40 out=28\nworker 0 in=40 out=28\ndrop Malformed 0\ndrop NoSession 0\ndrop NotOpen 0\ndrop Expired 0\ndrop Spoofed 0\ndrop TooBig 0\ndrop Exceeded 0\ndrop LinkFailed 0\ndrop WantOfMemory 0\n",
+        b"stopped in=40 out=28\nlive in=0 out=0\ntotal in=40 out=28\nworker 0 in=40 out=28\nprofile default in=40 out=28\ndrop Malformed 0\ndrop NoSession 0\ndrop NotOpen 0\ndrop Expired 0\ndrop Spoofed 0\ndrop TooBig 0\ndrop Exceeded 0\ndrop LinkFailed 0\ndrop WantOfMemory 0\n",
     );
     sends_of_visit(&rt, alloc, &ended, LEFT)?;
     records(&rt, alloc, &ended, &[START, STOP])
