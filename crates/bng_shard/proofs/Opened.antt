@@ -1,7 +1,7 @@
 -- A shard at its opening: its terms are numbered and have addresses of their own, each session's lease is that of a live one, and each
 -- session is on a port that is there.
 use Rattle.std.proofs.Common.{◌≡◌, ◌≢◌, inl, inr, ℕ, zero, suc, ◌+◌, ◌-◌, ◌*◌, ◌<◌, ◌≤◌, Bool, List, [], ◌∷◌, map, length, Some, None, refl, sym, ap, subst, ◌∙◌, arith}
-use Rattle.std.specs.Prelude.{if◌then◌else◌, slice_get}
+use Rattle.std.specs.Prelude.{if◌then◌else◌, replicate, slice_get}
 use Rattle.std.specs.List.{All, AllByRecursion, AllPairs, Contains}
 use Rattle.std.proofs.Math.ListN.{get_or-map}
 use Rattle.std.proofs.lemmas.Bool.{ne_eqb}
@@ -160,12 +160,12 @@ opened_whole shard now cs s t opened are none = λ i. record {
 
 module _ (r : Rules) (shard : ℕ) (cs : List Static) (now : ℕ) where
   -- the fields of a shard
-  abbrev pub shown : State → List Row → Book → List Entry → List OutRecord → ShardView ShardState Entry
-  shown s rows passed journal outs = record {
+  abbrev pub shown : State → List Row → List Book → List Entry → List OutRecord → ShardView ShardState Entry
+  shown s rows books journal outs = record {
     number = s.sessions.shard;
     state = record { rules = r; slots = s };
     rows = rows;
-    books = passed ∷ [];
+    books = books;
     allowance = 0;
     journal = journal;
     outs = outs;
@@ -176,6 +176,6 @@ module _ (r : Rules) (shard : ℕ) (cs : List Static) (now : ℕ) where
   }
 
   -- those of one that was opened
-  pub opened_view : (s : State) (rows : List Row) (passed : Book) (journal : List Entry) (outs : List OutRecord) → s ≡ opened_slots shard cs now
-      → rows ≡ map new_row (keys (map term_in (tenures_after now 0 (in_order shard cs)))) → passed ≡ empty_book → journal ≡ [] → outs ≡ [] → shown s rows passed journal outs ≡ opened_shard shard r cs now
-  opened_view s rows passed journal outs opened are nothing none no_outs = λ i. shown (opened i) (are i) (nothing i) (none i) (no_outs i)
+  pub opened_view : (s : State) (rows : List Row) (books : List Book) (journal : List Entry) (outs : List OutRecord) → s ≡ opened_slots shard cs now
+      → rows ≡ map new_row (keys (map term_in (tenures_after now 0 (in_order shard cs)))) → books ≡ replicate (length r.profiles) empty_book → journal ≡ [] → outs ≡ [] → shown s rows books journal outs ≡ opened_shard shard r cs now
+  opened_view s rows books journal outs opened are nothing none no_outs = λ i. shown (opened i) (are i) (nothing i) (none i) (no_outs i)

@@ -79,13 +79,13 @@ module _ (rows rows' : List Running) (r : Running) (shard : ℕ) (table : Table)
 pub tied_left : (sessions : Sessions Session) (rows rows' : List Running) (r : Running) → TakesFirst true rows r rows' → AreTied sessions (tenures_in rows) → AreTied sessions (tenures_in rows')
 tied_left sessions rows rows' r takes tied n x l at leased = left_live rows rows' r (IsTermOf x l) (λ t is. is.live) takes (tied n x l at leased)
 
-module _ (rules : Rules) (s : State) (passed : Book) (allowance : ℕ) (journal : List Entry) (outs : List OutRecord) where
+module _ (rules : Rules) (s : State) (books : List Book) (allowance : ℕ) (journal : List Entry) (outs : List OutRecord) where
   abbrev pub shown : TermsView → ℕ → ShardView ShardState Entry
   shown t room = record {
     number = s.sessions.shard;
     state = record { rules = rules; slots = whole s t };
     rows = rows_in t.rows;
-    books = passed ∷ [];
+    books = books;
     allowance = allowance;
     journal = journal;
     outs = outs;
@@ -149,11 +149,11 @@ reaped_whole s s' t next none =
     ap (λ (u : State). whole u t) next
     ∙ ap (λ (ts : List Tenure). let u : State = record (whole s t) { sessions = (reaped s).sessions; terms = ts } in u) (sym (all_are_live t.rows none))
 
-pub reaped_shown : (rules : Rules) (s : State) (passed : Book) (allowance : ℕ) (journal : List Entry) (outs : List OutRecord) (t t' : TermsView) (s' : State) (room : ℕ)
+pub reaped_shown : (rules : Rules) (s : State) (books : List Book) (allowance : ℕ) (journal : List Entry) (outs : List OutRecord) (t t' : TermsView) (s' : State) (room : ℕ)
     → filter has_ended t.rows ≡ [] → t' ≡ t → s' ≡ record s { sessions = (reaped s).sessions }
-    → shown rules s' passed allowance journal outs t' 0 ≡ record (shown rules s passed allowance journal outs t room) { state = record { rules = rules; slots = reaped (whole s t) }; room = 0 }
-reaped_shown rules s passed allowance journal outs t t' s' room none same next =
-    let view : State → TermsView → State → ShardView ShardState Entry = λ u v w. record (shown rules u passed allowance journal outs v 0) { state = record { rules = rules; slots = w } } in
+    → shown rules s' books allowance journal outs t' 0 ≡ record (shown rules s books allowance journal outs t room) { state = record { rules = rules; slots = reaped (whole s t) }; room = 0 }
+reaped_shown rules s books allowance journal outs t t' s' room none same next =
+    let view : State → TermsView → State → ShardView ShardState Entry = λ u v w. record (shown rules u books allowance journal outs v 0) { state = record { rules = rules; slots = w } } in
     ap (λ (v : TermsView). view s' v (whole s' v)) same
     ∙ ap (λ (w : State). view s' t w) (reaped_whole s s' t next none)
     ∙ ap (λ (u : State). view u t (reaped (whole s t))) next

@@ -19,7 +19,7 @@ use Rattle.bng_shard.specs.State.{State, IsTermOf}
 use Rattle.bng_shard.specs.Tenures.{Tenure}
 use Rattle.bng_shard.specs.Deed.{Deed, at_of, out, is_forwarded}
 use Rattle.bng_shard.specs.Frames.{charge_of}
-use Rattle.bng_shard.specs.Protocol.{claimed_by, key_in, packet_octets, pppoe, profiles_there, term_in}
+use Rattle.bng_shard.specs.Protocol.{claimed_by, key_in, packet_octets, pppoe, term_in}
 use Rattle.bng_shard.specs.Reader.{IsWhole, IsNoPacket, IsInDirection}
 use Rattle.bng_shard.specs.Step.{Step}
 use Rattle.bng_shard.proofs.Reading.{whole_read}
@@ -33,9 +33,9 @@ keys_more : (ts : List Tenure) (t : Tenure) → keys (map term_in (ts ++ t ∷ [
 keys_more [] t = refl
 keys_more (u ∷ ts) t = ap (λ (ks : List Key). key_in u ∷ ks) (keys_more ts t)
 
-profiles_more : (ts : List Tenure) (t : Tenure) → HaveProfiles profiles_there (map term_in ts) → t.profile < profiles_there → HaveProfiles profiles_there (map term_in (ts ++ t ∷ []))
-profiles_more [] t have low = (low, tt)
-profiles_more (u ∷ ts) t have low = (have.0, profiles_more ts t have.1 low)
+profiles_more : (n : ℕ) (ts : List Tenure) (t : Tenure) → HaveProfiles n (map term_in ts) → t.profile < n → HaveProfiles n (map term_in (ts ++ t ∷ []))
+profiles_more n [] t have low = (low, tt)
+profiles_more n (u ∷ ts) t have low = (have.0, profiles_more n ts t have.1 low)
 
 -- no term begins, or one with the next number, and its address was claimed
 begins : (r : Rules) (s : State) (limited : Bool) (d : Deed) → Moves r s limited d → Begins s.begun (keys (terms_there s)) (claimed_by d.entry.claim) d.next.begun (keys (terms_there d.next))
@@ -63,10 +63,10 @@ none_limited r s limited d (inl (none, m)) over = none
 none_limited r s limited d (inr (a, is, may, m)) over = absurd (false≢true (sym may ∙ over))
 
 -- a term that begins has the first profile
-profiled : (r : Rules) (s : State) (limited : Bool) (d : Deed) → Moves r s limited d → HaveProfiles profiles_there (terms_there s) → HaveProfiles profiles_there (terms_there d.next)
-profiled r s limited d (inl (none, m)) have = zip_profiles AnyCause profiles_there s.terms d.next.terms m.terms have
-profiled r s limited d (inr (a, is, may, m)) have =
-    subst (λ (ts : List Tenure). HaveProfiles profiles_there (map term_in ts)) (sym m.terms) (profiles_more s.terms m.one have (omega (arith, m.profile)))
+profiled : (r : Rules) (s : State) (limited : Bool) (d : Deed) (n : ℕ) → 0 < n → Moves r s limited d → HaveProfiles n (terms_there s) → HaveProfiles n (terms_there d.next)
+profiled r s limited d n some (inl (none, m)) have = zip_profiles AnyCause n s.terms d.next.terms m.terms have
+profiled r s limited d n some (inr (a, is, may, m)) have =
+    subst (λ (ts : List Tenure). HaveProfiles n (map term_in ts)) (sym m.terms) (profiles_more n s.terms m.one have (omega (arith, m.profile, some)))
 
 -- a charge is for the session's live term
 charged_one : (x : Session) (l : Lease) (input : Bool) (octets : ℕ) (ts : List Tenure) → AnyOf (IsTermOf x l) ts → AnyOf (IsFor (charge_of x l input octets)) (map term_in ts)
@@ -116,9 +116,11 @@ pppoe_laws = record {
   spelled = λ s h is. spelled s.rules s.slots h.limited h.deed is.step;
   unsent = λ s h is. unsent s.rules s.slots h.limited h.deed is.step;
   seated = λ s h is. seated s.rules s.slots h.limited h.deed is.step;
-  profiled = λ s h is have. profiled s.rules s.slots h.limited h.deed (step_moves s.rules s.slots h.limited h.deed is.step) have;
+  profiled = λ s h is have. profiled s.rules s.slots h.limited h.deed (length s.rules.profiles) is.profile (step_moves s.rules s.slots h.limited h.deed is.step) have;
+  profiles_stay = λ s h is. refl;
   settles = λ s f. ap (sum_by f) (settled_terms s.slots);
   settles_begun = λ s. refl;
+  settles_profiles = λ s. refl;
 }
 
 -- Octets and fates ------------------------------------------------------------------------------------------------------

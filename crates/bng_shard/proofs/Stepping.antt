@@ -1,5 +1,5 @@
 -- What is kept of a shard's fields, and what a caller sees of a step.
-use Rattle.std.proofs.Common.{◌≡◌, ◌≢◌, ◌⊎◌, ⊎_elim, inl, inr, ℕ, ◌+◌, ◌-◌, ◌≤◌, ◌==◌, Bool, true, false, ◌||◌, cond, List, [], ◌∷◌, ◌++◌, map, length, length-append, append-nil, Some, take, drop, refl, sym, ap, subst, ◌∙◌, arith}
+use Rattle.std.proofs.Common.{◌≡◌, ◌≢◌, ◌⊎◌, ⊎_elim, inl, inr, ℕ, ◌+◌, ◌-◌, ◌<◌, ◌≤◌, ◌==◌, Bool, true, false, ◌||◌, cond, List, [], ◌∷◌, ◌++◌, map, length, length-append, append-nil, Some, take, drop, refl, sym, ap, subst, ◌∙◌, arith}
 use Rattle.std.specs.Prelude.{nat_le}
 use Rattle.std.specs.List.{AllByRecursion, flat_map, list_any}
 use Rattle.std.proofs.lemmas.Bool.{eq-eqb, ne_eqb}
@@ -85,12 +85,12 @@ owed_more journal e tick end =
 -- a step as a caller sees it -----------------------------------------------------------------------------------------------
 
 -- the fields of a shard that is in a round
-abbrev pub view : Rules → State → List Row → Book → ℕ → List Entry → List OutRecord → ℕ → ShardView ShardState Entry
-view r s rows passed allowance journal outs room = record {
+abbrev pub view : Rules → State → List Row → List Book → ℕ → List Entry → List OutRecord → ℕ → ShardView ShardState Entry
+view r s rows books allowance journal outs room = record {
   number = s.sessions.shard;
   state = record { rules = r; slots = s };
   rows = rows;
-  books = passed ∷ [];
+  books = books;
   allowance = allowance;
   journal = journal;
   outs = outs;
@@ -198,15 +198,15 @@ module _ (r : Rules) (s s' : State) (outs outs' : List OutRecord) (e : Entry) (l
   pub moved_held : (pool' : PlainView) → AreHeld s.sessions.shard (terms_there s') pool'.table → AreHeld s'.sessions.shard (terms_there s') pool'.table
   moved_held pool' h = subst (λ (n : ℕ). AreHeld n (terms_there s') pool'.table) (sym moved_shard) h
 
-  module _ (rows rows' : List Row) (passed passed' : Book) (allowance left room : ℕ) (journal journal' : List Entry) (counted : left + begun_in journal ≡ allowance) (is_limited : limited ≡ (left == 0))
+  module _ (rows rows' : List Row) (books books' : List Book) (allowance left room : ℕ) (journal journal' : List Entry) (profile : 0 < length r.profiles) (counted : left + begun_in journal ≡ allowance) (is_limited : limited ≡ (left == 0))
       (fit : row_keys rows' ≡ keys (terms_there s')) (sums : SayTheSame rows rows') where
     abbrev effect : Handled
     effect = record { deed = does.deed; limited = limited; refused = refused_by r.pools e.claim }
 
-    one_handled : BooksRise (passed ∷ []) does.deed.outs (passed' ∷ []) → (es : List Handled) → map (λ (h : Handled). h.deed.entry) es ≡ journal
-        → EngineHandles pppoe (with_journal (view r s rows passed allowance journal outs room) es) effect (with_journal (view r s' rows' passed' allowance journal' outs' (room - 1)) (es ++ effect ∷ []))
-    one_handled books es same = record {
-      is_step = record { step = does.says; refused = ap (refused_by r.pools) (sym claim_is) };
+    one_handled : BooksRise books does.deed.outs books' → (es : List Handled) → map (λ (h : Handled). h.deed.entry) es ≡ journal
+        → EngineHandles pppoe (with_journal (view r s rows books allowance journal outs room) es) effect (with_journal (view r s' rows' books' allowance journal' outs' (room - 1)) (es ++ effect ∷ []))
+    one_handled rise es same = record {
+      is_step = record { profile = profile; step = does.says; refused = ap (refused_by r.pools) (sym claim_is) };
       limited = is_limited ∙ limit_is left (begun_in journal) allowance counted
           ∙ ap (λ (xs : List ℕ). nat_le allowance (length xs)) (ap (flat_map (λ (x : Entry). claimed_by x.claim)) (sym same) ∙ claims_same es);
       number = moved_shard;
@@ -214,7 +214,7 @@ module _ (r : Rules) (s s' : State) (outs outs' : List OutRecord) (e : Entry) (l
       state = ap (λ (t : State). let x : ShardState = record { rules = r; slots = t } in x) (sym does.next);
       fit = same_equal (row_keys rows') (keys (terms_there s')) fit;
       rows = sums;
-      books = books;
+      books = rise;
       journal = refl;
       outs = does.outs_are;
       sends = refl;
@@ -224,11 +224,11 @@ module _ (r : Rules) (s s' : State) (outs outs' : List OutRecord) (e : Entry) (l
     }
 
     pub handles : (e0 : Entry) (claim : Claim) → e ≡ record e0 { claim = claim } → (pool pool' : PlainView) → AnswersClaim s.sessions.shard claim pool pool' → AreHeld s'.sessions.shard (terms_there s') pool'.table
-        → (tally tally' : Book) → journal' ≡ journal ++ e ∷ [] → length e.item.frame.payload ≤ 4096 → BooksRise (passed ∷ []) does.deed.outs (passed' ∷ []) → Rises tally does.deed.outs tally' → length does.deed.outs ≤ outs_most e0.item.kind
-        → Handles (view r s rows passed allowance journal outs room) (view r s' rows' passed' allowance journal' outs' (room - 1)) pool pool' e0 fate tally tally'
-    handles e0 claim with_claim pool pool' answers held tally tally' is short books rises few = record {
+        → (tally tally' : Book) → journal' ≡ journal ++ e ∷ [] → length e.item.frame.payload ≤ 4096 → BooksRise books does.deed.outs books' → Rises tally does.deed.outs tally' → length does.deed.outs ≤ outs_most e0.item.kind
+        → Handles (view r s rows books allowance journal outs room) (view r s' rows' books' allowance journal' outs' (room - 1)) pool pool' e0 fate tally tally'
+    handles e0 claim with_claim pool pool' answers held tally tally' is short rise rises few = record {
       claim = claim;
-      shown = record { effect = effect; entry = does.entry ∙ with_claim; journal = is ∙ ap (λ (x : Entry). journal ++ x ∷ []) with_claim; handles = one_handled books };
+      shown = record { effect = effect; entry = does.entry ∙ with_claim; journal = is ∙ ap (λ (x : Entry). journal ++ x ∷ []) with_claim; handles = one_handled rise };
       answers = answers;
       held = held;
       fate_is = does.fate_is;

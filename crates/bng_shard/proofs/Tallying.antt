@@ -1,15 +1,17 @@
 -- What passes is entered in books, packet by packet.
-use Rattle.std.proofs.Common.{◌≡◌, ℕ, zero, suc, ◌+◌, ◌<◌, ◌≤◌, ◌==◌, Bool, true, false, ◌&&◌, cond, List, [], ◌∷◌, ◌++◌, length, Option, Some, None, refl, ap, arith}
+use Rattle.std.proofs.Common.{◌≡◌, inl, inr, ℕ, ◌+◌, ◌^◌, ◌<◌, ◌≤◌, ◌==◌, Bool, true, false, ◌&&◌, cond, List, [], ◌∷◌, ◌++◌, length, set, Option, Some, None, refl, sym, ap, ◌∙◌, arith}
 use Rattle.std.specs.List.{sum_by}
-use Rattle.std.proofs.lemmas.Bool.{ne_eqb}
+use Rattle.std.proofs.lemmas.Bool.{cases_eq, eq-eqb, ne_eqb}
+use Rattle.std.proofs.lemmas.List.{get_or-set_same, get_or-set_other, length-set}
 use Rattle.std.proofs.lemmas.List.Sums.{sum_by-cons, sum_by-append}
 use Rattle.bng_base.specs.declared.book.Book.{Book}
 use Rattle.bng_base.specs.declared.item.Charge.{Charge}
 use Rattle.bng_base.specs.declared.item.OutRecord.{OutRecord}
-use Rattle.bng_engine.specs.Books.{book_at, failed_under, passed_under, BooksRise, BooksFall}
-use Rattle.bng_engine.specs.Quantities.{Quantity, amount, in_book}
+use Rattle.bng_engine.specs.Books.{book_at, BooksRise, BooksFall}
+use Rattle.bng_engine.specs.Quantities.{Quantity, amount, empty_book, in_book}
 use Rattle.bng_engine.specs.Sums.{same, part_of_charge, charge_if, is_directed, is_under, passed_sum}
-use Rattle.bng_shard.specs.Sums.{Has, IsLow, IsMore, AreCovered, AreLow, Rises}
+use Rattle.bng_shard.specs.Sums.{Has, IsMore, AreCovered, AreLow, AreMore, Rises}
+use Rattle.bng_shard.proofs.BookLaws.{at_most}
 
 abbrev part : (Charge → ℕ) → OutRecord → ℕ
 part f o = part_of_charge f o.charge
@@ -31,46 +33,106 @@ rises_begin b q input = omega arith
 pub rises_more : (b b' b'' : Book) (os : List OutRecord) (o : OutRecord) → Rises b os b' → Rises b' (o ∷ []) b'' → Rises b (os ++ o ∷ []) b''
 rises_more b b' b'' os o so_far one q input = omega (arith, so_far q input, one q input, sum_by-append (part (charge_if q (is_directed input))) os (o ∷ []))
 
--- the book of the first profile -----------------------------------------------------------------------------------------
+-- the books of the profiles ----------------------------------------------------------------------------------------------
 
--- a fact of the one book of a list
-abbrev single : Book → List Book
-single b = b ∷ []
+under_this : (profile i n : ℕ) (s : Bool) → profile ≡ i → cond ((profile == i) && s) n 0 ≡ cond s n 0
+under_this profile i n s e = ap (λ (b : Bool). cond (b && s) n 0) (eq-eqb profile i e)
 
-first_of : (f : ℕ → Type 0) → f 0 → (i : ℕ) → i < 1 → f i
-first_of f h zero lt = h
-first_of f h (suc i) lt = absurd (omega (arith, lt))
+under_other : (profile i n : ℕ) (s : Bool) → (profile ≡ i → ⊥) → cond ((profile == i) && s) n 0 ≡ 0
+under_other profile i n s e = ap (λ (b : Bool). cond (b && s) n 0) (ne_eqb profile i e)
 
-pub book_rises : (b b' : Book) (os : List OutRecord) → ((q : Quantity) (input : Bool) → in_book q input b' ≡ in_book q input b + passed_under q 0 input os) → BooksRise (single b) os (single b')
-book_rises b b' os h = record {
-  count = refl;
-  each = λ q i input lt. first_of (λ (i : ℕ). in_book q input (book_at i (single b')) ≡ in_book q input (book_at i (single b)) + passed_under q i input os) (h q input) i (omega (arith, lt));
+-- a list of which one book is another
+module _ (bs : List Book) (k : ℕ) (b : Book) (within : k < length bs) where
+  here : (i : ℕ) → i ≡ k → book_at i (set bs k b) ≡ b
+  here i e = ap (λ (j : ℕ). book_at j (set bs k b)) e ∙ get_or-set_same bs k b empty_book within
+
+  elsewhere : (i : ℕ) → (i ≡ k → ⊥) → book_at i (set bs k b) ≡ book_at i bs
+  elsewhere i ne = get_or-set_other bs k i b empty_book ne
+
+-- one book has a packet more
+pub set_more : (bs bs' : List Book) (k : ℕ) (b : Book) (input : Bool) (n : ℕ) → k < length bs → bs' ≡ set bs k b → IsMore (book_at k bs) input n b → AreMore bs k input n bs'
+set_more bs bs' k b input n within is more = record {
+  count = ap length is ∙ length-set bs k b;
+  each = λ q i direction lt.
+      let now = ap (λ (cs : List Book). in_book q direction (book_at i cs)) is in
+      elim (cases_eq i k) [
+        | inl e ↦
+            omega (
+              arith,
+              now,
+              ap (in_book q direction) (here bs k b within i e),
+              more q direction,
+              ap (λ (j : ℕ). in_book q direction (book_at j bs)) e,
+              under_this k i (amount q n) (same direction input) (sym e),
+            )
+        | inr ne ↦ omega (arith, now, ap (in_book q direction) (elsewhere bs k b within i ne), under_other k i (amount q n) (same direction input) (λ e. ne (sym e)))
+      ];
 }
 
-pub none_booked : (b : Book) (o : OutRecord) → o.charge ≡ None → BooksRise (single b) (o ∷ []) (single b)
-none_booked b o e = book_rises b b (o ∷ []) (λ q input. omega (arith, one_passed (charge_if q (is_under 0 input)) o None e))
+-- one has a packet less
+pub set_less : (bs bs' : List Book) (k : ℕ) (b : Book) (input : Bool) (n : ℕ) → k < length bs → bs' ≡ set bs k b → IsMore b input n (book_at k bs) → AreMore bs' k input n bs
+set_less bs bs' k b input n within is more =
+    let count : length bs' ≡ length bs = ap length is ∙ length-set bs k b in
+    record {
+      count = sym count;
+      each = λ q i direction lt.
+          let now = ap (λ (cs : List Book). in_book q direction (book_at i cs)) is in
+          elim (cases_eq i k) [
+            | inl e ↦
+                omega (
+                  arith,
+                  now,
+                  ap (in_book q direction) (here bs k b within i e),
+                  more q direction,
+                  ap (λ (j : ℕ). in_book q direction (book_at j bs)) e,
+                  under_this k i (amount q n) (same direction input) (sym e),
+                )
+            | inr ne ↦ omega (arith, now, ap (in_book q direction) (elsewhere bs k b within i ne), under_other k i (amount q n) (same direction input) (λ e. ne (sym e)))
+          ];
+    }
 
-under_first : (profile n : ℕ) (s : Bool) → profile ≡ 0 → cond ((profile == 0) && s) n 0 ≡ cond s n 0
-under_first zero n s e = refl
-under_first (suc p) n s e = absurd (omega (arith, e))
+at_most_one : (b : Bool) (q : Quantity) (x y : Bool) (n : ℕ) → n < 2 ^ 16 → cond (b && same x y) (amount q n) 0 ≤ 2 ^ 16
+at_most_one true q x y n short = at_most q x y n short
+at_most_one false q x y n short = omega arith
 
-under_other : (profile n : ℕ) (s : Bool) → (profile ≡ 0 → ⊥) → cond ((profile == 0) && s) n 0 ≡ 0
-under_other profile n s e = ap (λ (b : Bool). cond (b && s) n 0) (ne_eqb profile 0 e)
+-- one packet more is little more
+pub little_in_books : (bs bs' : List Book) (k : ℕ) (input : Bool) (n : ℕ) → n < 2 ^ 16 → AreMore bs k input n bs' → (most : ℕ) → AreLow most bs → AreLow (most + 2 ^ 16) bs'
+little_in_books bs bs' k input n short more most low i lt q direction =
+    let within : i < length bs = omega (arith, lt, more.count) in
+    omega (arith, more.each q i direction within, at_most_one (k == i) q direction input n short, low i within q direction)
 
-pub one_booked : (b b' : Book) (o : OutRecord) (c : Charge) → o.charge ≡ Some c → c.profile ≡ 0 → IsMore b c.input c.octets b' → BooksRise (single b) (o ∷ []) (single b')
-one_booked b b' o c e first more =
-    book_rises b b' (o ∷ []) (λ q input. omega (arith, more q input, one_passed (charge_if q (is_under 0 input)) o (Some c) e, under_first c.profile (amount q c.octets) (same input c.input) first))
+-- what passes is entered: none, a packet of a profile that is there, and one of another
+pub none_booked : (bs : List Book) (o : OutRecord) → o.charge ≡ None → BooksRise bs (o ∷ []) bs
+none_booked bs o e = record { count = refl; each = λ q i input lt. omega (arith, one_passed (charge_if q (is_under i input)) o None e) }
 
-pub other_booked : (b : Book) (o : OutRecord) (c : Charge) → o.charge ≡ Some c → (c.profile ≡ 0 → ⊥) → BooksRise (single b) (o ∷ []) (single b)
-other_booked b o c e other =
-    book_rises b b (o ∷ []) (λ q input. omega (arith, one_passed (charge_if q (is_under 0 input)) o (Some c) e, under_other c.profile (amount q c.octets) (same input c.input) other))
+pub one_booked : (bs bs' : List Book) (o : OutRecord) (c : Charge) → o.charge ≡ Some c → AreMore bs c.profile c.input c.octets bs' → BooksRise bs (o ∷ []) bs'
+one_booked bs bs' o c e more = record { count = more.count; each = λ q i input lt. omega (arith, more.each q i input lt, one_passed (charge_if q (is_under i input)) o (Some c) e) }
 
-pub booked_begin : (b : Book) → BooksRise (single b) [] (single b)
-booked_begin b = book_rises b b [] (λ q input. omega arith)
+pub other_booked : (bs : List Book) (o : OutRecord) (c : Charge) → o.charge ≡ Some c → length bs ≤ c.profile → BooksRise bs (o ∷ []) bs
+other_booked bs o c e past = record {
+  count = refl;
+  each = λ q i input lt.
+      omega (
+        arith,
+        one_passed (charge_if q (is_under i input)) o (Some c) e,
+        under_other c.profile i (amount q c.octets) (same input c.input) (λ is. omega (arith, is, lt, past)),
+      );
+}
 
-pub booked_more : (b b' b'' : Book) (os : List OutRecord) (o : OutRecord) → BooksRise (single b) os (single b') → BooksRise (single b') (o ∷ []) (single b'') → BooksRise (single b) (os ++ o ∷ []) (single b'')
-booked_more b b' b'' os o so_far one =
-    book_rises b b'' (os ++ o ∷ []) (λ q input. omega (arith, so_far.each q 0 input (omega arith), one.each q 0 input (omega arith), sum_by-append (part (charge_if q (is_under 0 input))) os (o ∷ [])))
+pub booked_begin : (bs : List Book) → BooksRise bs [] bs
+booked_begin bs = record { count = refl; each = λ q i input lt. omega arith }
+
+pub booked_more : (bs bs' bs'' : List Book) (os : List OutRecord) (o : OutRecord) → BooksRise bs os bs' → BooksRise bs' (o ∷ []) bs'' → BooksRise bs (os ++ o ∷ []) bs''
+booked_more bs bs' bs'' os o so_far one = record {
+  count = one.count ∙ so_far.count;
+  each = λ q i input lt.
+      omega (
+        arith,
+        so_far.each q i input lt,
+        one.each q i input (omega (arith, lt, so_far.count)),
+        sum_by-append (part (charge_if q (is_under i input))) os (o ∷ []),
+      );
+}
 
 -- what is taken off ------------------------------------------------------------------------------------------------------
 
@@ -84,47 +146,48 @@ same_itself : (b : Bool) → same b b ≡ true
 same_itself true = refl
 same_itself false = refl
 
--- a book that covers a failed packet of the first profile has it
-pub covered_has : (b : Book) (o : OutRecord) (c : Charge) → o.charge ≡ Some c → o.sent ≡ false → c.profile ≡ 0 → AreCovered (single b) o → Has b c.input c.octets
-covered_has b o c e sent first covered q =
+-- the book that covers a failed packet of its profile has it
+pub covered_has : (bs : List Book) (o : OutRecord) (c : Charge) → o.charge ≡ Some c → o.sent ≡ false → c.profile < length bs → AreCovered bs o → Has (book_at c.profile bs) c.input c.octets
+covered_has bs o c e sent there covered q =
     omega (
       arith,
-      covered q 0 c.input (omega arith),
-      one_failed (charge_if q (is_under 0 c.input)) o (Some c) e sent,
-      under_first c.profile (amount q c.octets) (same c.input c.input) first,
+      covered q c.profile c.input there,
+      one_failed (charge_if q (is_under c.profile c.input)) o (Some c) e sent,
+      under_this c.profile c.profile (amount q c.octets) (same c.input c.input) refl,
       ap (λ (s : Bool). cond s (amount q c.octets) 0) (same_itself c.input),
     )
 
-pub book_falls : (b b' : Book) (o : OutRecord) → ((q : Quantity) (input : Bool) → in_book q input b' + failed_under q 0 input (o ∷ []) ≡ in_book q input b) → BooksFall (single b) (o ∷ []) (single b')
-book_falls b b' o h = record {
-  count = refl;
-  each = λ q i input lt. first_of (λ (i : ℕ). in_book q input (book_at i (single b')) + failed_under q i input (o ∷ []) ≡ in_book q input (book_at i (single b))) (h q input) i (omega (arith, lt));
+pub failed_falls : (bs bs' : List Book) (o : OutRecord) (c : Charge) → o.charge ≡ Some c → o.sent ≡ false → AreMore bs' c.profile c.input c.octets bs → BooksFall bs (o ∷ []) bs'
+failed_falls bs bs' o c e sent more = record {
+  count = sym more.count;
+  each = λ q i input lt. omega (arith, more.each q i input (omega (arith, lt, more.count)), one_failed (charge_if q (is_under i input)) o (Some c) e sent);
 }
 
-pub failed_falls : (b b' : Book) (o : OutRecord) (c : Charge) → o.charge ≡ Some c → o.sent ≡ false → c.profile ≡ 0 → IsMore b' c.input c.octets b → BooksFall (single b) (o ∷ []) (single b')
-failed_falls b b' o c e sent first more =
-    book_falls b b' o (λ q input. omega (arith, more q input, one_failed (charge_if q (is_under 0 input)) o (Some c) e sent, under_first c.profile (amount q c.octets) (same input c.input) first))
-
-pub other_falls : (b : Book) (o : OutRecord) (c : Charge) → o.charge ≡ Some c → o.sent ≡ false → (c.profile ≡ 0 → ⊥) → BooksFall (single b) (o ∷ []) (single b)
-other_falls b o c e sent other =
-    book_falls b b o (λ q input. omega (arith, one_failed (charge_if q (is_under 0 input)) o (Some c) e sent, under_other c.profile (amount q c.octets) (same input c.input) other))
+pub other_falls : (bs : List Book) (o : OutRecord) (c : Charge) → o.charge ≡ Some c → o.sent ≡ false → length bs ≤ c.profile → BooksFall bs (o ∷ []) bs
+other_falls bs o c e sent past = record {
+  count = refl;
+  each = λ q i input lt.
+      omega (
+        arith,
+        one_failed (charge_if q (is_under i input)) o (Some c) e sent,
+        under_other c.profile i (amount q c.octets) (same input c.input) (λ is. omega (arith, is, lt, past)),
+      );
+}
 
 sent_nothing : (f : Charge → ℕ) (o : OutRecord) → o.sent ≡ true → sum_by (failed_part f) (o ∷ []) ≡ 0
 sent_nothing f o sent = omega (arith, sum_by-cons (failed_part f) o [], ap (λ (b : Bool). cond b 0 (part_of_charge f o.charge)) sent)
 
-pub sent_falls : (b : Book) (o : OutRecord) → o.sent ≡ true → BooksFall (single b) (o ∷ []) (single b)
-sent_falls b o sent = book_falls b b o (λ q input. omega (arith, sent_nothing (charge_if q (is_under 0 input)) o sent))
+pub sent_falls : (bs : List Book) (o : OutRecord) → o.sent ≡ true → BooksFall bs (o ∷ []) bs
+sent_falls bs o sent = record { count = refl; each = λ q i input lt. omega (arith, sent_nothing (charge_if q (is_under i input)) o sent) }
 
 either_nothing : (b : Bool) → cond b 0 (let z : ℕ = 0 in z) ≡ 0
 either_nothing true = refl
 either_nothing false = refl
 
-pub none_falls : (b : Book) (o : OutRecord) → o.charge ≡ None → BooksFall (single b) (o ∷ []) (single b)
-none_falls b o e =
-    book_falls b b o (λ q input.
-    let f = charge_if q (is_under 0 input) in
-    omega (arith, sum_by-cons (failed_part f) o [], ap (λ (c : Option Charge). cond o.sent 0 (part_of_charge f c)) e, either_nothing o.sent))
-
--- the one book of a list is low, and so all are
-pub all_low : (most : ℕ) (books : List Book) → length books ≡ 1 → IsLow most (book_at 0 books) → AreLow most books
-all_low most books one low i lt q input = first_of (λ (i : ℕ). in_book q input (book_at i books) ≤ most) (low q input) i (omega (arith, lt, one))
+pub none_falls : (bs : List Book) (o : OutRecord) → o.charge ≡ None → BooksFall bs (o ∷ []) bs
+none_falls bs o e = record {
+  count = refl;
+  each = λ q i input lt.
+      let f = charge_if q (is_under i input) in
+      omega (arith, sum_by-cons (failed_part f) o [], ap (λ (c : Option Charge). cond o.sent 0 (part_of_charge f c)) e, either_nothing o.sent);
+}

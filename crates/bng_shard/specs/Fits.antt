@@ -3,6 +3,7 @@ use Rattle.std.specs.Prelude.{◌≡◌, ◌≢◌, ℕ, ◌+◌, ◌*◌, ◌^�
 use Rattle.std.specs.List.{All, AllPairs, flat_map}
 use Rattle.bng_base.specs.declared.item.Entry.{Entry}
 use Rattle.bng_base.specs.declared.settings.AccessPort.{AccessPort}
+use Rattle.bng_profile.specs.Books.{names_of}
 use Rattle.bng_shard.specs.declared.rules.Rules.{Rules}
 use Rattle.bng_shard.specs.declared.session.Session.{Session}
 use Rattle.bng_shard.specs.declared.shard.Shard.TheInside.{Inside}
@@ -27,8 +28,8 @@ begun_in journal = length (flat_map (λ (e : Entry). claimed_by e.claim) journal
 
 -- No term has a number above those that began, no two have one address, and each session's lease is that of a live term. As long as a
 -- round goes on, as many terms may begin still as the allowance is above those that began in it. At most 16 pools, a way to authenticate,
--- and what each access port offers. Where a round has room for an entry, there is room for it, for its outs, and for a term that it
--- begins.
+-- and what each access port offers. A profile, and of each its name and a book, in their order. Where a round has room for an entry, there
+-- is room for it, for its outs, and for a term that it begins.
 pub record Fits (a : Inside) : Type 0 where
   pub numbered : All (λ (r : Running). r.term.serial ≤ a.served.begun) a.terms.rows
   pub numbered_news : All (λ (r : Running). r.term.serial ≤ a.served.begun) a.terms.news
@@ -40,6 +41,9 @@ pub record Fits (a : Inside) : Type 0 where
   pub few_pools : length a.rules.pools ≤ 16
   pub auth : 0 < length a.rules.link.auth.items
   pub offers : length a.rules.offers ≡ length a.rules.access
+  pub some_profile : 0 < length a.rules.profiles
+  pub named : a.profiles.names ≡ names_of a.rules.profiles
+  pub booked : length a.profiles.books ≡ length a.rules.profiles
   pub journal_room : length a.journal.items + a.room ≤ a.journal.room
   pub outs_room : 0 < a.room → length a.outs.items + 10 * a.room + owed a.journal.items + 3 ≤ a.outs.room
   pub terms_room : a.room ≤ a.terms.room

@@ -1,5 +1,5 @@
 -- The protocol of a shard, as the engine reads it.
-use Rattle.std.specs.Prelude.{◌≡◌, ℕ, ◌+◌, ◌≤◌, ◌==◌, Bool, List, [], ◌∷◌, ◌++◌, Option, Some, None, filter, length, map, find, slice_get, sum_by}
+use Rattle.std.specs.Prelude.{◌≡◌, ℕ, ◌+◌, ◌<◌, ◌≤◌, ◌==◌, Bool, List, [], ◌∷◌, ◌++◌, Option, Some, None, filter, length, map, find, replicate, slice_get, sum_by}
 use Rattle.std.specs.List.{range_with_len, All, AllByRecursion}
 use Rattle.bng_base.specs.declared.address.Ip4.{Ip4}
 use Rattle.bng_base.specs.declared.book.Book.{Book}
@@ -91,19 +91,17 @@ refused_by pools (Claimed a) = []
 refused_by pools (Held a) = a.0 ∷ []
 refused_by pools (Exhausted k) = addresses_in (slice_get pools k)
 
--- by these rules an entry was handled in this state: it is a step, and these addresses it was told to be held
+-- by these rules, which have a profile, an entry was handled in this state: it is a step, and these addresses it was told to be held
 pub record HandlesStep (r : Rules) (s : State) (h : Handled) : Type 0 where
+  pub profile : 0 < length r.profiles
   pub step : Step r s h.limited h.deed
   pub refused : h.refused ≡ refused_by r.pools h.deed.entry.claim
-
--- how many profiles there are: as long as none is configured, one that meters nothing
-abbrev pub profiles_there : ℕ
-profiles_there = 1
 
 abbrev pub pppoe : Protocol ShardState Handled
 pppoe = record {
   terms = terms_of;
   begun = λ s. s.slots.begun;
+  profiles = λ s. length s.rules.profiles;
   settled = λ s. record s { slots = settled s.slots };
   entry = λ h. h.deed.entry;
   limited = λ h. h.limited;
@@ -114,7 +112,6 @@ pppoe = record {
   next = λ s h. record s { slots = h.deed.next };
   packet_in = pppoe_reader;
   tells_circuit = tells_pppoe;
-  profiles = profiles_there;
 }
 
 -- the octets of the packets among these
@@ -157,13 +154,14 @@ pub record Handles (v v' : ShardView ShardState Entry) (pool pool' : PlainView) 
   pub few : length shown.effect.deed.outs ≤ outs_most e.item.kind
   pub tallied : Rises tally shown.effect.deed.outs tally'
 
--- a shard with these circuits, opened at this moment, in which nothing has happened; their terms are numbered by rising session number
+-- a shard with these circuits, opened at this moment, in which nothing has happened; their terms are numbered by rising session number,
+-- and each profile has a book
 abbrev pub opened : ℕ → Rules → List Static → ℕ → ShardView ShardState Entry
 opened number rules circuits now = record {
   number = number;
   state = record { rules = rules; slots = opened_slots number circuits now };
   rows = map new_row (keys (terms_of (record { rules = rules; slots = opened_slots number circuits now })));
-  books = empty_book ∷ [];
+  books = replicate (length rules.profiles) empty_book;
   allowance = 0;
   journal = [];
   outs = [];

@@ -1,5 +1,5 @@
 -- What terms carried, and what passed.
-use Rattle.std.specs.Prelude.{◌≡◌, ℕ, ◌+◌, ◌<◌, ◌≤◌, Bool, List, [], ◌∷◌, Option, Some, None, cond, length}
+use Rattle.std.specs.Prelude.{◌≡◌, ℕ, ◌+◌, ◌<◌, ◌≤◌, ◌==◌, Bool, ◌&&◌, List, [], ◌∷◌, Option, Some, None, cond, length}
 use Rattle.bng_base.specs.declared.book.Book.{Book}
 use Rattle.bng_base.specs.declared.item.Charge.{Charge as Of}
 use Rattle.bng_base.specs.declared.item.OutRecord.{OutRecord}
@@ -22,6 +22,12 @@ charged_as (Some c) = Packet c.input c.octets
 -- one packet more stands in the second book than in the first, of so many octets in this direction
 abbrev pub IsMore : Book → Bool → ℕ → Book → Type 0
 IsMore book input octets book' = (q : Quantity) (direction : Bool) → in_book q direction book' ≡ in_book q direction book + cond (same direction input) (amount q octets) 0
+
+-- one packet more stands in the book of that profile, and the other books say what they said
+pub record AreMore (books : List Book) (profile : ℕ) (input : Bool) (octets : ℕ) (books' : List Book) : Type 0 where
+  pub count : length books' ≡ length books
+  pub each : (q : Quantity) (i : ℕ) (direction : Bool) → i < length books
+      → in_book q direction (book_at i books') ≡ in_book q direction (book_at i books) + cond ((profile == i) && same direction input) (amount q octets) 0
 
 -- a book has such a packet
 abbrev pub Has : Book → Bool → ℕ → Type 0

@@ -1,4 +1,4 @@
-use bng_base::{AccessPort, Listed, NamedRange, Peer};
+use bng_base::{AccessPort, Listed, NamedRange, Peer, Profile};
 use bng_discovery::PortRules;
 use bng_ppp::LinkRules;
 
@@ -15,6 +15,8 @@ pub struct Rules {
     /// The pools of addresses, at most 16, by their places in the table of addresses. Where there is none, a peer that is accepted gets
     /// no address.
     pub pools: Listed<NamedRange>,
+    /// The profiles by which subscribers' packets are counted, 1 to 16 with different names. A term names its own by its place, from 0.
+    pub profiles: Listed<Profile>,
     /// What each session's link is run by.
     pub link: LinkRules,
 }
@@ -27,6 +29,7 @@ impl Drop for Rules {
             access: _,
             offers: _,
             pools: _,
+            profiles: _,
             link: _,
         } = self;
     }

@@ -1,11 +1,13 @@
 //! One shard.
-ghost use Rattle.std.specs.Prelude.{ℕ, Some, IsSome, ◌⊎◌, drop, slice_get, IfSome, IfNone, ◌≡◌, ◌≢◌, ◌≤◌, ◌<◌, ◌+◌, ◌*◌, ◌^◌, [], true, IfOk, OnOk, length, option_map};
+ghost use Rattle.std.specs.Prelude.{ℕ, Some, IsSome, ◌⊎◌, drop, slice_get, IfSome, IfNone, ◌≡◌, ◌≢◌, ◌≤◌, ◌<◌, ◌+◌, ◌*◌, ◌^◌, [], true, IfOk, OnOk, length, option_map, replicate};
 ghost use Rattle.bng_engine.specs.Calls.{Kept, IsReady};
 ghost use Rattle.bng_engine.specs.Protocol.{IsOwned};
+ghost use Rattle.bng_engine.specs.Quantities.{empty_book};
 ghost use Rattle.bng_engine.specs.Showing.{ChargesShown};
 ghost use Rattle.bng_engine.specs.Terms.{keys};
 ghost use Rattle.bng_engine.specs.Views.{row_keys};
-ghost use Rattle.bng_shard.specs.Protocol.{AreHeld, Handles, HasPools, Leaves, SaysOf, TellsNew, ended_terms, entry_of, key_of, opened, pppoe, profiles_there, sessions_of, stop_of, terms_of};
+ghost use Rattle.bng_profile.specs.Books.{AreDifferent, names_of};
+ghost use Rattle.bng_shard.specs.Protocol.{AreHeld, Handles, HasPools, Leaves, SaysOf, TellsNew, ended_terms, entry_of, key_of, opened, pppoe, sessions_of, stop_of, terms_of};
 ghost use Rattle.bng_shard.specs.Room.{Admits};
 ghost use Rattle.bng_shard.specs.declared.session.Session.{Session};
 ghost use Rattle.bng_shard.specs.Interims.{AwaitsInterims, owed, row_in, row_told, with_report};
@@ -30,6 +32,7 @@ use crate::terms::Terms;
 use crate::wish::wish_for;
 use bng_base::{At, Batch, Book, Entry, Fate, Item, LONGEST, OutRecord, SessionNo, Static};
 use bng_pool::PlainPool;
+use bng_profile::Profiles;
 use std::alloc::{AllocError, Global};
 use std::marker::Model;
 use std::mem;
@@ -47,7 +50,7 @@ pub struct Shard {
     rules: Rules,
     pub(crate) served: Served,
     pub(crate) terms: Terms,
-    pub(crate) passed: Book,
+    pub(crate) profiles: Profiles,
     pub(crate) allowance: u32,
     // how many terms may still begin in the round
     left: u32,
@@ -62,7 +65,7 @@ impl Drop for Shard {
             rules: _,
             served: _,
             terms: _,
-            passed: _,
+            profiles: _,
             allowance: _,
             left: _,
             journal: _,
@@ -73,7 +76,7 @@ impl Drop for Shard {
 }
 
 impl Model for Shard {
-    ghost use Rattle.std.specs.Prelude.{[], ◌∷◌};
+    ghost use Rattle.std.specs.Prelude.{[]};
     ghost use Rattle.bng_base.specs.declared.item.Entry.{Entry};
     ghost use Rattle.bng_engine.specs.Views.{ShardView};
     ghost use Rattle.bng_shard.specs.Protocol.{ShardState};
@@ -87,7 +90,7 @@ impl Model for Shard {
     ghost use Rattle.bng_shard.specs.Running.{rows_in, whole};
     ghost use Rattle.bng_shard.specs.Fits.{Fits};
 
-    ghost view = { λ a. record { number = a.served.sessions.shard; state = record { rules = a.rules; slots = whole a.served a.terms }; rows = rows_in a.terms.rows; books = a.passed ∷ []; allowance = a.allowance; journal = a.journal.items; outs = a.outs.items; sends = []; stops = []; starts = []; room = a.room } };
+    ghost view = { λ a. record { number = a.served.sessions.shard; state = record { rules = a.rules; slots = whole a.served a.terms }; rows = rows_in a.terms.rows; books = a.profiles.books; allowance = a.allowance; journal = a.journal.items; outs = a.outs.items; sends = []; stops = []; starts = []; room = a.room } };
 
     ghost invariant = { Fits };
 }
@@ -129,11 +132,25 @@ fn reserve_amply(journal: &mut Batch<Entry>, outs: &mut Batch<OutRecord>, items:
     reserve(journal, outs, items)
 }
 
+// A book for each profile of these rules, in which nothing stands.
+fn books_of(alloc: Global, rules: &Rules) -> Result<Profiles, ShardError>
+    requires some_profile { 0 < length rules.now.profiles }
+    requires few_profiles { length rules.now.profiles ≤ 16 }
+    requires different { AreDifferent (names_of rules.now.profiles) }
+    ensures names { IfOk result (λ p. p.names ≡ names_of rules.now.profiles) }
+    ensures books { IfOk result (λ p. p.books ≡ replicate (length rules.now.profiles) empty_book) }
+{
+    match Profiles::open(alloc, rules.profiles.as_slice()) {
+        Ok(profiles) => Ok(profiles),
+        Err(_) => Err(ShardError::OutOfMemory),
+    }
+}
+
 impl Shard {
     /// A shard with this number, at most 63, that works by these rules, and these circuits. It has no other session. The rules name a
-    /// way to authenticate, and what each access port offers. The circuits' session numbers are the shard's, no two have the same
-    /// number or the same address, and each is on an access port that is there and has the first profile. Their terms begin at this
-    /// moment in milliseconds, and are numbered from 1 on, by rising session number.
+    /// way to authenticate, what each access port offers, and 1 to 16 profiles with different names. The circuits' session numbers are
+    /// the shard's, no two have the same number or the same address, and each is on an access port and has a profile that are there.
+    /// Their terms begin at this moment in milliseconds, and are numbered from 1 on, by rising session number.
     pub fn open(
         alloc: Global,
         number: u16,
@@ -148,11 +165,15 @@ impl Shard {
         requires sessions { AllPairs (λ a b. a.session ≢ b.session) circuits.now }
         requires addresses { AllPairs (λ a b. a.address ≢ b.address) circuits.now }
         requires ports { All (λ c. (1 ≤ c.port) × (c.port ≤ length rules.access)) circuits.now }
-        requires profiles { All (λ c. c.profile < profiles_there) circuits.now }
+        requires some_profile { 0 < length rules.profiles }
+        requires few_profiles { length rules.profiles ≤ 16 }
+        requires different { AreDifferent (names_of rules.profiles) }
+        requires profiles { All (λ c. c.profile < length rules.profiles) circuits.now }
         requires few_pools { length rules.pools ≤ 16 }
         ensures opened { IfOk result (λ s. s ≡ opened number rules circuits.now now) }
         ensures few { IfOk result (λ s. sessions_of s.state ≤ 1022) }
     {
+        let profiles = books_of(alloc, &rules)?;
         let Ok(served) = Served::open(alloc, number, circuits) else {
             return Err(ShardError::OutOfMemory);
         };
@@ -164,7 +185,7 @@ impl Shard {
             rules,
             served,
             terms,
-            passed: Book::empty(),
+            profiles,
             allowance: 0,
             left: 0,
             journal: Batch::new(alloc),
@@ -252,7 +273,7 @@ impl Shard {
         );
         self.left = left_after(self.left, claim);
         let sends = &self.outs.as_slice()[before..];
-        book(&mut self.passed, sends);
+        book(&mut self.profiles, sends);
         tally(ledger, sends);
         self.journal.push_entry(seat, place, now, item, claim);
         self.room -= 1;
@@ -387,7 +408,7 @@ impl Shard {
         ensures after { ChargesShown pppoe self.old out.now self.new }
         ensures answer { result ≡ charged_as out.now.charge }
     {
-        self.terms.settle(&mut self.passed, out);
+        self.terms.settle(&mut self.profiles, out);
         charged_as(out.charge)
     }
 }

@@ -6,7 +6,7 @@ ghost use Rattle.bng_engine.specs.Quantities.{Quantity, in_book};
 ghost use Rattle.bng_engine.specs.Views.{row_keys};
 ghost use Rattle.bng_shard.specs.Interims.{AwaitsInterims, owed};
 ghost use Rattle.bng_shard.specs.Live.{live_in};
-ghost use Rattle.bng_shard.specs.Protocol.{SaysOf, deadline_of, ended_terms, key_of, profiles_there, row_at, sessions_of};
+ghost use Rattle.bng_shard.specs.Protocol.{SaysOf, deadline_of, ended_terms, key_of, row_at, sessions_of};
 ghost use Rattle.bng_shard.specs.Questions.{asking_from, handed_after, open_ask_at, waiting};
 ghost use Rattle.bng_shard.specs.State.{reaped};
 ghost use Rattle.bng_shard.specs.Sums.{traffic_in};
@@ -49,14 +49,13 @@ impl Shard {
         self.served.due()
     }
 
-    /// What passed under this profile, from 0, and was not taken off. There is one profile.
+    /// What passed under the profile at this place, from 0, of those of the rules, and was not taken off.
     pub fn book(&self, profile: u8) -> Book
-        requires { profile < profiles_there }
+        requires { profile < length self.now.state.rules.profiles }
         ensures book { result ≡ book_at profile self.now.books }
-        ensures number { length self.now.books ≡ profiles_there }
+        ensures number { length self.now.books ≡ length self.now.state.rules.profiles }
     {
-        prove!(profile == 0);
-        self.passed
+        self.profiles.book(profile)
     }
 
     /// What the term that has this address carried; none exactly where no term has it.

@@ -1,9 +1,10 @@
 //! What passed, packet by packet.
-ghost use Rattle.std.specs.Prelude.{◌≡◌, ◌+◌, ◌^◌, ◌≤◌, ◌∷◌, [], ℕ, length};
-ghost use Rattle.bng_engine.specs.Books.{BooksRise};
-ghost use Rattle.bng_shard.specs.Sums.{charged_as, Has, IsLow, IsMore, Rises};
+ghost use Rattle.std.specs.Prelude.{◌≡◌, ◌+◌, ◌^◌, ◌<◌, ◌≤◌, ◌∷◌, [], ℕ, length};
+ghost use Rattle.bng_engine.specs.Books.{book_at, BooksRise};
+ghost use Rattle.bng_shard.specs.Sums.{charged_as, AreLow, AreMore, Has, IsLow, IsMore, Rises};
 
 use bng_base::{Book, Charge, OutRecord};
+use bng_profile::Profiles;
 
 /// Octets of packets from a subscriber (input) and towards it (output).
 #[derive(Clone, Copy, PartialEq, Eq, Debug)]
@@ -35,7 +36,7 @@ pub(crate) fn charged_as(charge: Option<Charge>) -> Charged
 }
 
 // Enters one packet more in a book, of so many octets in this direction.
-pub(crate) fn enter(book: &mut Book, input: bool, octets: u16)
+fn enter(book: &mut Book, input: bool, octets: u16)
     requires low { IsLow (2 ^ 63 + 2 ^ 62) book.old }
     ensures more { IsMore book.old input octets book.new }
     ensures few { (most : ℕ) → IsLow most book.old → IsLow (most + 2 ^ 16) book.new }
@@ -43,12 +44,25 @@ pub(crate) fn enter(book: &mut Book, input: bool, octets: u16)
     book.enter(input, octets);
 }
 
-// Takes one off.
-pub(crate) fn take_off(book: &mut Book, input: bool, octets: u16)
-    requires there { Has book.old input octets }
-    ensures { IsMore book.new input octets book.old }
+// Enters one in the book of this profile.
+fn pass(profiles: &mut Profiles, profile: u8, input: bool, octets: u16)
+    requires profile { profile < length profiles.old.books }
+    requires low { AreLow (2 ^ 63 + 2 ^ 62) profiles.old.books }
+    ensures names { profiles.new.names ≡ profiles.old.names }
+    ensures more { AreMore profiles.old.books profile input octets profiles.new.books }
+    ensures few { (most : ℕ) → AreLow most profiles.old.books → AreLow (most + 2 ^ 16) profiles.new.books }
 {
-    book.take_off(input, octets);
+    profiles.pass(profile, input, octets);
+}
+
+// Takes one off the book of this profile.
+pub(crate) fn take_off(profiles: &mut Profiles, profile: u8, input: bool, octets: u16)
+    requires profile { profile < length profiles.old.books }
+    requires there { Has (book_at profile profiles.old.books) input octets }
+    ensures names { profiles.new.names ≡ profiles.old.names }
+    ensures less { AreMore profiles.new.books profile input octets profiles.old.books }
+{
+    profiles.take_off(profile, input, octets);
 }
 
 // Enters the packet of an out, if it has one, in a tally.
@@ -63,16 +77,17 @@ fn tally_one(tally: &mut Book, out: &OutRecord)
     }
 }
 
-// Enters it in the book of the first profile, if it is of that.
-fn book_one(book: &mut Book, out: &OutRecord)
-    requires low { IsLow (2 ^ 63 + 2 ^ 62) book.old }
-    ensures rises { BooksRise (book.old ∷ []) (out.now ∷ []) (book.new ∷ []) }
-    ensures few { (most : ℕ) → IsLow most book.old → IsLow (most + 2 ^ 16) book.new }
+// Enters it in the book of its profile, if there is that profile.
+fn book_one(profiles: &mut Profiles, out: &OutRecord)
+    requires low { AreLow (2 ^ 63 + 2 ^ 62) profiles.old.books }
+    ensures names { profiles.new.names ≡ profiles.old.names }
+    ensures rises { BooksRise profiles.old.books (out.now ∷ []) profiles.new.books }
+    ensures few { (most : ℕ) → AreLow most profiles.old.books → AreLow (most + 2 ^ 16) profiles.new.books }
 {
     match out.charge {
         Some(charge) => {
-            if charge.profile == 0 {
-                enter(book, charge.input, charge.octets);
+            if charge.profile < profiles.count() {
+                pass(profiles, charge.profile, charge.input, charge.octets);
             }
         }
         None => {}
@@ -90,13 +105,14 @@ pub(crate) fn tally(tally: &mut Book, outs: &[OutRecord])
     }
 }
 
-/// Enters those of the first profile in its book.
-pub(crate) fn book(book: &mut Book, outs: &[OutRecord])
+/// Enters each in the book of its profile.
+pub(crate) fn book(profiles: &mut Profiles, outs: &[OutRecord])
     requires few { length outs.now ≤ 2 ^ 16 }
-    requires low { IsLow (2 ^ 63) book.old }
-    ensures { BooksRise (book.old ∷ []) outs.now (book.new ∷ []) }
+    requires low { AreLow (2 ^ 63) profiles.old.books }
+    ensures names { profiles.new.names ≡ profiles.old.names }
+    ensures rises { BooksRise profiles.old.books outs.now profiles.new.books }
 {
     for out in outs {
-        book_one(book, out);
+        book_one(profiles, out);
     }
 }

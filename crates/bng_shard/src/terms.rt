@@ -26,6 +26,7 @@ use crate::term_rows::{
 };
 use arrayvec::ArrayVec;
 use bng_base::{Book, Circuit, Ip4, OutRecord, SessionNo, Static, TermId};
+use bng_profile::Profiles;
 use std::alloc::{AllocError, Global};
 use std::marker::Model;
 
@@ -278,23 +279,24 @@ impl Terms {
     }
 
     /// Takes the answer to a send: a packet that was sent is added to the row of its term, and one that was not is taken off the book
-    /// of the first profile, if it has that.
-    pub(crate) fn settle(&mut self, book: &mut Book, out: &OutRecord)
+    /// of its profile, if there is that profile.
+    pub(crate) fn settle(&mut self, profiles: &mut Profiles, out: &OutRecord)
         requires low { RowsAreLow (2 ^ 63) (rows_in self.old.rows) }
         requires own { IsOwned (row_keys (rows_in self.old.rows)) out.now }
-        requires covered { AreCovered (book.old ∷ []) out.now }
+        requires covered { AreCovered profiles.old.books out.now }
         ensures rows { SayMore (rows_in self.old.rows) (out.now ∷ []) (rows_in self.new.rows) }
         ensures terms { tenures_in self.new.rows ≡ tenures_in self.old.rows }
         ensures others { self.new ≡ record self.old { rows = self.new.rows } }
-        ensures book { BooksFall (book.old ∷ []) (out.now ∷ []) (book.new ∷ []) }
+        ensures names { profiles.new.names ≡ profiles.old.names }
+        ensures books { BooksFall profiles.old.books (out.now ∷ []) profiles.new.books }
     {
         let Some(charge) = out.charge else {
             return;
         };
         if out.sent {
             carry(&mut self.rows, charge);
-        } else if charge.profile == 0 {
-            take_off(book, charge.input, charge.octets);
+        } else if charge.profile < profiles.count() {
+            take_off(profiles, charge.profile, charge.input, charge.octets);
         }
     }
 }

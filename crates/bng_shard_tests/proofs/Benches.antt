@@ -14,21 +14,24 @@ use Rattle.bng_base.specs.declared.item.Claim.TheVariants.{NoClaim, Claimed, Hel
 use Rattle.bng_base.specs.declared.item.Entry.{Entry}
 use Rattle.bng_base.specs.declared.settings.NamedRange.{NamedRange}
 use Rattle.bng_base.specs.declared.settings.Static.{Static}
+use Rattle.bng_engine.specs.Books.{book_at}
 use Rattle.bng_engine.specs.Terms.{Term}
 use Rattle.bng_engine.specs.Views.{ShardView}
 use Rattle.bng_pool.specs.Plain.{PlainView}
 use Rattle.bng_pool.specs.Ranges.{AreApart, ArePoolRanges}
 use Rattle.bng_pool.specs.Tables.{Table, entry}
+use Rattle.bng_profile.specs.Books.{AreDifferent}
 use Rattle.bng_shard.specs.declared.rules.Rules.{Rules}
 use Rattle.bng_shard.specs.declared.term.EndedTerm.{EndedTerm}
 use Rattle.bng_shard.specs.Opening.{in_order, tenures_after}
 use Rattle.bng_shard.specs.Protocol.{ShardState, AnswersClaim, AreHeld, Handles, HasPools, Leaves, opened, stop_of, term_in, terms_of}
 use Rattle.bng_shard.specs.State.{reaped}
+use Rattle.bng_shard.specs.Sums.{AreLow, IsLow}
 use Rattle.bng_shard.proofs.InOrder.{all_in_order}
 use Rattle.bng_shard.proofs.Values.{none_some, same_some}
 
 abbrev pub Stands : ShardView ShardState Entry → PlainView → Type 0
-Stands v pool = HasPools v.state.rules.pools pool.ranges × (v.number < pool.shards) × AreHeld v.number (terms_of v.state) pool.table
+Stands v pool = HasPools v.state.rules.pools pool.ranges × (v.number < pool.shards) × AreHeld v.number (terms_of v.state) pool.table × (length v.state.rules.profiles ≡ 2)
 
 -- Opening ----------------------------------------------------------------------------------------------------------------
 
@@ -60,6 +63,25 @@ pools_of_one pools range (inl none) = no_pools pools (range ∷ []) none
 pools_of_one pools range (inr one) = λ k p is.
     ap (λ (rs : List Range). slice_get rs k) (sym one) ∙ slice_get-map (λ (q : NamedRange). q.range) pools k ∙ ap (option_map (λ (q : NamedRange). q.range)) is
 
+-- two names that differ are different
+pub two_different : (a b : List ℕ) → (a ≡ b → ⊥) → AreDifferent (a ∷ b ∷ [])
+two_different a b ne zero zero name i j = refl
+two_different a b ne zero (suc zero) name i j = absurd (ne (same_some a name i ∙ sym (same_some b name j)))
+two_different a b ne (suc zero) zero name i j = absurd (ne (same_some a name j ∙ sym (same_some b name i)))
+two_different a b ne (suc zero) (suc zero) name i j = refl
+two_different a b ne zero (suc (suc k)) name i j = absurd (none_some name j)
+two_different a b ne (suc zero) (suc (suc k)) name i j = absurd (none_some name j)
+two_different a b ne (suc (suc k)) j name i at = absurd (none_some name i)
+
+-- two books of a list are low, and so all are
+two_of : (P : ℕ → Type 0) → P 0 → P 1 → (i : ℕ) → i < 2 → P i
+two_of P first second zero lt = first
+two_of P first second (suc zero) lt = second
+two_of P first second (suc (suc i)) lt = absurd (omega (arith, lt))
+
+pub all_low : (most : ℕ) (books : List Book) → length books ≡ 2 → IsLow most (book_at 0 books) → IsLow most (book_at 1 books) → AreLow most books
+all_low most books two first second i lt = two_of (λ (j : ℕ). IsLow most (book_at j books)) first second i (omega (arith, lt, two))
+
 -- the terms of circuits whose addresses the shard holds
 module _ (shard now : ℕ) (table : Table) where
   abbrev HasIt : Static → Type 0
@@ -76,8 +98,8 @@ module _ (shard now : ℕ) (table : Table) where
 
 pub remains : (v v' : ShardView ShardState Entry) (pool : PlainView) → v'.number ≡ v.number → v'.state ≡ v.state → Stands v pool → Stands v' pool
 remains v v' pool number state h =
-    subst (λ (s : ShardState). HasPools s.rules.pools pool.ranges × (v'.number < pool.shards) × AreHeld v'.number (terms_of s) pool.table) (sym state)
-    (subst (λ (n : ℕ). HasPools v.state.rules.pools pool.ranges × (n < pool.shards) × AreHeld n (terms_of v.state) pool.table) (sym number) h)
+    subst (λ (s : ShardState). HasPools s.rules.pools pool.ranges × (v'.number < pool.shards) × AreHeld v'.number (terms_of s) pool.table × (length s.rules.profiles ≡ 2)) (sym state)
+    (subst (λ (n : ℕ). HasPools v.state.rules.pools pool.ranges × (n < pool.shards) × AreHeld n (terms_of v.state) pool.table × (length v.state.rules.profiles ≡ 2)) (sym number) h)
 
 -- with other terms, of which each holds its address
 pub goes_on : (v v' : ShardView ShardState Entry) (pool pool' : PlainView) → v'.number ≡ v.number → v'.state.rules ≡ v.state.rules → pool'.ranges ≡ pool.ranges → pool'.shards ≡ pool.shards
@@ -86,6 +108,7 @@ goes_on v v' pool pool' number rules ranges shards held h = (
   subst (λ (r : Rules). HasPools r.pools pool'.ranges) (sym rules) (subst (λ (rs : List Range). HasPools v.state.rules.pools rs) (sym ranges) h.0),
   omega (arith, number, shards, h.1),
   held,
+  ap (λ (r : Rules). length r.profiles) rules ∙ h.3,
 )
 
 kept_ranges : (shard : ℕ) (claim : Claim) (pool pool' : PlainView) → AnswersClaim shard claim pool pool' → (pool'.ranges ≡ pool.ranges) × (pool'.shards ≡ pool.shards)

@@ -1,12 +1,13 @@
 //! What the tests of a shard share: its rules, the rounds of one item, and how a host asks for a session.
 ghost use Rattle.std.specs.Prelude.{◌≡◌, ◌⊎◌, ◌+◌, ◌<◌, ◌≤◌, ◌^◌, [], ◌∷◌, IfOk, length, map, true};
+ghost use Rattle.bng_profile.specs.Books.{AreDifferent, names_of};
 ghost use Rattle.bng_shard.specs.Sums.{AreLow, IsLow};
 
 use crate::asserts::{assert_count, assert_holds};
 use arrayvec::ArrayVec;
 use bng_base::{
     AccessPort, AuthKind, Book, Fate, Frame, Ip4, Item, ItemKind, Listed, Mac, NamedRange,
-    OutRecord, Peer, Range, Static,
+    OutRecord, Peer, Profile, Range, Static,
 };
 use bng_discovery::PortRules;
 use bng_pool::PlainPool;
@@ -97,11 +98,37 @@ const ONE: Range = Range {
     last: Ip4(0x0a000002),
 };
 
-// One shard, the port 1, and these pools.
+// A profile of this name that meters nothing.
+fn unmetered(name: &[u8]) -> Profile
+    requires { length name.now ≤ 32 }
+    ensures { result.name.items ≡ name.now }
+{
+    let mut letters = ArrayVec::new();
+    let Ok(()) = letters.try_extend_from_slice(name) else {
+        unreachable!()
+    };
+    Profile {
+        name: letters,
+        up: None,
+        down: None,
+    }
+}
+
+// Two profiles.
+fn profiles(alloc: Global) -> Result<Vec<Profile>, AllocError>
+    ensures two { IfOk result (λ ps. length ps.items ≡ 2) }
+    ensures different { IfOk result (λ ps. AreDifferent (names_of ps.items)) }
+{
+    Vec::from_array(alloc, [unmetered(b"bronze"), unmetered(b"gold")])
+}
+
+// One shard, the port 1, these pools, and two profiles.
 fn rules_over(alloc: Global, pools: Vec<NamedRange>) -> Result<Rules, AllocError>
     ensures auth { IfOk result (λ r. 0 < length r.link.auth.items) }
     ensures access { IfOk result (λ r. length r.access ≡ 1) }
     ensures offers { IfOk result (λ r. length r.offers ≡ 1) }
+    ensures profiles { IfOk result (λ r. length r.profiles ≡ 2) }
+    ensures different { IfOk result (λ r. AreDifferent (names_of r.profiles)) }
     ensures pools { IfOk result (λ r. r.pools ≡ pools.items) }
 {
     let port = AccessPort {
@@ -111,12 +138,14 @@ fn rules_over(alloc: Global, pools: Vec<NamedRange>) -> Result<Rules, AllocError
     };
     let access = Vec::from_array(alloc, [port])?;
     let offers = Vec::from_array(alloc, [offers()])?;
+    let profiles = profiles(alloc)?;
     Ok(Rules {
         shards: 1,
         core_peer: peer(9001),
         access: Listed::of(access),
         offers: Listed::of(offers),
         pools: Listed::of(pools),
+        profiles: Listed::of(profiles),
         link: links(),
     })
 }
@@ -126,6 +155,8 @@ fn rules(alloc: Global) -> Result<Rules, AllocError>
     ensures auth { IfOk result (λ r. 0 < length r.link.auth.items) }
     ensures access { IfOk result (λ r. length r.access ≡ 1) }
     ensures offers { IfOk result (λ r. length r.offers ≡ 1) }
+    ensures profiles { IfOk result (λ r. length r.profiles ≡ 2) }
+    ensures different { IfOk result (λ r. AreDifferent (names_of r.profiles)) }
     ensures pools { IfOk result (λ r. r.pools ≡ []) }
 {
     rules_over(alloc, Vec::new(alloc))
@@ -136,6 +167,8 @@ fn rules_with(alloc: Global, range: Range) -> Result<Rules, AllocError>
     ensures auth { IfOk result (λ r. 0 < length r.link.auth.items) }
     ensures access { IfOk result (λ r. length r.access ≡ 1) }
     ensures offers { IfOk result (λ r. length r.offers ≡ 1) }
+    ensures profiles { IfOk result (λ r. length r.profiles ≡ 2) }
+    ensures different { IfOk result (λ r. AreDifferent (names_of r.profiles)) }
     ensures pools { IfOk result (λ r. map (λ p. p.range) r.pools ≡ range ∷ []) }
 {
     let name = text(b"main");
@@ -156,7 +189,7 @@ impl Drop for Bench {
 }
 
 impl Model for Bench {
-    ghost use Rattle.std.specs.Prelude.{◌<◌};
+    ghost use Rattle.std.specs.Prelude.{◌≡◌, ◌<◌, length};
     ghost use Rattle.bng_base.specs.declared.item.Entry.{Entry};
     ghost use Rattle.bng_engine.specs.Views.{ShardView};
     ghost use Rattle.bng_pool.specs.Plain.{PlainView};
@@ -172,13 +205,15 @@ impl Model for Bench {
     ghost view = { λ b. (b.shard, b.pool) };
 
     ghost invariant = { λ b. HasPools b.shard.state.rules.pools b.pool.ranges × (b.shard.number < b.pool.shards)
-        × AreHeld b.shard.number (terms_of b.shard.state) b.pool.table };
+        × AreHeld b.shard.number (terms_of b.shard.state) b.pool.table × (length b.shard.state.rules.profiles ≡ 2) };
 }
 
 // The shard 0 by these rules, of which no term holds an address of this range.
 fn open_bench(alloc: Global, rules: Rules, range: Range) -> Result<Bench, Fail>
     requires auth { 0 < length rules.link.auth.items }
     requires offers { length rules.offers ≡ length rules.access }
+    requires profiles { length rules.profiles ≡ 2 }
+    requires different { AreDifferent (names_of rules.profiles) }
     requires range { (range.first.0 ≤ range.last.0) × (range.last.0 < range.first.0 + 262144) }
     requires pools { (rules.pools ≡ []) ⊎ (map (λ p. p.range) rules.pools ≡ range ∷ []) }
 {
@@ -222,12 +257,17 @@ fn is_low(book: &Book) -> bool
         && book.output_packets <= most
 }
 
-// Whether the shard's book is low.
-fn has_low_book(shard: &Shard) -> bool
+// Whether the books of the shard's two profiles are low.
+fn has_low_books(shard: &Shard) -> bool
+    requires { length shard.now.state.rules.profiles ≡ 2 }
     ensures { result ≡ true → AreLow (2 ^ 63) shard.now.books }
 {
-    let passed = shard.book(0);
-    is_low(&passed)
+    let bronze = shard.book(0);
+    if !is_low(&bronze) {
+        return false;
+    }
+    let gold = shard.book(1);
+    is_low(&gold)
 }
 
 impl Bench {
@@ -248,12 +288,19 @@ impl Bench {
         let _none = self.shard.drain();
         assert_holds(rt, self.shard.begun() < 1 << 40);
         assert_holds(rt, self.shard.prepare(alloc, 1, 1).is_ok());
-        assert_holds(rt, has_low_book(&self.shard));
+        assert_holds(rt, has_low_books(&self.shard));
         assert_holds(rt, is_low(tally));
         let fate = self.shard.step(&mut self.pool, 0, 0, now, &item, tally);
         let (journal, outs) = self.shard.drain();
         assert_count(rt, journal.len(), 1);
         (fate, outs.into_vec())
+    }
+
+    // What passed under one of the two profiles.
+    fn book(&self, profile: u8) -> Book
+        requires { profile < 2 }
+    {
+        self.shard.book(profile)
     }
 
     // The first term of whose beginning no Start was formed yet.

@@ -1,4 +1,4 @@
-ghost use Rattle.std.specs.Prelude.{◌≡◌, [], ◌∷◌, Some, ℕ, IfOk, true};
+ghost use Rattle.std.specs.Prelude.{◌≡◌, ◌<◌, [], ◌∷◌, Some, ℕ, IfOk, length, true};
 ghost use Rattle.bng_shard.specs.declared.rules.Rules.{Rules as Ways};
 ghost use Rattle.bng_shard.specs.Frames.{charge_of};
 ghost use Rattle.bng_shard.specs.Opening.{lease_from, provisioned};
@@ -11,7 +11,7 @@ use super::{Bench, NOTHING, TO_IT, TWO, assert_sessions, item, peer, request, ru
 use crate::asserts::{assert_count, assert_holds, assert_octets, assert_same};
 use arrayvec::ArrayVec;
 use bng_base::{
-    Charge, Circuit, DropCause, Fate, Frame, Ip4, ItemKind, Mac, Octets, OutRecord, Role,
+    Book, Charge, Circuit, DropCause, Fate, Frame, Ip4, ItemKind, Mac, Octets, OutRecord, Role,
     SessionNo, Static, TermId,
 };
 use bng_pool::PlainPool;
@@ -42,7 +42,7 @@ fn open_with(alloc: Global, circuit: &Static) -> Result<Shard, Fail>
     requires number { IsNumberOf 1 circuit.now.session.0 }
     requires port { circuit.now.port ≡ 1 }
     requires profile { circuit.now.profile ≡ 0 }
-    ensures { IfOk result (λ s. (rules : Ways) × (rules.pools ≡ []) × (s ≡ opened 1 rules (circuit.now ∷ []) 0)) }
+    ensures { IfOk result (λ s. (rules : Ways) × (rules.pools ≡ []) × (length rules.profiles ≡ 2) × (s ≡ opened 1 rules (circuit.now ∷ []) 0)) }
 {
     let rules = rules(alloc)?;
     let circuits = std::slice::from_ref(circuit);
@@ -114,11 +114,11 @@ fn a_packet_counts_for_its_term(rt: HostRuntime) -> Result<(), Fail> {
 }
 
 // A circuit of the shard 1 on the port 1.
-fn circuit_of(host: u8, session: u16, address: u32) -> Static
+fn circuit_of(host: u8, session: u16, address: u32, profile: u8) -> Static
     ensures session { result.session.0 ≡ session }
     ensures address { result.address.0 ≡ address }
     ensures port { result.port ≡ 1 }
-    ensures profile { result.profile ≡ 0 }
+    ensures profile { result.profile ≡ profile }
 {
     let mut user = ArrayVec::new();
     user.push(b'f');
@@ -128,7 +128,7 @@ fn circuit_of(host: u8, session: u16, address: u32) -> Static
         session: SessionNo(session),
         address: Ip4(address),
         user,
-        profile: 0,
+        profile,
     }
 }
 
@@ -152,7 +152,7 @@ fn bench_of(
     circuits: &[Static],
 ) -> Result<Bench, Fail>
     requires number { shard.number ≡ 1 }
-    requires state { (rules : Ways) × (rules.pools ≡ []) × (shard.state ≡ (opened 1 rules circuits.now 0).state) }
+    requires state { (rules : Ways) × (rules.pools ≡ []) × (length rules.profiles ≡ 2) × (shard.state ≡ (opened 1 rules circuits.now 0).state) }
 {
     let mut pool = PlainPool::open(alloc, &[TWO], 2)?;
     for _ in circuits {
@@ -162,12 +162,13 @@ fn bench_of(
     Ok(Bench { shard, pool })
 }
 
-// The shard 1 with two circuits, the one with the higher session number first, whose addresses it holds.
+// The shard 1 with two circuits, the one with the higher session number first, whose addresses it holds. The other has the second
+// profile.
 fn open_two(rt: &impl Abort, alloc: Global) -> Result<Bench, Fail> {
     let rules = rules(alloc)?;
     let circuits = [
-        circuit_of(2, 1026, 0x0a000003),
-        circuit_of(1, 1025, 0x0a000002),
+        circuit_of(2, 1026, 0x0a000003, 0),
+        circuit_of(1, 1025, 0x0a000002, 1),
     ];
     let circuits = circuits.as_slice();
     let shard = Shard::open(alloc, 1, rules, circuits, 0)?;
@@ -306,5 +307,28 @@ fn a_stop_says_what_its_term_carried(rt: HostRuntime) -> Result<(), Fail> {
             .is_some_and(|ended| ended.carried == carried),
     );
     assert_same(&rt, &bench.shard.carried(Ip4(0x0a000002)), &None);
+    Ok(())
+}
+
+// What passed under this profile is this.
+fn assert_book(rt: &impl Abort, bench: &Bench, profile: u8, wanted: Book)
+    requires { profile < 2 }
+{
+    assert_same(rt, &bench.book(profile), &wanted);
+}
+
+#[test]
+fn a_packet_counts_in_the_book_of_its_profile(rt: HostRuntime) -> Result<(), Fail> {
+    let alloc = rt.alloc();
+    let mut bench = open_two(&rt, alloc)?;
+    assert_fate(&rt, alloc, &mut bench, Fate::Forwarded);
+    let gold = Book {
+        input: 28,
+        output: 28,
+        input_packets: 1,
+        output_packets: 1,
+    };
+    assert_book(&rt, &bench, 0, NOTHING);
+    assert_book(&rt, &bench, 1, gold);
     Ok(())
 }

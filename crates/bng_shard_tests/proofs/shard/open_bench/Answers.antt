@@ -10,4 +10,4 @@ pub invariant_of-result : goal.invariant_of-result
 invariant_of-result c =
     subst (λ (v : ShardView ShardState Entry). Stands v c.in_ok-pool.pool) (sym c.in_ok-shard.ensures.opened)
     (subst (λ (p : PlainView). Stands (opened 0 c.args.rules [] 0) p) (sym c.in_ok-pool.ensures)
-    (pools_of_one c.args.rules.pools c.args.range c.requires.pools, omega arith, held_opened 0 0 [] c.args.rules [] (λ k d lt. absurd (omega (arith, lt)))))
+    (pools_of_one c.args.rules.pools c.args.range c.requires.pools, omega arith, held_opened 0 0 [] c.args.rules [] (λ k d lt. absurd (omega (arith, lt))), c.requires.profiles))

@@ -1,4 +1,4 @@
-use Rattle.std.proofs.Common.{◌≤◌, sym, ap, subst, arith}
+use Rattle.std.proofs.Common.{◌≤◌, sym, ap, subst, ◌∙◌, arith}
 use Rattle.std.specs.List.{All}
 use Rattle.bng_shard.specs.declared.terms.Running.{Running}
 use Rattle.bng_shard.specs.Running.{AreTied, TermsView}
@@ -23,6 +23,9 @@ invariant_of-self c =
       few_pools = was.few_pools;
       auth = was.auth;
       offers = was.offers;
+      some_profile = was.some_profile;
+      named = c.settle.ensures.names ∙ was.named;
+      booked = c.settle.ensures.books.count ∙ was.booked;
       journal_room = was.journal_room;
       outs_room = was.outs_room;
       terms_room = omega (arith, was.terms_room, ap (λ (v : TermsView). v.room) c.settle.ensures.others);

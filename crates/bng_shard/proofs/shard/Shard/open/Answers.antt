@@ -1,6 +1,8 @@
-use Rattle.std.proofs.Common.{◌≡◌, ◌≤◌, List, length, sym, ap, subst, arith}
+use Rattle.std.proofs.Common.{◌≡◌, ◌≤◌, List, length, sym, ap, subst, ◌∙◌, arith}
 use Rattle.std.specs.List.{All}
+use Rattle.std.proofs.lemmas.List.{length-replicate}
 use Rattle.bng_base.specs.declared.item.Entry.{Entry}
+use Rattle.bng_engine.specs.Quantities.{empty_book}
 use Rattle.bng_shard.specs.declared.terms.Running.{Running}
 use Rattle.bng_shard.specs.Fits.{begun_in}
 use Rattle.bng_shard.specs.Opening.{opened_slots}
@@ -27,6 +29,9 @@ invariant_of-result c =
       placed = opened_placed c.args.number cs served.sessions sessions c.requires.sessions c.args.rules c.requires.ports;
       auth = c.requires.auth;
       offers = c.requires.offers;
+      some_profile = c.requires.some_profile;
+      named = c.in_ok-profiles.ensures.names;
+      booked = ap length c.in_ok-profiles.ensures.books ∙ length-replicate (length c.args.rules.profiles) empty_book;
       few_pools = c.requires.few_pools;
       journal_room = omega (arith, ap length c.new.ensures);
       outs_room = λ some. omega (arith, some);
@@ -37,5 +42,5 @@ pub returns-clause-opened : goal.returns-clause-opened
 returns-clause-opened c =
     let cs = c.args.circuits.now in
     let opened = opened_whole c.args.number c.args.now cs c.in-Ok.served c.in-Ok-open.terms c.in-Ok.ensures.opened c.in-Ok-open.ensures.terms c.in-Ok-open.ensures.none.0 in
-    opened_view c.args.rules c.args.number cs c.args.now (whole c.in-Ok.served c.in-Ok-open.terms) (rows_in c.in-Ok-open.terms.rows) c.empty.result c.new.result.items c.new-2.result.items opened c.in-Ok-open.ensures.rows
-    c.empty.ensures c.new.ensures c.new-2.ensures
+    opened_view c.args.rules c.args.number cs c.args.now (whole c.in-Ok.served c.in-Ok-open.terms) (rows_in c.in-Ok-open.terms.rows) c.in_ok-profiles.profiles.books c.new.result.items c.new-2.result.items opened c.in-Ok-open.ensures.rows
+    c.in_ok-profiles.ensures.books c.new.ensures c.new-2.ensures

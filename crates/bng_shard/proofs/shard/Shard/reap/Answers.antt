@@ -35,6 +35,9 @@ invariant_of-self c =
       few_pools = was.few_pools;
       auth = was.auth;
       offers = was.offers;
+      some_profile = was.some_profile;
+      named = was.named;
+      booked = was.booked;
       journal_room = omega (arith, was.journal_room);
       outs_room = λ some. absurd (omega (arith, some));
       terms_room = omega arith;
@@ -47,7 +50,7 @@ returns-in_default-clause-none c =
     rw (← c.self.view_is) (
       none_over a.terms.rows none.0,
       refl,
-      reaped_shown a.rules a.served a.passed a.allowance a.journal.items a.outs.items a.terms c.take_first_over.new.self c.settle.new.self a.room none.0 none.1 c.settle.ensures,
+      reaped_shown a.rules a.served a.profiles.books a.allowance a.journal.items a.outs.items a.terms c.take_first_over.new.self c.settle.new.self a.room none.0 none.1 c.settle.ensures,
     )
 
 pub give_back-requires : goal.give_back-requires
@@ -74,6 +77,9 @@ invariant_of-self-2 c =
       few_pools = was.few_pools;
       auth = was.auth;
       offers = was.offers;
+      some_profile = was.some_profile;
+      named = was.named;
+      booked = was.booked;
       journal_room = omega (arith, was.journal_room);
       outs_room = λ some. absurd (omega (arith, some));
       terms_room = omega arith;
@@ -84,7 +90,7 @@ returns-clause-one c =
     let a = c.self.inside in
     let one = c.in-Some.ensures.one in
     rw (← c.self.view_is) (
-    ended_so a.rules a.served a.passed a.allowance a.journal.items a.outs.items a.terms c.take_first_over.new.self a.room c.in-Some.row c.stop_from.result one.0 one.1 c.stop_from.ensures.one
+    ended_so a.rules a.served a.profiles.books a.allowance a.journal.items a.outs.items a.terms c.take_first_over.new.self a.room c.in-Some.row c.stop_from.result one.0 one.1 c.stop_from.ensures.one
     c.args.pool.now.table c.give_back.new.self.table c.give_back.ensures.table
     )
 

@@ -63,9 +63,7 @@ left_after-self-inside-requires c =
     record { left = λ x is. some_left a.left (claimed_within a.rules a.served c.args.item.now (a.left == 0) c.ask-claim.result asked x is) }
 
 pub book-requires-clause-low : goal.book-requires-clause-low
-book-requires-clause-low c =
-    let low = subst (λ (v : ShardView ShardState Entry). AreLow (2 ^ 63) v.books) (sym c.self.view_is) c.requires.low_books in
-    low 0 (omega arith)
+book-requires-clause-low c = subst (λ (v : ShardView ShardState Entry). AreLow (2 ^ 63) v.books) (sym c.self.view_is) c.requires.low_books
 
 pub invariant_of-self : goal.invariant_of-self
 invariant_of-self c =
@@ -103,6 +101,9 @@ invariant_of-self c =
       few_pools = was.few_pools;
       auth = was.auth;
       offers = was.offers;
+      some_profile = was.some_profile;
+      named = c.book.ensures.names ∙ was.named;
+      booked = c.book.ensures.rises.count ∙ was.booked;
       journal_room = omega (arith, was.journal_room, ap length items, length-append a.journal.items (e ∷ []), room, c.requires.room, ap (λ (b : Batch Entry). b.room) c.push_entry.ensures);
       outs_room = λ some. omega (arith, was.outs_room (omega (arith, some)), ap length does.outs_are, length-append outs does.deed.outs, does.few, ap owed items, spent, c.hear-fate.ensures.capacity);
       terms_room = omega (arith, was.terms_room, c.hear-fate.ensures.sums.room);
@@ -128,13 +129,13 @@ returns c =
     let rows = rows_in a.terms.rows in
     let rows' = rows_in c.hear-fate.new.terms.rows in
     let short : length e.item.frame.payload ≤ 4096 = omega (arith, c.requires.whole, c.payload.ensures.fits) in
-    let next : ShardView ShardState Entry = view a.rules s' rows' c.book.new.book a.allowance c.push_entry.new.self.items outs' (a.room - 1) in
+    let next : ShardView ShardState Entry = view a.rules s' rows' c.book.new.profiles.books a.allowance c.push_entry.new.self.items outs' (a.room - 1) in
     let sends = slice_after outs does.deed.outs c.as_slice.result.now _ (ap length c.as_slice-before.ensures) (c.as_slice.ensures ∙ does.outs_are) in
-    let booked = subst (λ (os : List OutRecord). BooksRise (a.passed ∷ []) os (c.book.new.book ∷ [])) sends c.book.ensures in
+    let booked = subst (λ (os : List OutRecord). BooksRise a.profiles.books os c.book.new.profiles.books) sends c.book.ensures.rises in
     let tallied = subst (λ (os : List OutRecord). Rises c.args.ledger.now os c.tally.new.tally) sends c.tally.ensures in
     let held = subst (λ (v : ShardView ShardState Entry). AreHeld v.number (terms_of v.state) pool.table) (sym c.self.view_is) c.requires.held in
     let answers = subst (λ (n : ℕ). AnswersClaim n claim pool pool') c.shard.ensures.number c.ask-claim.ensures.table in
     let holds = held_after a.rules s s' outs outs' e limited fate does s.sessions.shard pool pool' answers held in
     subst (λ (v : ShardView ShardState Entry). Handles v next pool pool' e0 fate c.args.ledger.now c.tally.new.tally) c.self.view_is
-    (handles a.rules s s' outs outs' e limited fate does rows rows' a.passed c.book.new.book a.allowance a.left a.room a.journal.items c.push_entry.new.self.items (was.left (omega (arith, room, c.requires.room))) refl (keys_of_rows c.hear-fate.new.terms.rows) c.hear-fate.ensures.sums.sums
+    (handles a.rules s s' outs outs' e limited fate does rows rows' a.profiles.books c.book.new.profiles.books a.allowance a.left a.room a.journal.items c.push_entry.new.self.items was.some_profile (was.left (omega (arith, room, c.requires.room))) refl (keys_of_rows c.hear-fate.new.terms.rows) c.hear-fate.ensures.sums.sums
     e0 claim refl pool pool' answers (moved_held a.rules s s' outs outs' e limited fate does pool' holds) c.args.ledger.now c.tally.new.tally (ap (λ (b : Batch Entry). b.items) c.push_entry.ensures) short booked tallied does.few)

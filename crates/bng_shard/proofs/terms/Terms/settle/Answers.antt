@@ -1,4 +1,4 @@
-use Rattle.std.proofs.Common.{sym, ◌∙◌, arith}
+use Rattle.std.proofs.Common.{◌<◌, length, sym, ◌∙◌, arith}
 use Rattle.bng_shard.proofs.SameKeys.{same_over, same_tenure_count, tenures_rise}
 use Rattle.bng_shard.proofs.Tallying.{covered_has}
 use Rattle.bng_shard.proofs.terms.Terms.settle.Goals as goal
@@ -16,4 +16,6 @@ invariant_of-self c =
     )
 
 pub take_off-requires : goal.take_off-requires
-take_off-requires c = record { there = covered_has c.args.book.now c.args.out.now c.in-Some.charge c.in-Some.is c.if-out.false c.if-charge-eq0.true c.requires.covered }
+take_off-requires c =
+    let inside : c.in-Some.charge.profile < length c.args.profiles.now.books = omega (arith, c.if-charge-lt-count.true, c.count.ensures) in
+    record { profile = inside; there = covered_has c.args.profiles.now.books c.args.out.now c.in-Some.charge c.in-Some.is c.if-out.false inside c.requires.covered }
