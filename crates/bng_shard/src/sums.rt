@@ -84,13 +84,11 @@ fn book_one(profiles: &mut Profiles, out: &OutRecord)
     ensures rises { BooksRise profiles.old.books (out.now ∷ []) profiles.new.books }
     ensures few { (most : ℕ) → AreLow most profiles.old.books → AreLow (most + 2 ^ 16) profiles.new.books }
 {
-    match out.charge {
-        Some(charge) => {
-            if charge.profile < profiles.count() {
-                pass(profiles, charge.profile, charge.input, charge.octets);
-            }
-        }
-        None => {}
+    let Some(charge) = out.charge else {
+        return;
+    };
+    if charge.profile < profiles.count() {
+        pass(profiles, charge.profile, charge.input, charge.octets);
     }
 }
 

@@ -17,5 +17,5 @@ invariant_of-self c =
 
 pub take_off-requires : goal.take_off-requires
 take_off-requires c =
-    let inside : c.in-Some.charge.profile < length c.args.profiles.now.books = omega (arith, c.if-charge-lt-count.true, c.count.ensures) in
+    let inside : c.in-Some.charge.profile < length c.args.profiles.now.books = omega (arith, c.if-charge-count.true, c.count.ensures) in
     record { profile = inside; there = covered_has c.args.profiles.now.books c.args.out.now c.in-Some.charge c.in-Some.is c.if-out.false inside c.requires.covered }
