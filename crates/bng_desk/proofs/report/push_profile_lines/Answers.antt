@@ -26,7 +26,7 @@ loop-place-preserved c =
     let ps : List Profile = c.args.profiles.now in
     let under = traffic_under c.args.shards.now in
     let ts : List Traffic = map under (range_with_len 0 (length ps)) in
-    let p = c.loop-place-item.result in
+    let p = c.index-profiles-place.result in
     let sent = c.sent_under-input in
     let said : Traffic = record { input = sent.result.0; output = sent.result.1 } in
     let old = c.args.text.now.items in
@@ -39,7 +39,7 @@ loop-place-preserved c =
     let line = profile_line (get_or ps n p).name.items (get_or ts n no_traffic) in
     c.in_ok-push_profile_line.ensures
     ∙ ap (λ (t : Traffic). c.loop-place.text.items ++ profile_line p.name.items t) (same ∙ at)
-    ∙ ap (λ (q : Profile). c.loop-place.text.items ++ profile_line q.name.items (get_or ts n no_traffic)) c.loop-place-item.is
+    ∙ ap (λ (q : Profile). c.loop-place.text.items ++ profile_line q.name.items (get_or ts n no_traffic)) c.index-profiles-place.is
     ∙ ap (λ (octets : List ℕ). octets ++ line) c.loop-place.invariant
     ∙ append_assoc old before line
     ∙ ap (λ (octets : List ℕ). old ++ octets) (sym (lines_more ps ts n p within in_traffic) ∙ ap (λ (k : ℕ). profile_lines (take k ps) ts) next)
