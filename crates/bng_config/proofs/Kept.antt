@@ -71,14 +71,25 @@ default_name : IsProfileName default_profile.name.items
 default_name = record {
   some = omega arith;
   short = omega arith;
-  octets = All-from_recursion IsLabelOctet (codes "default")
-      (letter 100 (omega arith) (omega arith),
-      (letter 101 (omega arith) (omega arith),
-      (letter 102 (omega arith) (omega arith),
-      (letter 97 (omega arith) (omega arith),
-      (letter 117 (omega arith) (omega arith),
-      (letter 108 (omega arith) (omega arith),
-      (letter 116 (omega arith) (omega arith), tt)))))));
+  octets = All-from_recursion IsLabelOctet (codes "default") (
+    letter 100 (omega arith) (omega arith),
+    (
+      letter 101 (omega arith) (omega arith),
+      (
+        letter 102 (omega arith) (omega arith),
+        (
+          letter 97 (omega arith) (omega arith),
+          (
+            letter 117 (omega arith) (omega arith),
+            (
+              letter 108 (omega arith) (omega arith),
+              (letter 116 (omega arith) (omega arith), tt),
+            ),
+          ),
+        ),
+      ),
+    ),
+  );
 }
 
 default_named : All (λ p. IsProfileName p.name.items) (default_profile ∷ [])
