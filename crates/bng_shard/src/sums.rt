@@ -36,7 +36,7 @@ pub(crate) fn charged_as(charge: Option<Charge>) -> Charged
 }
 
 // Enters one packet more in a book, of so many octets in this direction.
-fn enter(book: &mut Book, input: bool, octets: u16)
+pub(crate) fn enter(book: &mut Book, input: bool, octets: u16)
     requires low { IsLow (2 ^ 63 + 2 ^ 62) book.old }
     ensures more { IsMore book.old input octets book.new }
     ensures few { (most : ℕ) → IsLow most book.old → IsLow (most + 2 ^ 16) book.new }
