@@ -58,4 +58,3 @@ pub mod Passing
 pub mod PassingOn
 pub mod Invented
 pub mod Headlines
-pub mod Ready

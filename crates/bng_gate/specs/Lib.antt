@@ -1,7 +1,6 @@
 pub mod Words
 pub mod Texts
 pub mod Saying
-pub mod Taken
 pub mod Serving
 pub mod Granted
 pub mod Replied
@@ -12,4 +11,3 @@ pub mod Rounds
 pub mod Recorded
 pub mod Unchanged
 pub mod Headline
-pub mod Ready

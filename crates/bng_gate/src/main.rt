@@ -4,7 +4,6 @@
 #[cfg(test)]
 mod asserts;
 mod laws;
-mod real;
 mod saying;
 mod serving;
 mod start;
@@ -14,11 +13,9 @@ mod texts;
 mod top;
 mod words;
 
-use crate::real::{
-    RealClock, RealEntropy, RealFiles, RealGate, RealPlant, RealTrace, StandardSink,
-};
 use crate::start::{FILE_MOST, out_of_memory, raise_threshold, words_of};
 use crate::top::run;
+use bng_real::{RealClock, RealEntropy, RealFiles, RealGate, RealPlant, RealTrace, StandardSink};
 use std::process::ExitCode;
 
 fn main(rt: HostRuntime) -> ExitCode {

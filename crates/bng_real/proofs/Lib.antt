@@ -1,0 +1,5 @@
+pub mod Bits
+pub mod Fronts
+pub mod Known
+pub mod Ready
+pub mod Roles
