@@ -119,7 +119,8 @@ fn profiles(alloc: Global) -> Result<Vec<Profile>, AllocError>
     ensures two { IfOk result (λ ps. length ps.items ≡ 2) }
     ensures different { IfOk result (λ ps. AreDifferent (names_of ps.items)) }
 {
-    Vec::from_array(alloc, [unmetered(b"bronze"), unmetered(b"gold")])
+    let list = Vec::from_array(alloc, [unmetered(b"bronze"), unmetered(b"gold")])?;
+    Ok(list)
 }
 
 // One shard, the port 1, these pools, and two profiles.
