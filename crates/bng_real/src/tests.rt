@@ -125,6 +125,12 @@ fn send_from_core<N: Net>(plant: &mut RealPlant<'_, N>, to: Peer, length: usize)
     plant.send(Role::Core, to, &octets[..length.min(4160)])
 }
 
+/// Has access port 240 send so many octets that count up, 4,168 at most, the most that any role may.
+fn send_from_trunk<N: Net>(plant: &mut RealPlant<'_, N>, to: Peer, length: usize) -> Sending {
+    let octets = counting();
+    plant.send(Role::Access(240), to, &octets[..length.min(4168)])
+}
+
 #[test]
 fn datagrams_leave_whole_from_their_role(rt: HostRuntime) -> Result<(), Fail> {
     let mut plant = RealPlant::new(&rt, rt.alloc())?;
@@ -136,8 +142,7 @@ fn datagrams_leave_whole_from_their_role(rt: HostRuntime) -> Result<(), Fail> {
         assert_same(&rt, &send_from_core(&mut plant, to, length), &Sending::Sent);
         assert_same(&rt, &came_whole(&other, length)?, &(true, core.port));
     }
-    let octets = counting();
-    let sent = plant.send(Role::Access(240), to, &octets[..4168]);
+    let sent = send_from_trunk(&mut plant, to, 4168);
     assert_same(&rt, &sent, &Sending::Sent);
     assert_same(&rt, &came_whole(&other, 4168)?, &(true, trunk.port));
     assert_same(&rt, &plant.faults, &0);
