@@ -35,12 +35,21 @@ def stops_as_it_is_told(checks):
     checks.same("bng stop prints the gateway's answer", answer, (0, "stopping\n", ""))
 
 
+def catches(pid, number):
+    """Whether a process has a trap for a signal."""
+    with open(f"/proc/{pid}/status") as status:
+        caught = next(line.split()[1] for line in status if line.startswith("SigCgt:"))
+    return int(caught, 16) >> (number - 1) & 1 == 1
+
+
 def stops_before_it_listens(checks):
     with Lab() as lab:
         pipes = {"stdin": subprocess.DEVNULL, "stdout": subprocess.PIPE, "stderr": subprocess.PIPE}
         lab.program = subprocess.Popen([BNG, "serve", lab.configuration], start_new_session=True, **pipes)
         # Until the script has set its traps, it ends by the signal itself.
-        time.sleep(0.5)
+        ends = time.time() + 30
+        while not catches(lab.program.pid, signal.SIGTERM) and time.time() < ends:
+            time.sleep(0.01)
         os.kill(lab.program.pid, signal.SIGTERM)
         checks.same("a SIGTERM soon after the start ends it", lab.end(), (0, report(), ""))
 
