@@ -125,10 +125,10 @@ def tried(configuration, seconds=30):
     return ["rt", "try", "--seconds", str(seconds), "--data", f"lab.toml={configuration}", "--", "serve", "lab.toml"]
 
 
-def udp(address=LOOPBACK):
-    """A socket of the loopback on a port that the system picks, which waits five seconds at most."""
+def udp(address=LOOPBACK, port=0):
+    """A socket of the loopback on this port, or on one that the system picks, which waits five seconds at most."""
     end = socket.socket(socket.AF_INET, socket.SOCK_DGRAM)
-    end.bind((address, 0))
+    end.bind((address, port))
     end.settimeout(5)
     return end
 

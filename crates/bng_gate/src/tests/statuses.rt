@@ -50,7 +50,7 @@ fn each_status_has_its_line(rt: HostRuntime) -> Result<(), Fail> {
     assert_err(&rt, &none, USAGE.as_bytes());
     let refused = run_over(&rt, alloc, &SERVE, NO_SESSION, Vec::new(alloc), &[], &[])?;
     assert_status(&rt, &refused, 2);
-    assert_err(&rt, &refused, b"bng: config: C5 static.1.session\n");
+    assert_err(&rt, &refused, b"bng: config: C6 static.1.session\n");
     let unbound = run_over(&rt, alloc, &SERVE, TWO_PORTS, Vec::new(alloc), &[4], &[])?;
     assert_status(&rt, &unbound, 3);
     assert_err(&rt, &unbound, b"bng: cannot open access 2\n");

@@ -1,0 +1,9 @@
+-- No deadline is later than the last moment that there is.
+use Rattle.std.proofs.Common.{ℕ, ◌≤◌, List, [], ◌∷◌, arith}
+use Rattle.bng_l2tp_reliable.specs.Timers.{never}
+use Rattle.bng_lns.specs.declared.place.Place.{Place}
+use Rattle.bng_lns.specs.Places.{deadline_in, earliest}
+
+pub earliest_most : (places : List Place) → earliest places ≤ never
+earliest_most [] = omega arith
+earliest_most (p ∷ places) = omega (arith, earliest_most places)

@@ -1,0 +1,16 @@
+pub mod Decimals
+pub mod AddressTexts
+pub mod Octets
+pub mod Spellings
+pub mod Listing
+pub mod Firsts
+pub mod Finding
+pub mod Items
+pub mod Tests
+pub mod Lookups
+pub mod Once
+pub mod Places
+pub mod Totals
+pub mod Mentions
+pub mod Sound
+pub mod Readings

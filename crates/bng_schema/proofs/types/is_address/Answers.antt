@@ -1,0 +1,7 @@
+use Rattle.toml.specs.View.{view}
+use Rattle.bng_schema.specs.Forms.{IsAddress}
+use Rattle.bng_schema.proofs.Tests.{read_some}
+use Rattle.bng_schema.proofs.types.is_address.Goals as goal
+
+pub returns : goal.returns
+returns c = read_some (IsAddress (view c.args.value.now)) c.address_in.result c.is_some.result c.is_some.ensures c.address_in.ensures.found c.address_in.ensures.none

@@ -1,0 +1,21 @@
+//! The L2TP access concentrators, which need a tunnel.
+ghost use Rattle.std.specs.Prelude.{◌≡◌, ◌↔◌, IsTrue};
+ghost use Rattle.toml.specs.View.{view};
+ghost use Rattle.bng_schema.specs.Lacs.{IsUntunnelled};
+
+use crate::find::{entries_of, value_of};
+use crate::keys::{Key, Table};
+use toml::Value;
+
+/// There are L2TP access concentrators, and there is no tunnel.
+pub(crate) fn breaks_lac(document: &Value, key: Key) -> bool
+    ensures { IsTrue result ↔ IsUntunnelled (view document.now) key }
+{
+    match key {
+        Key::Whole(Table::Lac) => {
+            1 <= entries_of(document, Table::Lac)
+                && value_of(document, Key::Whole(Table::Tunnel)).is_none()
+        }
+        _ => false,
+    }
+}
