@@ -12,8 +12,8 @@ first_once (c ∷ cs) last f g (inl p) (inr q) = absurd (q.0 p.0)
 first_once (c ∷ cs) last f g (inr p) (inl q) = absurd (p.0 q.0)
 first_once (c ∷ cs) last f g (inr p) (inr q) = first_once cs last f g p.1 q.1
 
-pub up_once : (found : Found) (info : List ℕ) (f g : Fate) → UpFate found info f → UpFate found info g → f ≡ g
-up_once found info f g = first_once (up_cases found info) Forwarded f g
+pub up_once : (found : Found) (now : ℕ) (info : List ℕ) (f g : Fate) → UpFate found now info f → UpFate found now info g → f ≡ g
+up_once found now info f g = first_once (up_cases found now info) Forwarded f g
 
-pub down_once : (holder : Holders) (octets : List ℕ) (f g : Fate) → DownFate holder octets f → DownFate holder octets g → f ≡ g
-down_once holder octets f g = first_once (down_cases holder octets) Forwarded f g
+pub down_once : (holder : Holders) (now : ℕ) (octets : List ℕ) (f g : Fate) → DownFate holder now octets f → DownFate holder now octets g → f ≡ g
+down_once holder now octets f g = first_once (down_cases holder now octets) Forwarded f g

@@ -1,3 +1,4 @@
 pub mod Exclusive
 pub mod Trimmed
 pub mod Readings
+pub mod Metering

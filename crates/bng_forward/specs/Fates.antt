@@ -3,7 +3,7 @@
 use Rattle.std.specs.Prelude.{◌≡◌, ℕ, ◌-◌, ◌≤◌, true, false, ◌⊎◌, List, [], ◌∷◌, Option, Some, None, slice_get, replicate}
 use Rattle.bng_base.specs.declared.address.Ip4.{Ip4}
 use Rattle.bng_base.specs.declared.address.Peer.{Peer}
-use Rattle.bng_base.specs.declared.fate.DropCause.TheVariants.{Malformed, NoSession, NotOpen, Expired, Spoofed}
+use Rattle.bng_base.specs.declared.fate.DropCause.TheVariants.{Malformed, NoSession, NotOpen, Expired, Spoofed, Exceeded}
 use Rattle.bng_base.specs.declared.fate.Fate.{Fate}
 use Rattle.bng_base.specs.declared.fate.Fate.TheVariants.{Forwarded}
 use Rattle.bng_base.specs.declared.ipv4.Ipv4.{Ipv4}
@@ -14,6 +14,7 @@ use Rattle.bng_base.specs.PppGrammar.{IsPpp}
 use Rattle.bng_base.specs.PppoeGrammar.{PppoeFrame, IsPppoe, HasFewTags, padi}
 use Rattle.bng_forward.specs.declared.view.TermView.{TermView}
 use Rattle.bng_forward.specs.Cases.{Case, drops, FirstOf}
+use Rattle.bng_forward.specs.Meters.{IsRed}
 use Rattle.bng_forward.specs.Packets.{HasPacket, HasNoPacket}
 
 -- the code of a frame that ends a session (RFC 2516 section 5.5)
@@ -82,18 +83,24 @@ abbrev pub HasOwnSource : Found → List ℕ → Type 0
 HasOwnSource found octets =
     (view : TermView) × (found ≡ Some (Some view)) × HasPacket (λ v. v.src ≡ view.lease) octets
 
--- from the circuit to the core: the PPP information of a frame, and what was found for its circuit
-abbrev pub up_cases : Found → List ℕ → List Case
-up_cases found info =
+-- the octets begin with a packet that the input meter of the term that was found marks Red
+abbrev pub ExceedsInput : Found → ℕ → List ℕ → Type 0
+ExceedsInput found now octets =
+    (view : TermView) × (found ≡ Some (Some view)) × HasPacket (λ v. IsRed view.input now v.total) octets
+
+-- from the circuit to the core: the PPP information of a frame, what was found for its circuit, and the moment
+abbrev pub up_cases : Found → ℕ → List ℕ → List Case
+up_cases found now info =
     drops NoSession (found ≡ None)
     ∷ drops NotOpen (HasNoOpenTerm found)
     ∷ drops Malformed (HasNoPacket info)
     ∷ drops Expired (HasPacket (λ v. v.ttl ≤ 1) info)
     ∷ drops Spoofed (HasOtherSource found info)
+    ∷ drops Exceeded (ExceedsInput found now info)
     ∷ []
 
-abbrev pub UpFate : Found → List ℕ → Fate → Type 0
-UpFate found info fate = FirstOf (up_cases found info) Forwarded fate
+abbrev pub UpFate : Found → ℕ → List ℕ → Fate → Type 0
+UpFate found now info fate = FirstOf (up_cases found now info) Forwarded fate
 
 -- the term that holds an address, where there is one
 abbrev pub Holders : Type 0
@@ -103,14 +110,19 @@ Holders = Ip4 → Option TermView
 abbrev pub HasClosedHolder : Holders → Ipv4 → Type 0
 HasClosedHolder holder v = (view : TermView) × (holder v.dst ≡ Some view) × (view.opened ≡ false)
 
--- from the core to the circuit of the term that holds the destination
-abbrev pub down_cases : Holders → List ℕ → List Case
-down_cases holder octets =
+-- the output meter of the holder of the packet's destination marks it Red
+abbrev pub ExceedsOutput : Holders → ℕ → Ipv4 → Type 0
+ExceedsOutput holder now v = (view : TermView) × (holder v.dst ≡ Some view) × IsRed view.output now v.total
+
+-- from the core to the circuit of the term that holds the destination, at a moment
+abbrev pub down_cases : Holders → ℕ → List ℕ → List Case
+down_cases holder now octets =
     drops Malformed (HasNoPacket octets)
     ∷ drops NoSession (HasPacket (λ v. holder v.dst ≡ None) octets)
     ∷ drops NotOpen (HasPacket (HasClosedHolder holder) octets)
     ∷ drops Expired (HasPacket (λ v. v.ttl ≤ 1) octets)
+    ∷ drops Exceeded (HasPacket (ExceedsOutput holder now) octets)
     ∷ []
 
-abbrev pub DownFate : Holders → List ℕ → Fate → Type 0
-DownFate holder octets fate = FirstOf (down_cases holder octets) Forwarded fate
+abbrev pub DownFate : Holders → ℕ → List ℕ → Fate → Type 0
+DownFate holder now octets fate = FirstOf (down_cases holder now octets) Forwarded fate

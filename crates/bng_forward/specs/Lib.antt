@@ -1,4 +1,5 @@
 pub mod Cases
+pub mod Meters
 pub mod Packets
 pub mod Fates
 pub mod Arrived

@@ -7,6 +7,7 @@ use Rattle.bng_base.specs.declared.ipv4.Ipv4.{Ipv4}
 use Rattle.bng_base.specs.Ipv4Grammar.{IsIpv4}
 use Rattle.bng_base.specs.Lowering.{lowered}
 use Rattle.bng_forward.specs.declared.view.TermView.{TermView}
+use Rattle.bng_forward.specs.Meters.{IsRed}
 
 -- the octets begin with an IPv4 packet of which this holds
 abbrev pub HasPacket : (Ipv4 → Type 0) → List ℕ → Type 0
@@ -24,20 +25,24 @@ pub record IsPassedOn (v : Ipv4) (before after : List ℕ) : Type 0 where
   pub is : IsIpv4 (record v { ttl = v.ttl - 1 }) after
   pub whole : length after ≡ v.total
 
--- A packet that says v may pass to the core: its circuit has a session with an open term, whose lease is its source.
-pub record MayPassUp (found : Option (Option TermView)) (v : Ipv4) : Type 0 where
+-- A packet that says v may pass to the core at this moment: its circuit has a session with an open term, whose lease is
+-- its source and whose input meter does not mark it Red.
+pub record MayPassUp (found : Option (Option TermView)) (now : ℕ) (v : Ipv4) : Type 0 where
   pub view : TermView
   pub term : found ≡ Some (Some view)
   pub opened : view.opened ≡ true
   pub alive : 2 ≤ v.ttl
   pub source : v.src ≡ view.lease
+  pub metered : ¬ (IsRed view.input now v.total)
 
--- A packet that says v may pass to the term that holds its destination, which is open.
-pub record MayPassDown (holder : Option TermView) (v : Ipv4) : Type 0 where
+-- A packet that says v may pass at this moment to the term that holds its destination, which is open and whose output
+-- meter does not mark it Red.
+pub record MayPassDown (holder : Option TermView) (now : ℕ) (v : Ipv4) : Type 0 where
   pub view : TermView
   pub term : holder ≡ Some view
   pub opened : view.opened ≡ true
   pub alive : 2 ≤ v.ttl
+  pub metered : ¬ (IsRed view.output now v.total)
 
 -- the fate of a packet that passes, or is dropped for this
 abbrev pub fate_of : Result Ipv4 DropCause → Fate

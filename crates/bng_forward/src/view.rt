@@ -1,10 +1,15 @@
 use bng_base::Ip4;
+use bng_meter::Meter;
 
 /// What forwarding looks at of a live term.
-#[derive(Clone, Copy, PartialEq, Eq, Debug)]
+#[derive(Clone, Copy)]
 pub struct TermView {
     /// The address of the subscriber.
     pub lease: Ip4,
     /// Packets may pass: LCP and IPCP are Opened. A circuit that was provisioned has no LCP, and counts as Opened.
     pub opened: bool,
+    /// The meter of the packets from the subscriber. None is unmetered.
+    pub input: Option<Meter>,
+    /// The meter of the packets towards the subscriber. None is unmetered.
+    pub output: Option<Meter>,
 }

@@ -1,12 +1,13 @@
 ghost use Rattle.std.specs.Prelude.{◌≡◌, ◌≤◌, length};
 
 use crate::asserts::{assert_holds, assert_same};
-use bng_base::{AccessPort, DropCause, Fate, Frame, Ip4, Mac, Peer, SessionNo};
+use bng_base::{AccessPort, DropCause, Fate, Frame, Ip4, Mac, Peer, Rate, SessionNo};
 use bng_forward::{
     Arrived, TermView, carried, down, frame_at, names_session, packet_from, put_in_frame,
     take_from_frame, up,
 };
 use bng_ipv4::read;
+use bng_meter::Meter;
 use std::process::Abort;
 
 // from 10.0.0.2 to 192.0.2.1 with TTL 2, and the same forwarded
@@ -56,16 +57,22 @@ const SUBSCRIBER: Ip4 = Ip4(0x0a00_0002);
 const OPEN: TermView = TermView {
     lease: SUBSCRIBER,
     opened: true,
+    input: None,
+    output: None,
 };
 
 const CLOSED: TermView = TermView {
     lease: SUBSCRIBER,
     opened: false,
+    input: None,
+    output: None,
 };
 
 const OTHER: TermView = TermView {
     lease: Ip4(0x0a00_0003),
     opened: true,
+    input: None,
+    output: None,
 };
 
 fn frame_of(octets: &[u8]) -> Frame
@@ -78,6 +85,22 @@ fn frame_of(octets: &[u8]) -> Frame
     frame
 }
 
+// A packet of a circuit, of whose session this is known, at a moment: its fate, and the packet afterwards.
+fn goes_up_at(
+    rt: &impl Abort,
+    found: &mut Option<Option<TermView>>,
+    now: u64,
+    octets: &[u8],
+    fate: Fate,
+    after: &[u8],
+)
+    requires { length octets.now ≤ 64 }
+{
+    let mut frame = frame_of(octets);
+    assert_same(rt, &up(found, now, &mut frame), &fate);
+    assert_same(rt, &frame.payload(), &after);
+}
+
 fn goes_up(
     rt: &impl Abort,
     found: Option<Option<TermView>>,
@@ -87,22 +110,36 @@ fn goes_up(
 )
     requires { length octets.now ≤ 64 }
 {
-    let mut frame = frame_of(octets);
-    assert_same(rt, &up(found, &mut frame), &fate);
-    assert_same(rt, &frame.payload(), &after);
+    let mut found = found;
+    goes_up_at(rt, &mut found, 0, octets, fate, after);
 }
 
-fn goes_down(rt: &impl Abort, holder: Option<TermView>, octets: &[u8], fate: Fate, after: &[u8])
+// A packet of the core, of whose destination this is the holder, at a moment: its fate, and the packet afterwards.
+fn goes_down_at(
+    rt: &impl Abort,
+    holder: &mut Option<TermView>,
+    now: u64,
+    octets: &[u8],
+    fate: Fate,
+    after: &[u8],
+)
     requires { length octets.now ≤ 64 }
 {
     let mut frame = frame_of(octets);
     match read(octets) {
         Ok(header) => {
-            assert_same(rt, &down(holder, header, &mut frame), &fate);
+            assert_same(rt, &down(holder, now, header, &mut frame), &fate);
             assert_same(rt, &frame.payload(), &after);
         }
         Err(_) => assert_holds(rt, false),
     }
+}
+
+fn goes_down(rt: &impl Abort, holder: Option<TermView>, octets: &[u8], fate: Fate, after: &[u8])
+    requires { length octets.now ≤ 64 }
+{
+    let mut holder = holder;
+    goes_down_at(rt, &mut holder, 0, octets, fate, after);
 }
 
 #[test]
@@ -110,10 +147,8 @@ fn a_packet_of_the_subscriber_is_passed_on_or_left_as_it_is(rt: HostRuntime) {
     let mut padded = [0; 46];
     padded[..20].copy_from_slice(&UP);
     let short = &UP[..19];
-    let open = Some(Some(OPEN));
-    let other = Some(Some(OTHER));
-    goes_up(&rt, open, &UP, Fate::Forwarded, &UP_SENT);
-    goes_up(&rt, open, &padded, Fate::Forwarded, &UP_SENT);
+    goes_up(&rt, Some(Some(OPEN)), &UP, Fate::Forwarded, &UP_SENT);
+    goes_up(&rt, Some(Some(OPEN)), &padded, Fate::Forwarded, &UP_SENT);
     let no_session = Fate::Dropped(DropCause::NoSession);
     goes_up(&rt, None, &UP, no_session, &UP);
     goes_up(&rt, None, short, no_session, short);
@@ -123,12 +158,12 @@ fn a_packet_of_the_subscriber_is_passed_on_or_left_as_it_is(rt: HostRuntime) {
     goes_up(&rt, Some(Some(CLOSED)), &UP, not_open, &UP);
     goes_up(&rt, Some(Some(CLOSED)), short, not_open, short);
     let malformed = Fate::Dropped(DropCause::Malformed);
-    goes_up(&rt, open, short, malformed, short);
+    goes_up(&rt, Some(Some(OPEN)), short, malformed, short);
     let expired = Fate::Dropped(DropCause::Expired);
-    goes_up(&rt, open, &UP_SENT, expired, &UP_SENT);
-    goes_up(&rt, other, &UP_SENT, expired, &UP_SENT);
+    goes_up(&rt, Some(Some(OPEN)), &UP_SENT, expired, &UP_SENT);
+    goes_up(&rt, Some(Some(OTHER)), &UP_SENT, expired, &UP_SENT);
     let spoofed = Fate::Dropped(DropCause::Spoofed);
-    goes_up(&rt, other, &UP, spoofed, &UP);
+    goes_up(&rt, Some(Some(OTHER)), &UP, spoofed, &UP);
 }
 
 #[test]
@@ -145,6 +180,71 @@ fn a_packet_of_the_core_is_passed_on_or_left_as_it_is(rt: HostRuntime) {
     goes_down(&rt, Some(CLOSED), &DOWN_SENT, not_open, &DOWN_SENT);
     let expired = Fate::Dropped(DropCause::Expired);
     goes_down(&rt, Some(OPEN), &DOWN_SENT, expired, &DOWN_SENT);
+}
+
+// A meter that starts at 0 with tokens for one of the packets, and gets those for three more in a second.
+fn slow() -> Option<Meter> {
+    let rate = Rate {
+        cir: 60,
+        cbs: 20,
+        ebs: 0,
+    };
+    Some(Meter::new(rate, 0))
+}
+
+const EXCEEDED: Fate = Fate::Dropped(DropCause::Exceeded);
+
+// Moments in milliseconds, and the fate of a packet then. The last one is before that of the packet before.
+const METERED: [(u64, Fate); 8] = [
+    (1, Fate::Forwarded),
+    (333, EXCEEDED),
+    (334, Fate::Forwarded),
+    (666, EXCEEDED),
+    (667, Fate::Forwarded),
+    (1000, Fate::Forwarded),
+    (1001, EXCEEDED),
+    (0, EXCEEDED),
+];
+
+#[test]
+fn a_packet_of_the_subscriber_passes_by_the_input_meter(rt: HostRuntime) {
+    let mut found = Some(Some(TermView {
+        lease: SUBSCRIBER,
+        opened: true,
+        input: slow(),
+        output: None,
+    }));
+    let expired = Fate::Dropped(DropCause::Expired);
+    goes_up_at(&rt, &mut found, 0, &UP_SENT, expired, &UP_SENT);
+    for (now, fate) in METERED {
+        let sent = if fate == Fate::Forwarded { UP_SENT } else { UP };
+        goes_up_at(&rt, &mut found, now, &UP, fate, &sent);
+    }
+    goes_up_at(&rt, &mut found, 1001, &UP_SENT, expired, &UP_SENT);
+    let mut holder = found.flatten();
+    goes_down_at(&rt, &mut holder, 1001, &DOWN, Fate::Forwarded, &DOWN_SENT);
+}
+
+#[test]
+fn a_packet_of_the_core_passes_by_the_output_meter(rt: HostRuntime) {
+    let mut holder = Some(TermView {
+        lease: SUBSCRIBER,
+        opened: true,
+        input: None,
+        output: slow(),
+    });
+    for (now, fate) in METERED {
+        let sent = if fate == Fate::Forwarded {
+            DOWN_SENT
+        } else {
+            DOWN
+        };
+        goes_down_at(&rt, &mut holder, now, &DOWN, fate, &sent);
+    }
+    let expired = Fate::Dropped(DropCause::Expired);
+    goes_down_at(&rt, &mut holder, 1001, &DOWN_SENT, expired, &DOWN_SENT);
+    let mut found = Some(holder);
+    goes_up_at(&rt, &mut found, 1001, &UP, Fate::Forwarded, &UP_SENT);
 }
 
 fn port_end(port: u16) -> Peer {
@@ -172,7 +272,7 @@ fn goes_to_core(cut: bool, frame: &mut Frame) -> Fate {
     let Some(came) = frame_at(&ports, 1, &Arrived { from, cut, octets }) else {
         return Fate::Dropped(DropCause::Malformed);
     };
-    let found = if came.src == MAC && came.session == 1025 {
+    let mut found = if came.src == MAC && came.session == 1025 {
         Some(Some(OPEN))
     } else {
         None
@@ -185,7 +285,7 @@ fn goes_to_core(cut: bool, frame: &mut Frame) -> Fate {
     };
     let size = info.len();
     take_from_frame(frame, size);
-    up(found, frame)
+    up(&mut found, 0, frame)
 }
 
 #[test]
@@ -239,12 +339,12 @@ fn goes_to_circuit(from: Peer, cut: bool, frame: &mut Frame) -> Fate {
     let Some(header) = packet_from(port_end(9001), &Arrived { from, cut, octets }) else {
         return Fate::Dropped(DropCause::Malformed);
     };
-    let holder = if header.dst == SUBSCRIBER {
+    let mut holder = if header.dst == SUBSCRIBER {
         Some(OPEN)
     } else {
         None
     };
-    down(holder, header, frame)
+    down(&mut holder, 0, header, frame)
 }
 
 #[test]
@@ -276,7 +376,12 @@ fn a_packet_of_the_core_becomes_a_frame_of_its_circuit(rt: HostRuntime) {
     let mut frame = frame_of(&DOWN);
     match read(&DOWN) {
         Ok(header) => {
-            assert_same(&rt, &down(Some(OPEN), header, &mut frame), &Fate::Forwarded);
+            let mut holder = Some(OPEN);
+            assert_same(
+                &rt,
+                &down(&mut holder, 0, header, &mut frame),
+                &Fate::Forwarded,
+            );
         }
         Err(_) => assert_holds(&rt, false),
     }

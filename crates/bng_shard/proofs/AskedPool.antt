@@ -18,13 +18,15 @@ use Rattle.bng_grant.specs.Grants.{Gift}
 use Rattle.bng_pool.specs.Plain.{PlainView}
 use Rattle.bng_pool.specs.Ranges.{HasAddress, InRange}
 use Rattle.bng_pool.specs.Tables.{TableClaims, TableScans}
+use Rattle.bng_shard.specs.declared.meters.Plan.{Plan}
 use Rattle.bng_shard.specs.declared.rules.Rules.{Rules}
 use Rattle.bng_shard.specs.declared.wish.Wish.{Wish}
 use Rattle.bng_shard.specs.declared.wish.Wish.TheVariants.{Nothing, Address, Pool}
+use Rattle.bng_shard.specs.Metered.{plan_for}
 use Rattle.bng_shard.specs.Protocol.{AnswersClaim, HasPools}
 use Rattle.bng_shard.specs.State.{State}
 use Rattle.bng_shard.specs.Wished.{IsAnswered, IsWished, MayWish, WishesFor}
-use Rattle.bng_shard.specs.Wishes.{IsAnswerTo, Wishes, is_named, is_within, pool_for, wish_at, wish_in, wish_of}
+use Rattle.bng_shard.specs.Wishes.{IsAnswerTo, Wishes, is_named, is_within, pool_for, wish_among, wish_at, wish_if, wish_in, wish_of}
 use Rattle.bng_shard.proofs.Values.{same_some}
 
 -- What is asked -----------------------------------------------------------------------------------------------------------------
@@ -48,23 +50,30 @@ at_may pools limited address None there = tt
 at_may pools true address (Some k) there = tt
 at_may pools false address (Some k) there = in_may pools address k (there k refl)
 
-gift_may : (pools : List NamedRange) (limited : Bool) (g : Gift) → MayWish pools (wish_of pools limited g)
-gift_may [] limited g = tt
-gift_may (p ∷ ps) limited g = at_may (p ∷ ps) limited g.address (pool_for (p ∷ ps) g.pool) (λ k e. pool_there p ps g.pool k e)
+among_may : (pools : List NamedRange) (limited : Bool) (g : Gift) → MayWish pools (wish_among pools limited g)
+among_may [] limited g = tt
+among_may (p ∷ ps) limited g = at_may (p ∷ ps) limited g.address (pool_for (p ∷ ps) g.pool) (λ k e. pool_there p ps g.pool k e)
+
+if_may : (pools : List NamedRange) (o : Option Plan) (wish : Wish) → MayWish pools wish → MayWish pools (wish_if o wish)
+if_may pools None wish may = tt
+if_may pools (Some plan) wish may = may
+
+gift_may : (r : Rules) (limited : Bool) (g : Gift) → MayWish r.pools (wish_of r limited g)
+gift_may r limited g = if_may r.pools (plan_for r.profiles g.profile) (wish_among r.pools limited g) (among_may r.pools limited g)
 
 nothing_may : (pools : List NamedRange) (wish : Wish) → wish ≡ Nothing → MayWish pools wish
 nothing_may pools wish e = subst (MayWish pools) (sym e) tt
 
-octets_may : (pools : List NamedRange) (limited : Bool) (octets : List ℕ) (wish : Wish) → Wishes pools limited octets wish → MayWish pools wish
-octets_may pools limited octets wish (inl (says, e)) = nothing_may pools wish e
-octets_may pools limited octets wish (inr (inl (v, says, refused, e))) = nothing_may pools wish e
-octets_may pools limited octets wish (inr (inr (v, says, accepted, g, grants, e))) = subst (MayWish pools) (sym e) (gift_may pools limited g)
+octets_may : (r : Rules) (limited : Bool) (octets : List ℕ) (wish : Wish) → Wishes r limited octets wish → MayWish r.pools wish
+octets_may r limited octets wish (inl (says, e)) = nothing_may r.pools wish e
+octets_may r limited octets wish (inr (inl (v, says, refused, e))) = nothing_may r.pools wish e
+octets_may r limited octets wish (inr (inr (v, says, accepted, g, grants, e))) = subst (MayWish r.pools) (sym e) (gift_may r limited g)
 
 kind_may : (kind : ItemKind) (r : Rules) (s : State) (item : Item) (limited : Bool) (wish : Wish) → WishesFor kind r s item limited wish → MayWish r.pools wish
 kind_may (Access number) r s item limited wish e = nothing_may r.pools wish e
 kind_may Core r s item limited wish e = nothing_may r.pools wish e
 kind_may Tunnel r s item limited wish e = nothing_may r.pools wish e
-kind_may Verdict r s item limited wish (inl (asks, h)) = octets_may r.pools limited item.frame.payload wish h
+kind_may Verdict r s item limited wish (inl (asks, h)) = octets_may r limited item.frame.payload wish h
 kind_may Verdict r s item limited wish (inr (other, e)) = nothing_may r.pools wish e
 kind_may Change r s item limited wish e = nothing_may r.pools wish e
 kind_may Tick r s item limited wish e = nothing_may r.pools wish e
@@ -80,20 +89,27 @@ at_limited : (pools : List NamedRange) (address : Option ℕ) (o : Option ℕ) �
 at_limited pools address None = refl
 at_limited pools address (Some k) = refl
 
-gift_limited : (pools : List NamedRange) (g : Gift) → wish_of pools true g ≡ Nothing
-gift_limited [] g = refl
-gift_limited (p ∷ ps) g = at_limited (p ∷ ps) g.address (pool_for (p ∷ ps) g.pool)
+among_limited : (pools : List NamedRange) (g : Gift) → wish_among pools true g ≡ Nothing
+among_limited [] g = refl
+among_limited (p ∷ ps) g = at_limited (p ∷ ps) g.address (pool_for (p ∷ ps) g.pool)
 
-octets_limited : (pools : List NamedRange) (octets : List ℕ) (wish : Wish) → Wishes pools true octets wish → wish ≡ Nothing
-octets_limited pools octets wish (inl (says, e)) = e
-octets_limited pools octets wish (inr (inl (v, says, refused, e))) = e
-octets_limited pools octets wish (inr (inr (v, says, accepted, g, grants, e))) = e ∙ gift_limited pools g
+if_limited : (o : Option Plan) (wish : Wish) → wish ≡ Nothing → wish_if o wish ≡ Nothing
+if_limited None wish e = refl
+if_limited (Some plan) wish e = e
+
+gift_limited : (r : Rules) (g : Gift) → wish_of r true g ≡ Nothing
+gift_limited r g = if_limited (plan_for r.profiles g.profile) (wish_among r.pools true g) (among_limited r.pools g)
+
+octets_limited : (r : Rules) (octets : List ℕ) (wish : Wish) → Wishes r true octets wish → wish ≡ Nothing
+octets_limited r octets wish (inl (says, e)) = e
+octets_limited r octets wish (inr (inl (v, says, refused, e))) = e
+octets_limited r octets wish (inr (inr (v, says, accepted, g, grants, e))) = e ∙ gift_limited r g
 
 kind_limited : (kind : ItemKind) (r : Rules) (s : State) (item : Item) (wish : Wish) → WishesFor kind r s item true wish → wish ≡ Nothing
 kind_limited (Access number) r s item wish e = e
 kind_limited Core r s item wish e = e
 kind_limited Tunnel r s item wish e = e
-kind_limited Verdict r s item wish (inl (asks, h)) = octets_limited r.pools item.frame.payload wish h
+kind_limited Verdict r s item wish (inl (asks, h)) = octets_limited r item.frame.payload wish h
 kind_limited Verdict r s item wish (inr (other, e)) = e
 kind_limited Change r s item wish e = e
 kind_limited Tick r s item wish e = e

@@ -5,6 +5,7 @@ use Rattle.bng_base.specs.declared.item.OutRecord.{OutRecord}
 use Rattle.bng_ppp.specs.declared.whole_input.WholeInput.TheVariants.{Close}
 use Rattle.bng_term.specs.declared.limits.Limits.{Limits}
 use Rattle.bng_term.specs.Lifetimes.{HasAllowedInterval, seconds_after}
+use Rattle.bng_shard.specs.declared.meters.Plan.{Plan}
 use Rattle.bng_shard.specs.declared.rules.Rules.{Rules}
 use Rattle.bng_base.specs.declared.item.At.{At}
 use Rattle.bng_shard.specs.declared.session.Lease.{Lease}
@@ -43,8 +44,8 @@ module _ (t : Reports) where
   minute_awaits at moment None long near = tt
   minute_awaits at moment (Some seconds) long near = omega (arith, long seconds refl, near)
 
-  begun_awaits : (at : ℕ) (s : State) (limits : Limits) (moment : ℕ) (a : Ip4) → HasAllowedInterval limits → t.next ≤ moment + 60000 → LeaseAwaits at (Some (next_lease s limits moment a))
-  begun_awaits at s limits moment a long near = minute_awaits at moment limits.interim long near
+  begun_awaits : (at : ℕ) (s : State) (plan : Plan) (limits : Limits) (moment : ℕ) (a : Ip4) → HasAllowedInterval limits → t.next ≤ moment + 60000 → LeaseAwaits at (Some (next_lease s plan limits moment a))
+  begun_awaits at s plan limits moment a long near = minute_awaits at moment limits.interim long near
 
   -- Sessions ---------------------------------------------------------------------------------------------------------------
 
@@ -69,7 +70,7 @@ module _ (t : Reports) where
     driven = λ Steps e s n x x' outs cause asked' at d h. with_kept Awaits s n x' (driven_awaits r (at_of s e) s.asked x x' outs cause asked' Steps d (h n x at)) h;
     made = λ Steps e s n x x' outs cause asked' none d h. with_kept Awaits s n x' (driven_awaits r (at_of s e) s.asked x x' outs cause asked' Steps d (none_awaits x none)) h;
     padt = λ s n x m at is h. with_kept Awaits s n (ended x) tt h;
-    passes = λ s n moment h. h;
+    passes = λ s n moment ms h. h;
     looks = λ s n at x found h. with_kept Awaits s n (looked at x) (looked_awaits (reported_at t.last x.number) at x.lease (h n x found)) h;
     lapses = λ e s n x x' outs cause none asked' at over d h.
         with_kept Awaits s n x' (driven_awaits r (at_of s e) s.asked (lapsed x) x' outs none asked' (told r e Close) d tt) h;
@@ -84,13 +85,13 @@ module _ (t : Reports) where
     judged_keeps u j long None h =
         with_kept Awaits s d.entry.item.target j.after (driven_awaits r (at_of s d.entry) s.asked j.x j.after j.outs j.cause j.asked (settles r d.entry u) j.drives (none_awaits j.x j.no_term)) h
     judged_keeps u j long (Some a) h =
-        let lease = next_lease s u.limits d.entry.moment a in
-        with_kept Awaits s d.entry.item.target (record j.after { lease = Some lease }) (begun_awaits (reported_at t.last j.after.number) s u.limits d.entry.moment a long near) h
+        let lease = next_lease s u.plan u.limits d.entry.moment a in
+        with_kept Awaits s d.entry.item.target (record j.after { lease = Some lease }) (begun_awaits (reported_at t.last j.after.number) s u.plan u.limits d.entry.moment a long near) h
 
     pub awaits_kept : Step r s limited d → AwaitsInterims s t → AwaitsInterims d.next t
     awaits_kept =
         step_walks_by r Keeps (walks_by r Keeps (keeps_walk r)) keeps_stops s limited d
-        (λ u decides j. judged_keeps u j (decides_allowed r.pools limited d.entry.item.frame.payload d.entry.claim u decides) u.lease)
+        (λ u decides j. judged_keeps u j (decides_allowed r limited d.entry.item.frame.payload d.entry.claim u decides) u.lease)
 
   pub awaits_settled : (s : State) → AwaitsInterims s t → AwaitsInterims (settled s) t
   awaits_settled s h n x at = h n x (kept_from (λ (y : Session). not (leaves y)) s.sessions n x at).0

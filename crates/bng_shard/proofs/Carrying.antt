@@ -17,17 +17,20 @@ use Rattle.bng_base.specs.PppoeGrammar.{PppoeFrame}
 use Rattle.bng_engine.specs.Lists.{AnyOf}
 use Rattle.bng_forward.specs.declared.view.TermView.{TermView}
 use Rattle.bng_forward.specs.Fates.{UpFate, DownFate}
+use Rattle.bng_forward.specs.Meters.{with_input, with_output}
 use Rattle.bng_forward.specs.Framed.{circuit_frame, IsFrameTo}
 use Rattle.bng_forward.specs.Packets.{IsPassedOn, MayPassUp}
 use Rattle.bng_slots.specs.Listed.{values}
 use Rattle.bng_shard.specs.declared.rules.Rules.{Rules}
 use Rattle.bng_base.specs.declared.item.At.{At}
+use Rattle.bng_shard.specs.declared.meters.Meters.{Meters}
 use Rattle.bng_shard.specs.declared.session.Lease.{Lease}
 use Rattle.bng_shard.specs.declared.session.Session.{Session}
-use Rattle.bng_shard.specs.State.{State, IsTermOf, port_at, session_of, holder_of, passes_in, view_of, leases}
+use Rattle.bng_shard.specs.State.{State, IsTermOf, port_at, session_of, holder_of, is_kept, passes_in, leases}
 use Rattle.bng_shard.specs.Deed.{Deed, at_of, out, only}
 use Rattle.bng_shard.specs.Doing.{DoesWith}
-use Rattle.bng_shard.specs.Frames.{HearsData, HearsPacket, charge_of, forwarded, found_up, found_down}
+use Rattle.bng_shard.specs.Frames.{HearsData, HearsPacket, charge_of, forwarded, found_among, found_up, found_down}
+use Rattle.bng_shard.specs.Metered.{meters_at, meters_found, meters_in, spent_input, spent_output, view_in}
 use Rattle.bng_shard.specs.Passing.{with_passed}
 use Rattle.bng_shard.specs.Protocol.{entry_of}
 use Rattle.bng_shard.proofs.Values.{same_some, none_some, found_is}
@@ -50,50 +53,65 @@ leased_address (Some k) a l passes is = sym (same_address k.address a (equal_num
 held_address : (s : State) (a : Ip4) (x : Session) (l : Lease) → holder_of s a ≡ Some x → x.lease ≡ Some l → a ≡ l.address
 held_address s a x l at leased = leased_address x.lease a l (found_is (leases a) (values s.sessions) x at).1 leased
 
+-- what forwarding looks at of the term of a session, by its lease
+abbrev its_view : State → Session → Lease → TermView
+its_view s x l = record {
+  lease = l.address;
+  opened = passes_in x.service;
+  input = (meters_at s.meters x.number).input;
+  output = (meters_at s.meters x.number).output;
+}
+
+viewed : (s : State) (x : Session) (l : Lease) → x.lease ≡ Some l → view_in s.meters x ≡ Some (its_view s x l)
+viewed s x l leased = ap (option_map (λ (k : Lease). its_view s x k)) leased
+
 module _ (r : Rules) (s : State) (a : At) (item : Item) (outs : List OutRecord) (here : a.shard ≡ s.sessions.shard) where
   -- nothing was sent, and the state is as before
-  pub nothing_done : (Says : Entry → Deed → Type 0) (most : ℕ) (fate : Fate) → ((moment : ℕ) → let e : Entry = entry_of a.seat a.place moment item in Says e (only s e fate))
-      → (moment : ℕ) → DoesWith Says most s s outs outs a moment item fate
-  nothing_done Says most fate says moment =
+  nothing_at : (Says : Entry → Deed → Type 0) (most : ℕ) (fate : Fate) (moment : ℕ) → (let e : Entry = entry_of a.seat a.place moment item in Says e (only s e fate)) → DoesWith Says most s s outs outs a moment item fate
+  nothing_at Says most fate moment says =
       let e : Entry = entry_of a.seat a.place moment item in
       record {
         deed = only s e fate;
         entry = refl;
         fate_is = refl;
         next = refl;
-        says = says moment;
+        says = says;
         outs_are = sym (append-nil outs);
         few = omega arith;
       }
 
-  -- a packet of a circuit that does not go on
-  pub drops_up : (number : ℕ) (p : PppoeFrame) (info : List ℕ) (found : Option (Option TermView)) (fate : Fate) → found ≡ found_up s number p → UpFate found info fate → fate ≢ Forwarded
-      → (moment : ℕ) → DoesWith (λ e d. HearsData r s e number p info d) 1 s s outs outs a moment item fate
-  drops_up number p info found fate is up other =
-      nothing_done (λ e d. HearsData r s e number p info d) 1 fate (λ moment. (fate, subst (λ (f : Option (Option TermView)). UpFate f info fate) is up, inr (other, refl)))
+  pub nothing_done : (Says : Entry → Deed → Type 0) (most : ℕ) (fate : Fate) → ((moment : ℕ) → let e : Entry = entry_of a.seat a.place moment item in Says e (only s e fate))
+      → (moment : ℕ) → DoesWith Says most s s outs outs a moment item fate
+  nothing_done Says most fate says moment = nothing_at Says most fate moment (says moment)
 
-  -- one that goes to the core
-  pub goes_up : (number : ℕ) (p : PppoeFrame) (info packet : List ℕ) (found : Option (Option TermView)) (x : Session) (l : Lease) (octets : ℕ) (outs' : List OutRecord)
+  -- a packet of a circuit that does not go on
+  pub drops_up : (moment number : ℕ) (p : PppoeFrame) (info : List ℕ) (found : Option (Option TermView)) (fate : Fate) → found ≡ found_up s number p → UpFate found moment info fate → fate ≢ Forwarded
+      → DoesWith (λ e d. HearsData r s e number p info d) 1 s s outs outs a moment item fate
+  drops_up moment number p info found fate is up other =
+      nothing_at (λ e d. HearsData r s e number p info d) 1 fate moment (fate, subst (λ (f : Option (Option TermView)). UpFate f moment info fate) is up, inr (other, refl))
+
+  -- one that goes to the core, where the view that was found has these meters then
+  pub goes_up : (moment number : ℕ) (p : PppoeFrame) (info packet : List ℕ) (found after : Option (Option TermView)) (x : Session) (l : Lease) (octets : ℕ) (outs' : List OutRecord)
       → found ≡ found_up s number p → session_of s number p.src p.session ≡ Some x → x.lease ≡ Some l → AnyOf (IsTermOf x l) s.terms
-      → UpFate found info Forwarded → (v : Ipv4) × MayPassUp found v × IsPassedOn v info packet → length packet ≡ octets
+      → UpFate found moment info Forwarded → (v : Ipv4) × MayPassUp found moment v × IsPassedOn v info packet × (after ≡ with_input found moment v.total) → length packet ≡ octets
       → outs' ≡ outs ++ out a Core r.core_peer packet (Some (charge_of x l true octets)) ∷ []
-      → (moment : ℕ) → DoesWith (λ e d. HearsData r s e number p info d) 1 s (with_passed s x.number moment) outs outs' a moment item Forwarded
-  goes_up number p info packet found x l octets outs' is at leased term up (v, may, passed) count pushed moment =
+      → DoesWith (λ e d. HearsData r s e number p info d) 1 s (with_passed s x.number moment (meters_found after)) outs outs' a moment item Forwarded
+  goes_up moment number p info packet found after x l octets outs' is at leased term up (v, may, passed, spends) count pushed =
       let e : Entry = entry_of a.seat a.place moment item in
       let sent : At → ℕ → OutRecord = λ b n. out b Core r.core_peer packet (Some (charge_of x l true n)) in
       let total : octets ≡ v.total = sym count ∙ passed.whole in
-      let its_view : TermView = record { lease = l.address; opened = passes_in x.service } in
-      let view : Some (Some may.view) ≡ Some (Some its_view) =
-      sym may.term ∙ is ∙ ap (λ (o : Option Session). option_map view_of o) at ∙ ap (λ (o : Option TermView). Some o) (ap (option_map (λ (k : Lease). let t : TermView = record { lease = k.address; opened = passes_in x.service } in t)) leased) in
-      let same : may.view ≡ its_view = same_some may.view its_view (same_some (Some may.view) (Some its_view) view) in
+      let its : TermView = its_view s x l in
+      let found_is : found ≡ Some (Some its) = is ∙ ap (λ (o : Option Session). option_map (view_in s.meters) o) at ∙ ap (λ (o : Option TermView). Some o) (viewed s x l leased) in
+      let same : may.view ≡ its = same_some may.view its (same_some (Some may.view) (Some its) (sym may.term ∙ found_is)) in
+      let meters : meters_found after ≡ spent_input (meters_at s.meters x.number) moment v.total = ap meters_found (spends ∙ ap (λ (f : Option (Option TermView)). with_input f moment v.total) found_is) in
       record {
-        deed = forwarded s e x.number (sent (at_of s e) v.total);
+        deed = forwarded s e x.number (spent_input (meters_at s.meters x.number) moment v.total) (sent (at_of s e) v.total);
         entry = refl;
         fate_is = refl;
-        next = refl;
+        next = ap (λ (ms : Meters). with_passed s x.number moment ms) (sym meters);
         says = (
           Forwarded,
-          subst (λ (f : Option (Option TermView)). UpFate f info Forwarded) is up,
+          subst (λ (f : Option (Option TermView)). UpFate f moment info Forwarded) is up,
           inl (refl, record { x = x; found = at; lease = l; live = leased; term = term; header = v; packet = packet; source = may.source ∙ ap (λ (t : TermView). t.lease) same; passed = passed; done = refl }),
         );
         outs_are = pushed ∙ ap (λ (n : ℕ). outs ++ sent a n ∷ []) total ∙ ap (λ (b : At). outs ++ sent b v.total ∷ []) (its_place s a moment item here);
@@ -101,25 +119,27 @@ module _ (r : Rules) (s : State) (a : At) (item : Item) (outs : List OutRecord) 
       }
 
   -- a packet of the core that does not go on
-  pub drops_down : (v : Ipv4) (fate : Fate) → DownFate (found_down s) item.frame.payload fate → fate ≢ Forwarded
-      → (moment : ℕ) → DoesWith (λ e d. HearsPacket r s e v d) 1 s s outs outs a moment item fate
-  drops_down v fate down other = nothing_done (λ e d. HearsPacket r s e v d) 1 fate (λ moment. (fate, down, inr (other, refl)))
+  pub drops_down : (moment : ℕ) (v : Ipv4) (fate : Fate) → DownFate (found_down s) moment item.frame.payload fate → fate ≢ Forwarded
+      → DoesWith (λ e d. HearsPacket r s e v d) 1 s s outs outs a moment item fate
+  drops_down moment v fate down other = nothing_at (λ e d. HearsPacket r s e v d) 1 fate moment (fate, down, inr (other, refl))
 
-  -- one that goes to a subscriber
-  pub goes_down : (v : Ipv4) (packet octets : List ℕ) (x : Session) (l : Lease) (port : AccessPort) (outs' : List OutRecord)
-      → holder_of s v.dst ≡ Some x → x.lease ≡ Some l → AnyOf (IsTermOf x l) s.terms → port_at r.access x.port ≡ Some port
-      → DownFate (found_down s) item.frame.payload Forwarded → IsPassedOn v item.frame.payload packet
+  -- one that goes to a subscriber, where the view of the holder has these meters then
+  pub goes_down : (moment : ℕ) (v : Ipv4) (packet octets : List ℕ) (x : Session) (l : Lease) (port : AccessPort) (holder after : Option TermView) (outs' : List OutRecord)
+      → holder ≡ found_down s v.dst → after ≡ with_output holder moment v.total → holder_of s v.dst ≡ Some x → x.lease ≡ Some l → AnyOf (IsTermOf x l) s.terms → port_at r.access x.port ≡ Some port
+      → DownFate (found_down s) moment item.frame.payload Forwarded → IsPassedOn v item.frame.payload packet
       → octets ≡ circuit_frame port x.mac x.number.0 packet → IsFrameTo port x.mac x.number.0 packet octets
       → outs' ≡ outs ++ out a (Access x.port) port.peer octets (Some (charge_of x l false v.total)) ∷ []
-      → (moment : ℕ) → DoesWith (λ e d. HearsPacket r s e v d) 1 s (with_passed s x.number moment) outs outs' a moment item Forwarded
-  goes_down v packet octets x l port outs' at leased term its_port down passed framed again pushed moment =
+      → DoesWith (λ e d. HearsPacket r s e v d) 1 s (with_passed s x.number moment (meters_in after)) outs outs' a moment item Forwarded
+  goes_down moment v packet octets x l port holder after outs' is spends at leased term its_port down passed framed again pushed =
       let e : Entry = entry_of a.seat a.place moment item in
+      let holder_is : holder ≡ Some (its_view s x l) = is ∙ ap (λ (o : Option Session). found_among s.meters o (is_kept s v.dst) v.dst) at ∙ viewed s x l leased in
+      let meters : meters_in after ≡ spent_output (meters_at s.meters x.number) moment v.total = ap meters_in (spends ∙ ap (λ (h : Option TermView). with_output h moment v.total) holder_is) in
       let sent : At → List ℕ → OutRecord = λ b f. out b (Access x.port) port.peer f (Some (charge_of x l false v.total)) in
       record {
-        deed = forwarded s e x.number (sent (at_of s e) (circuit_frame port x.mac x.number.0 packet));
+        deed = forwarded s e x.number (spent_output (meters_at s.meters x.number) moment v.total) (sent (at_of s e) (circuit_frame port x.mac x.number.0 packet));
         entry = refl;
         fate_is = refl;
-        next = refl;
+        next = ap (λ (ms : Meters). with_passed s x.number moment ms) (sym meters);
         says = (
           Forwarded,
           down,

@@ -6,11 +6,13 @@ use Rattle.std.proofs.lemmas.Bool.{cases_eq, ne_eqb}
 use Rattle.std.proofs.lemmas.List.Elements.{All-filter, All-from_recursion, recursion_from_All, All-push}
 use Rattle.bng_base.specs.declared.address.Ip4.{Ip4}
 use Rattle.bng_base.specs.declared.item.OutRecord.{OutRecord}
+use Rattle.bng_base.specs.declared.book.Profile.{Profile}
 use Rattle.bng_base.specs.declared.settings.Static.{Static}
 use Rattle.bng_ppp.specs.declared.whole_input.WholeInput.TheVariants.{Close, Start, Timer}
 use Rattle.bng_slots.specs.Listed.{values}
 use Rattle.bng_slots.specs.Sessions.{value_at, with_value}
 use Rattle.bng_slots.proofs.SessionLaws.{value_at-with_value, value_at-with_other}
+use Rattle.bng_shard.specs.declared.meters.Meters.{Meters}
 use Rattle.bng_shard.specs.declared.rules.Rules.{Rules}
 use Rattle.bng_base.specs.declared.item.At.{At}
 use Rattle.bng_shard.specs.declared.session.Lease.{Lease}
@@ -20,6 +22,7 @@ use Rattle.bng_shard.specs.Deed.{Deed, at_of}
 use Rattle.bng_shard.specs.Discovery.{new_session}
 use Rattle.bng_shard.specs.Lasting.{CircuitsLast, IsCause}
 use Rattle.bng_shard.specs.Link.{Drives, LinkStep, Told, ended, hears, nas_request, settles, told, user_request}
+use Rattle.bng_shard.specs.Metered.{meters_of}
 use Rattle.bng_shard.specs.Opening.{in_order, numbered_after, opened_slots, tenures_after}
 use Rattle.bng_shard.specs.Passing.{lapsed, looked, passed_at}
 use Rattle.bng_shard.specs.State.{State, leaves, made_one, settled, with_driven, with_ended, with_session}
@@ -160,7 +163,7 @@ module _ (circuits : ℕ) where
         keeps_with s n None cause x' asked' (told_known r e (at_of s e) s.asked x x' outs cause asked' Start drives)
         (λ h l is leased. absurd (none_some l (drives_was r (at_of s e) s.asked x x' outs cause asked' (told r e Start) drives l leased))) (λ h l c leased. absurd (none_some l leased));
     padt = λ s n x m at is. keeps_ended s n x user_request (inl refl) (made_spares s n x (Some user_request) at (ap made_one is));
-    passes = λ s n moment h. record { few = h.few; later = h.later; causes = h.causes; known = h.known };
+    passes = λ s n moment ms h. record { few = h.few; later = h.later; causes = h.causes; known = h.known };
     looks = λ s n at x found h. record { few = h.few; later = later_with s n (looked at x) (looked_later s n at x found h) h.later; causes = h.causes; known = h.known };
     lapses = λ e s n x x' outs cause none asked' at over drives.
         keeps_with s n x.lease (Some cause) x' asked' (lapsed_known (passed_at s.passed x.number) x.lease e.moment cause over)
@@ -172,8 +175,8 @@ module _ (circuits : ℕ) where
   keeps_stops s n x at = keeps_ended s n x nas_request (inr (inr (inr (inr refl)))) (λ h l c leased is low. sym (same_some nas_request c is))
 
   -- a term begins, numbered on
-  begun_keeps : (s : State) (n : ℕ) (y : Session) (asked : ℕ) (k : Lease) (t : Tenure) → k.serial ≡ s.begun + 1 → t.cause ≡ None → Keeps s (with_term s n y asked k t)
-  begun_keeps s n y asked k t serial live h = record {
+  begun_keeps : (s : State) (n : ℕ) (y : Session) (asked : ℕ) (k : Lease) (t : Tenure) (ms : Meters) → k.serial ≡ s.begun + 1 → t.cause ≡ None → Keeps s (with_term s n y asked k t ms)
+  begun_keeps s n y asked k t ms serial live h = record {
     few = omega (arith, h.few);
     later = later_with s n (record y { lease = Some k }) (λ l made is. omega (arith, h.few, serial, ap (λ (j : Lease). j.serial) (same_some k l is))) h.later;
     causes = All-push Lasting s.terms t h.causes (λ low. inl live);
@@ -185,7 +188,7 @@ module _ (circuits : ℕ) where
     judged_keeps t h None =
         let after : (l : Lease) → h.after.lease ≡ Some l → h.x.lease ≡ Some l = drives_was r (at_of s d.entry) s.asked h.x h.after h.outs h.cause h.asked (settles r d.entry t) h.drives in
         keeps_with s d.entry.item.target None None h.after h.asked tt (λ k l made leased. absurd (none_some l (sym h.no_term ∙ after l leased))) (λ k l c leased. absurd (none_some l leased))
-    judged_keeps t h (Some a) = begun_keeps s d.entry.item.target h.after h.asked (next_lease s t.limits d.entry.moment a) (next_term s h.x h.question t.class d.entry.moment a) refl refl
+    judged_keeps t h (Some a) = begun_keeps s d.entry.item.target h.after h.asked (next_lease s t.plan t.limits d.entry.moment a) (next_term s h.x h.question t.plan t.class d.entry.moment a) (meters_of t.plan d.entry.moment) refl refl
 
     pub circuits_kept : Step r s limited d → CircuitsLast circuits s → CircuitsLast circuits d.next
     circuits_kept = step_walks_by r Keeps (keeps_walk r) keeps_stops s limited d (λ t decides h. judged_keeps t h t.lease)
@@ -215,14 +218,14 @@ of_circuit k (c ∷ cs) x (zero, within, is) = ap (λ (y : Session). y.service) 
 of_circuit k (c ∷ cs) x (suc i, within, is) = of_circuit (k + 1) cs x (i, omega (arith, within), is)
 
 pub are_circuits : (number : ℕ) (circuits : List Static) (now : ℕ) → AllPairs (λ a b. a.session ≢ b.session) circuits → (n : ℕ) (x : Session)
-    → value_at (opened_slots number circuits now).sessions n ≡ Some x → x.service ≡ Provisioned false
+    → value_at (opened_slots number [] circuits now).sessions n ≡ Some x → x.service ≡ Provisioned false
 are_circuits number circuits now apart n x at =
-    let s = opened_slots number circuits now in
+    let s = opened_slots number [] circuits now in
     let same : values s.sessions ≡ map (λ e. e.1) (numbered_after 0 (in_order number circuits)) = ap (λ es. map (λ e. e.1) es) (opened_entries number circuits now (apart_of circuits apart)) in
     of_circuit 0 (in_order number circuits) x (subst (λ (xs : List Session). Contains xs x) same (stands s.sessions n x at))
 
-pub circuits_opened : (number : ℕ) (circuits : List Static) (now : ℕ) → AllPairs (λ a b. a.session ≢ b.session) circuits → CircuitsLast (length circuits) (opened_slots number circuits now)
-circuits_opened number circuits now apart = record {
+pub circuits_opened : (number : ℕ) (profiles : List Profile) (circuits : List Static) (now : ℕ) → AllPairs (λ a b. a.session ≢ b.session) circuits → CircuitsLast (length circuits) (opened_slots number profiles circuits now)
+circuits_opened number profiles circuits now apart = record {
   few = omega arith;
   later = λ n x l at made leased. absurd (omega (arith, ap made_one (are_circuits number circuits now apart n x at), made));
   causes = All-from_recursion (Lasting (length circuits)) (tenures_after now 0 (in_order number circuits)) (each_live (length circuits) now 0 (in_order number circuits));

@@ -202,7 +202,7 @@ module _ (r : Rules) (s : State) (limited : Bool) (d : Deed) where
 
     settled_keeps : (lease : Option Ip4) → Keeps s (settled_by s d.entry.item.target h.x h.question t d.entry.moment h.after h.asked lease)
     settled_keeps None = with_keeps s d.entry.item.target h.after verdict_keeps
-    settled_keeps (Some a) = with_keeps s d.entry.item.target (record h.after { lease = Some (next_lease s t.limits d.entry.moment a) }) verdict_keeps
+    settled_keeps (Some a) = with_keeps s d.entry.item.target (record h.after { lease = Some (next_lease s t.plan t.limits d.entry.moment a) }) verdict_keeps
 
   judged : HearsVerdict r s d.entry limited d → Heard
   judged (inl (asks, t, decides, h)) = keeping _ h.done (settled_keeps t h t.lease)

@@ -1,6 +1,6 @@
 -- A step tells a peer yes only where that was granted.
 use Rattle.std.proofs.Common.{◌≡◌, ◌⊎◌, inl, inr, ℕ, zero, suc, ◌+◌, ◌-◌, ◌^◌, ◌<◌, ◌≤◌, Bool, true, false, not, ◌&&◌, List, [], ◌∷◌, ◌++◌, Option, Some, None, is_some, if◌then◌else◌, Contains, refl, sym, ap, subst, ◌∙◌, arith}
-use Rattle.std.specs.Prelude.{IsSome}
+use Rattle.std.specs.Prelude.{IsSome, slice_set}
 use Rattle.std.specs.Option.{option_map, option_and_then}
 use Rattle.std.proofs.lemmas.Bool.{cases_eq, false≢true}
 use Rattle.std.proofs.lemmas.List.Elements.{All-contains, Contains-append_cases}
@@ -14,7 +14,6 @@ use Rattle.bng_base.specs.declared.item.ItemKind.{ItemKind}
 use Rattle.bng_base.specs.declared.item.ItemKind.TheVariants.{Access, Core, Tunnel, Verdict, Change, Tick, End}
 use Rattle.bng_base.specs.declared.item.OutRecord.{OutRecord}
 use Rattle.bng_base.specs.declared.settings.AccessPort.{AccessPort}
-use Rattle.bng_base.specs.declared.settings.NamedRange.{NamedRange}
 use Rattle.bng_base.specs.PppoeGrammar.{PppoeFrame, PppoeTag}
 use Rattle.bng_discovery.specs.declared.answers.Answer.{Answer}
 use Rattle.bng_discovery.specs.declared.answers.Answer.TheVariants.{Offer, Make, Again, Refuse, Ended, NoSession, Ignore}
@@ -36,6 +35,7 @@ use Rattle.bng_slots.specs.Sessions.{IsNumberOf, value_at, with_value}
 use Rattle.bng_slots.proofs.SessionLaws.{value_at-with_value, value_at-with_other}
 use Rattle.bng_verdict.specs.Verdicts.{Saying, IsVerdict}
 use Rattle.bng_shard.specs.Made.{Made, Question}
+use Rattle.bng_shard.specs.declared.meters.Meters.{Meters}
 use Rattle.bng_shard.specs.declared.rules.Rules.{Rules}
 use Rattle.bng_base.specs.declared.item.At.{At}
 use Rattle.bng_shard.specs.declared.session.Lease.{Lease}
@@ -48,7 +48,8 @@ use Rattle.bng_shard.specs.Discovery.{Answers, Makes, host_uniq_of, new_session}
 use Rattle.bng_shard.specs.Frames.{HearsData, HearsPpp, HearsControl, HearsIn, HearsFrame, HearsAccess, HearsCore}
 use Rattle.bng_shard.specs.Granting.{HasQuestion, IsGranted, IsGrantedOn, IsSound, IsYesOn, accepted_ask_at, accepted_in}
 use Rattle.bng_shard.specs.Link.{LinkStep, Drives, EndsWith, Told, asked_after, ended, ended_service, hears, nas_request, next_ask, question_after, settles, told, user_request}
-use Rattle.bng_shard.specs.Passing.{cause_at, lapsed, looked, passed_at, with_passed}
+use Rattle.bng_shard.specs.Metered.{meters_at, meters_of, spent_input, spent_output}
+use Rattle.bng_shard.specs.Passing.{cause_at, lapsed, looked, passed_at, place_in, with_passed}
 use Rattle.bng_shard.specs.Questions.{Asking, asking_of, last_asking, last_asking_at, last_in, open_ask_at, open_in, open_of}
 use Rattle.bng_shard.specs.Step.{Hears, Step}
 use Rattle.bng_shard.specs.Tenures.{Tenure, closed}
@@ -155,11 +156,11 @@ by_test true h = refl
 by_test false h = absurd (h refl)
 
 -- a peer is told that it is accepted only where the octets say so
-pub decided_yes : (pools : List NamedRange) (limited : Bool) (octets : List ℕ) (claim : AddressClaim) (t : Told) → Decides pools limited octets claim (Some t) → t.yes ≡ true
+pub decided_yes : (r : Rules) (limited : Bool) (octets : List ℕ) (claim : AddressClaim) (t : Told) → Decides r limited octets claim (Some t) → t.yes ≡ true
     → (v : Saying) × IsVerdict octets (Some v) × (v.yes ≡ true)
-decided_yes pools limited octets claim t (inl (silent, none, is)) accepts = absurd (none_some t (sym is))
-decided_yes pools limited octets claim t (inr (inl (v, says, denies, none, is))) accepts = absurd (false≢true (sym (ap (λ (u : Told). u.yes) (same_some t (refused_with v.text) is)) ∙ accepts))
-decided_yes pools limited octets claim t (inr (inr (v, says, allows, g, grant, answers, is))) accepts = (v, says, allows)
+decided_yes r limited octets claim t (inl (silent, none, is)) accepts = absurd (none_some t (sym is))
+decided_yes r limited octets claim t (inr (inl (v, says, denies, none, is))) accepts = absurd (false≢true (sym (ap (λ (u : Told). u.yes) (same_some t (refused_with v.text) is)) ∙ accepts))
+decided_yes r limited octets claim t (inr (inr (v, says, allows, g, grant, answers, is))) accepts = (v, says, allows)
 
 -- A link that was told this ------------------------------------------------------------------------------------------------
 
@@ -296,8 +297,8 @@ sound_with s n y h own of_shard has =
     there : (m : ℕ) → m ≡ n → value_at (with_value s.sessions n y) m ≡ Some y
     there m e = ap (λ (i : ℕ). value_at (with_value s.sessions n y) i) e ∙ value_at-with_value s.sessions n y
 
-sound_driven : (s : State) (n : ℕ) (y : Session) (asked begun : ℕ) (terms news : List Tenure) → IsSound (with_session s n y) → IsSound (state_with s n y asked begun terms news)
-sound_driven s n y asked begun terms news h = record { shard = h.shard; own = h.own; of_shard = h.of_shard; questions = h.questions }
+sound_driven : (s : State) (n : ℕ) (y : Session) (asked begun : ℕ) (terms news : List Tenure) (meters : List Meters) → IsSound (with_session s n y) → IsSound (state_with s n y asked begun terms news meters)
+sound_driven s n y asked begun terms news meters h = record { shard = h.shard; own = h.own; of_shard = h.of_shard; questions = h.questions }
 
 -- What was granted --------------------------------------------------------------------------------------------------------
 
@@ -349,8 +350,8 @@ same_still s s' outs e none = record {
 }
 
 -- a packet passes
-passes_still : (s : State) (n : SessionNo) (moment : ℕ) (outs : List OutRecord) → NoYes outs → Still s outs (with_passed s n moment)
-passes_still s n moment outs none = record {
+passes_still : (s : State) (n : SessionNo) (moment : ℕ) (ms : Meters) (outs : List OutRecord) → NoYes outs → Still s outs (with_passed s n moment ms)
+passes_still s n moment ms outs none = record {
   sound = λ h. record { shard = h.shard; own = h.own; of_shard = h.of_shard; questions = h.questions };
   yes = λ sound port mac m o c tells. absurd (none port mac m o c tells);
   accepted = λ m ask is. is;
@@ -375,9 +376,9 @@ chain_still s s' s'' outs rest g h = record {
 -- a session that keeps its question is another one
 kept_still : (s : State) (n : ℕ) (x y : Session) (outs : List OutRecord) (terms : List Tenure) → value_at s.sessions n ≡ Some x → y.number ≡ x.number → (HasQuestion x.service → HasQuestion y.service)
     → accepted_in x.service ≡ accepted_in y.service → last_in x.service ≡ last_in y.service → ((q : Question) → asking_of x q ≡ asking_of y q) → NoYes outs
-    → Still s outs (state_with s n y s.asked s.begun terms s.news)
+    → Still s outs (state_with s n y s.asked s.begun terms s.news s.meters)
 kept_still s n x y outs terms at number has accepted last circuit none = record {
-  sound = λ h. sound_driven s n y s.asked s.begun terms s.news (sound_with s n y h (ap (λ (i : SessionNo). i.0) number ∙ h.own n x at) (h.of_shard n (ap is_some at)) (has (h.questions n x at)));
+  sound = λ h. sound_driven s n y s.asked s.begun terms s.news s.meters (sound_with s n y h (ap (λ (i : SessionNo). i.0) number ∙ h.own n x at) (h.of_shard n (ap is_some at)) (has (h.questions n x at)));
   yes = λ sound port mac m o c tells. absurd (none port mac m o c tells);
   accepted = λ m ask is. elim (accepted_with s n y m ask is) [
     | inl here ↦
@@ -395,7 +396,7 @@ kept_still s n x y outs terms at number has accepted last circuit none = record 
 }
 
 -- one that ends does
-over_still : (s : State) (n : ℕ) (x : Session) (outs : List OutRecord) (terms : List Tenure) → value_at s.sessions n ≡ Some x → NoYes outs → Still s outs (state_with s n (ended x) s.asked s.begun terms s.news)
+over_still : (s : State) (n : ℕ) (x : Session) (outs : List OutRecord) (terms : List Tenure) → value_at s.sessions n ≡ Some x → NoYes outs → Still s outs (state_with s n (ended x) s.asked s.begun terms s.news s.meters)
 over_still s n x outs terms at none = kept_still s n x (ended x) outs terms at refl (has_ended x.service) (same_accepted x.service) (same_last x.service) (λ q. refl) none
   where
     has_ended : (v : Service) → HasQuestion v → HasQuestion (ended_service v)
@@ -411,10 +412,10 @@ over_still s n x outs terms at none = kept_still s n x (ended x) outs terms at r
     same_last (Discovered m) = refl
 
 module _ (s : State) (n : ℕ) (x : Session) (outs : List OutRecord) (x' : Session) (asked' : ℕ) (what : WholeInput) (at : value_at s.sessions n ≡ Some x) (d : Drove what s.asked x outs x' asked')
-    (begun : ℕ) (terms news : List Tenure) where
-  drove_sound : IsSound s → IsSound (state_with s n x' asked' begun terms news)
+    (begun : ℕ) (terms news : List Tenure) (meters : List Meters) where
+  drove_sound : IsSound s → IsSound (state_with s n x' asked' begun terms news meters)
   drove_sound h =
-      sound_driven s n x' asked' begun terms news (sound_with s n x' h (ap (λ (i : SessionNo). i.0) d.number ∙ h.own n x at) (h.of_shard n (ap is_some at)) (d.has (h.questions n x at)))
+      sound_driven s n x' asked' begun terms news meters (sound_with s n x' h (ap (λ (i : SessionNo). i.0) d.number ∙ h.own n x at) (h.of_shard n (ap is_some at)) (d.has (h.questions n x at)))
 
   circuit_same : (port : ℕ) (mac : Mac) (m : ℕ) → port ≡ x.port → mac ≡ x.mac → m ≡ x.number.0 → circuit_of x ≡ Pppoe port mac (record { 0 = m })
   circuit_same port mac m p q t = λ i. Pppoe (sym p i) (sym q i) (record { 0 = sym t i })
@@ -438,7 +439,7 @@ module _ (s : State) (n : ℕ) (x : Session) (outs : List OutRecord) (x' : Sessi
       }
 
   drove_accepts : (Is : ℕ → ℕ → Type 0) → ((q : Question) → d.made.question ≡ Some q → MayAccept what d.made.link.auth → Is n q.ask) → ((m ask : ℕ) → accepted_ask_at s m ≡ Some ask → Is m ask)
-      → (m ask : ℕ) → accepted_ask_at (state_with s n x' asked' begun terms news) m ≡ Some ask → Is m ask
+      → (m ask : ℕ) → accepted_ask_at (state_with s n x' asked' begun terms news meters) m ≡ Some ask → Is m ask
   drove_accepts Is grant was m ask is =
       elim (accepted_with s n x' m ask is) [
         | inl here ↦
@@ -448,7 +449,7 @@ module _ (s : State) (n : ℕ) (x : Session) (outs : List OutRecord) (x' : Sessi
       ]
 
   drove_grants : (Is : ℕ → ℕ → Type 0) → ((q : Question) → d.made.question ≡ Some q → MayAccept what d.made.link.auth → Is n q.ask) → ((m ask : ℕ) → accepted_ask_at s m ≡ Some ask → Is m ask)
-      → Grants s Is outs (state_with s n x' asked' begun terms news)
+      → Grants s Is outs (state_with s n x' asked' begun terms news meters)
   drove_grants Is grant was = record {
     sound = drove_sound;
     yes = drove_yes Is grant;
@@ -464,7 +465,7 @@ module _ (s : State) (n : ℕ) (x : Session) (outs : List OutRecord) (x' : Sessi
   }
 
   -- neither a frame nor a verdict
-  drove_still : is_frame what ≡ false → is_yes_verdict what ≡ false → Still s outs (state_with s n x' asked' begun terms news)
+  drove_still : is_frame what ≡ false → is_yes_verdict what ≡ false → Still s outs (state_with s n x' asked' begun terms news meters)
   drove_still no_frame no_verdict = record {
     sound = drove_sound;
     yes = drove_yes (Was s) only_was;
@@ -506,14 +507,14 @@ module _ (r : Rules) (e : Entry) where
       subst (Still s outs) (sym next) (kept_still s n x (looked (passed_at s.passed x.number) x) outs s.terms at refl (λ h. h) refl refl (λ q. refl) (empty_no_yes outs none))
   looks_still (Some cause) s n x outs s' at (y, none, asked', drives, next) =
       let d = before_lapse Close s.asked x outs y asked' (drove r e (at_of s e) (told r e Close) Close (told_is Close) s.asked (lapsed x) outs none y asked' drives) in
-      subst (Still s outs) (sym next) (drove_still s n x outs y asked' Close at d s.begun (closed x.lease (Some cause) s.terms) s.news refl refl)
+      subst (Still s outs) (sym next) (drove_still s n x outs y asked' Close at d s.begun (closed x.lease (Some cause) s.terms) s.news s.meters refl refl)
 
   timed_still : (s : State) (n : ℕ) (outs : List OutRecord) (s' : State) → IsTimed r e s n outs s' → Still s outs s'
   timed_still s n outs s' h =
       let d = drove r e (at_of s e) (told r e Timer) Timer (told_is Timer) s.asked h.x h.first h.cause h.after h.asked h.drives in
       let next = with_driven s n h.x.lease h.cause h.after h.asked in
       equal_still s (h.first ++ h.then) outs s' h.outs_are
-      (chain_still s next s' h.first h.then (drove_still s n h.x h.first h.after h.asked Timer h.found d s.begun (closed h.x.lease h.cause s.terms) s.news refl refl)
+      (chain_still s next s' h.first h.then (drove_still s n h.x h.first h.after h.asked Timer h.found d s.begun (closed h.x.lease h.cause s.terms) s.news s.meters refl refl)
       (looks_still (cause_at (passed_at s.passed h.after.number) h.after.lease e.moment) next n h.after h.then s' (value_at-with_value s.sessions n h.after) h.looks))
 
   ticks_still : (k : ℕ) (s : State) (outs : List OutRecord) (s' : State) → Ticks k r e s outs s' → Still s outs s'
@@ -594,7 +595,7 @@ module _ (r : Rules) (s : State) (limited : Bool) (e : Entry) (d : Deed) where
 
     makes_grants : Deeds
     makes_grants = deed _ h.done (record {
-      sound = λ sound. sound_driven s h.session h.x h.asked s.begun s.terms s.news (sound_with s h.session h.x sound (ap (λ (i : SessionNo). i.0) started.number) h.vacant.of_shard (started.has has_none));
+      sound = λ sound. sound_driven s h.session h.x h.asked s.begun s.terms s.news s.meters (sound_with s h.session h.x sound (ap (λ (i : SessionNo). i.0) started.number) h.vacant.of_shard (started.has has_none));
       yes = λ sound port' mac n o c tells. absurd (both_no_yes (frame_outs (at_of s e) number port (pads_of offers p.src h.session tags)) h.outs pads_no_yes (start_no_yes sound) port' mac n o c tells);
       accepted = λ n ask is. elim (accepted_with s h.session h.x n ask is) [
         | inl here ↦ absurd (no_question here.1 (started.accepted here.1 here.2).0)
@@ -617,7 +618,7 @@ module _ (r : Rules) (s : State) (limited : Bool) (e : Entry) (d : Deed) where
   answers Ignore number port offers p tags h = quiet _ h refl none_yes
 
   packets : (number : ℕ) (p : PppoeFrame) (info : List ℕ) → HearsData r s e number p info d → Deeds
-  packets number p info (fate, is, inl (forwards, up)) = still _ up.done (passes_still s up.x.number e.moment _ (core_no_yes _ refl))
+  packets number p info (fate, is, inl (forwards, up)) = still _ up.done (passes_still s up.x.number e.moment (spent_input (meters_at s.meters up.x.number) e.moment up.header.total) _ (core_no_yes _ refl))
   packets number p info (fate, is, inr (stays, h)) = quiet _ h refl none_yes
 
   -- the link of a session hears a frame
@@ -625,7 +626,7 @@ module _ (r : Rules) (s : State) (limited : Bool) (e : Entry) (d : Deed) where
   ppp x made p at (inl (gone, h)) = quiet _ h refl none_yes
   ppp x made p at (inr (live, outs, cause, x', asked', drives, h)) =
       let heard = drove r e (at_of s e) (hears r e p.payload) (frame_of p.payload) (hears_is r e p.payload) s.asked x outs cause x' asked' drives in
-      deed _ h (drove_grants s p.session x outs x' asked' (frame_of p.payload) at heard s.begun (closed x.lease cause s.terms) s.news (IsGranted s e) (λ q is may. elim may [
+      deed _ h (drove_grants s p.session x outs x' asked' (frame_of p.payload) at heard s.begun (closed x.lease cause s.terms) s.news s.meters (IsGranted s e) (λ q is may. elim may [
         | inl was ↦ inl (accepted_there s p.session x at heard.made heard.is_made q is was)
         | inr found ↦ absurd (false≢true found.0)
       ]) (λ m ask is. inl is))
@@ -651,7 +652,7 @@ module _ (r : Rules) (s : State) (limited : Bool) (e : Entry) (d : Deed) where
 
   core : HearsCore r s e d → Deeds
   core (inl (none, h)) = quiet _ h refl none_yes
-  core (inr (v, is, (fate, decides, inl (forwards, down)))) = still _ down.done (passes_still s down.x.number e.moment _ (packet_no_yes _ down.port down.x.mac down.x.number.0 down.packet down.again))
+  core (inr (v, is, (fate, decides, inl (forwards, down)))) = still _ down.done (passes_still s down.x.number e.moment (spent_output (meters_at s.meters down.x.number) e.moment v.total) _ (packet_no_yes _ down.port down.x.mac down.x.number.0 down.packet down.again))
   core (inr (v, is, (fate, decides, inr (stays, h)))) = quiet _ h refl none_yes
 
   -- the session's open question is the last one
@@ -662,7 +663,7 @@ module _ (r : Rules) (s : State) (limited : Bool) (e : Entry) (d : Deed) where
       ap (λ (p : Question). p.ask) (same_some q found.0 (sym is ∙ inside.1)) ∙ found.2
 
   -- the session's link was told what the octets of the entry come to
-  module _ (kind : e.item.kind ≡ Verdict) (asks : open_ask_at s e.item.target ≡ Some e.item.ask) (t : Told) (decides : Decides r.pools limited e.item.frame.payload e.claim (Some t)) (h : Judges r s e t d) where
+  module _ (kind : e.item.kind ≡ Verdict) (asks : open_ask_at s e.item.target ≡ Some e.item.ask) (t : Told) (decides : Decides r limited e.item.frame.payload e.claim (Some t)) (h : Judges r s e t d) where
     was_told : Drove (verdict_of t) s.asked h.x h.outs h.after h.asked
     was_told = drove r e (at_of s e) (settles r e t) (verdict_of t) (settles_is r e t) s.asked h.x h.outs h.cause h.after h.asked h.drives
 
@@ -673,18 +674,18 @@ module _ (r : Rules) (s : State) (limited : Bool) (e : Entry) (d : Deed) where
     told_grants q was (inl accepted) = inl (accepted_there s e.item.target h.x h.found was_told.made was_told.is_made q was accepted)
     told_grants q was (inr found) =
         let same : q.ask ≡ e.item.ask = open_last h.x was_told.made q was_told.is_made was ask_there in
-        let v = decided_yes r.pools limited e.item.frame.payload e.claim t decides found.0 in
+        let v = decided_yes r limited e.item.frame.payload e.claim t decides found.0 in
         inr (record { kind = kind; target = refl; number = sym same; verdict = v.0; says = v.1; yes = v.2 }, asks ∙ ap (λ (i : ℕ). Some i) (sym same))
 
     -- whether a term begins or not
     settled_grants : (lease : Option Ip4) → Grants s (IsGranted s e) h.outs (settled_by s e.item.target h.x h.question t e.moment h.after h.asked lease)
     settled_grants None =
-        drove_grants s e.item.target h.x h.outs h.after h.asked (verdict_of t) h.found was_told s.begun s.terms s.news (IsGranted s e) told_grants (λ m k before. inl before)
+        drove_grants s e.item.target h.x h.outs h.after h.asked (verdict_of t) h.found was_told s.begun s.terms s.news s.meters (IsGranted s e) told_grants (λ m k before. inl before)
     settled_grants (Some a) =
-        let new = next_term s h.x h.question t.class e.moment a in
-        let lease = Some (next_lease s t.limits e.moment a) in
+        let new = next_term s h.x h.question t.plan t.class e.moment a in
+        let lease = Some (next_lease s t.plan t.limits e.moment a) in
         drove_grants s e.item.target h.x h.outs (record h.after { lease = lease }) h.asked (verdict_of t) h.found (leased (verdict_of t) s.asked h.x h.outs h.after h.asked lease was_told)
-        (s.begun + 1) (s.terms ++ new ∷ []) (s.news ++ new ∷ []) (IsGranted s e) told_grants (λ m k before. inl before)
+        (s.begun + 1) (s.terms ++ new ∷ []) (s.news ++ new ∷ []) (slice_set s.meters (place_in h.after.number) (meters_of t.plan e.moment)) (IsGranted s e) told_grants (λ m k before. inl before)
 
   judged : e.item.kind ≡ Verdict → HearsVerdict r s e limited d → Deeds
   judged kind (inl (asks, t, decides, h)) = deed _ h.done (settled_grants kind asks t decides h t.lease)

@@ -5,6 +5,7 @@ use Rattle.std.specs.FinMap.{find as find_at}
 use Rattle.std.specs.List.{AllByRecursion, AllPairs}
 use Rattle.std.specs.Ordering.{nat_cmp}
 use Rattle.std.proofs.lemmas.List.Elements.{All-filter, All-from_recursion, All-weaker, filter_passes, recursion_from_All}
+use Rattle.bng_base.specs.declared.book.Profile.{Profile}
 use Rattle.bng_base.specs.declared.settings.Static.{Static}
 use Rattle.bng_engine.proofs.Everywhere.{all_weaker}
 use Rattle.bng_slots.specs.Listed.{values}
@@ -73,9 +74,9 @@ among now k (c ∷ cs) sorts =
     later : (t : Tenure) → IsAmong (numbered_after (k + 1) cs) t → IsAmong (numbered_after k (c ∷ cs)) t
     later t (x, l, at, leased, same) = (x, l, behind (c.session.0, provisioned c (k + 1)) (numbered_after (k + 1) cs) t.term.session.0 x (first _ _ sorts) at, leased, same)
 
-pub housed_opened : (number : ℕ) (circuits : List Static) (now : ℕ) → AllPairs (λ a b. a.session ≢ b.session) circuits → AreHoused (opened_slots number circuits now)
-housed_opened number circuits now apart =
-    let s = opened_slots number circuits now in
+pub housed_opened : (number : ℕ) (profiles : List Profile) (circuits : List Static) (now : ℕ) → AllPairs (λ a b. a.session ≢ b.session) circuits → AreHoused (opened_slots number profiles circuits now)
+housed_opened number profiles circuits now apart =
+    let s = opened_slots number profiles circuits now in
     let cs = in_order number circuits in
     let sorts = sorted (number * 1024 + 1) 0 cs (rising_in_order number circuits (apart_of circuits apart)) in
     record {

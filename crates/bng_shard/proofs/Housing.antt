@@ -24,6 +24,7 @@ use Rattle.bng_ppp.specs.PppState.{PppState, is_open}
 use Rattle.bng_ppp.specs.Verdict.{Settles}
 use Rattle.bng_slots.specs.Sessions.{value_at, with_value}
 use Rattle.bng_slots.proofs.SessionLaws.{value_at-with_value, value_at-with_other}
+use Rattle.bng_shard.specs.declared.meters.Plan.{Plan}
 use Rattle.bng_shard.specs.declared.rules.Rules.{Rules}
 use Rattle.bng_base.specs.declared.item.At.{At}
 use Rattle.bng_shard.specs.declared.session.Lease.{Lease}
@@ -35,6 +36,7 @@ use Rattle.bng_shard.specs.Discovery.{IsNewLink, new_session}
 use Rattle.bng_shard.specs.Granting.{IsSound}
 use Rattle.bng_shard.specs.Lasting.{AreHoused, HasPhases, IsHousedIn, KeepsTerm}
 use Rattle.bng_shard.specs.Link.{Drives, LinkStep, Told, ended, ended_service, hears, nas_request, settles, told, user_request}
+use Rattle.bng_shard.specs.Metered.{meters_of, plan_for}
 use Rattle.bng_shard.specs.Made.{Made}
 use Rattle.bng_shard.specs.Passing.{lapsed, looked, looked_on}
 use Rattle.bng_shard.specs.Questions.{open_in}
@@ -42,7 +44,7 @@ use Rattle.bng_shard.specs.State.{State, with_driven, with_ended, with_session}
 use Rattle.bng_shard.specs.Step.{Step}
 use Rattle.bng_shard.specs.Tenures.{Tenure, closed, is_over, kept_lease, over_by}
 use Rattle.bng_shard.specs.Verdicts.{Judges, next_lease, next_term, settled_by, with_term}
-use Rattle.bng_shard.specs.Wishes.{Decides, pool_for, refused_with, told_at, told_by, told_of}
+use Rattle.bng_shard.specs.Wishes.{Decides, pool_for, refused_with, told_at, told_by, told_if, told_in, told_of}
 use Rattle.bng_shard.proofs.CircuitsKept.{lease_was}
 use Rattle.bng_shard.proofs.LinkSteps.{frame_steps, verdict_steps}
 use Rattle.bng_shard.proofs.SeenLeases.{looked_was, seen_at}
@@ -291,7 +293,7 @@ keeps_walk r = record {
       (λ h. driven_none r (at_of s e) s.asked (new_session n port mac host_uniq link) x' outs cause asked' (told r e Start) drives
       (by_itself r.link Start e.moment e.item.random drives.made.link drives.says drives.link refl drives.steps).phases refl (new_phases e.item.random link new));
   padt = λ s n x m at is. keeps_ended s n x user_request at;
-  passes = λ s n moment h. record { phases = h.phases; lasting = h.lasting; housed = h.housed };
+  passes = λ s n moment ms h. record { phases = h.phases; lasting = h.lasting; housed = h.housed };
   looks = keeps_looked;
   lapses = λ e s n x x' outs cause none asked' at over drives.
       keeps_with s n x.lease (Some cause) x' asked' (same_lease s n x at)
@@ -306,29 +308,33 @@ keeps_stops s n x at = keeps_ended s n x nas_request at
 -- Verdicts ---------------------------------------------------------------------------------------------------------------
 
 -- a peer that is given an address is accepted
-by_yes : (claim : Claim) (text : List ℕ) (g : Gift) (a : Ip4) → (told_by claim text g).lease ≡ Some a → (told_by claim text g).yes ≡ true
-by_yes NoClaim text g a e = absurd (none_some a e)
-by_yes (Claimed b) text g a e = refl
-by_yes (Held b) text g a e = absurd (none_some a e)
-by_yes (Exhausted k) text g a e = absurd (none_some a e)
+by_yes : (plan : Plan) (claim : Claim) (text : List ℕ) (g : Gift) (a : Ip4) → (told_by plan claim text g).lease ≡ Some a → (told_by plan claim text g).yes ≡ true
+by_yes plan NoClaim text g a e = absurd (none_some a e)
+by_yes plan (Claimed b) text g a e = refl
+by_yes plan (Held b) text g a e = absurd (none_some a e)
+by_yes plan (Exhausted k) text g a e = absurd (none_some a e)
 
-at_yes : (limited : Bool) (o : Option ℕ) (claim : Claim) (text : List ℕ) (g : Gift) (a : Ip4) → (told_at limited o claim text g).lease ≡ Some a → (told_at limited o claim text g).yes ≡ true
-at_yes true None claim text g a e = absurd (none_some a e)
-at_yes false None claim text g a e = absurd (none_some a e)
-at_yes true (Some k) claim text g a e = absurd (none_some a e)
-at_yes false (Some k) claim text g a e = by_yes claim text g a e
+at_yes : (plan : Plan) (limited : Bool) (o : Option ℕ) (claim : Claim) (text : List ℕ) (g : Gift) (a : Ip4) → (told_at plan limited o claim text g).lease ≡ Some a → (told_at plan limited o claim text g).yes ≡ true
+at_yes plan true None claim text g a e = absurd (none_some a e)
+at_yes plan false None claim text g a e = absurd (none_some a e)
+at_yes plan true (Some k) claim text g a e = absurd (none_some a e)
+at_yes plan false (Some k) claim text g a e = by_yes plan claim text g a e
 
-of_yes : (pools : List NamedRange) (limited : Bool) (claim : Claim) (text : List ℕ) (g : Gift) (a : Ip4) → (told_of pools limited claim text g).lease ≡ Some a → (told_of pools limited claim text g).yes ≡ true
-of_yes [] limited claim text g a e = refl
-of_yes (p ∷ ps) limited claim text g a e = at_yes limited (pool_for (p ∷ ps) g.pool) claim text g a e
+in_yes : (plan : Plan) (pools : List NamedRange) (limited : Bool) (claim : Claim) (text : List ℕ) (g : Gift) (a : Ip4) → (told_in plan pools limited claim text g).lease ≡ Some a → (told_in plan pools limited claim text g).yes ≡ true
+in_yes plan [] limited claim text g a e = refl
+in_yes plan (p ∷ ps) limited claim text g a e = at_yes plan limited (pool_for (p ∷ ps) g.pool) claim text g a e
 
-pub decides_yes : (pools : List NamedRange) (limited : Bool) (octets : List ℕ) (claim : Claim) (t : Told) (a : Ip4) → Decides pools limited octets claim (Some t) → t.lease ≡ Some a → t.yes ≡ true
-decides_yes pools limited octets claim t a (inl (silent, none, e)) leased = absurd (none_some t (sym e))
-decides_yes pools limited octets claim t a (inr (inl (v, says, refused, none, e))) leased =
+if_yes : (o : Option Plan) (pools : List NamedRange) (limited : Bool) (claim : Claim) (text : List ℕ) (g : Gift) (a : Ip4) → (told_if o pools limited claim text g).lease ≡ Some a → (told_if o pools limited claim text g).yes ≡ true
+if_yes None pools limited claim text g a e = absurd (none_some a e)
+if_yes (Some plan) pools limited claim text g a e = in_yes plan pools limited claim text g a e
+
+pub decides_yes : (r : Rules) (limited : Bool) (octets : List ℕ) (claim : Claim) (t : Told) (a : Ip4) → Decides r limited octets claim (Some t) → t.lease ≡ Some a → t.yes ≡ true
+decides_yes r limited octets claim t a (inl (silent, none, e)) leased = absurd (none_some t (sym e))
+decides_yes r limited octets claim t a (inr (inl (v, says, refused, none, e))) leased =
     absurd (none_some a (sym (ap (λ (u : Told). u.lease) (same_some t (refused_with v.text) e)) ∙ leased))
-decides_yes pools limited octets claim t a (inr (inr (v, says, accepted, g, grants, answers, e))) leased =
-    let is = same_some t (told_of pools limited claim v.text g) e in
-    ap (λ (u : Told). u.yes) is ∙ of_yes pools limited claim v.text g a (sym (ap (λ (u : Told). u.lease) is) ∙ leased)
+decides_yes r limited octets claim t a (inr (inr (v, says, accepted, g, grants, answers, e))) leased =
+    let is = same_some t (told_of r limited claim v.text g) e in
+    ap (λ (u : Told). u.yes) is ∙ if_yes (plan_for r.profiles g.profile) r.pools limited claim v.text g a (sym (ap (λ (u : Told). u.lease) is) ∙ leased)
 
 module _ (r : Rules) (s : State) (limited : Bool) (d : Deed) (t : Told) (h : Judges r s d.entry t d) where
   abbrev Says : LinkStep
@@ -375,12 +381,12 @@ module _ (r : Rules) (s : State) (limited : Bool) (d : Deed) (t : Told) (h : Jud
       (lease_after r (at_of s d.entry) s.asked h.x h.after h.outs h.cause h.asked Says h.drives ∙ ap (kept_lease h.cause) h.no_term ∙ none_kept h.cause)
       after_keeps
 
-  one_begins : (a : Ip4) → IsSound s → t.yes ≡ true → t.lease ≡ Some a → Keeps s (with_term s d.entry.item.target h.after h.asked (next_lease s t.limits d.entry.moment a) (next_term s h.x h.question t.class d.entry.moment a))
+  one_begins : (a : Ip4) → IsSound s → t.yes ≡ true → t.lease ≡ Some a → Keeps s (with_term s d.entry.item.target h.after h.asked (next_lease s t.plan t.limits d.entry.moment a) (next_term s h.x h.question t.plan t.class d.entry.moment a) (meters_of t.plan d.entry.moment))
   one_begins a sound accepted leased housed =
       let n = d.entry.item.target in
-      let lease = next_lease s t.limits d.entry.moment a in
+      let lease = next_lease s t.plan t.limits d.entry.moment a in
       let y : Session = record h.after { lease = Some lease } in
-      let one = next_term s h.x h.question t.class d.entry.moment a in
+      let one = next_term s h.x h.question t.plan t.class d.entry.moment a in
       let each = sessions_with s n y (begun_keeps a lease accepted leased housed) housed in
       let own : h.x.number.0 ≡ n = sound.own n h.x h.found in
       let there : value_at (with_value s.sessions n y) h.x.number.0 ≡ Some y = subst (λ (k : ℕ). value_at (with_value s.sessions n y) k ≡ Some y) (sym own) (value_at-with_value s.sessions n y) in
@@ -399,4 +405,4 @@ module _ (r : Rules) (s : State) (limited : Bool) (d : Deed) (t : Told) (h : Jud
 pub housed_kept : (r : Rules) (s : State) (limited : Bool) (d : Deed) → Step r s limited d → IsSound s → AreHoused s → AreHoused d.next
 housed_kept r s limited d h sound =
     step_walks_by r Keeps (keeps_walk r) keeps_stops s limited d
-    (λ t decides j. judged_keeps r s limited d t j t.lease sound (λ a. decides_yes r.pools limited d.entry.item.frame.payload d.entry.claim t a decides) refl) h
+    (λ t decides j. judged_keeps r s limited d t j t.lease sound (λ a. decides_yes r limited d.entry.item.frame.payload d.entry.claim t a decides) refl) h

@@ -193,7 +193,7 @@ sorted a k (c ∷ cs) h = both _ _ (below (number c) (number c + 1) (k + 1) cs (
 
 -- Their terms ----------------------------------------------------------------------------------------------------------
 
-pub opened_entries : (shard : ℕ) (cs : List Static) (now : ℕ) → Apart cs → entries (opened_slots shard cs now).sessions.by_number ≡ numbered_after 0 (in_order shard cs)
+pub opened_entries : (shard : ℕ) (cs : List Static) (now : ℕ) → Apart cs → entries (opened_slots shard [] cs now).sessions.by_number ≡ numbered_after 0 (in_order shard cs)
 opened_entries shard cs now apart = entries-from_sorted nat_cmp (numbered_after 0 (in_order shard cs)) (sorted (shard * 1024 + 1) 0 (in_order shard cs) (rising_in_order shard cs apart))
 
 -- what the engine reads of a term does not tell when it began
@@ -202,5 +202,5 @@ terms_numbered now k [] = refl
 terms_numbered now k (c ∷ cs) = ap (λ (ts : List Term). term_in (tenure_from now c (k + 1)) ∷ ts) (terms_numbered now (k + 1) cs)
 
 -- the terms of a shard at its opening are those of its circuits
-pub opened_terms : (r : Rules) (shard : ℕ) (cs : List Static) (now : ℕ) → terms_of (record { rules = r; slots = opened_slots shard cs now }) ≡ terms_of_circuits shard cs
+pub opened_terms : (r : Rules) (shard : ℕ) (cs : List Static) (now : ℕ) → terms_of (record { rules = r; slots = opened_slots shard r.profiles cs now }) ≡ terms_of_circuits shard cs
 opened_terms r shard cs now = terms_numbered now 0 (in_order shard cs)

@@ -13,6 +13,7 @@ pub mod Walking
 pub mod SeenLeases
 pub mod Wishing
 pub mod TermBegins
+pub mod Planning
 pub mod TermLaws
 pub mod KnownCauses
 pub mod CircuitsKept
@@ -29,6 +30,7 @@ pub mod QuestionLaws
 pub mod Granted
 pub mod GrantLaws
 pub mod SoundOpening
+pub mod Metering
 pub mod Packets
 pub mod Sends
 pub mod StepLaws

@@ -10,24 +10,27 @@ use Rattle.bng_base.specs.declared.item.Claim.TheVariants.{NoClaim, Claimed, Hel
 use Rattle.bng_base.specs.declared.item.ItemKind.{ItemKind}
 use Rattle.bng_base.specs.declared.item.ItemKind.TheVariants.{Verdict}
 use Rattle.bng_base.specs.declared.settings.NamedRange.{NamedRange}
+use Rattle.bng_base.specs.declared.book.Profile.{Profile}
 use Rattle.bng_base.specs.declared.settings.Static.{Static}
 use Rattle.bng_grant.specs.Classes.{AreClasses}
 use Rattle.bng_grant.specs.Grants.{Gift, IsGrant, NoReply, Replied}
 use Rattle.bng_grant.proofs.Fronts.{kept_are_classes}
 use Rattle.bng_radius_wire.specs.Attributes.{Field}
 use Rattle.bng_slots.specs.Sessions.{IsNumberOf}
+use Rattle.bng_shard.specs.declared.meters.Plan.{Plan}
 use Rattle.bng_shard.specs.declared.rules.Rules.{Rules}
 use Rattle.bng_shard.specs.declared.session.Session.{Session}
 use Rattle.bng_shard.specs.Deed.{Deed, ignored}
 use Rattle.bng_shard.specs.Granting.{IsSound}
 use Rattle.bng_shard.specs.Lasting.{AreTenures, IsTenureOf, Precedes}
 use Rattle.bng_shard.specs.Link.{Told}
+use Rattle.bng_shard.specs.Metered.{meters_of, plan_for}
 use Rattle.bng_shard.specs.Opening.{in_order, opened_slots, tenures_after}
 use Rattle.bng_shard.specs.State.{State, settled}
 use Rattle.bng_shard.specs.Step.{Hears, Step}
 use Rattle.bng_shard.specs.Tenures.{Tenure, is_over}
 use Rattle.bng_shard.specs.Verdicts.{HearsVerdict, Judges, next_lease, next_term, with_term}
-use Rattle.bng_shard.specs.Wishes.{Decides, pool_for, refused_with, told_at, told_by, told_of}
+use Rattle.bng_shard.specs.Wishes.{Decides, pool_for, refused_with, told_at, told_by, told_if, told_in, told_of}
 use Rattle.bng_shard.proofs.InOrder.{all_in_order}
 use Rattle.bng_shard.proofs.Naming.{next_of}
 use Rattle.bng_shard.proofs.Opened.{in_order_count}
@@ -51,27 +54,34 @@ gift_whole octets g (Replied p reply h gives is) =
 gift_whole octets g (NoReply never is) = absurd (none_some g (sym is))
 
 module _ (text : List ℕ) (g : Gift) (whole : AreWhole g.class) where
-  by_whole : (claim : Claim) → AreWhole (told_by claim text g).class
-  by_whole NoClaim = none_whole
-  by_whole (Claimed a) = whole
-  by_whole (Held a) = none_whole
-  by_whole (Exhausted k) = none_whole
+  by_whole : (plan : Plan) (claim : Claim) → AreWhole (told_by plan claim text g).class
+  by_whole plan NoClaim = none_whole
+  by_whole plan (Claimed a) = whole
+  by_whole plan (Held a) = none_whole
+  by_whole plan (Exhausted k) = none_whole
 
-  at_whole : (limited : Bool) (place : Option ℕ) (claim : Claim) → AreWhole (told_at limited place claim text g).class
-  at_whole limited None claim = none_whole
-  at_whole true (Some k) claim = none_whole
-  at_whole false (Some k) claim = by_whole claim
+  at_whole : (plan : Plan) (limited : Bool) (place : Option ℕ) (claim : Claim) → AreWhole (told_at plan limited place claim text g).class
+  at_whole plan limited None claim = none_whole
+  at_whole plan true (Some k) claim = none_whole
+  at_whole plan false (Some k) claim = by_whole plan claim
 
-  told_whole : (pools : List NamedRange) (limited : Bool) (claim : Claim) → AreWhole (told_of pools limited claim text g).class
-  told_whole [] limited claim = whole
-  told_whole (p ∷ ps) limited claim = at_whole limited (pool_for (p ∷ ps) g.pool) claim
+  in_whole : (plan : Plan) (pools : List NamedRange) (limited : Bool) (claim : Claim) → AreWhole (told_in plan pools limited claim text g).class
+  in_whole plan [] limited claim = whole
+  in_whole plan (p ∷ ps) limited claim = at_whole plan limited (pool_for (p ∷ ps) g.pool) claim
 
-decided_whole : (pools : List NamedRange) (limited : Bool) (octets : List ℕ) (claim : Claim) (t : Told) → Decides pools limited octets claim (Some t) → AreWhole t.class
-decided_whole pools limited octets claim t (inl (silent, none, e)) = absurd (none_some t (sym e))
-decided_whole pools limited octets claim t (inr (inl (v, says, refused, none, e))) =
+  if_whole : (o : Option Plan) (pools : List NamedRange) (limited : Bool) (claim : Claim) → AreWhole (told_if o pools limited claim text g).class
+  if_whole None pools limited claim = none_whole
+  if_whole (Some plan) pools limited claim = in_whole plan pools limited claim
+
+  told_whole : (r : Rules) (limited : Bool) (claim : Claim) → AreWhole (told_of r limited claim text g).class
+  told_whole r limited claim = if_whole (plan_for r.profiles g.profile) r.pools limited claim
+
+decided_whole : (r : Rules) (limited : Bool) (octets : List ℕ) (claim : Claim) (t : Told) → Decides r limited octets claim (Some t) → AreWhole t.class
+decided_whole r limited octets claim t (inl (silent, none, e)) = absurd (none_some t (sym e))
+decided_whole r limited octets claim t (inr (inl (v, says, refused, none, e))) =
     subst AreWhole (ap (λ (u : Told). u.class) (sym (same_some t (refused_with v.text) e))) none_whole
-decided_whole pools limited octets claim t (inr (inr (v, says, accepted, g, grants, answers, e))) =
-    subst AreWhole (ap (λ (u : Told). u.class) (sym (same_some t (told_of pools limited claim v.text g) e))) (told_whole v.text g (gift_whole octets g grants) pools limited claim)
+decided_whole r limited octets claim t (inr (inr (v, says, accepted, g, grants, answers, e))) =
+    subst AreWhole (ap (λ (u : Told). u.class) (sym (same_some t (told_of r limited claim v.text g) e))) (told_whole v.text g (gift_whole octets g grants) r limited claim)
 
 -- Terms side by side ---------------------------------------------------------------------------------------------------------
 
@@ -177,7 +187,7 @@ module _ (m n : ℕ) (s s' : State) (le : m ≤ n) (h : AreTenures m s) where
 module _ (r : Rules) (s : State) (limited : Bool) (d : Deed) (m : ℕ) (sound : IsSound s) (le : m ≤ d.entry.moment) (h : AreTenures m s) where
   module _ (t : Told) (whole : AreWhole t.class) (j : Judges r s d.entry t d) where
     -- the term that begins is of the session that the item names
-    new_tenure : (a : Ip4) → IsTenureOf s.sessions.shard (s.begun + 1) d.entry.moment (next_term s j.x j.question t.class d.entry.moment a)
+    new_tenure : (a : Ip4) → IsTenureOf s.sessions.shard (s.begun + 1) d.entry.moment (next_term s j.x j.question t.plan t.class d.entry.moment a)
     new_tenure a =
         let own : j.x.number.0 ≡ d.entry.item.target = sound.own d.entry.item.target j.x j.found in
         let its = sound.of_shard d.entry.item.target (ap (λ (o : Option Session). is_some o) j.found) in
@@ -192,15 +202,15 @@ module _ (r : Rules) (s : State) (limited : Bool) (d : Deed) (m : ℕ) (sound : 
     judged_tenures : (lease : Option Ip4) → t.lease ≡ lease → AreTenures d.entry.moment d.next
     judged_tenures None none = tenures_remain m d.entry.moment s d.next le h r (judged_remains r s d.entry t d j none)
     judged_tenures (Some a) is =
-        let one = next_term s j.x j.question t.class d.entry.moment a in
+        let one = next_term s j.x j.question t.plan t.class d.entry.moment a in
         subst (AreTenures d.entry.moment) (sym (settled_as r s d.entry t d j (Some a) is))
-        (tenures_begin m d.entry.moment s (with_term s d.entry.item.target j.after j.asked (next_lease s t.limits d.entry.moment a) one) le h one refl refl refl refl refl (new_tenure a))
+        (tenures_begin m d.entry.moment s (with_term s d.entry.item.target j.after j.asked (next_lease s t.plan t.limits d.entry.moment a) one (meters_of t.plan d.entry.moment)) le h one refl refl refl refl refl (new_tenure a))
 
   unchanged : (f : Deed) → d ≡ f → f.next ≡ s → AreTenures d.entry.moment d.next
   unchanged f is next = subst (AreTenures d.entry.moment) (sym (next_of d f is ∙ next)) (tenures_later m d.entry.moment s le h)
 
   verdict_tenures : HearsVerdict r s d.entry limited d → AreTenures d.entry.moment d.next
-  verdict_tenures (inl (asks, t, decides, judges)) = judged_tenures t (decided_whole r.pools limited d.entry.item.frame.payload d.entry.claim t decides) judges t.lease refl
+  verdict_tenures (inl (asks, t, decides, judges)) = judged_tenures t (decided_whole r limited d.entry.item.frame.payload d.entry.claim t decides) judges t.lease refl
   verdict_tenures (inr (inl (asks, decides, is))) = unchanged (ignored s d.entry) is refl
   verdict_tenures (inr (inr (other, none, is))) = unchanged (ignored s d.entry) is refl
 
@@ -239,8 +249,8 @@ module _ (shard now : ℕ) where
       AllPairs-cons Precedes _ (tenures_after now (k + 1) cs)
       (All-from_recursion (λ (t : Tenure). k + 1 < t.term.serial) (tenures_after now (k + 1) cs) (above (k + 1) (k + 1) cs (omega arith))) (rise_opened (k + 1) cs)
 
-  pub tenures_opened : (circuits : List Static) → All (λ c. IsNumberOf shard c.session.0) circuits → AreTenures now (opened_slots shard circuits now)
-  tenures_opened circuits own =
+  pub tenures_opened : (profiles : List Profile) (circuits : List Static) → All (λ c. IsNumberOf shard c.session.0) circuits → AreTenures now (opened_slots shard profiles circuits now)
+  tenures_opened profiles circuits own =
       let count = in_order_count shard circuits own in
       let its = all_in_order (λ c. IsNumberOf shard c.session.0) shard circuits (recursion_from_All (λ c. IsNumberOf shard c.session.0) circuits own) in
       record {

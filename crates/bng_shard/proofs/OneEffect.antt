@@ -53,6 +53,7 @@ use Rattle.bng_shard.specs.Deed.{Deed, at_of, out, frame_outs, only, handled, ar
 use Rattle.bng_shard.specs.Discovery.{Answers, Discovers, IsNewLink, IsVacancy, Makes, Repeats, host_uniq_of, new_session, repeated}
 use Rattle.bng_shard.specs.Frames.{charge_of, forwarded, found_up, found_down, GoesUp, GoesDown, HearsData, HearsPadt, HearsPpp, HearsControl, HearsIn, HearsFrame, HearsAccess, HearsPacket, HearsCore}
 use Rattle.bng_shard.specs.Link.{LinkStep, Drives, EndsWith, padt_outs, said_outs, asked_after, with_link, Told, told, hears, nas_request, settles, ended}
+use Rattle.bng_shard.specs.Metered.{meters_at, spent_input, spent_output}
 use Rattle.bng_shard.specs.Passing.{cause_at, lapsed, passed_at}
 use Rattle.bng_shard.specs.Protocol.{pppoe, refused_by}
 use Rattle.bng_shard.specs.Questions.{open_of}
@@ -271,7 +272,7 @@ passed_one v w before after after' a b =
 
 module _ (r : Rules) (s : State) (e : Entry) where
   sent_up : Session → Lease → Ipv4 → List ℕ → Deed
-  sent_up x l v packet = forwarded s e x.number (out (at_of s e) role.Core r.core_peer packet (Some (charge_of x l true v.total)))
+  sent_up x l v packet = forwarded s e x.number (spent_input (meters_at s.meters x.number) e.moment v.total) (out (at_of s e) role.Core r.core_peer packet (Some (charge_of x l true v.total)))
 
   up_equal : (x x' : Session) (l l' : Lease) (v v' : Ipv4) (packet packet' : List ℕ) → x ≡ x' → l ≡ l' → v ≡ v' → packet ≡ packet' → sent_up x l v packet ≡ sent_up x' l' v' packet'
   up_equal x x' l l' v v' packet packet' p q t u = cc
@@ -285,7 +286,7 @@ module _ (r : Rules) (s : State) (e : Entry) where
       h.done ∙ up_equal h.x k.x h.lease k.lease h.header k.header h.packet k.packet x lease packet.0 packet.1 ∙ sym k.done
 
   sent_down : Session → Lease → AccessPort → Ipv4 → List ℕ → Deed
-  sent_down x l port v packet = forwarded s e x.number (out (at_of s e) (role.Access x.port) port.peer (circuit_frame port x.mac x.number.0 packet) (Some (charge_of x l false v.total)))
+  sent_down x l port v packet = forwarded s e x.number (spent_output (meters_at s.meters x.number) e.moment v.total) (out (at_of s e) (role.Access x.port) port.peer (circuit_frame port x.mac x.number.0 packet) (Some (charge_of x l false v.total)))
 
   down_equal : (v : Ipv4) (x x' : Session) (l l' : Lease) (port port' : AccessPort) (packet packet' : List ℕ) → x ≡ x' → l ≡ l' → port ≡ port' → packet ≡ packet' → sent_down x l port v packet ≡ sent_down x' l' port' v packet'
   down_equal v x x' l l' port port' packet packet' p q t u = cc
@@ -308,19 +309,19 @@ yes_and_no : {X : Type 0} (octets : List ℕ) (v w : Saying) → IsVerdict octet
 yes_and_no octets v w is refuses is' accepts = absurd (false≢true (sym refuses ∙ ap (λ (u : Saying). u.yes) (same_Some v w (one_verdict octets (Some v) (Some w) is is')) ∙ accepts))
 
 -- with one answer to what they ask, the octets of a reply come to one thing
-decides_one : (pools : List NamedRange) (limited : Bool) (octets : List ℕ) (claim : Claim) (told told' : Option Told) → Decides pools limited octets claim told → Decides pools limited octets claim told' → told ≡ told'
-decides_one pools limited octets claim told told' (inl (silent, none, e)) (inl (silent', none', e')) = e ∙ sym e'
-decides_one pools limited octets claim told told' (inl (silent, none, e)) (inr (inl (w, is', refuses', none', e'))) = said_or_not octets w is' silent
-decides_one pools limited octets claim told told' (inl (silent, none, e)) (inr (inr (w, is', accepts', g', grant', answer', e'))) = said_or_not octets w is' silent
-decides_one pools limited octets claim told told' (inr (inl (v, is, refuses, none, e))) (inl (silent', none', e')) = said_or_not octets v is silent'
-decides_one pools limited octets claim told told' (inr (inl (v, is, refuses, none, e))) (inr (inl (w, is', refuses', none', e'))) =
+decides_one : (r : Rules) (limited : Bool) (octets : List ℕ) (claim : Claim) (told told' : Option Told) → Decides r limited octets claim told → Decides r limited octets claim told' → told ≡ told'
+decides_one r limited octets claim told told' (inl (silent, none, e)) (inl (silent', none', e')) = e ∙ sym e'
+decides_one r limited octets claim told told' (inl (silent, none, e)) (inr (inl (w, is', refuses', none', e'))) = said_or_not octets w is' silent
+decides_one r limited octets claim told told' (inl (silent, none, e)) (inr (inr (w, is', accepts', g', grant', answer', e'))) = said_or_not octets w is' silent
+decides_one r limited octets claim told told' (inr (inl (v, is, refuses, none, e))) (inl (silent', none', e')) = said_or_not octets v is silent'
+decides_one r limited octets claim told told' (inr (inl (v, is, refuses, none, e))) (inr (inl (w, is', refuses', none', e'))) =
     e ∙ ap (λ (u : Saying). Some (refused_with u.text)) (same_Some v w (one_verdict octets (Some v) (Some w) is is')) ∙ sym e'
-decides_one pools limited octets claim told told' (inr (inl (v, is, refuses, none, e))) (inr (inr (w, is', accepts', g', grant', answer', e'))) = yes_and_no octets v w is refuses is' accepts'
-decides_one pools limited octets claim told told' (inr (inr (v, is, accepts, g, grant, answer, e))) (inl (silent', none', e')) = said_or_not octets v is silent'
-decides_one pools limited octets claim told told' (inr (inr (v, is, accepts, g, grant, answer, e))) (inr (inl (w, is', refuses', none', e'))) = yes_and_no octets w v is' refuses' is accepts
-decides_one pools limited octets claim told told' (inr (inr (v, is, accepts, g, grant, answer, e))) (inr (inr (w, is', accepts', g', grant', answer', e'))) =
-    e ∙ ap (λ (u : Saying). Some (told_of pools limited claim u.text g)) (same_Some v w (one_verdict octets (Some v) (Some w) is is'))
-    ∙ ap (λ (i : Gift). Some (told_of pools limited claim w.text i)) (same_Some g g' (one_grant octets (Some g) (Some g') grant grant')) ∙ sym e'
+decides_one r limited octets claim told told' (inr (inl (v, is, refuses, none, e))) (inr (inr (w, is', accepts', g', grant', answer', e'))) = yes_and_no octets v w is refuses is' accepts'
+decides_one r limited octets claim told told' (inr (inr (v, is, accepts, g, grant, answer, e))) (inl (silent', none', e')) = said_or_not octets v is silent'
+decides_one r limited octets claim told told' (inr (inr (v, is, accepts, g, grant, answer, e))) (inr (inl (w, is', refuses', none', e'))) = yes_and_no octets w v is' refuses' is accepts
+decides_one r limited octets claim told told' (inr (inr (v, is, accepts, g, grant, answer, e))) (inr (inr (w, is', accepts', g', grant', answer', e'))) =
+    e ∙ ap (λ (u : Saying). Some (told_of r limited claim u.text g)) (same_Some v w (one_verdict octets (Some v) (Some w) is is'))
+    ∙ ap (λ (i : Gift). Some (told_of r limited claim w.text i)) (same_Some g g' (one_grant octets (Some g) (Some g') grant grant')) ∙ sym e'
 
 -- Entries ---------------------------------------------------------------------------------------------------------------
 
@@ -383,9 +384,9 @@ module _ (r : Rules) (s : State) (e : Entry) (d d' : Deed) where
 
   data_one : (number : ℕ) (p : PppoeFrame) (info : List ℕ) → HearsData r s e number p info d → HearsData r s e number p info d' → d ≡ d'
   data_one number p info (fate, is, inl (goes, h)) (fate', is', inl (goes', k)) = up_one r s e number p info d d' h k
-  data_one number p info (fate, is, inl (goes, h)) (fate', is', inr (stays', k)) = absurd (stays' (up_once (found_up s number p) info fate' fate is' is ∙ goes))
-  data_one number p info (fate, is, inr (stays, h)) (fate', is', inl (goes', k)) = absurd (stays (up_once (found_up s number p) info fate fate' is is' ∙ goes'))
-  data_one number p info (fate, is, inr (stays, h)) (fate', is', inr (stays', k)) = only_one fate fate' (up_once (found_up s number p) info fate fate' is is') h k
+  data_one number p info (fate, is, inl (goes, h)) (fate', is', inr (stays', k)) = absurd (stays' (up_once (found_up s number p) e.moment info fate' fate is' is ∙ goes))
+  data_one number p info (fate, is, inr (stays, h)) (fate', is', inl (goes', k)) = absurd (stays (up_once (found_up s number p) e.moment info fate fate' is is' ∙ goes'))
+  data_one number p info (fate, is, inr (stays, h)) (fate', is', inr (stays', k)) = only_one fate fate' (up_once (found_up s number p) e.moment info fate fate' is is') h k
 
   ppp_one : (x : Session) (made : Made) (p : PppoeFrame) → HearsPpp r s e x made p d → HearsPpp r s e x made p d' → d ≡ d'
   ppp_one x made p (inl (over, h)) (inl (over', k)) = same_deed _ h k
@@ -436,9 +437,9 @@ module _ (r : Rules) (s : State) (e : Entry) (d d' : Deed) where
 
   packet_one : (v : Ipv4) → HearsPacket r s e v d → HearsPacket r s e v d' → d ≡ d'
   packet_one v (fate, is, inl (goes, h)) (fate', is', inl (goes', k)) = down_one r s e v d d' h k
-  packet_one v (fate, is, inl (goes, h)) (fate', is', inr (stays', k)) = absurd (stays' (down_once (found_down s) e.item.frame.payload fate' fate is' is ∙ goes))
-  packet_one v (fate, is, inr (stays, h)) (fate', is', inl (goes', k)) = absurd (stays (down_once (found_down s) e.item.frame.payload fate fate' is is' ∙ goes'))
-  packet_one v (fate, is, inr (stays, h)) (fate', is', inr (stays', k)) = only_one fate fate' (down_once (found_down s) e.item.frame.payload fate fate' is is') h k
+  packet_one v (fate, is, inl (goes, h)) (fate', is', inr (stays', k)) = absurd (stays' (down_once (found_down s) e.moment e.item.frame.payload fate' fate is' is ∙ goes))
+  packet_one v (fate, is, inr (stays, h)) (fate', is', inl (goes', k)) = absurd (stays (down_once (found_down s) e.moment e.item.frame.payload fate fate' is is' ∙ goes'))
+  packet_one v (fate, is, inr (stays, h)) (fate', is', inr (stays', k)) = only_one fate fate' (down_once (found_down s) e.moment e.item.frame.payload fate fate' is is') h k
 
   core_one : HearsCore r s e d → HearsCore r s e d' → d ≡ d'
   core_one (inl (none, h)) (inl (none', k)) = same_deed _ h k
@@ -465,11 +466,11 @@ module _ (r : Rules) (s : State) (e : Entry) (d d' : Deed) where
 
   verdict_entry : (limited : Bool) → HearsVerdict r s e limited d → HearsVerdict r s e limited d' → d ≡ d'
   verdict_entry limited (inl (asks, t, decides, h)) (inl (asks', u, decides', k)) =
-      let same = same_Some t u (decides_one r.pools limited e.item.frame.payload e.claim (Some t) (Some u) decides decides') in
+      let same = same_Some t u (decides_one r limited e.item.frame.payload e.claim (Some t) (Some u) decides decides') in
       judges_one t h (subst (λ (v : Told). Judges r s e v d') (sym same) k)
-  verdict_entry limited (inl (asks, t, decides, h)) (inr (inl (asks', none', k))) = absurd (none_some t (decides_one r.pools limited e.item.frame.payload e.claim None (Some t) none' decides))
+  verdict_entry limited (inl (asks, t, decides, h)) (inr (inl (asks', none', k))) = absurd (none_some t (decides_one r limited e.item.frame.payload e.claim None (Some t) none' decides))
   verdict_entry limited (inl (asks, t, decides, h)) (inr (inr (other', none', k))) = absurd (other' asks)
-  verdict_entry limited (inr (inl (asks, none, h))) (inl (asks', u, decides', k)) = absurd (none_some u (decides_one r.pools limited e.item.frame.payload e.claim None (Some u) none decides'))
+  verdict_entry limited (inr (inl (asks, none, h))) (inl (asks', u, decides', k)) = absurd (none_some u (decides_one r limited e.item.frame.payload e.claim None (Some u) none decides'))
   verdict_entry limited (inr (inl (asks, none, h))) (inr (inl (asks', none', k))) = same_deed _ h k
   verdict_entry limited (inr (inl (asks, none, h))) (inr (inr (other', none', k))) = same_deed _ h k
   verdict_entry limited (inr (inr (other, none, h))) (inl (asks', u, decides', k)) = absurd (other asks')

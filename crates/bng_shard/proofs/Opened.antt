@@ -12,6 +12,7 @@ use Rattle.bng_base.specs.declared.book.Book.{Book}
 use Rattle.bng_base.specs.declared.item.Entry.{Entry}
 use Rattle.bng_base.specs.declared.item.OutRecord.{OutRecord}
 use Rattle.bng_base.specs.declared.settings.AccessPort.{AccessPort}
+use Rattle.bng_base.specs.declared.book.Profile.{Profile}
 use Rattle.bng_base.specs.declared.settings.Static.{Static}
 use Rattle.bng_engine.specs.Lists.{AnyOf}
 use Rattle.bng_engine.specs.Quantities.{empty_book}
@@ -66,7 +67,7 @@ tied_in now k (c ∷ cs) x l leases (zero, lt, is) =
     inl (subst (λ (y : Session). IsTermOf y l t) is (subst (λ (m : Lease). IsTermOf (provisioned c (k + 1)) m t) same its))
 tied_in now k (c ∷ cs) x l leases (suc i, lt, is) = inr (tied_in now (k + 1) cs x l leases (i, omega (arith, lt), is))
 
-module _ (shard : ℕ) (cs : List Static) (sessions : Sessions Session) (opened : sessions ≡ (opened_slots shard cs 0).sessions) (apart : AllPairs (λ a b. a.session ≢ b.session) cs) where
+module _ (shard : ℕ) (cs : List Static) (sessions : Sessions Session) (opened : sessions ≡ (opened_slots shard [] cs 0).sessions) (apart : AllPairs (λ a b. a.session ≢ b.session) cs) where
   -- each session is of a circuit
   listed : (x : Session) → Contains (values sessions) x → Contains (map (λ e. e.1) (numbered_after 0 (in_order shard cs))) x
   listed x h =
@@ -147,15 +148,16 @@ opened_rows_apart shard now cs rows sessions apart are i j d lt within = λ same
 -- What a caller sees -----------------------------------------------------------------------------------------------------
 
 -- sessions that were opened, with the terms of their circuits
-pub opened_whole : (shard now : ℕ) (cs : List Static) (s : State) (t : TermsView) → s ≡ record (opened_slots shard cs 0) { terms = [] } → tenures_in t.rows ≡ tenures_after now 0 (in_order shard cs) → t.news ≡ []
-    → whole s t ≡ opened_slots shard cs now
-opened_whole shard now cs s t opened are none = λ i. record {
+pub opened_whole : (shard now : ℕ) (profiles : List Profile) (cs : List Static) (s : State) (t : TermsView) → s ≡ record (opened_slots shard profiles cs now) { terms = [] } → tenures_in t.rows ≡ tenures_after now 0 (in_order shard cs) → t.news ≡ []
+    → whole s t ≡ opened_slots shard profiles cs now
+opened_whole shard now profiles cs s t opened are none = λ i. record {
   sessions = (opened i).sessions;
   begun = (opened i).begun;
   asked = (opened i).asked;
   terms = are i;
   news = tenures_in (none i);
   passed = (opened i).passed;
+  meters = (opened i).meters;
 }
 
 module _ (r : Rules) (shard : ℕ) (cs : List Static) (now : ℕ) where
@@ -176,6 +178,6 @@ module _ (r : Rules) (shard : ℕ) (cs : List Static) (now : ℕ) where
   }
 
   -- those of one that was opened
-  pub opened_view : (s : State) (rows : List Row) (books : List Book) (journal : List Entry) (outs : List OutRecord) → s ≡ opened_slots shard cs now
+  pub opened_view : (s : State) (rows : List Row) (books : List Book) (journal : List Entry) (outs : List OutRecord) → s ≡ opened_slots shard r.profiles cs now
       → rows ≡ map new_row (keys (map term_in (tenures_after now 0 (in_order shard cs)))) → books ≡ replicate (length r.profiles) empty_book → journal ≡ [] → outs ≡ [] → shown s rows books journal outs ≡ opened_shard shard r cs now
   opened_view s rows books journal outs opened are nothing none no_outs = λ i. shown (opened i) (are i) (nothing i) (none i) (no_outs i)

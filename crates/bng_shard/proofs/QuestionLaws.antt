@@ -1,5 +1,6 @@
 -- After a step each open question was open before, or has a number that the step gave.
 use Rattle.std.proofs.Common.{◌≡◌, ◌≢◌, ◌⊎◌, inl, inr, ℕ, zero, suc, ◌+◌, ◌-◌, ◌^◌, ◌<◌, ◌≤◌, Bool, true, false, not, ◌&&◌, List, [], ◌∷◌, ◌++◌, Option, Some, None, is_some, if◌then◌else◌, Contains, refl, sym, ap, subst, ◌∙◌, arith}
+use Rattle.std.specs.Prelude.{slice_set}
 use Rattle.std.specs.List.{flat_map}
 use Rattle.std.specs.Option.{option_map, option_and_then}
 use Rattle.std.proofs.lemmas.Bool.{cases_eq, false≢true}
@@ -27,6 +28,7 @@ use Rattle.bng_slots.specs.Sessions.{Sessions, value_at, with_value}
 use Rattle.bng_slots.specs.Listed.{values}
 use Rattle.bng_slots.proofs.SessionLaws.{value_at-with_value, value_at-with_other}
 use Rattle.bng_shard.specs.Made.{Made, Question}
+use Rattle.bng_shard.specs.declared.meters.Meters.{Meters}
 use Rattle.bng_shard.specs.declared.rules.Rules.{Rules}
 use Rattle.bng_base.specs.declared.item.At.{At}
 use Rattle.bng_shard.specs.declared.session.Lease.{Lease}
@@ -38,7 +40,8 @@ use Rattle.bng_shard.specs.Deed.{Deed, at_of}
 use Rattle.bng_shard.specs.Discovery.{Answers, Makes, host_uniq_of, new_session}
 use Rattle.bng_shard.specs.Frames.{HearsData, HearsPpp, HearsControl, HearsIn, HearsFrame, HearsAccess, HearsCore}
 use Rattle.bng_shard.specs.Link.{LinkStep, Drives, Told, asked_after, ended, ended_service, hears, nas_request, next_ask, question_after, settles, told, user_request, with_link}
-use Rattle.bng_shard.specs.Passing.{cause_at, lapsed, looked, passed_at, with_passed}
+use Rattle.bng_shard.specs.Metered.{meters_at, meters_of, spent_input, spent_output}
+use Rattle.bng_shard.specs.Passing.{cause_at, lapsed, looked, passed_at, place_in, with_passed}
 use Rattle.bng_shard.specs.Questions.{Asking, AsksOn, asked_in, asking_of, open_in, open_of, questions_of}
 use Rattle.bng_shard.specs.Step.{Hears, Step}
 use Rattle.bng_shard.specs.Tenures.{Tenure, closed, kept_lease}
@@ -78,15 +81,16 @@ the_question x None a (k, l, is) = absurd (omega arith)
 the_question x (Some q) a (zero, l, is) = (q, refl, is)
 the_question x (Some q) a (suc k, l, is) = absurd (omega arith)
 
--- the state with another session at a number, after so many questions, whatever it has of terms
-abbrev pub state_with : State → ℕ → Session → ℕ → ℕ → List Tenure → List Tenure → State
-state_with s n x asked begun terms news = record {
+-- the state with another session at a number, after so many questions, whatever it has of terms and meters
+abbrev pub state_with : State → ℕ → Session → ℕ → ℕ → List Tenure → List Tenure → List Meters → State
+state_with s n x asked begun terms news meters = record {
   sessions = with_value s.sessions n x;
   begun = begun;
   asked = asked;
   terms = terms;
   news = news;
   passed = s.passed;
+  meters = meters;
 }
 
 -- then this session stands at the number, and the others stand where they stood
@@ -163,8 +167,8 @@ same s s' e = record {
 }
 
 -- a packet passes
-passes_on : (s : State) (n : SessionNo) (moment : ℕ) → On s (with_passed s n moment)
-passes_on s n moment = record { counted = counts_same s.asked s.asked refl; asked = λ low a h. inl h }
+passes_on : (s : State) (n : SessionNo) (moment : ℕ) (ms : Meters) → On s (with_passed s n moment ms)
+passes_on s n moment ms = record { counted = counts_same s.asked s.asked refl; asked = λ low a h. inl h }
 
 chained : (s s' s'' : State) → On s s' → On s' s'' → On s s''
 chained s s' s'' g h = record {
@@ -216,9 +220,9 @@ abbrev IsOpenIn : State → Session → Type 0
 IsOpenIn s x = (m : Made) (q : Question) → x.service ≡ Discovered m → m.question ≡ Some q → is_open m.link.auth ≡ true → Contains (questions_of s) (asking_of x q)
 
 module _ (r : Rules) (a : At) (s : State) (n : ℕ) (x : Session) (outs : List OutRecord) (cause : Option ℕ) (x' : Session) (asked' : ℕ) (Steps : LinkStep) (opens : OpensByAsking Steps) (was : IsOpenIn s x)
-    (h : Drives r a s.asked x Steps outs cause x' asked') (begun : ℕ) (terms news : List Tenure) where
+    (h : Drives r a s.asked x Steps outs cause x' asked') (begun : ℕ) (terms news : List Tenure) (meters : List Meters) where
   -- whatever the session leases after the step
-  with_lease : (y : Session) (lease : Option Lease) → y ≡ record (with_link x h.made s.asked h.says h.link) { lease = lease } → On s (state_with s n y asked' begun terms news)
+  with_lease : (y : Session) (lease : Option Lease) → y ≡ record (with_link x h.made s.asked h.says h.link) { lease = lease } → On s (state_with s n y asked' begun terms news meters)
   with_lease y lease is = record {
     counted = subst (λ (m : ℕ). Counts s.asked m) (sym h.count) (after_counts s.asked h.says.asked);
     asked = λ low b there. elim (among s (with_session s n y) n y b (puts_one s.sessions n y) there) [
@@ -239,10 +243,10 @@ module _ (r : Rules) (a : At) (s : State) (n : ℕ) (x : Session) (outs : List O
     ];
   }
 
-  driven : On s (state_with s n x' asked' begun terms news)
+  driven : On s (state_with s n x' asked' begun terms news meters)
   driven = with_lease x' (kept_lease h.says.term_ended x.lease) h.session
 
-  leased : (lease : Option Lease) → On s (state_with s n (record x' { lease = lease }) asked' begun terms news)
+  leased : (lease : Option Lease) → On s (state_with s n (record x' { lease = lease }) asked' begun terms news meters)
   leased lease = with_lease (record x' { lease = lease }) lease (ap (λ (z : Session). record z { lease = lease }) h.session)
 
 -- a session that has not ended stands there
@@ -276,7 +280,7 @@ ended_silent : (v : Service) → open_in (ended_service v) ≡ None
 ended_silent (Provisioned l) = refl
 ended_silent (Discovered m) = refl
 
-over : (s : State) (n : ℕ) (x : Session) (terms : List Tenure) → On s (state_with s n (ended x) s.asked s.begun terms s.news)
+over : (s : State) (n : ℕ) (x : Session) (terms : List Tenure) → On s (state_with s n (ended x) s.asked s.begun terms s.news s.meters)
 over s n x terms = record {
   counted = counts_same s.asked s.asked refl;
   asked = λ low a there. elim (among s (with_session s n (ended x)) n (ended x) a (puts_one s.sessions n (ended x)) there) [
@@ -341,13 +345,13 @@ module _ (r : Rules) (e : Entry) where
 
   -- the live term of a session whose link had taken Timer is looked at
   looks_on : (o : Option ℕ) (s : State) (n : ℕ) (x : Session) (asked : ℕ) (terms : List Tenure) (outs : List OutRecord) (s' : State) → IsOpenIn s x → asked ≡ s.asked
-      → LooksAt o r e (state_with s n x asked s.begun terms s.news) n x outs s' → On s s'
+      → LooksAt o r e (state_with s n x asked s.begun terms s.news s.meters) n x outs s' → On s s'
   looks_on None s n x asked terms outs s' was count (none, next) =
       let y = looked (passed_at s.passed x.number) x in
-      let t = state_with s n x asked s.begun terms s.news in
+      let t = state_with s n x asked s.begun terms s.news s.meters in
       subst (On s) (sym next) (still_on s (with_session t n y) n y (puts_again s.sessions n x y) was count)
   looks_on (Some cause) s n x asked terms outs s' was count (y, none, asked', drives, next) =
-      let t = state_with s n x asked s.begun terms s.news in
+      let t = state_with s n x asked s.begun terms s.news s.meters in
       let silent = told_silent Close refl drives.made.link drives.says drives.link drives.steps in
       let stays = count_stays r (at_of t e) s asked (lapsed x) outs none y asked' (told r e Close) (told_opens r e Close) drives silent in
       let opened = open_stays r (at_of t e) s asked (lapsed x) outs none y asked' (told r e Close) (told_opens r e Close) drives silent was in
@@ -388,7 +392,7 @@ module _ (r : Rules) (s : State) (limited : Bool) (e : Entry) (d : Deed) where
       after (with_driven s h.session None h.cause h.x h.asked) _ h.done refl
       (driven r (at_of s e) s h.session (new_session h.session number p.src (host_uniq_of tags) h.link) h.outs h.cause h.x h.asked (told r e Start) (told_opens r e Start)
       (was_silent s (new_session h.session number p.src (host_uniq_of tags) h.link) h.starts.made h.starts.is_made (sym (ap question_in h.starts.is_made))) h.starts
-      s.begun s.terms s.news)
+      s.begun s.terms s.news s.meters)
     where
       question_in : Service → Option Question
       question_in (Provisioned l) = None
@@ -404,7 +408,9 @@ module _ (r : Rules) (s : State) (limited : Bool) (e : Entry) (d : Deed) where
   answers Ignore number port offers p tags h = kept _ h refl
 
   packets : (number : ℕ) (p : PppoeFrame) (info : List ℕ) → HearsData r s e number p info d → On s d.next
-  packets number p info (fate, is, inl (forwards, up)) = after (with_passed s up.x.number e.moment) _ up.done refl (passes_on s up.x.number e.moment)
+  packets number p info (fate, is, inl (forwards, up)) =
+      let ms : Meters = spent_input (meters_at s.meters up.x.number) e.moment up.header.total in
+      after (with_passed s up.x.number e.moment ms) _ up.done refl (passes_on s up.x.number e.moment ms)
   packets number p info (fate, is, inr (stays, h)) = kept _ h refl
 
   ppp : (x : Session) (made : Made) (p : PppoeFrame) → value_at s.sessions p.session ≡ Some x → x.service ≡ Discovered made → HearsPpp r s e x made p d → On s d.next
@@ -412,7 +418,7 @@ module _ (r : Rules) (s : State) (limited : Bool) (e : Entry) (d : Deed) where
   ppp x made p at is (inr (live, outs, cause, x', asked', drives, h)) =
       let lives : (m : Made) → x.service ≡ Discovered m → m.ended ≡ false = λ m is'. ap (λ (k : Made). k.ended) (same_made x.service m made is' is) ∙ live in
       after (with_driven s p.session x.lease cause x' asked') _ h refl
-      (driven r (at_of s e) s p.session x outs cause x' asked' (hears r e p.payload) (hears_opens r e p.payload) (was_open s p.session x at lives) drives s.begun (closed x.lease cause s.terms) s.news)
+      (driven r (at_of s e) s p.session x outs cause x' asked' (hears r e p.payload) (hears_opens r e p.payload) (was_open s p.session x at lives) drives s.begun (closed x.lease cause s.terms) s.news s.meters)
 
   control : (v : Service) (x : Session) (p : PppoeFrame) → value_at s.sessions p.session ≡ Some x → x.service ≡ v → HearsControl v r s e x p d → On s d.next
   control (Provisioned l) x p at is h = kept _ h refl
@@ -435,16 +441,19 @@ module _ (r : Rules) (s : State) (limited : Bool) (e : Entry) (d : Deed) where
 
   core : HearsCore r s e d → On s d.next
   core (inl (none, h)) = kept _ h refl
-  core (inr (v, is, (fate, decides, inl (forwards, down)))) = after (with_passed s down.x.number e.moment) _ down.done refl (passes_on s down.x.number e.moment)
+  core (inr (v, is, (fate, decides, inl (forwards, down)))) =
+      let ms : Meters = spent_output (meters_at s.meters down.x.number) e.moment v.total in
+      after (with_passed s down.x.number e.moment ms) _ down.done refl (passes_on s down.x.number e.moment ms)
   core (inr (v, is, (fate, decides, inr (stays, h)))) = kept _ h refl
 
   -- a session whose link was told what was found, whether a term begins or not
   module _ (t : Told) (h : Judges r s e t d) (was : IsOpenIn s h.x) where
     settled_on : (lease : Option Ip4) → On s (settled_by s e.item.target h.x h.question t e.moment h.after h.asked lease)
-    settled_on None = driven r (at_of s e) s e.item.target h.x h.outs h.cause h.after h.asked (settles r e t) (settles_opens r e t) was h.drives s.begun s.terms s.news
+    settled_on None = driven r (at_of s e) s e.item.target h.x h.outs h.cause h.after h.asked (settles r e t) (settles_opens r e t) was h.drives s.begun s.terms s.news s.meters
     settled_on (Some a) =
-        let new = next_term s h.x h.question t.class e.moment a in
-        leased r (at_of s e) s e.item.target h.x h.outs h.cause h.after h.asked (settles r e t) (settles_opens r e t) was h.drives (s.begun + 1) (s.terms ++ new ∷ []) (s.news ++ new ∷ []) (Some (next_lease s t.limits e.moment a))
+        let new = next_term s h.x h.question t.plan t.class e.moment a in
+        leased r (at_of s e) s e.item.target h.x h.outs h.cause h.after h.asked (settles r e t) (settles_opens r e t) was h.drives (s.begun + 1) (s.terms ++ new ∷ []) (s.news ++ new ∷ [])
+        (slice_set s.meters (place_in h.after.number) (meters_of t.plan e.moment)) (Some (next_lease s t.plan t.limits e.moment a))
 
   judged : HearsVerdict r s e limited d → On s d.next
   judged (inl (asked_it, t, decides, h)) =

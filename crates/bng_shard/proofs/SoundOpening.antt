@@ -2,11 +2,12 @@
 use Rattle.std.proofs.Common.{◌≡◌, ◌≢◌, ℕ, zero, suc, ◌+◌, ◌*◌, ◌<◌, List, [], Option, Some, None, All, AllPairs, find, refl, sym, subst, arith}
 use Rattle.std.specs.Prelude.{◌==◌}
 use Rattle.std.specs.FinMap.{empty}
+use Rattle.bng_base.specs.declared.book.Profile.{Profile}
 use Rattle.bng_base.specs.declared.settings.Static.{Static}
 use Rattle.bng_slots.specs.Sessions.{Sessions, IsNumberOf, with_value}
 use Rattle.bng_shard.specs.declared.session.Session.{Session}
 use Rattle.bng_shard.specs.Granting.{HasQuestion, IsSound}
-use Rattle.bng_shard.specs.Opening.{in_order, none_passed, opened_slots, provisioned, tenures_after}
+use Rattle.bng_shard.specs.Opening.{in_order, none_passed, opened_meters, opened_slots, provisioned, tenures_after}
 use Rattle.bng_shard.specs.State.{State}
 use Rattle.bng_shard.proofs.Circuits.{Opens, circuit_found, circuit_none, opened_is, opened_of_shard, opened_own, opens_more, opens_none, opens_other, stands_for}
 
@@ -35,14 +36,14 @@ module _ (number : ℕ) (circuits : List Static) (apart : AllPairs (λ a b. a.se
       record { sessions = none; begun = 0; opens = opens_none number circuits none refl refl }
   opened_all (suc k) = opened_next k (opened_all k) (find (λ c. c.session.0 == number * 1024 + 1 + k) circuits) refl
 
-  pub opened_sound : (now : ℕ) → number < 64 → All (λ c. IsNumberOf number c.session.0) circuits → IsSound (opened_slots number circuits now)
-  opened_sound now low own =
+  pub opened_sound : (profiles : List Profile) (now : ℕ) → number < 64 → All (λ c. IsNumberOf number c.session.0) circuits → IsSound (opened_slots number profiles circuits now)
+  opened_sound profiles now low own =
       let h = opened_all 1022 in
       let shard : h.sessions.shard ≡ number = h.opens.shard in
-      let sound : IsSound (record { sessions = h.sessions; begun = h.begun; asked = 0; terms = tenures_after now 0 (in_order number circuits); news = []; passed = none_passed }) = record {
+      let sound : IsSound (record { sessions = h.sessions; begun = h.begun; asked = 0; terms = tenures_after now 0 (in_order number circuits); news = []; passed = none_passed; meters = opened_meters number profiles circuits now }) = record {
         shard = omega (arith, shard, low);
         own = opened_own number circuits h.sessions h.begun h.opens;
         of_shard = opened_of_shard number circuits h.sessions h.begun h.opens;
         questions = λ n x at. subst (λ (y : Session). HasQuestion y.service) (sym (stands_for number circuits 1022 h.sessions h.begun h.opens n x at).is) tt;
       } in
-      subst (λ (s : State). IsSound s) (opened_is number circuits h.sessions h.begun h.opens now own) sound
+      subst (λ (s : State). IsSound s) (opened_is number circuits h.sessions h.begun h.opens profiles now own) sound

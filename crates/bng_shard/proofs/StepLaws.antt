@@ -62,11 +62,11 @@ none_limited : (r : Rules) (s : State) (limited : Bool) (d : Deed) → Moves r s
 none_limited r s limited d (inl (none, m)) over = none
 none_limited r s limited d (inr (a, is, may, m)) over = absurd (false≢true (sym may ∙ over))
 
--- a term that begins has the first profile
-profiled : (r : Rules) (s : State) (limited : Bool) (d : Deed) (n : ℕ) → 0 < n → Moves r s limited d → HaveProfiles n (terms_there s) → HaveProfiles n (terms_there d.next)
-profiled r s limited d n some (inl (none, m)) have = zip_profiles AnyCause n s.terms d.next.terms m.terms have
-profiled r s limited d n some (inr (a, is, may, m)) have =
-    subst (λ (ts : List Tenure). HaveProfiles n (map term_in ts)) (sym m.terms) (profiles_more n s.terms m.one have (omega (arith, m.profile, some)))
+-- a term that begins has a profile of the rules
+profiled : (r : Rules) (s : State) (limited : Bool) (d : Deed) → Moves r s limited d → HaveProfiles (length r.profiles) (terms_there s) → HaveProfiles (length r.profiles) (terms_there d.next)
+profiled r s limited d (inl (none, m)) have = zip_profiles AnyCause (length r.profiles) s.terms d.next.terms m.terms have
+profiled r s limited d (inr (a, is, may, m)) have =
+    subst (λ (ts : List Tenure). HaveProfiles (length r.profiles) (map term_in ts)) (sym m.terms) (profiles_more (length r.profiles) s.terms m.one have m.profile)
 
 -- a charge is for the session's live term
 charged_one : (x : Session) (l : Lease) (input : Bool) (octets : ℕ) (ts : List Tenure) → AnyOf (IsTermOf x l) ts → AnyOf (IsFor (charge_of x l input octets)) (map term_in ts)
@@ -116,7 +116,7 @@ pppoe_laws = record {
   spelled = λ s h is. spelled s.rules s.slots h.limited h.deed is.step;
   unsent = λ s h is. unsent s.rules s.slots h.limited h.deed is.step;
   seated = λ s h is. seated s.rules s.slots h.limited h.deed is.step;
-  profiled = λ s h is have. profiled s.rules s.slots h.limited h.deed (length s.rules.profiles) is.profile (step_moves s.rules s.slots h.limited h.deed is.step) have;
+  profiled = λ s h is have. profiled s.rules s.slots h.limited h.deed (step_moves s.rules s.slots h.limited h.deed is.step) have;
   profiles_stay = λ s h is. refl;
   settles = λ s f. ap (sum_by f) (settled_terms s.slots);
   settles_begun = λ s. refl;

@@ -198,7 +198,7 @@ module _ (r : Rules) (s s' : State) (outs outs' : List OutRecord) (e : Entry) (l
   pub moved_held : (pool' : PlainView) → AreHeld s.sessions.shard (terms_there s') pool'.table → AreHeld s'.sessions.shard (terms_there s') pool'.table
   moved_held pool' h = subst (λ (n : ℕ). AreHeld n (terms_there s') pool'.table) (sym moved_shard) h
 
-  module _ (rows rows' : List Row) (books books' : List Book) (allowance left room : ℕ) (journal journal' : List Entry) (profile : 0 < length r.profiles) (counted : left + begun_in journal ≡ allowance) (is_limited : limited ≡ (left == 0))
+  module _ (rows rows' : List Row) (books books' : List Book) (allowance left room : ℕ) (journal journal' : List Entry) (counted : left + begun_in journal ≡ allowance) (is_limited : limited ≡ (left == 0))
       (fit : row_keys rows' ≡ keys (terms_there s')) (sums : SayTheSame rows rows') where
     abbrev effect : Handled
     effect = record { deed = does.deed; limited = limited; refused = refused_by r.pools e.claim }
@@ -206,7 +206,7 @@ module _ (r : Rules) (s s' : State) (outs outs' : List OutRecord) (e : Entry) (l
     one_handled : BooksRise books does.deed.outs books' → (es : List Handled) → map (λ (h : Handled). h.deed.entry) es ≡ journal
         → EngineHandles pppoe (with_journal (view r s rows books allowance journal outs room) es) effect (with_journal (view r s' rows' books' allowance journal' outs' (room - 1)) (es ++ effect ∷ []))
     one_handled rise es same = record {
-      is_step = record { profile = profile; step = does.says; refused = ap (refused_by r.pools) (sym claim_is) };
+      is_step = record { step = does.says; refused = ap (refused_by r.pools) (sym claim_is) };
       limited = is_limited ∙ limit_is left (begun_in journal) allowance counted
           ∙ ap (λ (xs : List ℕ). nat_le allowance (length xs)) (ap (flat_map (λ (x : Entry). claimed_by x.claim)) (sym same) ∙ claims_same es);
       number = moved_shard;

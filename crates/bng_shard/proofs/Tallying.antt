@@ -1,5 +1,5 @@
 -- What passes is entered in books, packet by packet.
-use Rattle.std.proofs.Common.{◌≡◌, inl, inr, ℕ, ◌+◌, ◌^◌, ◌<◌, ◌≤◌, ◌==◌, Bool, true, false, ◌&&◌, cond, List, [], ◌∷◌, ◌++◌, length, set, Option, Some, None, refl, sym, ap, ◌∙◌, arith}
+use Rattle.std.proofs.Common.{◌≡◌, inl, inr, ℕ, ◌+◌, ◌^◌, ◌<◌, ◌≤◌, ◌==◌, Bool, true, false, ◌&&◌, cond, List, [], ◌∷◌, ◌++◌, length, set, Option, Some, refl, sym, ap, ◌∙◌, arith}
 use Rattle.std.specs.List.{sum_by}
 use Rattle.std.proofs.lemmas.Bool.{cases_eq, eq-eqb, ne_eqb}
 use Rattle.std.proofs.lemmas.List.{get_or-set_same, get_or-set_other, length-set}
@@ -7,24 +7,14 @@ use Rattle.std.proofs.lemmas.List.Sums.{sum_by-cons, sum_by-append}
 use Rattle.bng_base.specs.declared.book.Book.{Book}
 use Rattle.bng_base.specs.declared.item.Charge.{Charge}
 use Rattle.bng_base.specs.declared.item.OutRecord.{OutRecord}
-use Rattle.bng_engine.specs.Books.{book_at, BooksRise, BooksFall}
+use Rattle.bng_engine.specs.Books.{book_at, BooksRise}
 use Rattle.bng_engine.specs.Quantities.{Quantity, amount, empty_book, in_book}
-use Rattle.bng_engine.specs.Sums.{same, part_of_charge, charge_if, is_directed, is_under, passed_sum}
+use Rattle.bng_engine.specs.Sums.{same, part_of_charge, charge_if, is_directed, is_under}
 use Rattle.bng_shard.specs.Sums.{Has, IsMore, AreCovered, AreLow, AreMore, Rises}
 use Rattle.bng_shard.proofs.BookLaws.{at_most}
 
 abbrev part : (Charge → ℕ) → OutRecord → ℕ
 part f o = part_of_charge f o.charge
-
-one_passed : (f : Charge → ℕ) (o : OutRecord) (c : Option Charge) → o.charge ≡ c → passed_sum f (o ∷ []) ≡ part_of_charge f c
-one_passed f o c e = omega (arith, sum_by-cons (part f) o [], ap (part_of_charge f) e)
-
--- one out
-pub none_rises : (b : Book) (o : OutRecord) → o.charge ≡ None → Rises b (o ∷ []) b
-none_rises b o e q input = omega (arith, one_passed (charge_if q (is_directed input)) o None e)
-
-pub one_rises : (b b' : Book) (o : OutRecord) (c : Charge) → o.charge ≡ Some c → IsMore b c.input c.octets b' → Rises b (o ∷ []) b'
-one_rises b b' o c e more q input = omega (arith, more q input, one_passed (charge_if q (is_directed input)) o (Some c) e)
 
 -- outs one after the other
 pub rises_begin : (b : Book) → Rises b [] b
@@ -101,24 +91,6 @@ little_in_books bs bs' k input n short more most low i lt q direction =
     let within : i < length bs = omega (arith, lt, more.count) in
     omega (arith, more.each q i direction within, at_most_one (k == i) q direction input n short, low i within q direction)
 
--- what passes is entered: none, a packet of a profile that is there, and one of another
-pub none_booked : (bs : List Book) (o : OutRecord) → o.charge ≡ None → BooksRise bs (o ∷ []) bs
-none_booked bs o e = record { count = refl; each = λ q i input lt. omega (arith, one_passed (charge_if q (is_under i input)) o None e) }
-
-pub one_booked : (bs bs' : List Book) (o : OutRecord) (c : Charge) → o.charge ≡ Some c → AreMore bs c.profile c.input c.octets bs' → BooksRise bs (o ∷ []) bs'
-one_booked bs bs' o c e more = record { count = more.count; each = λ q i input lt. omega (arith, more.each q i input lt, one_passed (charge_if q (is_under i input)) o (Some c) e) }
-
-pub other_booked : (bs : List Book) (o : OutRecord) (c : Charge) → o.charge ≡ Some c → length bs ≤ c.profile → BooksRise bs (o ∷ []) bs
-other_booked bs o c e past = record {
-  count = refl;
-  each = λ q i input lt.
-      omega (
-        arith,
-        one_passed (charge_if q (is_under i input)) o (Some c) e,
-        under_other c.profile i (amount q c.octets) (same input c.input) (λ is. omega (arith, is, lt, past)),
-      );
-}
-
 pub booked_begin : (bs : List Book) → BooksRise bs [] bs
 booked_begin bs = record { count = refl; each = λ q i input lt. omega arith }
 
@@ -156,38 +128,3 @@ covered_has bs o c e sent there covered q =
       under_this c.profile c.profile (amount q c.octets) (same c.input c.input) refl,
       ap (λ (s : Bool). cond s (amount q c.octets) 0) (same_itself c.input),
     )
-
-pub failed_falls : (bs bs' : List Book) (o : OutRecord) (c : Charge) → o.charge ≡ Some c → o.sent ≡ false → AreMore bs' c.profile c.input c.octets bs → BooksFall bs (o ∷ []) bs'
-failed_falls bs bs' o c e sent more = record {
-  count = sym more.count;
-  each = λ q i input lt. omega (arith, more.each q i input (omega (arith, lt, more.count)), one_failed (charge_if q (is_under i input)) o (Some c) e sent);
-}
-
-pub other_falls : (bs : List Book) (o : OutRecord) (c : Charge) → o.charge ≡ Some c → o.sent ≡ false → length bs ≤ c.profile → BooksFall bs (o ∷ []) bs
-other_falls bs o c e sent past = record {
-  count = refl;
-  each = λ q i input lt.
-      omega (
-        arith,
-        one_failed (charge_if q (is_under i input)) o (Some c) e sent,
-        under_other c.profile i (amount q c.octets) (same input c.input) (λ is. omega (arith, is, lt, past)),
-      );
-}
-
-sent_nothing : (f : Charge → ℕ) (o : OutRecord) → o.sent ≡ true → sum_by (failed_part f) (o ∷ []) ≡ 0
-sent_nothing f o sent = omega (arith, sum_by-cons (failed_part f) o [], ap (λ (b : Bool). cond b 0 (part_of_charge f o.charge)) sent)
-
-pub sent_falls : (bs : List Book) (o : OutRecord) → o.sent ≡ true → BooksFall bs (o ∷ []) bs
-sent_falls bs o sent = record { count = refl; each = λ q i input lt. omega (arith, sent_nothing (charge_if q (is_under i input)) o sent) }
-
-either_nothing : (b : Bool) → cond b 0 (let z : ℕ = 0 in z) ≡ 0
-either_nothing true = refl
-either_nothing false = refl
-
-pub none_falls : (bs : List Book) (o : OutRecord) → o.charge ≡ None → BooksFall bs (o ∷ []) bs
-none_falls bs o e = record {
-  count = refl;
-  each = λ q i input lt.
-      let f = charge_if q (is_under i input) in
-      omega (arith, sum_by-cons (failed_part f) o [], ap (λ (c : Option Charge). cond o.sent 0 (part_of_charge f c)) e, either_nothing o.sent);
-}

@@ -17,6 +17,7 @@ use Rattle.bng_base.specs.declared.settings.NamedRange.{NamedRange}
 use Rattle.bng_grant.specs.Grants.{Gift}
 use Rattle.bng_slots.specs.Sessions.{value_at}
 use Rattle.bng_shard.specs.Made.{Question}
+use Rattle.bng_shard.specs.declared.meters.Plan.{Plan}
 use Rattle.bng_shard.specs.declared.rules.Rules.{Rules}
 use Rattle.bng_base.specs.declared.item.At.{At}
 use Rattle.bng_shard.specs.declared.session.Session.{Session}
@@ -26,11 +27,12 @@ use Rattle.bng_shard.specs.Deed.{handled, ignored}
 use Rattle.bng_shard.specs.Driven.{Driven}
 use Rattle.bng_shard.specs.Hearing.{Does}
 use Rattle.bng_shard.specs.Link.{IsToldVerdict, Told}
+use Rattle.bng_shard.specs.Metered.{plan_for}
 use Rattle.bng_shard.specs.Protocol.{entry_with}
 use Rattle.bng_shard.specs.Questions.{open_ask_at, open_of}
 use Rattle.bng_shard.specs.Verdicts.{HearsVerdict, settled_by}
 use Rattle.bng_shard.specs.Wished.{IsAnswered, WishesFor, WishesVerdict}
-use Rattle.bng_shard.specs.Wishes.{Decides, IsAnswerTo, Wishes, accepted_with, has_none, pool_for, refused_with, told_at, told_by, told_of}
+use Rattle.bng_shard.specs.Wishes.{Decides, IsAnswerTo, Wishes, accepted_with, has_none, pool_for, refused_with, told_at, told_by, told_if, told_of}
 use Rattle.bng_shard.proofs.Speaking.{drives, driven_few}
 use Rattle.bng_shard.proofs.Values.{none_some, same_some}
 
@@ -69,31 +71,35 @@ asks_there s n ask e = asked_there (value_at s.sessions n) ask e
 refused_lease : (text : List ℕ) (t : Told) (a : Ip4) → t ≡ refused_with text → t.lease ≡ Some a → ⊥
 refused_lease text t a is leases = none_some a (sym (ap (λ (u : Told). u.lease) is) ∙ leases)
 
-by_claim : (claim : Claim) (text : List ℕ) (g : Gift) (t : Told) (a : Ip4) → t ≡ told_by claim text g → t.lease ≡ Some a → (t.yes ≡ true) × (claim ≡ Claimed a)
-by_claim NoClaim text g t a is leases = absurd (refused_lease _ t a is leases)
-by_claim (Claimed b) text g t a is leases =
+by_claim : (plan : Plan) (claim : Claim) (text : List ℕ) (g : Gift) (t : Told) (a : Ip4) → t ≡ told_by plan claim text g → t.lease ≡ Some a → (t.yes ≡ true) × (claim ≡ Claimed a)
+by_claim plan NoClaim text g t a is leases = absurd (refused_lease _ t a is leases)
+by_claim plan (Claimed b) text g t a is leases =
     let same : b ≡ a = same_some b a (sym (ap (λ (u : Told). u.lease) is) ∙ leases) in
     (ap (λ (u : Told). u.yes) is, ap (λ (c : Ip4). Claimed c) same)
-by_claim (Held b) text g t a is leases = absurd (refused_lease _ t a is leases)
-by_claim (Exhausted k) text g t a is leases = absurd (refused_lease _ t a is leases)
+by_claim plan (Held b) text g t a is leases = absurd (refused_lease _ t a is leases)
+by_claim plan (Exhausted k) text g t a is leases = absurd (refused_lease _ t a is leases)
 
-at_pool : (limited : Bool) (place : Option ℕ) (claim : Claim) (text : List ℕ) (g : Gift) (t : Told) (a : Ip4) → t ≡ told_at limited place claim text g → t.lease ≡ Some a → (t.yes ≡ true) × (claim ≡ Claimed a)
-at_pool limited None claim text g t a is leases = absurd (refused_lease _ t a is leases)
-at_pool true (Some k) claim text g t a is leases = absurd (refused_lease _ t a is leases)
-at_pool false (Some k) claim text g t a is leases = by_claim claim text g t a is leases
+at_pool : (plan : Plan) (limited : Bool) (place : Option ℕ) (claim : Claim) (text : List ℕ) (g : Gift) (t : Told) (a : Ip4) → t ≡ told_at plan limited place claim text g → t.lease ≡ Some a → (t.yes ≡ true) × (claim ≡ Claimed a)
+at_pool plan limited None claim text g t a is leases = absurd (refused_lease _ t a is leases)
+at_pool plan true (Some k) claim text g t a is leases = absurd (refused_lease _ t a is leases)
+at_pool plan false (Some k) claim text g t a is leases = by_claim plan claim text g t a is leases
 
-by_pools : (b limited : Bool) (place : Option ℕ) (claim : Claim) (text : List ℕ) (g : Gift) (t : Told) (a : Ip4) → t ≡ (if b then accepted_with None text g else told_at limited place claim text g) → t.lease ≡ Some a
+by_pools : (plan : Plan) (b limited : Bool) (place : Option ℕ) (claim : Claim) (text : List ℕ) (g : Gift) (t : Told) (a : Ip4) → t ≡ (if b then accepted_with plan None text g else told_at plan limited place claim text g) → t.lease ≡ Some a
     → (t.yes ≡ true) × (claim ≡ Claimed a)
-by_pools true limited place claim text g t a is leases = absurd (none_some a (sym (ap (λ (u : Told). u.lease) is) ∙ leases))
-by_pools false limited place claim text g t a is leases = at_pool limited place claim text g t a is leases
+by_pools plan true limited place claim text g t a is leases = absurd (none_some a (sym (ap (λ (u : Told). u.lease) is) ∙ leases))
+by_pools plan false limited place claim text g t a is leases = at_pool plan limited place claim text g t a is leases
+
+by_plan : (o : Option Plan) (pools : List NamedRange) (limited : Bool) (claim : Claim) (text : List ℕ) (g : Gift) (t : Told) (a : Ip4) → t ≡ told_if o pools limited claim text g → t.lease ≡ Some a → (t.yes ≡ true) × (claim ≡ Claimed a)
+by_plan None pools limited claim text g t a is leases = absurd (refused_lease _ t a is leases)
+by_plan (Some plan) pools limited claim text g t a is leases = by_pools plan (has_none pools) limited (pool_for pools g.pool) claim text g t a is leases
 
 -- a peer with an address is accepted, and the address was claimed
-pub decided_lease : (pools : List NamedRange) (limited : Bool) (octets : List ℕ) (claim : Claim) (t : Told) (a : Ip4) → Decides pools limited octets claim (Some t) → t.lease ≡ Some a
+pub decided_lease : (r : Rules) (limited : Bool) (octets : List ℕ) (claim : Claim) (t : Told) (a : Ip4) → Decides r limited octets claim (Some t) → t.lease ≡ Some a
     → (t.yes ≡ true) × (claim ≡ Claimed a)
-decided_lease pools limited octets claim t a (inl (silent, none, is)) leases = absurd (none_some t (sym is))
-decided_lease pools limited octets claim t a (inr (inl (v, says, denies, none, is))) leases = absurd (refused_lease v.text t a (same_some t (refused_with v.text) is) leases)
-decided_lease pools limited octets claim t a (inr (inr (v, says, allows, g, grant, answers, is))) leases =
-    by_pools (has_none pools) limited (pool_for pools g.pool) claim v.text g t a (same_some t (told_of pools limited claim v.text g) is) leases
+decided_lease r limited octets claim t a (inl (silent, none, is)) leases = absurd (none_some t (sym is))
+decided_lease r limited octets claim t a (inr (inl (v, says, denies, none, is))) leases = absurd (refused_lease v.text t a (same_some t (refused_with v.text) is) leases)
+decided_lease r limited octets claim t a (inr (inr (v, says, allows, g, grant, answers, is))) leases =
+    by_plan (plan_for r.profiles g.profile) r.pools limited claim v.text g t a (same_some t (told_of r limited claim v.text g) is) leases
 
 -- Entries ----------------------------------------------------------------------------------------------------------------
 
@@ -104,7 +110,7 @@ answered_verdict r s item limited claim kind h = (h.wish, subst (λ (k : ItemKin
 
 -- where its question is open, it asks as its octets say
 pub answered_open : (r : Rules) (s : State) (item : Item) (limited : Bool) (claim : Claim) → item.kind ≡ Verdict → IsAnswered r s item limited claim → open_ask_at s item.target ≡ Some item.ask
-    → (wish : Wish) × Wishes r.pools limited item.frame.payload wish × IsAnswerTo r.pools wish claim
+    → (wish : Wish) × Wishes r limited item.frame.payload wish × IsAnswerTo r.pools wish claim
 answered_open r s item limited claim kind h asked =
     let (wish, wishes, answers) = answered_verdict r s item limited claim kind h in
     elim wishes [ inl there ↦ (wish, there.1, answers) | inr elsewhere ↦ absurd (elsewhere.0 asked) ]
@@ -135,11 +141,11 @@ module _ (r : Rules) (s : State) (limited : Bool) (a : At) (now : ℕ) (item : I
   not_open other none = ignores (inr (inr (other, none, refl)))
 
   -- the octets say nothing
-  pub no_verdict : open_ask_at s item.target ≡ Some item.ask → Decides r.pools limited item.frame.payload claim None → Does (HearsVerdict r s entry limited) 5 s s outs outs entry Consumed
+  pub no_verdict : open_ask_at s item.target ≡ Some item.ask → Decides r limited item.frame.payload claim None → Does (HearsVerdict r s entry limited) 5 s s outs outs entry Consumed
   no_verdict asked decides = ignores (inr (inl (asked, decides, refl)))
 
   -- the session's link is told what they come to, and a term begins where the peer is accepted with an address
-  pub is_told : a.shard ≡ s.sessions.shard → open_ask_at s item.target ≡ Some item.ask → (t : Told) → Decides r.pools limited item.frame.payload claim (Some t) → (s' : State) (outs' : List OutRecord)
+  pub is_told : a.shard ≡ s.sessions.shard → open_ask_at s item.target ≡ Some item.ask → (t : Told) → Decides r limited item.frame.payload claim (Some t) → (s' : State) (outs' : List OutRecord)
       → ((x : Session) (q : Question) → value_at s.sessions item.target ≡ Some x → open_of x ≡ Some q → (x' : Session) × (cause : Option ℕ) × (asked : ℕ)
       × Driven r a (IsToldVerdict r.link t now item.random) s.asked x cause x' asked outs outs' × (x.lease ≡ None) × (s' ≡ settled_by s item.target x q t now x' asked t.lease))
       → length outs' ≤ length outs + 5 → Does (HearsVerdict r s entry limited) 5 s s' outs outs' entry Consumed

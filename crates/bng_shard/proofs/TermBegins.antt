@@ -1,6 +1,6 @@
 -- A verdict on the open question of a session, and the term that begins by it.
 use Rattle.std.proofs.Common.{◌≡◌, ℕ, ◌+◌, Bool, true, false, not, List, [], ◌∷◌, ◌++◌, Option, Some, None, inl, inr, refl, sym, ap, subst, ◌∙◌, suc, arith}
-use Rattle.std.specs.Prelude.{◌≢◌, ◌&&◌, if◌then◌else◌}
+use Rattle.std.specs.Prelude.{◌≢◌, ◌&&◌, if◌then◌else◌, slice_set}
 use Rattle.std.specs.Option.{option_and_then, option_map}
 use Rattle.std.proofs.lemmas.Bool.{cases_eq}
 use Rattle.std.specs.List.{All}
@@ -18,6 +18,8 @@ use Rattle.bng_ppp.proofs.WholePhases.{open_unsettled}
 use Rattle.bng_slots.specs.Sessions.{Sessions, NoneShares, value_at, without, read_at}
 use Rattle.bng_slots.proofs.SessionLaws.{value_at-without, value_at-without_other, with_value-without}
 use Rattle.bng_shard.specs.Made.{Made, Question}
+use Rattle.bng_shard.specs.declared.meters.Meters.{Meters}
+use Rattle.bng_shard.specs.declared.meters.Plan.{Plan}
 use Rattle.bng_shard.specs.declared.rules.Rules.{Rules}
 use Rattle.bng_base.specs.declared.item.At.{At}
 use Rattle.bng_shard.specs.declared.session.Lease.{Lease}
@@ -28,6 +30,8 @@ use Rattle.bng_shard.specs.declared.terms.Running.{Running}
 use Rattle.bng_shard.specs.Driven.{Driven}
 use Rattle.bng_shard.specs.Indexed.{address_of}
 use Rattle.bng_shard.specs.Link.{IsToldVerdict, LinkStep, Told}
+use Rattle.bng_shard.specs.Metered.{meters_of}
+use Rattle.bng_shard.specs.Passing.{place_in}
 use Rattle.bng_shard.specs.Questions.{open_in, open_of}
 use Rattle.bng_shard.specs.Running.{AreTied, TermsView, tenures_in, whole}
 use Rattle.bng_shard.specs.Serving.{KeepsLease}
@@ -90,8 +94,8 @@ judged r t turn cause now random old says new (settles, is) said state = record 
 
 module _ (r : Rules) (a : At) (t : Told) (now : ℕ) (random : List ℕ) (asked : ℕ) (x : Session) (cause : Option ℕ) (x' : Session) (asked' : ℕ) (outs outs' : List OutRecord) (d : Driven r a (IsToldVerdict r.link t now random) asked x cause x' asked' outs outs') where
   -- the session is the same but for its link and its lease
-  pub next_same : (s : State) (q : Question) (class : List ℕ) (moment : ℕ) (address : Ip4) → next_term s x' q class moment address ≡ next_term s x q class moment address
-  next_same s q class moment address = ap (λ (y : Session). next_term s y q class moment address) d.drives.session
+  pub next_same : (s : State) (q : Question) (plan : Plan) (class : List ℕ) (moment : ℕ) (address : Ip4) → next_term s x' q plan class moment address ≡ next_term s x q plan class moment address
+  next_same s q plan class moment address = ap (λ (y : Session). next_term s y q plan class moment address) d.drives.session
 
   settles_so : (open_ accepted : Bool) (lease : Option Ip4) (address : Ip4) → open_ ≡ true → accepted ≡ true → lease ≡ Some address → (turn : Turn) → Settles open_ accepted r.link lease t.text now random d.drives.made.link turn → Settles true true r.link (Some address) t.text now random d.drives.made.link turn
   settles_so open_ accepted lease address e f g turn settles =
@@ -160,16 +164,17 @@ none_begins s s' terms n x q t now x' asked none next = ap (λ (u : State). whol
 
 -- one begins
 pub one_begins : (s s₃ s' : State) (terms terms' : TermsView) (n m : ℕ) (x : Session) (q : Question) (t : Told) (now : ℕ) (x' x'' : Session) (asked : ℕ) (a : Ip4) → t.lease ≡ Some a
-    → s₃ ≡ record s { sessions = without s.sessions n; asked = asked; begun = s.begun + 1 } → m ≡ n → s' ≡ with_session s₃ m x'' → x'' ≡ record x' { lease = Some (next_lease s t.limits now a) }
-    → tenures_in terms'.rows ≡ tenures_in terms.rows ++ next_term s x q t.class now a ∷ [] → tenures_in terms'.news ≡ tenures_in terms.news ++ next_term s x q t.class now a ∷ []
+    → s₃ ≡ record s { sessions = without s.sessions n; asked = asked; begun = s.begun + 1; meters = slice_set s.meters (place_in x'.number) (meters_of t.plan now) } → m ≡ n → s' ≡ with_session s₃ m x'' → x'' ≡ record x' { lease = Some (next_lease s t.plan t.limits now a) }
+    → tenures_in terms'.rows ≡ tenures_in terms.rows ++ next_term s x q t.plan t.class now a ∷ [] → tenures_in terms'.news ≡ tenures_in terms.news ++ next_term s x q t.plan t.class now a ∷ []
     → whole s' terms' ≡ settled_by (whole s terms) n x q t now x' asked t.lease
 one_begins s s₃ s' terms terms' n m x q t now x' x'' asked a leased begun is put with_lease rows news =
-    let y : Session = record x' { lease = Some (next_lease s t.limits now a) } in
+    let ms : List Meters = slice_set s.meters (place_in x'.number) (meters_of t.plan now) in
+    let y : Session = record x' { lease = Some (next_lease s t.plan t.limits now a) } in
     ap (λ (u : State). whole u terms') (put
     ∙ ap (λ (u : State). with_session u m x'') begun
-    ∙ ap (λ (k : ℕ). with_session (record s { sessions = without s.sessions n; asked = asked; begun = s.begun + 1 }) k x'') is
-    ∙ ap (λ (z : Session). with_session (record s { sessions = without s.sessions n; asked = asked; begun = s.begun + 1 }) n z) with_lease
-    ∙ ap (λ (ss : Sessions Session). let v : State = record s { sessions = ss; asked = asked; begun = s.begun + 1 } in v) (with_value-without s.sessions n y))
-    ∙ ap (λ (ts : List Tenure). let v : State = record (with_session s n y) { asked = asked; begun = s.begun + 1; terms = ts; news = tenures_in terms'.news } in v) rows
-    ∙ ap (λ (ts : List Tenure). let v : State = record (with_session s n y) { asked = asked; begun = s.begun + 1; terms = tenures_in terms.rows ++ next_term s x q t.class now a ∷ []; news = ts } in v) news
+    ∙ ap (λ (k : ℕ). with_session (record s { sessions = without s.sessions n; asked = asked; begun = s.begun + 1; meters = ms }) k x'') is
+    ∙ ap (λ (z : Session). with_session (record s { sessions = without s.sessions n; asked = asked; begun = s.begun + 1; meters = ms }) n z) with_lease
+    ∙ ap (λ (ss : Sessions Session). let v : State = record s { sessions = ss; asked = asked; begun = s.begun + 1; meters = ms } in v) (with_value-without s.sessions n y))
+    ∙ ap (λ (ts : List Tenure). let v : State = record (with_session s n y) { asked = asked; begun = s.begun + 1; terms = ts; news = tenures_in terms'.news; meters = ms } in v) rows
+    ∙ ap (λ (ts : List Tenure). let v : State = record (with_session s n y) { asked = asked; begun = s.begun + 1; terms = tenures_in terms.rows ++ next_term s x q t.plan t.class now a ∷ []; news = ts; meters = ms } in v) news
     ∙ ap (settled_by (whole s terms) n x q t now x' asked) (sym leased)

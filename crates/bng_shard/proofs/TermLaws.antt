@@ -1,5 +1,5 @@
 -- What a step does to the terms of a shard: it may end some, and a verdict may begin one. Each session is on a port that is there.
-use Rattle.std.proofs.Common.{◌≡◌, ◌⊎◌, ⊎_elim, inl, inr, ℕ, ◌+◌, ◌<◌, Bool, true, false, not, ◌&&◌, ◌==◌, List, [], ◌∷◌, ◌++◌, map, filter, Option, Some, None, is_some, cond, if◌then◌else◌, refl, sym, ap, subst, ◌∙◌}
+use Rattle.std.proofs.Common.{◌≡◌, ◌⊎◌, ⊎_elim, inl, inr, ℕ, ◌+◌, ◌<◌, Bool, true, false, not, ◌&&◌, ◌==◌, List, [], length, ◌∷◌, ◌++◌, map, filter, Option, Some, None, is_some, cond, if◌then◌else◌, refl, sym, ap, subst, ◌∙◌}
 use Rattle.std.specs.List.{AllZip, list_any}
 use Rattle.std.proofs.lemmas.Bool.{cases_eq}
 use Rattle.bng_base.specs.declared.address.Ip4.{Ip4}
@@ -17,6 +17,7 @@ use Rattle.bng_grant.specs.Grants.{Gift}
 use Rattle.bng_ppp.specs.declared.whole_input.WholeInput.TheVariants.{Close}
 use Rattle.bng_slots.specs.Sessions.{value_at, with_value}
 use Rattle.bng_slots.proofs.SessionLaws.{value_at-with_value, value_at-with_other}
+use Rattle.bng_shard.specs.declared.meters.Plan.{Plan}
 use Rattle.bng_shard.specs.declared.rules.Rules.{Rules}
 use Rattle.bng_base.specs.declared.item.At.{At}
 use Rattle.bng_shard.specs.declared.session.Lease.{Lease}
@@ -25,14 +26,16 @@ use Rattle.bng_shard.specs.State.{State, port_at, settled, with_session, with_dr
 use Rattle.bng_shard.specs.Deed.{Deed, at_of, handled, ignored}
 use Rattle.bng_shard.specs.Fits.{ArePlaced}
 use Rattle.bng_shard.specs.Link.{LinkStep, Drives, Told, ended, nas_request, settles, told, user_request}
+use Rattle.bng_shard.specs.Metered.{meters_of, plan_for}
 use Rattle.bng_shard.specs.Passing.{lapsed, looked}
 use Rattle.bng_shard.specs.Protocol.{claimed_by, term_in}
 use Rattle.bng_shard.specs.Step.{Hears, MayClaim, Step}
 use Rattle.bng_shard.specs.Tenures.{Tenure, closed, is_over, over_by}
 use Rattle.bng_shard.specs.Verdicts.{HearsVerdict, Judges, next_lease, next_term, settled_by, with_term}
 use Rattle.bng_shard.specs.declared.wish.Wish.TheVariants.{Nothing, Address}
-use Rattle.bng_shard.specs.Wishes.{Decides, IsAnswerTo, is_within, pool_for, refused_with, told_at, told_by, told_of, wish_at, wish_in, wish_of}
+use Rattle.bng_shard.specs.Wishes.{Decides, IsAnswerTo, is_within, pool_for, refused_with, told_at, told_by, told_if, told_in, told_of, wish_among, wish_at, wish_if, wish_in}
 use Rattle.bng_shard.proofs.Naming.{next_of}
+use Rattle.bng_shard.proofs.Planning.{decided_placed}
 use Rattle.bng_shard.proofs.Values.{none_some, same_some}
 use Rattle.bng_shard.proofs.Walking.{Walks, end_walks, hears_walks}
 
@@ -148,7 +151,7 @@ pub record Begins (r : Rules) (s s' : State) (a : Ip4) : Type 0 where
   pub one : Tenure
   pub serial : one.term.serial ≡ s.begun + 1
   pub address : one.address ≡ a
-  pub profile : one.profile ≡ 0
+  pub profile : one.profile < length r.profiles
   pub live : one.cause ≡ None
   pub terms : s'.terms ≡ s.terms ++ one ∷ []
   pub news : s'.news ≡ s.news ++ one ∷ []
@@ -215,7 +218,7 @@ module _ (r : Rules) where
     driven = λ Steps e s n x x' outs cause asked' at drives. remain_with AnyCause s n x.lease cause x' asked' (λ c is. tt) (λ p. drives_there (at_of s e) s.asked x x' outs cause asked' Steps drives);
     made = λ Steps e s n x x' outs cause asked' none drives. remain_with AnyCause s n None cause x' asked' (λ c is. tt) (λ p. drives_there (at_of s e) s.asked x x' outs cause asked' Steps drives);
     padt = λ s n x m at is. remain_ended AnyCause s n x user_request tt at;
-    passes = λ s n moment. record { shard = refl; begun = refl; terms = each_lasts AnyCause s.terms; news = refl; placed = λ p. p };
+    passes = λ s n moment ms. record { shard = refl; begun = refl; terms = each_lasts AnyCause s.terms; news = refl; placed = λ p. p };
     looks = remain_looked AnyCause;
     lapses = λ e s n x x' outs cause none asked' at over drives.
         remain_with AnyCause s n x.lease (Some cause) x' asked' (λ c is. tt) (λ p. drives_there (at_of s e) s.asked (lapsed x) x' outs none asked' (told r e Close) drives);
@@ -227,49 +230,54 @@ module _ (r : Rules) where
 abbrev pub Gives : Bool → Claim → Option Ip4 → Type 0
 Gives limited claim lease = ((claimed_by claim ≡ []) × (lease ≡ None)) ⊎ ((a : Ip4) × (claim ≡ Claimed a) × (limited ≡ false) × (lease ≡ Some a))
 
-module _ (pools : List NamedRange) (claim : Claim) (text : List ℕ) (g : Gift) where
+module _ (plan : Plan) (pools : List NamedRange) (claim : Claim) (text : List ℕ) (g : Gift) where
   -- what is told by a claim that is this one
-  told_with : (c : Claim) → claim ≡ c → (told_by claim text g).lease ≡ (told_by c text g).lease
-  told_with c e = ap (λ (d : Claim). (told_by d text g).lease) e
+  told_with : (c : Claim) → claim ≡ c → (told_by plan claim text g).lease ≡ (told_by plan c text g).lease
+  told_with c e = ap (λ (d : Claim). (told_by plan d text g).lease) e
 
-  nothing_given : (c : Claim) → claim ≡ c → claimed_by c ≡ [] → (told_by c text g).lease ≡ None → Gives false claim (told_by claim text g).lease
+  nothing_given : (c : Claim) → claim ≡ c → claimed_by c ≡ [] → (told_by plan c text g).lease ≡ None → Gives false claim (told_by plan claim text g).lease
   nothing_given c e none without = inl (ap claimed_by e ∙ none, told_with c e ∙ without)
 
-  given : (a : Ip4) → claim ≡ Claimed a → Gives false claim (told_by claim text g).lease
+  given : (a : Ip4) → claim ≡ Claimed a → Gives false claim (told_by plan claim text g).lease
   given a e = inr (a, e, refl, told_with (Claimed a) e)
 
-  named_given : (b : Bool) (a : Ip4) → IsAnswerTo pools (if b then Address a else Nothing) claim → Gives false claim (told_by claim text g).lease
+  named_given : (b : Bool) (a : Ip4) → IsAnswerTo pools (if b then Address a else Nothing) claim → Gives false claim (told_by plan claim text g).lease
   named_given true a (inl e) = given a e
   named_given true a (inr e) = nothing_given (Held a) e refl refl
   named_given false a e = nothing_given NoClaim e refl refl
 
-  wished_given : (address : Option ℕ) (k : ℕ) → IsAnswerTo pools (wish_in pools address k) claim → Gives false claim (told_by claim text g).lease
+  wished_given : (address : Option ℕ) (k : ℕ) → IsAnswerTo pools (wish_in pools address k) claim → Gives false claim (told_by plan claim text g).lease
   wished_given None k (inl (a, p, at, within, e)) = given a e
   wished_given None k (inr e) = nothing_given (Exhausted k) e refl refl
   wished_given (Some a) k h = named_given (list_any (is_within a) pools) (record { 0 = a }) h
 
-  at_given : (limited : Bool) (address : Option ℕ) (o : Option ℕ) → IsAnswerTo pools (wish_at pools limited address o) claim → Gives limited claim (told_at limited o claim text g).lease
+  at_given : (limited : Bool) (address : Option ℕ) (o : Option ℕ) → IsAnswerTo pools (wish_at pools limited address o) claim → Gives limited claim (told_at plan limited o claim text g).lease
   at_given true address None e = inl (ap claimed_by e, refl)
   at_given false address None e = inl (ap claimed_by e, refl)
   at_given true address (Some k) e = inl (ap claimed_by e, refl)
   at_given false address (Some k) h = wished_given address k h
 
--- what an Accept comes to
-accept_gives : (pools : List NamedRange) (limited : Bool) (claim : Claim) (text : List ℕ) (g : Gift) → IsAnswerTo pools (wish_of pools limited g) claim → Gives limited claim (told_of pools limited claim text g).lease
-accept_gives [] limited claim text g e = inl (ap claimed_by e, refl)
-accept_gives (p ∷ ps) limited claim text g h = at_given (p ∷ ps) claim text g limited g.address (pool_for (p ∷ ps) g.pool) h
+-- what an Accept comes to, whose profile has this plan
+in_gives : (plan : Plan) (pools : List NamedRange) (limited : Bool) (claim : Claim) (text : List ℕ) (g : Gift) → IsAnswerTo pools (wish_among pools limited g) claim → Gives limited claim (told_in plan pools limited claim text g).lease
+in_gives plan [] limited claim text g e = inl (ap claimed_by e, refl)
+in_gives plan (p ∷ ps) limited claim text g h = at_given plan (p ∷ ps) claim text g limited g.address (pool_for (p ∷ ps) g.pool) h
 
-module _ (pools : List NamedRange) (limited : Bool) (octets : List ℕ) (claim : Claim) where
-  decides_told : (t : Told) → Decides pools limited octets claim (Some t) → Gives limited claim t.lease
+-- or whose profile is there or is not
+accept_gives : (o : Option Plan) (pools : List NamedRange) (limited : Bool) (claim : Claim) (text : List ℕ) (g : Gift) → IsAnswerTo pools (wish_if o (wish_among pools limited g)) claim → Gives limited claim (told_if o pools limited claim text g).lease
+accept_gives None pools limited claim text g e = inl (ap claimed_by e, refl)
+accept_gives (Some plan) pools limited claim text g h = in_gives plan pools limited claim text g h
+
+module _ (r : Rules) (limited : Bool) (octets : List ℕ) (claim : Claim) where
+  decides_told : (t : Told) → Decides r limited octets claim (Some t) → Gives limited claim t.lease
   decides_told t (inl (silent, none, e)) = absurd (none_some t (sym e))
   decides_told t (inr (inl (v, says, refused, none, e))) = inl (ap claimed_by none, ap (λ (u : Told). u.lease) (same_some t (refused_with v.text) e))
   decides_told t (inr (inr (v, says, accepted, g, grants, answers, e))) =
-      subst (Gives limited claim) (sym (ap (λ (u : Told). u.lease) (same_some t (told_of pools limited claim v.text g) e))) (accept_gives pools limited claim v.text g answers)
+      subst (Gives limited claim) (sym (ap (λ (u : Told). u.lease) (same_some t (told_of r limited claim v.text g) e))) (accept_gives (plan_for r.profiles g.profile) r.pools limited claim v.text g answers)
 
-  decides_none : Decides pools limited octets claim None → claimed_by claim ≡ []
+  decides_none : Decides r limited octets claim None → claimed_by claim ≡ []
   decides_none (inl (silent, none, e)) = ap claimed_by none
   decides_none (inr (inl (v, says, refused, none, e))) = ap claimed_by none
-  decides_none (inr (inr (v, says, accepted, g, grants, answers, e))) = absurd (none_some (told_of pools limited claim v.text g) e)
+  decides_none (inr (inr (v, says, accepted, g, grants, answers, e))) = absurd (none_some (told_of r limited claim v.text g) e)
 
 module _ (r : Rules) (s : State) (e : Entry) (t : Told) (d : Deed) (h : Judges r s e t d) where
   pub settled_as : (lease : Option Ip4) → t.lease ≡ lease → d.next ≡ settled_by s e.item.target h.x h.question t e.moment h.after h.asked lease
@@ -284,18 +292,18 @@ module _ (r : Rules) (s : State) (e : Entry) (t : Told) (d : Deed) (h : Judges r
   pub judged_remains : t.lease ≡ None → Remains AnyCause r s d.next
   judged_remains none = subst (Remains AnyCause r s) (sym (judged_none none)) (remain_with r AnyCause s e.item.target None None h.after h.asked (λ c is. tt) (λ p. after_there))
 
-  judged_begins : (a : Ip4) → t.lease ≡ Some a → Begins r s d.next a
-  judged_begins a is =
-      let one : Tenure = next_term s h.x h.question t.class e.moment a in
-      let lease : Lease = next_lease s t.limits e.moment a in
+  judged_begins : t.plan.profile < length r.profiles → (a : Ip4) → t.lease ≡ Some a → Begins r s d.next a
+  judged_begins there a is =
+      let one : Tenure = next_term s h.x h.question t.plan t.class e.moment a in
+      let lease : Lease = next_lease s t.plan t.limits e.moment a in
       let y : Session = record h.after { lease = Some lease } in
-      let begins : Begins r s (with_term s e.item.target h.after h.asked lease one) a = record {
+      let begins : Begins r s (with_term s e.item.target h.after h.asked lease one (meters_of t.plan e.moment)) a = record {
         shard = refl;
         begun = refl;
         one = one;
         serial = refl;
         address = refl;
-        profile = refl;
+        profile = there;
         live = refl;
         terms = refl;
         news = refl;
@@ -314,9 +322,9 @@ verdict_moves : (r : Rules) (s : State) (limited : Bool) (d : Deed) → HearsVer
 verdict_moves r s limited d (inl (asks, t, decides, judges)) =
     ⊎_elim
     (λ (none : (claimed_by d.entry.claim ≡ []) × (t.lease ≡ None)). inl (none.0, judged_remains r s d.entry t d judges none.1))
-    (λ (some : (a : Ip4) × (d.entry.claim ≡ Claimed a) × (limited ≡ false) × (t.lease ≡ Some a)). inr (some.0, some.1, some.2, judged_begins r s d.entry t d judges some.0 some.3))
-    (decides_told r.pools limited d.entry.item.frame.payload d.entry.claim t decides)
-verdict_moves r s limited d (inr (inl (asks, decides, h))) = inl (decides_none r.pools limited d.entry.item.frame.payload d.entry.claim decides, remain_same r AnyCause s d.next (next_of d (ignored s d.entry) h))
+    (λ (some : (a : Ip4) × (d.entry.claim ≡ Claimed a) × (limited ≡ false) × (t.lease ≡ Some a)). inr (some.0, some.1, some.2, judged_begins r s d.entry t d judges (decided_placed r limited d.entry.item.frame.payload d.entry.claim t some.0 decides some.3) some.0 some.3))
+    (decides_told r limited d.entry.item.frame.payload d.entry.claim t decides)
+verdict_moves r s limited d (inr (inl (asks, decides, h))) = inl (decides_none r limited d.entry.item.frame.payload d.entry.claim decides, remain_same r AnyCause s d.next (next_of d (ignored s d.entry) h))
 verdict_moves r s limited d (inr (inr (other, none, h))) = inl (ap claimed_by none, remain_same r AnyCause s d.next (next_of d (ignored s d.entry) h))
 
 pub claim_or : (kind : ItemKind) (claim : Claim) → MayClaim kind claim → (kind ≡ Verdict) ⊎ (claim ≡ NoClaim)

@@ -51,7 +51,7 @@ last_of : (v : Service) (q : Question) → open_in v ≡ Some q → last_in v �
 last_of (Provisioned over) q e = absurd (let never : ⊥ = cc in never)
 last_of (Discovered m) q e = open_is_last m.ended (is_open m.link.auth) m.question q e
 
-module _ (r : Rules) (s : State) (limited : Bool) (d : Deed) (sound : IsSound s) (kind : d.entry.item.kind ≡ Verdict) (asks : open_ask_at s d.entry.item.target ≡ Some d.entry.item.ask) (t : Told) (decides : Decides r.pools limited d.entry.item.frame.payload d.entry.claim (Some t)) (h : Judges r s d.entry t d) where
+module _ (r : Rules) (s : State) (limited : Bool) (d : Deed) (sound : IsSound s) (kind : d.entry.item.kind ≡ Verdict) (asks : open_ask_at s d.entry.item.target ≡ Some d.entry.item.ask) (t : Told) (decides : Decides r limited d.entry.item.frame.payload d.entry.claim (Some t)) (h : Judges r s d.entry t d) where
   own : h.x.number.0 ≡ d.entry.item.target
   own = sound.own d.entry.item.target h.x h.found
 
@@ -63,9 +63,9 @@ module _ (r : Rules) (s : State) (limited : Bool) (d : Deed) (sound : IsSound s)
       some_same h.question.ask d.entry.item.ask
       (sym (ap (λ (o : Option Session). option_map (λ (q : Question). q.ask) (option_and_then open_of o)) h.found ∙ ap (option_map (λ (q : Question). q.ask)) h.asks) ∙ asks)
 
-  begins : (a : Ip4) → t.lease ≡ Some a → BeginsByYes s d (next_term s h.x h.question t.class d.entry.moment a)
+  begins : (a : Ip4) → t.lease ≡ Some a → BeginsByYes s d (next_term s h.x h.question t.plan t.class d.entry.moment a)
   begins a leased =
-      let v = decided_yes r.pools limited d.entry.item.frame.payload d.entry.claim t decides (decides_yes r.pools limited d.entry.item.frame.payload d.entry.claim t a decides leased) in
+      let v = decided_yes r limited d.entry.item.frame.payload d.entry.claim t decides (decides_yes r limited d.entry.item.frame.payload d.entry.claim t a decides leased) in
       record {
         asking = asking_of h.x h.question;
         last = ap (λ (o : Option Session). option_and_then last_asking o) here ∙ ap (option_map (asking_of h.x)) (last_of h.x.service h.question h.asks);
@@ -79,7 +79,7 @@ module _ (r : Rules) (s : State) (limited : Bool) (d : Deed) (sound : IsSound s)
   begun None e began news =
       subst (All (BeginsByYes s d)) (behind s.news [] began (append-nil s.news ∙ news)) (All-from_recursion (BeginsByYes s d) [] tt)
   begun (Some a) e began news =
-      let new = next_term s h.x h.question t.class d.entry.moment a in
+      let new = next_term s h.x h.question t.plan t.class d.entry.moment a in
       subst (All (BeginsByYes s d)) (behind s.news (new ∷ []) began news) (All-from_recursion (BeginsByYes s d) (new ∷ []) (begins a e, tt))
 
 module _ (r : Rules) (s : State) (limited : Bool) (d : Deed) (sound : IsSound s) (began : List Tenure) (news : d.next.news ≡ s.news ++ began) where

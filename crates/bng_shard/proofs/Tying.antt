@@ -15,12 +15,14 @@ use Rattle.bng_shard.specs.Made.{Question}
 use Rattle.bng_shard.specs.Passing.{looked}
 use Rattle.bng_shard.specs.Serving.{AreOwn}
 use Rattle.bng_base.specs.declared.item.At.{At}
+use Rattle.bng_shard.specs.declared.meters.Plan.{Plan}
 use Rattle.bng_shard.specs.declared.rules.Rules.{Rules}
 use Rattle.bng_shard.specs.declared.session.Lease.{Lease}
 use Rattle.bng_shard.specs.declared.session.Session.{Session}
 use Rattle.bng_shard.specs.State.{State, IsTermOf, with_session, with_driven, with_ended}
 use Rattle.bng_shard.specs.Deed.{Deed, at_of}
 use Rattle.bng_shard.specs.Link.{Drives, LinkStep, Told, ended, nas_request, user_request}
+use Rattle.bng_shard.specs.Metered.{meters_of}
 use Rattle.bng_shard.specs.Running.{AreTied}
 use Rattle.bng_shard.specs.Step.{Step}
 use Rattle.bng_shard.specs.Tenures.{Tenure, closed, is_over, kept_lease, over_by}
@@ -210,11 +212,11 @@ module _ (s : State) (h : Holds s) where
       }
 
   -- once a term of it has begun
-  term_ties : (n : ℕ) (x x' : Session) (asked : ℕ) (limits : Limits) (a : Ip4) (q : Question) (class : List ℕ) (moment : ℕ) → x.number.0 ≡ n → x'.number ≡ x.number → x'.port ≡ x.port → x'.mac ≡ x.mac
-      → Holds (with_term s n x' asked (next_lease s limits moment a) (next_term s x q class moment a))
-  term_ties n x x' asked limits a q class moment its number port mac =
-      let t = next_term s x q class moment a in
-      let lease = next_lease s limits moment a in
+  term_ties : (n : ℕ) (x x' : Session) (asked : ℕ) (plan : Plan) (limits : Limits) (a : Ip4) (q : Question) (class : List ℕ) (moment : ℕ) → x.number.0 ≡ n → x'.number ≡ x.number → x'.port ≡ x.port → x'.mac ≡ x.mac
+      → Holds (with_term s n x' asked (next_lease s plan limits moment a) (next_term s x q plan class moment a) (meters_of plan moment))
+  term_ties n x x' asked plan limits a q class moment its number port mac =
+      let t = next_term s x q plan class moment a in
+      let lease = next_lease s plan limits moment a in
       let y : Session = record x' { lease = Some lease } in
       let k = sym number in
       let p = sym port in
@@ -257,7 +259,7 @@ ties_walk r = record {
   made = λ Steps e s n x x' outs cause asked' none d h.
       bare_ties s h n x x' cause asked' (ap (λ (y : Session). y.lease) d.session ∙ ap (kept_lease d.says.term_ended) none ∙ none_kept d.says.term_ended);
   padt = λ s n x m at is h. ended_ties s h n x user_request at;
-  passes = λ s n moment h. record { own = h.own; tied = h.tied; apart = h.apart; numbered = h.numbered };
+  passes = λ s n moment ms h. record { own = h.own; tied = h.tied; apart = h.apart; numbered = h.numbered };
   looks = λ s n at x found h. looked_ties s h n at x found;
   lapses = λ e s n x x' outs cause none asked' at over d h.
       let bare : x'.lease ≡ None = ap (λ (y : Session). y.lease) d.session ∙ none_kept d.says.term_ended in
@@ -272,7 +274,7 @@ module _ (r : Rules) (s : State) (limited : Bool) (d : Deed) (own : AreOwn s.ses
       bare_ties s h d.entry.item.target j.x j.after None j.asked bare
   settled_ties t j (Some a) h =
       let session = j.drives.session in
-      term_ties s h d.entry.item.target j.x j.after j.asked t.limits a j.question t.class d.entry.moment (own d.entry.item.target j.x j.found) (ap (λ (y : Session). y.number) session) (ap (λ (y : Session). y.port) session) (ap (λ (y : Session). y.mac) session)
+      term_ties s h d.entry.item.target j.x j.after j.asked t.plan t.limits a j.question t.class d.entry.moment (own d.entry.item.target j.x j.found) (ap (λ (y : Session). y.number) session) (ap (λ (y : Session). y.port) session) (ap (λ (y : Session). y.mac) session)
 
   -- so it is after a step
   pub step_ties : Holds s → Step r s limited d → Holds d.next

@@ -16,6 +16,7 @@ use Rattle.bng_ppp.specs.PppState.{PppState}
 use Rattle.bng_slots.specs.Sessions.{IsLowestVacant, value_at}
 use Rattle.bng_slots.proofs.SessionLaws.{value_at-with_value}
 use Rattle.bng_shard.specs.Made.{Made}
+use Rattle.bng_shard.specs.declared.meters.Meters.{Meters}
 use Rattle.bng_shard.specs.declared.rules.Rules.{Rules}
 use Rattle.bng_shard.specs.declared.session.Service.{Service}
 use Rattle.bng_shard.specs.declared.session.Service.TheVariants.{Provisioned, Discovered}
@@ -25,6 +26,7 @@ use Rattle.bng_shard.specs.Deed.{Deed, at_of}
 use Rattle.bng_shard.specs.Discovery.{Answers, Discovers, IsNewLink, host_uniq_of, new_session}
 use Rattle.bng_shard.specs.Frames.{HearsData, HearsPpp, HearsControl, HearsIn, HearsFrame, HearsAccess, HearsCore}
 use Rattle.bng_shard.specs.Link.{LinkStep, Drives, Told, ended, hears, nas_request, told, user_request}
+use Rattle.bng_shard.specs.Metered.{meters_at, spent_input, spent_output}
 use Rattle.bng_shard.specs.Passing.{cause_at, lapsed, looked, passed_at, with_passed}
 use Rattle.bng_shard.specs.Step.{Hears, Step}
 use Rattle.bng_shard.specs.Timers.{IsTimed, LooksAt, Ticks, Ends, HearsTick, HearsEnd, at_once}
@@ -43,7 +45,7 @@ pub record Walks (r : Rules) (R : State → State → Type 0) : Type 1 where
   pub made : (Steps : LinkStep) (e : Entry) (s : State) (n : ℕ) (x x' : Session) (outs : List OutRecord) (cause : Option ℕ) (asked' : ℕ) → x.lease ≡ None
       → Drives r (at_of s e) s.asked x Steps outs cause x' asked' → R s (with_driven s n None cause x' asked')
   pub padt : (s : State) (n : ℕ) (x : Session) (m : Made) → value_at s.sessions n ≡ Some x → x.service ≡ Discovered m → R s (with_ended s n x.lease user_request (ended x))
-  pub passes : (s : State) (n : SessionNo) (moment : ℕ) → R s (with_passed s n moment)
+  pub passes : (s : State) (n : SessionNo) (moment : ℕ) (ms : Meters) → R s (with_passed s n moment ms)
   pub looks : (s : State) (n at : ℕ) (x : Session) → value_at s.sessions n ≡ Some x → R s (with_session s n (looked at x))
   pub lapses : (e : Entry) (s : State) (n : ℕ) (x x' : Session) (outs : List OutRecord) (cause : ℕ) (none : Option ℕ) (asked' : ℕ) → value_at s.sessions n ≡ Some x
       → cause_at (passed_at s.passed x.number) x.lease e.moment ≡ Some cause → Drives r (at_of s e) s.asked (lapsed x) (told r e Close) outs none x' asked'
@@ -61,7 +63,7 @@ pub record WalksBy (r : Rules) (R : State → State → Type 0) : Type 0 where
   pub made : (e : Entry) (s : State) (n port : ℕ) (mac : Mac) (host_uniq : Option (List ℕ)) (link : PppState) (x' : Session) (outs : List OutRecord) (cause : Option ℕ) (asked' : ℕ)
       → IsLowestVacant s.sessions n → IsNewLink e.item.random link → Drives r (at_of s e) s.asked (new_session n port mac host_uniq link) (told r e Start) outs cause x' asked' → R s (with_driven s n None cause x' asked')
   pub padt : (s : State) (n : ℕ) (x : Session) (m : Made) → value_at s.sessions n ≡ Some x → x.service ≡ Discovered m → R s (with_ended s n x.lease user_request (ended x))
-  pub passes : (s : State) (n : SessionNo) (moment : ℕ) → R s (with_passed s n moment)
+  pub passes : (s : State) (n : SessionNo) (moment : ℕ) (ms : Meters) → R s (with_passed s n moment ms)
   pub looks : (s : State) (n at : ℕ) (x : Session) → value_at s.sessions n ≡ Some x → R s (with_session s n (looked at x))
   pub lapses : (e : Entry) (s : State) (n : ℕ) (x x' : Session) (outs : List OutRecord) (cause : ℕ) (none : Option ℕ) (asked' : ℕ) → value_at s.sessions n ≡ Some x
       → cause_at (passed_at s.passed x.number) x.lease e.moment ≡ Some cause → Drives r (at_of s e) s.asked (lapsed x) (told r e Close) outs none x' asked'
@@ -129,7 +131,9 @@ module _ (r : Rules) (R : State → State → Type 0) (w : WalksBy r R) where
     discovers number p h = answers h.answer number h.port h.offers p h.tags h.does
 
     packets : (number : ℕ) (p : PppoeFrame) (info : List ℕ) → HearsData r s e number p info d → R s d.next
-    packets number p info (fate, is, inl (forwards, up)) = after (with_passed s up.x.number e.moment) _ up.done refl (w.passes s up.x.number e.moment)
+    packets number p info (fate, is, inl (forwards, up)) =
+        let ms : Meters = spent_input (meters_at s.meters up.x.number) e.moment up.header.total in
+        after (with_passed s up.x.number e.moment ms) _ up.done refl (w.passes s up.x.number e.moment ms)
     packets number p info (fate, is, inr (stays, h)) = kept _ h refl
 
     ppp : (x : Session) (made : Made) (p : PppoeFrame) → value_at s.sessions p.session ≡ Some x → HearsPpp r s e x made p d → R s d.next
@@ -158,7 +162,9 @@ module _ (r : Rules) (R : State → State → Type 0) (w : WalksBy r R) where
 
     core : HearsCore r s e d → R s d.next
     core (inl (none, h)) = kept _ h refl
-    core (inr (v, is, (fate, decides, inl (forwards, down)))) = after (with_passed s down.x.number e.moment) _ down.done refl (w.passes s down.x.number e.moment)
+    core (inr (v, is, (fate, decides, inl (forwards, down)))) =
+        let ms : Meters = spent_output (meters_at s.meters down.x.number) e.moment v.total in
+        after (with_passed s down.x.number e.moment ms) _ down.done refl (w.passes s down.x.number e.moment ms)
     core (inr (v, is, (fate, decides, inr (stays, h)))) = kept _ h refl
 
     tick : HearsTick r s e d → R s d.next
@@ -189,7 +195,7 @@ module _ (r : Rules) (R : State → State → Type 0) (w : Walks r R) (s : State
 -- The step makes such changes, or a verdict tells the link of a session something: where the relation holds of that too, it holds of the
 -- step.
 module _ (r : Rules) (R : State → State → Type 0) (w : WalksBy r R) (stops : Stops R) (s : State) (limited : Bool) (d : Deed)
-    (judged : (t : Told) → Decides r.pools limited d.entry.item.frame.payload d.entry.claim (Some t) → (h : Judges r s d.entry t d) → R s (settled_by s d.entry.item.target h.x h.question t d.entry.moment h.after h.asked t.lease)) where
+    (judged : (t : Told) → Decides r limited d.entry.item.frame.payload d.entry.claim (Some t) → (h : Judges r s d.entry t d) → R s (settled_by s d.entry.item.target h.x h.question t d.entry.moment h.after h.asked t.lease)) where
   verdict_walks_by : HearsVerdict r s d.entry limited d → R s d.next
   verdict_walks_by (inl (asks, t, decides, h)) = subst (R s) (sym (next_of d _ h.done)) (judged t decides h)
   verdict_walks_by (inr (inl (asks, decides, h))) = w.same s d.next (next_of d _ h)

@@ -8,7 +8,9 @@ use Rattle.bng_base.specs.declared.address.Ip4.{Ip4}
 use Rattle.bng_base.specs.declared.circuit.Circuit.{Circuit}
 use Rattle.bng_base.specs.declared.circuit.TermId.{TermId}
 use Rattle.bng_slots.specs.Sessions.{Sessions, sessions_code}
+use Rattle.bng_shard.specs.contracts.meters.Meters.{the_row as meters_row}
 use Rattle.bng_shard.specs.contracts.session.Session.{the_row}
+use Rattle.bng_shard.specs.declared.meters.Meters.{Meters}
 use Rattle.bng_shard.specs.declared.session.Session.{Session}
 use Rattle.bng_shard.specs.State.{State}
 use Rattle.bng_shard.specs.Tenures.{Tenure}
@@ -25,8 +27,8 @@ tenure_code =
 abbrev pub state_code : Coded State
 state_code =
     code_by
-    (Sessions Session × (ℕ × (ℕ × (List Tenure × (List Tenure × List ℕ)))))
-    (coded× (sessions_code the_row.coded) (coded× coded_ℕ (coded× coded_ℕ (coded× (coded_list tenure_code) (coded× (coded_list tenure_code) (coded_list coded_ℕ))))))
-    (λ s. (s.sessions, (s.begun, (s.asked, (s.terms, (s.news, s.passed))))))
-    (λ p. record { sessions = p.0; begun = p.1.0; asked = p.1.1.0; terms = p.1.1.1.0; news = p.1.1.1.1.0; passed = p.1.1.1.1.1 })
+    (Sessions Session × (ℕ × (ℕ × (List Tenure × (List Tenure × (List ℕ × List Meters))))))
+    (coded× (sessions_code the_row.coded) (coded× coded_ℕ (coded× coded_ℕ (coded× (coded_list tenure_code) (coded× (coded_list tenure_code) (coded× (coded_list coded_ℕ) (coded_list meters_row.coded)))))))
+    (λ s. (s.sessions, (s.begun, (s.asked, (s.terms, (s.news, (s.passed, s.meters)))))))
+    (λ p. record { sessions = p.0; begun = p.1.0; asked = p.1.1.0; terms = p.1.1.1.0; news = p.1.1.1.1.0; passed = p.1.1.1.1.1.0; meters = p.1.1.1.1.1.1 })
     (λ _. refl)

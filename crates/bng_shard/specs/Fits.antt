@@ -28,8 +28,8 @@ begun_in journal = length (flat_map (λ (e : Entry). claimed_by e.claim) journal
 
 -- No term has a number above those that began, no two have one address, and each session's lease is that of a live term. As long as a
 -- round goes on, as many terms may begin still as the allowance is above those that began in it. At most 16 pools, a way to authenticate,
--- and what each access port offers. A profile, and of each its name and a book, in their order. Where a round has room for an entry, there
--- is room for it, for its outs, and for a term that it begins.
+-- and what each access port offers. At most 16 profiles, and of each its name and a book, in their order. Where a round has room for an
+-- entry, there is room for it, for its outs, and for a term that it begins.
 pub record Fits (a : Inside) : Type 0 where
   pub numbered : All (λ (r : Running). r.term.serial ≤ a.served.begun) a.terms.rows
   pub numbered_news : All (λ (r : Running). r.term.serial ≤ a.served.begun) a.terms.news
@@ -41,7 +41,7 @@ pub record Fits (a : Inside) : Type 0 where
   pub few_pools : length a.rules.pools ≤ 16
   pub auth : 0 < length a.rules.link.auth.items
   pub offers : length a.rules.offers ≡ length a.rules.access
-  pub some_profile : 0 < length a.rules.profiles
+  pub few_profiles : length a.rules.profiles ≤ 16
   pub named : a.profiles.names ≡ names_of a.rules.profiles
   pub booked : length a.profiles.books ≡ length a.rules.profiles
   pub journal_room : length a.journal.items + a.room ≤ a.journal.room

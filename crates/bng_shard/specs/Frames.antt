@@ -19,15 +19,17 @@ use Rattle.bng_forward.specs.Fates.{IsFrame, IsCorePacket, NamesSession, Carries
 use Rattle.bng_forward.specs.Framed.{circuit_frame, IsFrameTo}
 use Rattle.bng_forward.specs.Packets.{IsPassedOn}
 use Rattle.bng_shard.specs.Made.{Made}
+use Rattle.bng_shard.specs.declared.meters.Meters.{Meters}
 use Rattle.bng_shard.specs.declared.rules.Rules.{Rules}
 use Rattle.bng_shard.specs.declared.session.Lease.{Lease}
 use Rattle.bng_shard.specs.declared.session.Service.TheVariants.{Provisioned, Discovered}
 use Rattle.bng_shard.specs.declared.session.Service.{Service}
 use Rattle.bng_shard.specs.declared.session.Session.{Session}
-use Rattle.bng_shard.specs.State.{State, IsTermOf, circuit_of, session_of, holder_of, is_kept, view_of, with_ended, with_driven, port_at}
+use Rattle.bng_shard.specs.State.{State, IsTermOf, circuit_of, session_of, holder_of, is_kept, with_ended, with_driven, port_at}
 use Rattle.bng_shard.specs.Deed.{Deed, at_of, out, only, ignored, dropped, handled, arrival_in}
 use Rattle.bng_shard.specs.Link.{Drives, ended, hears, user_request}
 use Rattle.bng_shard.specs.Discovery.{Discovers}
+use Rattle.bng_shard.specs.Metered.{kept_view, meters_at, spent_input, spent_output, view_in}
 use Rattle.bng_shard.specs.Passing.{with_passed}
 
 -- whose packet passes: the session's term
@@ -41,24 +43,23 @@ charge_of x l input octets = record {
   octets = octets;
 }
 
--- a packet of the session with this number passes
-abbrev pub forwarded : State → Entry → SessionNo → OutRecord → Deed
-forwarded s e n o = record { entry = e; fate = Forwarded; outs = o ∷ []; next = with_passed s n e.moment }
+-- a packet of the session with this number passes, and leaves it these meters
+abbrev pub forwarded : State → Entry → SessionNo → Meters → OutRecord → Deed
+forwarded s e n ms o = record { entry = e; fate = Forwarded; outs = o ∷ []; next = with_passed s n e.moment ms }
 
 -- what is known of the session of a frame: whether there is one, and the view of its live term, if it has one
 abbrev pub found_up : State → ℕ → PppoeFrame → Option (Option TermView)
-found_up s number p = option_map view_of (session_of s number p.src p.session)
+found_up s number p = option_map (view_in s.meters) (session_of s number p.src p.session)
 
 -- the view of the live term whose address this is; else that of a term that has ended and still has it, which is not open
-abbrev pub found_among : Option Session → Bool → Ip4 → Option TermView
-found_among (Some x) kept a = view_of x
-found_among None true a = Some (record { lease = a; opened = false })
-found_among None false a = None
+abbrev pub found_among : List Meters → Option Session → Bool → Ip4 → Option TermView
+found_among meters (Some x) kept a = view_in meters x
+found_among meters None kept a = kept_view kept a
 
 abbrev pub found_down : State → Ip4 → Option TermView
-found_down s a = found_among (holder_of s a) (is_kept s a) a
+found_down s a = found_among s.meters (holder_of s a) (is_kept s a) a
 
--- the packet of a session's frame goes to the core
+-- the packet of a session's frame goes to the core, and takes its tokens of the input meter alone
 pub record GoesUp (r : Rules) (s : State) (e : Entry) (number : ℕ) (p : PppoeFrame) (info : List ℕ) (d : Deed) : Type 0 where
   pub x : Session
   pub found : session_of s number p.src p.session ≡ Some x
@@ -69,11 +70,12 @@ pub record GoesUp (r : Rules) (s : State) (e : Entry) (number : ℕ) (p : PppoeF
   pub packet : List ℕ
   pub source : header.src ≡ lease.address
   pub passed : IsPassedOn header info packet
-  pub done : d ≡ forwarded s e x.number (out (at_of s e) Core r.core_peer packet (Some (charge_of x lease true header.total)))
+  pub done : d ≡ forwarded s e x.number (spent_input (meters_at s.meters x.number) e.moment header.total) (out (at_of s e) Core r.core_peer packet (Some (charge_of x lease true header.total)))
 
--- A frame with an IPv4 packet: the first case that holds of the table of fates.
+-- A frame with an IPv4 packet: the first case that holds of the table of fates. One that does not go on changes nothing, and takes no
+-- token of a meter.
 abbrev pub HearsData : Rules → State → Entry → ℕ → PppoeFrame → List ℕ → Deed → Type 0
-HearsData r s e number p info d = (fate : Fate) × UpFate (found_up s number p) info fate
+HearsData r s e number p info d = (fate : Fate) × UpFate (found_up s number p) e.moment info fate
     × (((fate ≡ Forwarded) × GoesUp r s e number p info d) ⊎ ((fate ≢ Forwarded) × (d ≡ only s e fate)))
 
 -- A session frame without an IPv4 packet. Where the session has ended it does nothing, and where it has not its link hears it.
@@ -117,7 +119,7 @@ HearsAccess r s e number d =
     ⊎ ((p : PppoeFrame) × IsFrame r.access number (arrival_in e) p × HearsFrame r s e number p d)
 
 -- The packet of the core goes on the circuit whose address is its destination, in a frame that anyone reads as the
--- circuit's.
+-- circuit's, and takes its tokens of the output meter alone.
 pub record GoesDown (r : Rules) (s : State) (e : Entry) (v : Ipv4) (d : Deed) : Type 0 where
   pub x : Session
   pub found : holder_of s v.dst ≡ Some x
@@ -130,11 +132,11 @@ pub record GoesDown (r : Rules) (s : State) (e : Entry) (v : Ipv4) (d : Deed) : 
   pub packet : List ℕ
   pub passed : IsPassedOn v e.item.frame.payload packet
   pub again : IsFrameTo port x.mac x.number.0 packet (circuit_frame port x.mac x.number.0 packet)
-  pub done : d ≡ forwarded s e x.number (out (at_of s e) (Access x.port) port.peer (circuit_frame port x.mac x.number.0 packet) (Some (charge_of x lease false v.total)))
+  pub done : d ≡ forwarded s e x.number (spent_output (meters_at s.meters x.number) e.moment v.total) (out (at_of s e) (Access x.port) port.peer (circuit_frame port x.mac x.number.0 packet) (Some (charge_of x lease false v.total)))
 
--- A packet of the core: the first case that holds of the table of fates.
+-- A packet of the core: the first case that holds of the table of fates. The same holds of one that does not go on.
 abbrev pub HearsPacket : Rules → State → Entry → Ipv4 → Deed → Type 0
-HearsPacket r s e v d = (fate : Fate) × DownFate (found_down s) e.item.frame.payload fate
+HearsPacket r s e v d = (fate : Fate) × DownFate (found_down s) e.moment e.item.frame.payload fate
     × (((fate ≡ Forwarded) × GoesDown r s e v d) ⊎ ((fate ≢ Forwarded) × (d ≡ only s e fate)))
 
 -- a datagram of the core

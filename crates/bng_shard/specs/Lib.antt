@@ -12,6 +12,7 @@ pub mod Deed
 pub mod Link
 pub mod Questions
 pub mod Passing
+pub mod Metered
 pub mod Wishes
 pub mod Verdicts
 pub mod Discovery

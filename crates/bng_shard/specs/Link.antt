@@ -19,6 +19,7 @@ use Rattle.bng_ppp.specs.Verdict.{Settles}
 use Rattle.bng_ppp.specs.WholeFrame.{HearsOctets}
 use Rattle.bng_term.specs.declared.limits.Limits.{Limits}
 use Rattle.bng_shard.specs.Made.{Made, Question}
+use Rattle.bng_shard.specs.declared.meters.Plan.{Plan}
 use Rattle.bng_shard.specs.declared.rules.Rules.{Rules}
 use Rattle.bng_base.specs.declared.item.At.{At}
 use Rattle.bng_shard.specs.declared.session.Service.{Service}
@@ -109,13 +110,14 @@ abbrev pub hears : Rules → Entry → List ℕ → LinkStep
 hears r e octets old says new = HearsPppFrame r.link octets e.moment e.item.random old says new
 
 -- What a link is told of its peer: whether it is accepted, the address that it has then, if it has one, and the text of the reply. And
--- what the records of its term say of the Class attributes of the Accept, and how long the term may last.
+-- what the records of its term say of the Class attributes of the Accept, how long the term may last, and by what it is metered.
 pub record Told : Type 0 where
   pub yes : Bool
   pub lease : Option Ip4
   pub text : List ℕ
   pub class : List ℕ
   pub limits : Limits
+  pub plan : Plan
 
 pub record IsToldVerdict (r : LinkRules) (t : Told) (now : ℕ) (random : List ℕ) (old : PppState) (says : PppSaid) (new : PppState) : Type 0 where
   pub turn : Turn

@@ -1,12 +1,15 @@
 -- A shard at its opening: the sessions of its provisioned circuits.
-use Rattle.std.specs.Prelude.{ℕ, ◌+◌, ◌*◌, ◌==◌, false, List, [], ◌∷◌, Some, None, length, filter, replicate}
+use Rattle.std.specs.Prelude.{ℕ, ◌+◌, ◌*◌, ◌==◌, false, List, [], ◌∷◌, Some, None, length, filter, map, replicate}
 use Rattle.std.specs.List.{flat_map, range_with_len}
 use Rattle.std.specs.FinMap.{from_sorted}
 use Rattle.bng_base.specs.declared.circuit.Circuit.TheVariants.{Pppoe}
+use Rattle.bng_base.specs.declared.book.Profile.{Profile}
 use Rattle.bng_base.specs.declared.settings.Static.{Static}
+use Rattle.bng_shard.specs.declared.meters.Meters.{Meters}
 use Rattle.bng_shard.specs.declared.session.Lease.{Lease}
 use Rattle.bng_shard.specs.declared.session.Service.TheVariants.{Provisioned}
 use Rattle.bng_shard.specs.declared.session.Session.{Session}
+use Rattle.bng_shard.specs.Metered.{meters_of, no_meters, plan_at}
 use Rattle.bng_shard.specs.State.{State}
 use Rattle.bng_shard.specs.Tenures.{Tenure}
 use Rattle.bng_shard.specs.Limited.{no_limits}
@@ -61,13 +64,23 @@ tenures_after now n (c ∷ cs) = tenure_from now c (n + 1) ∷ tenures_after now
 abbrev pub none_passed : List ℕ
 none_passed = replicate 1024 0
 
+-- the meters of the term of this circuit, if there is one: they start full at this moment
+abbrev pub circuit_meters : List Profile → ℕ → List Static → Meters
+circuit_meters profiles now [] = no_meters
+circuit_meters profiles now (c ∷ cs) = meters_of (plan_at profiles c.profile) now
+
+-- Those of a shard's session numbers, by rising number. The first and the last of the 1,024 are no session's.
+unfoldable pub opened_meters : ℕ → List Profile → List Static → ℕ → List Meters
+opened_meters shard profiles circuits now = map (λ n. circuit_meters profiles now (circuit_at circuits n)) (range_with_len (shard * 1024) 1024)
+
 -- what stands in a shard at its opening, which is at this moment: of each term a Start is formed then
-abbrev pub opened_slots : ℕ → List Static → ℕ → State
-opened_slots number circuits now = record {
+abbrev pub opened_slots : ℕ → List Profile → List Static → ℕ → State
+opened_slots number profiles circuits now = record {
   sessions = record { shard = number; by_number = from_sorted (numbered_after 0 (in_order number circuits)) };
   begun = length circuits;
   asked = 0;
   terms = tenures_after now 0 (in_order number circuits);
   news = [];
   passed = none_passed;
+  meters = opened_meters number profiles circuits now;
 }

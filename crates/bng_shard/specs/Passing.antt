@@ -2,6 +2,7 @@
 use Rattle.std.specs.Prelude.{ℕ, max, ◌%◌, List, Option, Some, None, slice_index_or, slice_set}
 use Rattle.bng_base.specs.declared.address.SessionNo.{SessionNo}
 use Rattle.bng_term.specs.Lifetimes.{cause_of, seen}
+use Rattle.bng_shard.specs.declared.meters.Meters.{Meters}
 use Rattle.bng_shard.specs.declared.session.Lease.{Lease}
 use Rattle.bng_shard.specs.declared.session.Session.{Session}
 use Rattle.bng_shard.specs.State.{State}
@@ -14,9 +15,9 @@ place_in n = n.0 % 1024
 abbrev pub passed_at : List ℕ → SessionNo → ℕ
 passed_at passed n = slice_index_or passed (place_in n) 0
 
--- a packet of that session passed at this moment
-abbrev pub with_passed : State → SessionNo → ℕ → State
-with_passed s n moment = record s { passed = slice_set s.passed (place_in n) moment }
+-- a packet of that session passed at this moment, and left it these meters
+abbrev pub with_passed : State → SessionNo → ℕ → Meters → State
+with_passed s n moment ms = record s { passed = slice_set s.passed (place_in n) moment; meters = slice_set s.meters (place_in n) ms }
 
 -- the moment of a term's last packet, or of its lease where none passed since; that of its session is this one
 abbrev pub last_passed : ℕ → Lease → ℕ

@@ -91,9 +91,8 @@ refused_by pools (Claimed a) = []
 refused_by pools (Held a) = a.0 ∷ []
 refused_by pools (Exhausted k) = addresses_in (slice_get pools k)
 
--- by these rules, which have a profile, an entry was handled in this state: it is a step, and these addresses it was told to be held
+-- by these rules an entry was handled in this state: it is a step, and these addresses it was told to be held
 pub record HandlesStep (r : Rules) (s : State) (h : Handled) : Type 0 where
-  pub profile : 0 < length r.profiles
   pub step : Step r s h.limited h.deed
   pub refused : h.refused ≡ refused_by r.pools h.deed.entry.claim
 
@@ -159,8 +158,8 @@ pub record Handles (v v' : ShardView ShardState Entry) (pool pool' : PlainView) 
 abbrev pub opened : ℕ → Rules → List Static → ℕ → ShardView ShardState Entry
 opened number rules circuits now = record {
   number = number;
-  state = record { rules = rules; slots = opened_slots number circuits now };
-  rows = map new_row (keys (terms_of (record { rules = rules; slots = opened_slots number circuits now })));
+  state = record { rules = rules; slots = opened_slots number rules.profiles circuits now };
+  rows = map new_row (keys (terms_of (record { rules = rules; slots = opened_slots number rules.profiles circuits now })));
   books = replicate (length rules.profiles) empty_book;
   allowance = 0;
   journal = [];

@@ -61,7 +61,7 @@ abbrev pub AreLeased : Sessions Session → Type 0
 AreLeased sessions = (n : ℕ) (x : Session) → value_at sessions n ≡ Some x → KeepsLease x.service x.lease
 
 -- The numbers of the sessions that have ended, of those that have an open question, and of the young ones, for which there is room. And
--- of each number a moment, in milliseconds.
+-- of each number a moment, in milliseconds, and meters.
 pub record Keeps (a : Inside) : Type 0 where
   pub own : AreOwn a.sessions
   pub of_shard : AreOfShard a.sessions
@@ -78,3 +78,4 @@ pub record Keeps (a : Inside) : Type 0 where
   pub young_room : 1022 < vec_capacity a.young
   pub passed : length a.passed.items ≡ 1024
   pub passed_low : All (λ moment. moment < 2 ^ 60) a.passed.items
+  pub metered : length a.meters.items ≡ 1024

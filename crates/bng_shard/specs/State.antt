@@ -1,5 +1,5 @@
 -- What a shard serves: its sessions by number, each on a provisioned circuit or made by discovery.
-use Rattle.std.specs.Prelude.{◌≡◌, ℕ, ◌-◌, ◌==◌, Bool, true, false, not, ◌&&◌, List, [], Option, Some, None, filter, find, length, slice_get, option_map, if◌then◌else◌}
+use Rattle.std.specs.Prelude.{◌≡◌, ℕ, ◌-◌, ◌==◌, Bool, true, false, not, ◌&&◌, List, [], Option, Some, None, filter, find, length, slice_get, if◌then◌else◌}
 use Rattle.std.specs.FinMap as map
 use Rattle.std.specs.List.{list_any}
 use Rattle.std.specs.Option.{option_map_or}
@@ -10,10 +10,10 @@ use Rattle.bng_base.specs.declared.circuit.Circuit.{Circuit}
 use Rattle.bng_base.specs.declared.circuit.Circuit.TheVariants.{Pppoe}
 use Rattle.bng_base.specs.declared.settings.AccessPort.{AccessPort}
 use Rattle.bng_discovery.specs.declared.port.PortRules.{PortRules}
-use Rattle.bng_forward.specs.declared.view.TermView.{TermView}
 use Rattle.bng_ppp.specs.PppState.{passes}
 use Rattle.bng_slots.specs.Sessions.{Sessions, value_at, with_value}
 use Rattle.bng_slots.specs.Listed.{values}
+use Rattle.bng_shard.specs.declared.meters.Meters.{Meters}
 use Rattle.bng_shard.specs.declared.session.Lease.{Lease}
 use Rattle.bng_shard.specs.declared.session.Service.{Service}
 use Rattle.bng_shard.specs.declared.session.Service.TheVariants.{Provisioned, Discovered}
@@ -22,7 +22,7 @@ use Rattle.bng_shard.specs.Tenures.{Tenure, closed, has_kept, is_over}
 
 -- The shard's number with its sessions, how many terms began in it, how many questions were asked, the terms that have no Stop yet, in
 -- the order in which they began, and those of whose beginning no Start was formed yet, in the same order. And by session number the moment,
--- in milliseconds, at which its last packet passed.
+-- in milliseconds, at which its last packet passed, and its meters.
 pub record State : Type 0 where
   pub sessions : Sessions Session
   pub begun : ℕ
@@ -30,6 +30,7 @@ pub record State : Type 0 where
   pub terms : List Tenure
   pub news : List Tenure
   pub passed : List ℕ
+  pub meters : List Meters
 
 -- the access port with this number, from 1 on, and what it offers
 abbrev pub port_at : List AccessPort → ℕ → Option AccessPort
@@ -58,10 +59,6 @@ session_of s port mac n = where_on port mac (value_at s.sessions n)
 abbrev pub passes_in : Service → Bool
 passes_in (Provisioned over) = true
 passes_in (Discovered m) = passes m.link
-
--- what forwarding looks at of a session's live term
-abbrev pub view_of : Session → Option TermView
-view_of x = option_map (λ (l : Lease). record { lease = l.address; opened = passes_in x.service }) x.lease
 
 -- the session's live term has this address
 abbrev pub leases : Ip4 → Session → Bool

@@ -1,5 +1,5 @@
 -- Verdicts on the questions of sessions.
-use Rattle.std.specs.Prelude.{◌≡◌, ◌⊎◌, ℕ, ◌+◌, List, [], ◌∷◌, ◌++◌, Option, Some, None, Bool}
+use Rattle.std.specs.Prelude.{◌≡◌, ◌⊎◌, ℕ, ◌+◌, List, [], ◌∷◌, ◌++◌, Option, Some, None, Bool, slice_set}
 use Rattle.bng_base.specs.declared.address.Ip4.{Ip4}
 use Rattle.bng_base.specs.declared.item.Entry.{Entry}
 use Rattle.bng_base.specs.declared.item.Claim.TheVariants.{NoClaim}
@@ -8,6 +8,8 @@ use Rattle.bng_slots.specs.Sessions.{value_at}
 use Rattle.bng_term.specs.Lifetimes.{leased}
 use Rattle.bng_term.specs.declared.limits.Limits.{Limits}
 use Rattle.bng_shard.specs.Made.{Question}
+use Rattle.bng_shard.specs.declared.meters.Meters.{Meters}
+use Rattle.bng_shard.specs.declared.meters.Plan.{Plan}
 use Rattle.bng_shard.specs.declared.rules.Rules.{Rules}
 use Rattle.bng_shard.specs.declared.session.Lease.{Lease}
 use Rattle.bng_shard.specs.declared.session.Session.{Session}
@@ -15,38 +17,41 @@ use Rattle.bng_shard.specs.State.{State, circuit_of, with_driven}
 use Rattle.bng_shard.specs.Tenures.{Tenure}
 use Rattle.bng_shard.specs.Deed.{Deed, at_of, handled, ignored}
 use Rattle.bng_shard.specs.Link.{Drives, Told, settles}
+use Rattle.bng_shard.specs.Metered.{meters_of}
+use Rattle.bng_shard.specs.Passing.{place_in}
 use Rattle.bng_shard.specs.Questions.{open_ask_at, open_of}
 use Rattle.bng_shard.specs.Wishes.{Decides}
 
--- the lease of the term that begins next, with this address, within these limits, from this moment on; it has the first profile
-abbrev pub next_lease : State → Limits → ℕ → Ip4 → Lease
-next_lease s limits moment a = record { serial = s.begun + 1; address = a; profile = 0; life = leased limits moment }
+-- the lease of the term that begins next, with this address, by this plan and within these limits, from this moment on
+abbrev pub next_lease : State → Plan → Limits → ℕ → Ip4 → Lease
+next_lease s plan limits moment a = record { serial = s.begun + 1; address = a; profile = plan.profile; life = leased limits moment }
 
 -- that term: the session's peer answers to the name of its question (User-Name), and it begins at this moment
-abbrev pub next_term : State → Session → Question → List ℕ → ℕ → Ip4 → Tenure
-next_term s x q class moment a = record {
+abbrev pub next_term : State → Session → Question → Plan → List ℕ → ℕ → Ip4 → Tenure
+next_term s x q plan class moment a = record {
   term = record { session = x.number; serial = s.begun + 1 };
   circuit = circuit_of x;
   address = a;
-  profile = 0;
+  profile = plan.profile;
   user = q.claim.name;
   class = class;
   began = moment;
   cause = None;
 }
 
--- the state once a term has begun, by this lease, of the session that is so after a step of its link
-abbrev pub with_term : State → ℕ → Session → ℕ → Lease → Tenure → State
-with_term s n x asked l t = record (with_driven s n None None (record x { lease = Some l }) asked) {
+-- the state once a term has begun, by this lease and with these meters, of the session that is so after a step of its link
+abbrev pub with_term : State → ℕ → Session → ℕ → Lease → Tenure → Meters → State
+with_term s n x asked l t ms = record (with_driven s n None None (record x { lease = Some l }) asked) {
   begun = s.begun + 1;
   terms = s.terms ++ t ∷ [];
   news = s.news ++ t ∷ [];
+  meters = slice_set s.meters (place_in x.number) ms;
 }
 
--- A term begins where the peer is accepted with an address, and else none does.
+-- A term begins where the peer is accepted with an address, and else none does. Its meters start full then.
 abbrev pub settled_by : State → ℕ → Session → Question → Told → ℕ → Session → ℕ → Option Ip4 → State
 settled_by s n x q t moment x' asked None = with_driven s n None None x' asked
-settled_by s n x q t moment x' asked (Some a) = with_term s n x' asked (next_lease s t.limits moment a) (next_term s x q t.class moment a)
+settled_by s n x q t moment x' asked (Some a) = with_term s n x' asked (next_lease s t.plan t.limits moment a) (next_term s x q t.plan t.class moment a) (meters_of t.plan moment)
 
 -- the session that the item names has an open question, and no live term, and is told what was found
 pub record Judges (r : Rules) (s : State) (e : Entry) (t : Told) (d : Deed) : Type 0 where
@@ -66,6 +71,6 @@ pub record Judges (r : Rules) (s : State) (e : Entry) (t : Told) (d : Deed) : Ty
 -- open, and the octets say something, the session's link is told what they come to. Else nothing happens.
 abbrev pub HearsVerdict : Rules → State → Entry → Bool → Deed → Type 0
 HearsVerdict r s e limited d =
-    ((open_ask_at s e.item.target ≡ Some e.item.ask) × (t : Told) × Decides r.pools limited e.item.frame.payload e.claim (Some t) × Judges r s e t d)
-    ⊎ (((open_ask_at s e.item.target ≡ Some e.item.ask) × Decides r.pools limited e.item.frame.payload e.claim None × (d ≡ ignored s e))
+    ((open_ask_at s e.item.target ≡ Some e.item.ask) × (t : Told) × Decides r limited e.item.frame.payload e.claim (Some t) × Judges r s e t d)
+    ⊎ (((open_ask_at s e.item.target ≡ Some e.item.ask) × Decides r limited e.item.frame.payload e.claim None × (d ≡ ignored s e))
     ⊎ ((¬ (open_ask_at s e.item.target ≡ Some e.item.ask)) × (e.claim ≡ NoClaim) × (d ≡ ignored s e)))

@@ -16,7 +16,7 @@ use Rattle.bng_shard.specs.Wishes.{IsAnswerTo, Wishes, is_within}
 -- a verdict asks as its octets say, where the question that it names is open, and else nothing
 abbrev pub WishesVerdict : Rules → State → Item → Bool → Wish → Type 0
 WishesVerdict r s item limited wish =
-    ((open_ask_at s item.target ≡ Some item.ask) × Wishes r.pools limited item.frame.payload wish)
+    ((open_ask_at s item.target ≡ Some item.ask) × Wishes r limited item.frame.payload wish)
     ⊎ ((¬ (open_ask_at s item.target ≡ Some item.ask)) × (wish ≡ Nothing))
 
 -- no other item asks anything

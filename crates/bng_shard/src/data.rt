@@ -1,5 +1,5 @@
 //! Packets of the sessions' terms: from a circuit to the core, and from the core to a circuit.
-ghost use Rattle.std.specs.Prelude.{◌≡◌, ◌<◌, ◌^◌, ℕ, List, None as Nothing, length, option_map};
+ghost use Rattle.std.specs.Prelude.{◌≡◌, ◌<◌, ◌^◌, ℕ, List, length, option_map};
 ghost use Rattle.std.specs.List.{list_any};
 ghost use Rattle.std.specs.Option.{option_copied};
 ghost use Rattle.bng_base.specs.FateOf.{arrival_of};
@@ -8,12 +8,13 @@ ghost use Rattle.bng_forward.specs.Fates.{Carries, IsCorePacket, IsFrame};
 ghost use Rattle.bng_shard.specs.Doing.{DoesWith};
 ghost use Rattle.bng_shard.specs.Fits.{ArePlaced};
 ghost use Rattle.bng_shard.specs.Frames.{charge_of as charged_to, found_among, HearsCore, HearsData, HearsPacket};
+ghost use Rattle.bng_shard.specs.Metered.{kept_view, meters_found, view_in};
 ghost use Rattle.bng_shard.specs.Running.{AreTied, tenures_in, whole};
-ghost use Rattle.bng_shard.specs.State.{view_of as viewed};
 ghost use Rattle.bng_shard.specs.Tenures.{has_kept};
 
 use crate::drive::port_of;
 use crate::incoming::Incoming;
+use crate::meters::Meters;
 use crate::sending::push_out;
 use crate::served::Served;
 use crate::session::{Lease, Session};
@@ -45,37 +46,61 @@ fn charge_of(session: &Session, lease: Lease, input: bool, octets: u16) -> Charg
     }
 }
 
+// The view of the live term of a session.
+fn view_in(served: &Served, session: &Session) -> Option<TermView>
+    ensures { result ≡ view_in served.now.meters session.now }
+{
+    session.view(served.meters_at(session.number))
+}
+
 // The view of the term of a frame's session, if there is a session.
-fn view_of(session: Option<&Session>) -> Option<Option<TermView>>
-    ensures { result ≡ option_map viewed (option_copied session.entry) }
+fn found_for(served: &Served, session: Option<&Session>) -> Option<Option<TermView>>
+    ensures { result ≡ option_map (view_in served.now.meters) (option_copied session.entry) }
 {
     match session {
-        Some(session) => Some(session.view()),
+        Some(session) => Some(view_in(served, session)),
         None => None,
     }
 }
 
 // The view of the term that has this address: the live one of its holder, or one that has ended and is not open.
-fn holder_view(holder: Option<&Session>, terms: &Terms, address: Ip4) -> Option<TermView>
-    ensures { result ≡ found_among (option_copied holder.entry) (list_any (has_kept address) (tenures_in terms.now.rows)) address }
+fn holder_view(
+    served: &Served,
+    holder: Option<&Session>,
+    terms: &Terms,
+    address: Ip4,
+) -> Option<TermView>
+    ensures { result ≡ found_among served.now.meters (option_copied holder.entry) (list_any (has_kept address) (tenures_in terms.now.rows)) address }
 {
     match holder {
-        Some(session) => session.view(),
+        Some(session) => view_in(served, session),
         None => kept_view(terms, address),
     }
 }
 
 // The view of a term that has ended and still has this address.
 fn kept_view(terms: &Terms, address: Ip4) -> Option<TermView>
-    ensures { result ≡ found_among Nothing (list_any (has_kept address) (tenures_in terms.now.rows)) address }
+    ensures { result ≡ kept_view (list_any (has_kept address) (tenures_in terms.now.rows)) address }
 {
     if terms.keeps(address) {
         Some(TermView {
             lease: address,
             opened: false,
+            input: None,
+            output: None,
         })
     } else {
         None
+    }
+}
+
+// The meters of the term that was found.
+fn meters_found(found: Option<Option<TermView>>) -> Meters
+    ensures { result ≡ meters_found found }
+{
+    match found {
+        Some(view) => Meters::from_view(view),
+        None => Meters::none(),
     }
 }
 
@@ -103,7 +128,8 @@ pub(crate) fn hear_data(
     let mut packet = Frame::new();
     packet.copy_from(&incoming.item.frame);
     take_from_frame(&mut packet, size);
-    let fate = up(view_of(session), &mut packet);
+    let mut found = found_for(served, session);
+    let fate = up(&mut found, incoming.moment, &mut packet);
     let Fate::Forwarded = fate else {
         return fate;
     };
@@ -115,7 +141,7 @@ pub(crate) fn hear_data(
     };
     let octets = packet.payload().len() as u16;
     let charge = charge_of(session, lease, true, octets);
-    served.note_passed(charge.term.session, incoming.moment);
+    served.note_passed(charge.term.session, incoming.moment, meters_found(found));
     let core = incoming.rules.core_peer;
     push_out(outs, incoming.at, Role::Core, core, &packet, Some(charge));
     Fate::Forwarded
@@ -142,7 +168,8 @@ fn hear_packet(
     let holder = served.holder_of(header.dst);
     let mut packet = Frame::new();
     packet.copy_from(&incoming.item.frame);
-    let fate = down(holder_view(holder, terms, header.dst), header, &mut packet);
+    let mut view = holder_view(served, holder, terms, header.dst);
+    let fate = down(&mut view, incoming.moment, header, &mut packet);
     let Fate::Forwarded = fate else {
         return fate;
     };
@@ -158,7 +185,11 @@ fn hear_packet(
     put_in_frame(&port, session.mac, session.number, &mut packet);
     let charge = charge_of(session, lease, false, header.total);
     let role = Role::Access(session.port);
-    served.note_passed(charge.term.session, incoming.moment);
+    served.note_passed(
+        charge.term.session,
+        incoming.moment,
+        Meters::from_view(view),
+    );
     push_out(outs, incoming.at, role, port.peer, &packet, Some(charge));
     Fate::Forwarded
 }

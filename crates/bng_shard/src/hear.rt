@@ -102,6 +102,7 @@ pub(crate) fn hear(
     requires auth { 0 < length incoming.now.rules.now.link.auth.items }
     requires offers { length incoming.now.rules.now.offers ≡ length incoming.now.rules.now.access }
     requires few_pools { length incoming.now.rules.now.pools ≤ 16 }
+    requires few_profiles { length incoming.now.rules.now.profiles ≤ 16 }
     requires placed { ArePlaced incoming.now.rules.now served.old.sessions }
     requires tied { AreTied served.old.sessions (tenures_in terms.old.rows) }
     requires whole { incoming.now.item.now.frame.headroom ≡ 64 }

@@ -5,6 +5,7 @@ ghost use Rattle.bng_engine.specs.Protocol.{Alike, StepLaws};
 ghost use Rattle.bng_engine.specs.Views.{row_keys};
 ghost use Rattle.std.specs.List.{All, AllByRecursion, AllPairs, Contains};
 ghost use Rattle.bng_base.specs.declared.address.Mac.{Mac};
+ghost use Rattle.bng_base.specs.declared.book.Profile.{Profile};
 ghost use Rattle.bng_base.specs.declared.item.OutRecord.{OutRecord};
 ghost use Rattle.bng_base.specs.declared.settings.Static.{Static};
 ghost use Rattle.bng_slots.specs.Sessions.{IsNumberOf};
@@ -53,8 +54,8 @@ pub fn terms_begin_by_yeses()
 /// The terms of a shard are numbered in the order in which they began, each is of one of the shard's session numbers and has begun, and
 /// its Class attributes are whole (RFC 2865 section 5.25). It is so at the opening, and from then on.
 pub fn terms_are_numbered()
-    ensures opened { (number : ℕ) (circuits : List Static) (now : ℕ) → number < 64 → All (λ c. IsNumberOf number c.session.0) circuits → AllPairs (λ a b. a.session ≢ b.session) circuits
-        → AreTenures now (opened_slots number circuits now) }
+    ensures opened { (number : ℕ) (profiles : List Profile) (circuits : List Static) (now : ℕ) → number < 64 → All (λ c. IsNumberOf number c.session.0) circuits → AllPairs (λ a b. a.session ≢ b.session) circuits
+        → AreTenures now (opened_slots number profiles circuits now) }
     ensures kept { (r : Rules) (s : State) (limited : Bool) (d : Deed) (moment : ℕ) → Step r s limited d → IsSound s → moment ≤ d.entry.moment → AreTenures moment s → AreTenures d.entry.moment d.next }
     ensures settled { (moment : ℕ) (s : State) → AreTenures moment s → AreTenures moment (settled s) }
     ensures later { (m n : ℕ) (s : State) → m ≤ n → AreTenures m s → AreTenures n s }
@@ -63,8 +64,8 @@ pub fn terms_are_numbered()
 /// The term of a provisioned circuit ends by the gateway's own stop alone. Each term ends by one of the causes that there are: User
 /// Request, Lost Carrier, Idle Timeout, Session Timeout, NAS Request (RFC 2866 section 5.10). It is so at the opening, and from then on.
 pub fn circuits_last()
-    ensures opened { (number : ℕ) (circuits : List Static) (now : ℕ) → number < 64 → All (λ c. IsNumberOf number c.session.0) circuits → AllPairs (λ a b. a.session ≢ b.session) circuits
-        → CircuitsLast (length circuits) (opened_slots number circuits now) }
+    ensures opened { (number : ℕ) (profiles : List Profile) (circuits : List Static) (now : ℕ) → number < 64 → All (λ c. IsNumberOf number c.session.0) circuits → AllPairs (λ a b. a.session ≢ b.session) circuits
+        → CircuitsLast (length circuits) (opened_slots number profiles circuits now) }
     ensures kept { (circuits : ℕ) (r : Rules) (s : State) (limited : Bool) (d : Deed) → Step r s limited d → CircuitsLast circuits s → CircuitsLast circuits d.next }
     ensures settled { (circuits : ℕ) (s : State) → CircuitsLast circuits s → CircuitsLast circuits (settled s) }
 {}
@@ -72,8 +73,8 @@ pub fn circuits_last()
 /// No term outlasts its session: a live term is that of a session that is there, and a session that has ended has none. It is so at the
 /// opening, and from then on. So where no session is left after a settlement, no term is.
 pub fn terms_are_housed()
-    ensures opened { (number : ℕ) (circuits : List Static) (now : ℕ) → number < 64 → All (λ c. IsNumberOf number c.session.0) circuits → AllPairs (λ a b. a.session ≢ b.session) circuits
-        → AreHoused (opened_slots number circuits now) }
+    ensures opened { (number : ℕ) (profiles : List Profile) (circuits : List Static) (now : ℕ) → number < 64 → All (λ c. IsNumberOf number c.session.0) circuits → AllPairs (λ a b. a.session ≢ b.session) circuits
+        → AreHoused (opened_slots number profiles circuits now) }
     ensures kept { (r : Rules) (s : State) (limited : Bool) (d : Deed) → Step r s limited d → IsSound s → AreHoused s → AreHoused d.next }
     ensures settled { (s : State) → AreHoused s → AreHoused (settled s) }
     ensures none { (s : State) → AreHoused (settled s) → count_in (settled s) ≡ 0 → (settled s).terms ≡ [] }
@@ -93,8 +94,8 @@ pub fn interims_are_awaited()
 /// a number that the step gave, until the count of questions has come to its end; a step asks one question at most. It is so of each
 /// state that is sound, as a shard is at its opening and from then on.
 pub fn yeses_are_granted()
-    ensures opened { (number : ℕ) (circuits : List Static) (now : ℕ) → number < 64 → All (λ c. IsNumberOf number c.session.0) circuits → AllPairs (λ a b. a.session ≢ b.session) circuits
-        → IsSound (opened_slots number circuits now) }
+    ensures opened { (number : ℕ) (profiles : List Profile) (circuits : List Static) (now : ℕ) → number < 64 → All (λ c. IsNumberOf number c.session.0) circuits → AllPairs (λ a b. a.session ≢ b.session) circuits
+        → IsSound (opened_slots number profiles circuits now) }
     ensures kept { (r : Rules) (s : State) (limited : Bool) (d : Deed) → Step r s limited d → IsSound s → IsSound d.next }
     ensures settled { (s : State) → IsSound s → IsSound (settled s) }
     ensures yes { (r : Rules) (s : State) (limited : Bool) (d : Deed) → Step r s limited d → IsSound s → (port : ℕ) (mac : Mac) (n : ℕ) (o : OutRecord) → Contains d.outs o

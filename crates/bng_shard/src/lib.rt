@@ -19,6 +19,7 @@ mod laws;
 mod leaving;
 mod limited;
 mod live;
+mod meters;
 mod questions;
 mod replies;
 mod rules;

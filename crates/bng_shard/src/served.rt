@@ -8,11 +8,12 @@ ghost use Rattle.bng_shard.specs.Due.{due_of};
 ghost use Rattle.bng_shard.specs.Interims.{interim_at};
 ghost use Rattle.bng_shard.specs.declared.session.Session.{Session as Seen};
 ghost use Rattle.bng_shard.specs.Surveying.{AreSpaced, IsSurveyed};
+ghost use Rattle.bng_shard.specs.Metered.{meters_at};
 ghost use Rattle.bng_shard.specs.Opening.{circuit_at, opened_slots, provisioned as provisioned_at};
-ghost use Rattle.std.specs.Prelude.{drop, slice_get};
+ghost use Rattle.std.specs.Prelude.{drop, slice_get, slice_set};
 ghost use Rattle.bng_shard.specs.Questions.{asking_from, handed_after, open_ask_at, place_of, waiting};
 ghost use Rattle.bng_shard.specs.Indexed.{address_of};
-ghost use Rattle.bng_shard.specs.Passing.{passed_at, with_passed};
+ghost use Rattle.bng_shard.specs.Passing.{passed_at, place_in, with_passed};
 ghost use Rattle.bng_slots.specs.Sessions.{NoneShares};
 ghost use Rattle.bng_shard.specs.Serving.{AreOwn, KeepsLease};
 ghost use Rattle.bng_shard.specs.State.{count_in, holder_of, reaped, session_of, with_session};
@@ -21,10 +22,11 @@ ghost use Rattle.bng_shard.specs.Timers.{IsFirstDue, IsLowest, NoneIsDue, NoneSt
 use crate::interims::{LEAST, Reports, interim_at};
 use crate::leaving::list_leaving;
 use crate::limited::NO_LIMITS;
+use crate::meters::{Meters, opened_meters};
 use crate::questions::{Handed, copied, list, lowest_waiting, unlist};
 use crate::session::{Lease, Service, Session};
 use crate::young::{list_young, lowest_repeated, unlist_young};
-use bng_base::{Ip4, Mac, SessionNo, Static};
+use bng_base::{Ip4, Mac, Profile, SessionNo, Static};
 use bng_slots::Slots;
 use bng_term::Lifetime;
 use bng_verdict::{AuthAsk, QuestionNo};
@@ -32,13 +34,14 @@ use std::alloc::{AllocError, Global};
 use std::marker::Model;
 
 /// The sessions of a shard by number, provisioned circuits among them; how many terms began, how many questions were asked, by session
-/// number the moment in milliseconds at which its last packet passed, the numbers of the sessions that have ended and leave at the
-/// settlement, of those whose question has no verdict yet, and of those for which a request may come again.
+/// number the moment in milliseconds at which its last packet passed and its meters, the numbers of the sessions that have ended and leave
+/// at the settlement, of those whose question has no verdict yet, and of those for which a request may come again.
 pub struct Served {
     pub(crate) sessions: Slots<Session>,
     pub(crate) begun: u64,
     pub(crate) asked: u64,
     pub(crate) passed: Vec<u64>,
+    pub(crate) meters: Vec<Meters>,
     pub(crate) leaving: Vec<SessionNo>,
     pub(crate) asking: Vec<SessionNo>,
     pub(crate) young: Vec<SessionNo>,
@@ -51,6 +54,7 @@ impl Drop for Served {
             begun: _,
             asked: _,
             passed: _,
+            meters: _,
             leaving: _,
             asking: _,
             young: _,
@@ -68,7 +72,7 @@ impl Model for Served {
 
     ghost coded = { state_code };
 
-    ghost view = { λ a. record { sessions = a.sessions; begun = a.begun; asked = a.asked; terms = []; news = []; passed = a.passed.items } };
+    ghost view = { λ a. record { sessions = a.sessions; begun = a.begun; asked = a.asked; terms = []; news = []; passed = a.passed.items; meters = a.meters.items } };
 
     ghost invariant = { Keeps };
 }
@@ -77,7 +81,7 @@ impl Model for Served {
 const NUMBERS: u16 = 1022;
 
 /// By this a session number is told from those of other shards.
-const SPAN: u16 = 1024;
+pub(crate) const SPAN: u16 = 1024;
 
 /// The circuit with this session number.
 pub(crate) fn circuit_with(circuits: &[Static], session: SessionNo) -> Option<&Static>
@@ -114,22 +118,26 @@ fn provisioned(circuit: &Static, serial: u64) -> Session
 }
 
 impl Served {
-    /// The sessions of these circuits, whose numbers are the shard's. Their terms are numbered from 1 on, by rising session number.
+    /// The sessions of these circuits, whose numbers are the shard's. Their terms are numbered from 1 on, by rising session number, and are
+    /// metered by their profiles from this moment on, in milliseconds.
     pub(crate) fn open(
         alloc: Global,
         number: u16,
+        profiles: &[Profile],
         circuits: &[Static],
+        now: u64,
     ) -> Result<Served, AllocError>
         requires number { number < 64 }
         requires own { All (λ c. IsNumberOf number c.session.0) circuits.now }
         requires sessions { AllPairs (λ a b. a.session ≢ b.session) circuits.now }
         requires addresses { AllPairs (λ a b. a.address ≢ b.address) circuits.now }
-        ensures opened { IfOk result (λ s. s ≡ record (opened_slots number circuits.now 0) { terms = [] }) }
+        ensures opened { IfOk result (λ s. s ≡ record (opened_slots number profiles.now circuits.now now) { terms = [] }) }
     {
         let Ok(mut sessions) = Slots::open(alloc, number) else {
             return Err(AllocError);
         };
         let passed = Vec::from_elem(alloc, 0, usize::from(SPAN))?;
+        let meters = opened_meters(alloc, number, profiles, circuits, now)?;
         let leaving = Vec::with_capacity(alloc, usize::from(NUMBERS) + 1)?;
         let asking = Vec::with_capacity(alloc, usize::from(NUMBERS) + 1)?;
         let young = Vec::with_capacity(alloc, usize::from(NUMBERS) + 1)?;
@@ -146,6 +154,7 @@ impl Served {
             begun,
             asked: 0,
             passed,
+            meters,
             leaving,
             asking,
             young,
@@ -208,12 +217,28 @@ impl Served {
         self.passed[usize::from(number.0 % SPAN)]
     }
 
-    /// A packet of the session with this number passed at this moment, in milliseconds.
-    pub(crate) fn note_passed(&mut self, number: SessionNo, now: u64)
-        requires moment { now < 2 ^ 60 }
-        ensures { self.new ≡ with_passed self.old number now }
+    /// The meters of the session with this number.
+    pub(crate) fn meters_at(&self, number: SessionNo) -> Meters
+        ensures { result ≡ meters_at self.now.meters number }
     {
-        self.passed[usize::from(number.0 % SPAN)] = now;
+        self.meters[usize::from(number.0 % SPAN)]
+    }
+
+    /// A packet of the session with this number passed at this moment, in milliseconds, and left it these meters.
+    pub(crate) fn note_passed(&mut self, number: SessionNo, now: u64, meters: Meters)
+        requires moment { now < 2 ^ 60 }
+        ensures { self.new ≡ with_passed self.old number now meters }
+    {
+        let place = usize::from(number.0 % SPAN);
+        self.passed[place] = now;
+        self.meters[place] = meters;
+    }
+
+    /// A term of the session with this number begins, with these meters.
+    pub(crate) fn start_meters(&mut self, number: SessionNo, meters: Meters)
+        ensures { self.new ≡ record self.old { meters = slice_set self.old.meters (place_in number) meters } }
+    {
+        self.meters[usize::from(number.0 % SPAN)] = meters;
     }
 
     /// The number of the open question of the session with this number.

@@ -10,13 +10,15 @@ ghost use Rattle.bng_shard.specs.Questions.{open_of};
 ghost use Rattle.bng_shard.specs.Driven.{LastsOver};
 ghost use Rattle.bng_shard.specs.Made.{Made as DiscoveredMade};
 ghost use Rattle.bng_shard.specs.Serving.{is_young, KeepsLease};
-ghost use Rattle.bng_shard.specs.State.{circuit_of, is_on, leaves, made_one, passes_in, view_of};
+ghost use Rattle.bng_shard.specs.State.{circuit_of, is_on, leaves, made_one, passes_in};
+ghost use Rattle.bng_shard.specs.Metered.{view_of};
 ghost use Rattle.bng_shard.specs.Tenures.{kept_lease};
 ghost use Rattle.bng_shard.specs.Timers.{deadline_of, lease_deadline, lives_in};
 ghost use Rattle.bng_ppp.specs.LinkRelation.{earliest as first_of};
 ghost use Rattle.bng_shard.specs.Passing.{cause_at, lapsed, looked};
 ghost use Rattle.bng_shard.specs.Indexed.{address_of, term_of};
 
+use crate::meters::Meters;
 use arrayvec::ArrayVec;
 use bng_auth::Credentials;
 use bng_base::{Circuit, Ip4, Mac, SessionNo, TermId};
@@ -362,13 +364,15 @@ impl Session {
         self.lease
     }
 
-    /// What forwarding looks at of its live term. A provisioned circuit has no LCP, and counts as Opened.
-    pub(crate) fn view(&self) -> Option<TermView>
-        ensures { result ≡ view_of self.now }
+    /// What forwarding looks at of its live term, whose meters are these. A provisioned circuit has no LCP, and counts as Opened.
+    pub(crate) fn view(&self, meters: Meters) -> Option<TermView>
+        ensures { result ≡ view_of meters self.now }
     {
         Some(TermView {
             lease: self.lease?.address,
             opened: self.service.passes(),
+            input: meters.input,
+            output: meters.output,
         })
     }
 }

@@ -174,7 +174,8 @@ impl Shard {
         ensures few { IfOk result (λ s. sessions_of s.state ≤ 1022) }
     {
         let profiles = books_of(alloc, &rules)?;
-        let Ok(served) = Served::open(alloc, number, circuits) else {
+        let Ok(served) = Served::open(alloc, number, rules.profiles.as_slice(), circuits, now)
+        else {
             return Err(ShardError::OutOfMemory);
         };
         prove!(served.count() <= 1022);

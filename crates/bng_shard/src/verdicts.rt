@@ -1,5 +1,5 @@
 //! Verdicts on the questions of sessions.
-ghost use Rattle.std.specs.Prelude.{◌≡◌, ◌<◌, ◌≤◌, ◌+◌, ◌^◌, ◌++◌, ◌∷◌, [], ℕ, true, Option as Maybe, Some, None as Nothing, length};
+ghost use Rattle.std.specs.Prelude.{◌≡◌, ◌<◌, ◌≤◌, ◌+◌, ◌^◌, ◌++◌, ◌∷◌, [], ℕ, true, Option as Maybe, Some, None as Nothing, length, slice_set};
 ghost use Rattle.std.specs.List.{All};
 ghost use Rattle.bng_base.specs.declared.address.Ip4.{Ip4 as Address};
 ghost use Rattle.bng_base.specs.declared.item.ItemKind.TheVariants.{Verdict as VerdictKind};
@@ -10,12 +10,14 @@ ghost use Rattle.bng_shard.specs.Hearing.{Does};
 ghost use Rattle.bng_shard.specs.Limited.{limits_of};
 ghost use Rattle.bng_shard.specs.Link.{IsToldVerdict};
 ghost use Rattle.bng_shard.specs.Made.{Question as Asked};
+ghost use Rattle.bng_shard.specs.Metered.{meters_of};
+ghost use Rattle.bng_shard.specs.Passing.{place_in};
 ghost use Rattle.bng_shard.specs.Protocol.{entry_with};
 ghost use Rattle.bng_shard.specs.Questions.{open_of};
 ghost use Rattle.bng_shard.specs.Running.{tenures_in, whole, MayBegin, SumsStay};
 ghost use Rattle.bng_shard.specs.Verdicts.{next_lease, next_term, settled_by, HearsVerdict};
 ghost use Rattle.bng_shard.specs.Wished.{IsAnswered};
-ghost use Rattle.bng_shard.specs.Wishes.{refused_with, told_by, told_of, Decides, IsAnswerTo, Wishes};
+ghost use Rattle.bng_shard.specs.Wishes.{refused_with, told_by, told_in, told_of, Decides, IsAnswerTo, Wishes};
 ghost use Rattle.bng_shard.specs.declared.session.Session.{Session as Seen};
 ghost use Rattle.bng_shard.specs.declared.wish.Wish.{Wish as Asks};
 ghost use Rattle.bng_slots.specs.Sessions.{value_at};
@@ -24,6 +26,8 @@ ghost use Rattle.bng_term.specs.Lifetimes.{HasAllowedInterval};
 use crate::drive::drive;
 use crate::incoming::Incoming;
 use crate::limited::{NO_LIMITS, limits_of};
+use crate::meters::{Meters, Plan, UNMETERED, plan_for};
+use crate::rules::Rules;
 use crate::served::Served;
 use crate::session::{Lease, Session};
 use crate::term_rows::copied;
@@ -38,7 +42,7 @@ use bng_verdict::verdict_of;
 use std::marker::Model;
 
 /// What a link is told of its peer: whether it is accepted, the address that it has then, if it has one, and the text of the reply. And
-/// what the records of its term say of the Class attributes of the Accept, and how long the term may last.
+/// what the records of its term say of the Class attributes of the Accept, how long the term may last, and by what it is metered.
 #[derive(Drop)]
 struct Told {
     yes: bool,
@@ -46,6 +50,7 @@ struct Told {
     text: ArrayVec<u8, 253>,
     class: ArrayVec<u8, 512>,
     limits: Limits,
+    plan: Plan,
 }
 
 impl Model for Told {
@@ -54,7 +59,7 @@ impl Model for Told {
 
     ghost Value = { Seen };
 
-    ghost view = { λ t. record { yes = t.yes; lease = t.lease; text = t.text.items; class = t.class.items; limits = t.limits } };
+    ghost view = { λ t. record { yes = t.yes; lease = t.lease; text = t.text.items; class = t.class.items; limits = t.limits; plan = t.plan } };
 
     ghost invariant = { λ t. HasAllowedInterval t.limits };
 }
@@ -73,13 +78,14 @@ fn refused(text: &[u8]) -> Told
         text,
         class: ArrayVec::new(),
         limits: NO_LIMITS,
+        plan: UNMETERED,
     }
 }
 
 // What comes of the answer to what an Accept asked of the pools.
-fn told_by(claim: Claim, text: ArrayVec<u8, 253>, grant: Grant<'_>) -> Told
+fn told_by(plan: Plan, claim: Claim, text: ArrayVec<u8, 253>, grant: Grant<'_>) -> Told
     requires interval { HasAllowedInterval (limits_of (gift grant)) }
-    ensures { result ≡ told_by claim text.items (gift grant.entry) }
+    ensures { result ≡ told_by plan claim text.items (gift grant.entry) }
 {
     match claim {
         Claim::Claimed(address) => Told {
@@ -88,13 +94,15 @@ fn told_by(claim: Claim, text: ArrayVec<u8, 253>, grant: Grant<'_>) -> Told
             text,
             limits: limits_of(&grant),
             class: grant.class,
+            plan,
         },
         Claim::NoClaim | Claim::Held(_) | Claim::Exhausted(_) => refused(b"no address"),
     }
 }
 
-// What an Accept comes to.
-fn told_of(
+// What an Accept comes to, whose profile has this plan.
+fn told_in(
+    plan: Plan,
     pools: &[NamedRange],
     limited: bool,
     claim: Claim,
@@ -103,7 +111,7 @@ fn told_of(
 ) -> Told
     requires few { length pools.now ≤ 16 }
     requires interval { HasAllowedInterval (limits_of (gift grant)) }
-    ensures { result ≡ told_of pools.now limited claim text.items (gift grant.entry) }
+    ensures { result ≡ told_in plan pools.now limited claim text.items (gift grant.entry) }
 {
     if pools.is_empty() {
         return Told {
@@ -112,6 +120,7 @@ fn told_of(
             text,
             limits: limits_of(&grant),
             class: grant.class,
+            plan,
         };
     }
     if pool_for(pools, grant.pool).is_none() {
@@ -120,14 +129,34 @@ fn told_of(
     if limited {
         return refused(b"no record");
     }
-    told_by(claim, text, grant)
+    told_by(plan, claim, text, grant)
+}
+
+// What an Accept comes to by these rules.
+fn told_of(
+    rules: &Rules,
+    limited: bool,
+    claim: Claim,
+    text: ArrayVec<u8, 253>,
+    grant: Grant<'_>,
+) -> Told
+    requires few_pools { length rules.now.pools ≤ 16 }
+    requires few_profiles { length rules.now.profiles ≤ 16 }
+    requires interval { HasAllowedInterval (limits_of (gift grant)) }
+    ensures { result ≡ told_of rules.now limited claim text.items (gift grant.entry) }
+{
+    let Some(plan) = plan_for(rules.profiles.as_slice(), grant.profile) else {
+        return refused(b"no profile");
+    };
+    told_in(plan, rules.pools.as_slice(), limited, claim, text, grant)
 }
 
 // What the octets of a reply come to, where what they ask of the pools was answered by this claim.
-fn told_for(pools: &[NamedRange], limited: bool, octets: &[u8], claim: Claim) -> Option<Told>
-    requires few { length pools.now ≤ 16 }
-    requires answered { (wish : Asks) × Wishes pools.now limited octets.now wish × IsAnswerTo pools.now wish claim }
-    ensures { Decides pools.now limited octets.now claim result }
+fn told_for(rules: &Rules, limited: bool, octets: &[u8], claim: Claim) -> Option<Told>
+    requires few_pools { length rules.now.pools ≤ 16 }
+    requires few_profiles { length rules.now.profiles ≤ 16 }
+    requires answered { (wish : Asks) × Wishes rules.now limited octets.now wish × IsAnswerTo rules.now.pools wish claim }
+    ensures { Decides rules.now limited octets.now claim result }
 {
     let verdict = verdict_of(octets)?;
     if !verdict.yes {
@@ -137,12 +166,13 @@ fn told_for(pools: &[NamedRange], limited: bool, octets: &[u8], claim: Claim) ->
             text: verdict.text,
             class: ArrayVec::new(),
             limits: NO_LIMITS,
+            plan: UNMETERED,
         });
     }
     let Some(grant) = grant_of(octets) else {
         unreachable!();
     };
-    Some(told_of(pools, limited, claim, verdict.text, grant))
+    Some(told_of(rules, limited, claim, verdict.text, grant))
 }
 
 // The name of the session's open question.
@@ -156,13 +186,15 @@ fn name_of(session: &Session) -> ArrayVec<u8, 128>
     copied(&question.credentials.name)
 }
 
-/// What a term begins with: its address, the User-Name and the Class attributes of its records, and how long it may last.
+/// What a term begins with: its address, the User-Name and the Class attributes of its records, how long it may last, and by what it is
+/// metered.
 #[derive(Drop)]
 struct TermGrant {
     address: Ip4,
     user: ArrayVec<u8, 128>,
     class: ArrayVec<u8, 512>,
     limits: Limits,
+    plan: Plan,
 }
 
 // A term of the session begins.
@@ -179,23 +211,25 @@ fn begin_term(
     requires room { 0 < terms.old.room }
     requires numbered { All (λ r. r.term.serial ≤ served.old.begun) terms.old.rows }
     requires numbered_news { All (λ r. r.term.serial ≤ served.old.begun) terms.old.news }
-    ensures session { session.new ≡ record session.old { lease = Some (next_lease served.old grant.limits now grant.address) } }
-    ensures served { served.new ≡ record served.old { begun = served.old.begun + 1 } }
-    ensures terms { (q : Asked) → q.claim.name ≡ grant.user.items → tenures_in terms.new.rows ≡ tenures_in terms.old.rows ++ next_term served.old session.old q grant.class.items now grant.address ∷ [] }
+    ensures session { session.new ≡ record session.old { lease = Some (next_lease served.old grant.plan grant.limits now grant.address) } }
+    ensures served { served.new ≡ record served.old { begun = served.old.begun + 1; meters = slice_set served.old.meters (place_in session.old.number) (meters_of grant.plan now) } }
+    ensures terms { (q : Asked) → q.claim.name ≡ grant.user.items → tenures_in terms.new.rows ≡ tenures_in terms.old.rows ++ next_term served.old session.old q grant.plan grant.class.items now grant.address ∷ [] }
     ensures sums { SumsStay terms.old terms.new }
-    ensures news { (q : Asked) → q.claim.name ≡ grant.user.items → tenures_in terms.new.news ≡ tenures_in terms.old.news ++ next_term served.old session.old q grant.class.items now grant.address ∷ [] }
+    ensures news { (q : Asked) → q.claim.name ≡ grant.user.items → tenures_in terms.new.news ≡ tenures_in terms.old.news ++ next_term served.old session.old q grant.plan grant.class.items now grant.address ∷ [] }
 {
     let TermGrant {
         address,
         user,
         class,
         limits,
+        plan,
     } = grant;
     let serial = served.count_begun();
+    served.start_meters(session.number, Meters::start(plan, now));
     session.lease = Some(Lease {
         serial,
         address,
-        profile: 0,
+        profile: plan.profile,
         life: Lifetime::new(limits, now),
     });
     terms.begin(Running {
@@ -205,7 +239,7 @@ fn begin_term(
         },
         circuit: session.pppoe_circuit(),
         lease: address,
-        profile: 0,
+        profile: plan.profile,
         carried: Book::empty(),
         user,
         class,
@@ -245,6 +279,7 @@ fn settle_question(
         text,
         class,
         limits,
+        plan,
     } = told;
     let input = WholeInput::Verdict { yes, lease, text };
     let (asked, _) = drive(&mut session, served.asked(), incoming, input, outs);
@@ -258,6 +293,7 @@ fn settle_question(
         user,
         class,
         limits,
+        plan,
     };
     begin_term(served, terms, &mut session, grant, incoming.moment);
     served.put(session);
@@ -277,6 +313,7 @@ pub(crate) fn hear_verdict(
     requires auth { 0 < length incoming.now.rules.now.link.auth.items }
     requires offers { length incoming.now.rules.now.offers ≡ length incoming.now.rules.now.access }
     requires few_pools { length incoming.now.rules.now.pools ≤ 16 }
+    requires few_profiles { length incoming.now.rules.now.profiles ≤ 16 }
     requires placed { ArePlaced incoming.now.rules.now served.old.sessions }
     requires here { incoming.now.at.shard ≡ served.old.sessions.shard }
     requires kind { incoming.now.item.now.kind ≡ VerdictKind }
@@ -292,8 +329,7 @@ pub(crate) fn hear_verdict(
     if served.open_ask(number) != Some(item.ask) {
         return Fate::Consumed;
     }
-    let pools = incoming.rules.pools.as_slice();
-    let Some(told) = told_for(pools, limited, item.frame.payload(), claim) else {
+    let Some(told) = told_for(incoming.rules, limited, item.frame.payload(), claim) else {
         return Fate::Consumed;
     };
     settle_question(served, terms, number, incoming, told, outs);

@@ -4,8 +4,9 @@ ghost use Rattle.std.specs.List.{list_any};
 ghost use Rattle.std.specs.Option.{option_map};
 ghost use Rattle.bng_grant.specs.Grants.{gift};
 ghost use Rattle.bng_shard.specs.Wished.{IsWished, WishesVerdict};
-ghost use Rattle.bng_shard.specs.Wishes.{is_named, is_within, pool_for, wish_in, wish_of, Wishes};
+ghost use Rattle.bng_shard.specs.Wishes.{is_named, is_within, pool_for, wish_among, wish_in, wish_of, Wishes};
 
+use crate::meters::plan_for;
 use crate::rules::Rules;
 use crate::served::Served;
 use bng_base::{Ip4, Item, ItemKind, NamedRange, SessionNo};
@@ -67,10 +68,10 @@ fn wish_in(pools: &[NamedRange], address: Option<Ip4>, place: u8) -> Wish
     }
 }
 
-// What an Accept that gives this asks of the pools.
-fn wish_of(pools: &[NamedRange], limited: bool, grant: &Grant<'_>) -> Wish
+// What an Accept that gives this asks of the pools, where its profile is there.
+fn wish_among(pools: &[NamedRange], limited: bool, grant: &Grant<'_>) -> Wish
     requires few { length pools.now ≤ 16 }
-    ensures { result ≡ wish_of pools.now limited (gift grant.now) }
+    ensures { result ≡ wish_among pools.now limited (gift grant.now) }
 {
     if pools.is_empty() {
         return Wish::Nothing;
@@ -84,10 +85,23 @@ fn wish_of(pools: &[NamedRange], limited: bool, grant: &Grant<'_>) -> Wish
     wish_in(pools, grant.address, place)
 }
 
-// What the octets of a reply ask of them.
-fn octets_wish(pools: &[NamedRange], limited: bool, octets: &[u8]) -> Wish
-    requires few { length pools.now ≤ 16 }
-    ensures { Wishes pools.now limited octets.now result }
+// What it asks by these rules.
+fn wish_of(rules: &Rules, limited: bool, grant: &Grant<'_>) -> Wish
+    requires few_pools { length rules.now.pools ≤ 16 }
+    requires few_profiles { length rules.now.profiles ≤ 16 }
+    ensures { result ≡ wish_of rules.now limited (gift grant.now) }
+{
+    let Some(_) = plan_for(rules.profiles.as_slice(), grant.profile) else {
+        return Wish::Nothing;
+    };
+    wish_among(rules.pools.as_slice(), limited, grant)
+}
+
+// What the octets of a reply ask of the pools.
+fn octets_wish(rules: &Rules, limited: bool, octets: &[u8]) -> Wish
+    requires few_pools { length rules.now.pools ≤ 16 }
+    requires few_profiles { length rules.now.profiles ≤ 16 }
+    ensures { Wishes rules.now limited octets.now result }
 {
     let Some(verdict) = verdict_of(octets) else {
         return Wish::Nothing;
@@ -98,24 +112,26 @@ fn octets_wish(pools: &[NamedRange], limited: bool, octets: &[u8]) -> Wish
     let Some(grant) = grant_of(octets) else {
         unreachable!();
     };
-    wish_of(pools, limited, &grant)
+    wish_of(rules, limited, &grant)
 }
 
 // What a verdict asks, where the question that it names is open.
 fn verdict_wish(served: &Served, rules: &Rules, item: &Item, limited: bool) -> Wish
-    requires few { length rules.now.pools ≤ 16 }
+    requires few_pools { length rules.now.pools ≤ 16 }
+    requires few_profiles { length rules.now.profiles ≤ 16 }
     ensures { WishesVerdict rules.now served.now item.now limited result }
 {
     if served.open_ask(SessionNo(item.target)) != Some(item.ask) {
         return Wish::Nothing;
     }
-    octets_wish(rules.pools.as_slice(), limited, item.frame.payload())
+    octets_wish(rules, limited, item.frame.payload())
 }
 
 /// What an item asks of the pools of addresses, where the shard's allowance of new terms is used up (`limited`) or is not. Only a
 /// verdict on an open question asks for an address.
 pub(crate) fn wish_for(served: &Served, rules: &Rules, item: &Item, limited: bool) -> Wish
-    requires few { length rules.now.pools ≤ 16 }
+    requires few_pools { length rules.now.pools ≤ 16 }
+    requires few_profiles { length rules.now.profiles ≤ 16 }
     ensures { IsWished rules.now served.now item.now limited result }
 {
     match item.kind {

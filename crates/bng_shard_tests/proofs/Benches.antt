@@ -20,7 +20,6 @@ use Rattle.bng_engine.specs.Views.{ShardView}
 use Rattle.bng_pool.specs.Plain.{PlainView}
 use Rattle.bng_pool.specs.Ranges.{AreApart, ArePoolRanges}
 use Rattle.bng_pool.specs.Tables.{Table, entry}
-use Rattle.bng_profile.specs.Books.{AreDifferent}
 use Rattle.bng_shard.specs.declared.rules.Rules.{Rules}
 use Rattle.bng_shard.specs.declared.term.EndedTerm.{EndedTerm}
 use Rattle.bng_shard.specs.Opening.{in_order, tenures_after}
@@ -62,16 +61,6 @@ pub pools_of_one : (pools : List NamedRange) (range : Range) → (pools ≡ []) 
 pools_of_one pools range (inl none) = no_pools pools (range ∷ []) none
 pools_of_one pools range (inr one) = λ k p is.
     ap (λ (rs : List Range). slice_get rs k) (sym one) ∙ slice_get-map (λ (q : NamedRange). q.range) pools k ∙ ap (option_map (λ (q : NamedRange). q.range)) is
-
--- two names that differ are different
-pub two_different : (a b : List ℕ) → (a ≡ b → ⊥) → AreDifferent (a ∷ b ∷ [])
-two_different a b ne zero zero name i j = refl
-two_different a b ne zero (suc zero) name i j = absurd (ne (same_some a name i ∙ sym (same_some b name j)))
-two_different a b ne (suc zero) zero name i j = absurd (ne (same_some a name j ∙ sym (same_some b name i)))
-two_different a b ne (suc zero) (suc zero) name i j = refl
-two_different a b ne zero (suc (suc k)) name i j = absurd (none_some name j)
-two_different a b ne (suc zero) (suc (suc k)) name i j = absurd (none_some name j)
-two_different a b ne (suc (suc k)) j name i at = absurd (none_some name i)
 
 -- two books of a list are low, and so all are
 two_of : (P : ℕ → Type 0) → P 0 → P 1 → (i : ℕ) → i < 2 → P i

@@ -7,7 +7,7 @@ use crate::asserts::{assert_count, assert_holds};
 use arrayvec::ArrayVec;
 use bng_base::{
     AccessPort, AuthKind, Book, Fate, Frame, Ip4, Item, ItemKind, Listed, Mac, NamedRange,
-    OutRecord, Peer, Profile, Range, Static,
+    OutRecord, Peer, Profile, Range, Rate, Static,
 };
 use bng_discovery::PortRules;
 use bng_pool::PlainPool;
@@ -21,6 +21,7 @@ use std::test::Fail;
 mod discovery;
 mod interims;
 mod logins;
+mod metering;
 mod terms;
 mod verdicts;
 
@@ -98,8 +99,15 @@ const ONE: Range = Range {
     last: Ip4(0x0a000002),
 };
 
-// A profile of this name that meters nothing.
-fn unmetered(name: &[u8]) -> Profile
+// 84 octets a second, and 28 at once.
+const SLOW: Rate = Rate {
+    cir: 84,
+    cbs: 28,
+    ebs: 0,
+};
+
+// A profile of this name that meters the packets of a subscriber by this rate, and none towards it.
+fn profile(name: &[u8], up: Option<Rate>) -> Profile
     requires { length name.now ≤ 32 }
     ensures { result.name.items ≡ name.now }
 {
@@ -109,17 +117,20 @@ fn unmetered(name: &[u8]) -> Profile
     };
     Profile {
         name: letters,
-        up: None,
+        up,
         down: None,
     }
 }
 
-// Two profiles.
+// Two profiles, of which the second meters.
 fn profiles(alloc: Global) -> Result<Vec<Profile>, AllocError>
     ensures two { IfOk result (λ ps. length ps.items ≡ 2) }
     ensures different { IfOk result (λ ps. AreDifferent (names_of ps.items)) }
 {
-    let list = Vec::from_array(alloc, [unmetered(b"bronze"), unmetered(b"gold")])?;
+    let list = Vec::from_array(
+        alloc,
+        [profile(b"bronze", None), profile(b"gold", Some(SLOW))],
+    )?;
     Ok(list)
 }
 

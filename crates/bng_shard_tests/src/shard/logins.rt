@@ -32,7 +32,7 @@ const LIMITED: &[u8; 32] =
 const TERMINATE: &[u8; 6] = b"\xc0\x21\x05\x09\x00\x04";
 
 // A packet of the first host from the pool's address.
-const FROM_IT: &[u8; 30] =
+pub(super) const FROM_IT: &[u8; 30] =
     b"\0\x21\x45\0\0\x1c\0\0\0\0\x40\x11\xae\xce\x0a\0\0\x02\xc0\0\x02\x01\x30\x39\x30\x39\0\x08\0\0";
 
 const NOT_OPEN: Fate = Fate::Dropped(DropCause::NotOpen);
@@ -111,7 +111,7 @@ fn assert_fate(rt: &impl Abort, alloc: Global, bench: &mut Bench, fate: Fate) {
 }
 
 // IPCP opens for the first host.
-fn open_ipcp(rt: &impl Abort, alloc: Global, bench: &mut Bench) {
+pub(super) fn open_ipcp(rt: &impl Abort, alloc: Global, bench: &mut Bench) {
     let _acknowledged = hear(rt, alloc, bench, in_session_of(1, ASKS));
     let _opened = hear(rt, alloc, bench, in_session_of(1, TAKES));
 }

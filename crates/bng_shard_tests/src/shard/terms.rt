@@ -311,7 +311,7 @@ fn a_stop_says_what_its_term_carried(rt: HostRuntime) -> Result<(), Fail> {
 }
 
 // What passed under this profile is this.
-fn assert_book(rt: &impl Abort, bench: &Bench, profile: u8, wanted: Book)
+pub(super) fn assert_book(rt: &impl Abort, bench: &Bench, profile: u8, wanted: Book)
     requires { profile < 2 }
 {
     assert_same(rt, &bench.book(profile), &wanted);

@@ -10,10 +10,12 @@ use Rattle.bng_forward.specs.Packets.{IsPassedOn}
 use Rattle.bng_shard.specs.Deed.{out}
 use Rattle.bng_shard.specs.Doing.{DoesWith}
 use Rattle.bng_shard.specs.Frames.{HearsPacket, found_among, found_down}
+use Rattle.bng_shard.specs.Metered.{meters_in}
 use Rattle.bng_shard.specs.Passing.{with_passed}
 use Rattle.bng_shard.specs.Running.{tenures_in, whole}
 use Rattle.bng_shard.specs.State.{State, leases}
 use Rattle.bng_shard.specs.Tenures.{has_kept}
+use Rattle.bng_shard.specs.declared.meters.Meters.{Meters}
 use Rattle.bng_shard.specs.declared.session.Session.{Session}
 use Rattle.bng_shard.proofs.Carrying.{drops_down, goes_down}
 use Rattle.bng_shard.proofs.Values.{found_at, none_some}
@@ -21,12 +23,12 @@ use Rattle.bng_shard.proofs.data.hear_packet.Goals as goal
 use Rattle.bng_shard.proofs.data.hear_packet.Goals.{After-down-fate}
 
 -- the view of the holder
-found : (c : After-down-fate) → c.holder_view.result ≡ found_down (whole c.args.served.now c.args.terms.now) c.args.header.dst
-found c = c.holder_view.ensures ∙ ap (λ (o : Option Session). found_among o (list_any (has_kept c.args.header.dst) (tenures_in c.args.terms.now.rows)) c.args.header.dst) c.holder_of-holder.ensures
+found : (c : After-down-fate) → c.holder_view-view.result ≡ found_down (whole c.args.served.now c.args.terms.now) c.args.header.dst
+found c = c.holder_view-view.ensures ∙ ap (λ (o : Option Session). found_among c.args.served.now.meters o (list_any (has_kept c.args.header.dst) (tenures_in c.args.terms.now.rows)) c.args.header.dst) c.holder_of-holder.ensures
 
-fated : (c : After-down-fate) → DownFate (found_down (whole c.args.served.now c.args.terms.now)) c.args.incoming.now.item.now.frame.payload c.down-fate.result
+fated : (c : After-down-fate) → DownFate (found_down (whole c.args.served.now c.args.terms.now)) c.args.incoming.now.moment c.args.incoming.now.item.now.frame.payload c.down-fate.result
 fated c =
-    subst (λ (octets : List ℕ). DownFate (found_down (whole c.args.served.now c.args.terms.now)) octets c.down-fate.result) (ap (λ (f : Packet). f.payload) c.copy_from.ensures) (c.down-fate.ensures.fate (found_down (whole c.args.served.now c.args.terms.now)) (sym (found c)))
+    subst (λ (octets : List ℕ). DownFate (found_down (whole c.args.served.now c.args.terms.now)) c.args.incoming.now.moment octets c.down-fate.result) (ap (λ (f : Packet). f.payload) c.copy_from.ensures) (c.down-fate.ensures.fate (found_down (whole c.args.served.now c.args.terms.now)) (sym (found c)))
 
 pub unreachable-requires-in_default-port_of : goal.unreachable-requires-in_default-port_of
 unreachable-requires-in_default-port_of c =
@@ -36,7 +38,7 @@ unreachable-requires-in_default-port_of c =
 
 pub returns-in_default-clause-does : goal.returns-in_default-clause-does
 returns-in_default-clause-does c =
-    drops_down c.args.incoming.now.rules.now (whole c.args.served.now c.args.terms.now) c.args.incoming.now.at c.args.incoming.now.item.now c.args.outs.now.items c.requires.here c.args.header c.down-fate.result (fated (goal.at.returns-in_default-clause-does c).After-down-fate) c.in_default.not-Forwarded c.args.incoming.now.moment
+    drops_down c.args.incoming.now.rules.now (whole c.args.served.now c.args.terms.now) c.args.incoming.now.at c.args.incoming.now.item.now c.args.outs.now.items c.requires.here c.args.incoming.now.moment c.args.header c.down-fate.result (fated (goal.at.returns-in_default-clause-does c).After-down-fate) c.in_default.not-Forwarded
 
 pub returns-clause-does : goal.returns-clause-does
 returns-clause-does c =
@@ -49,11 +51,14 @@ returns-clause-does c =
     let port = c.in-Some-port_of.port in
     let l = c.in-Some-lease.lease in
     let (n, at, passes) = found_at (leases c.args.header.dst) c.args.served.now.sessions x (sym c.in-Some.ensures) in
-    let (may, passed) = c.down-fate.ensures.forwarded on in
-    let next : c.note_passed.new.self ≡ with_passed c.args.served.now x.number c.args.incoming.now.moment =
-    c.note_passed.ensures ∙ ap (λ (y : Charge). with_passed c.args.served.now y.term.session c.args.incoming.now.moment) c.charge_of-charge.ensures in
+    let moment : ℕ = c.args.incoming.now.moment in
+    let (may, passed, spends) = c.down-fate.ensures.forwarded on in
+    let next : c.note_passed.new.self ≡ with_passed c.args.served.now x.number moment (meters_in c.down-fate.new.holder) =
+    c.note_passed.ensures
+    ∙ ap (λ (y : Charge). with_passed c.args.served.now y.term.session moment c.from_view.result) c.charge_of-charge.ensures
+    ∙ ap (λ (ms : Meters). with_passed c.args.served.now x.number moment ms) c.from_view.ensures in
     subst (λ (t : State). DoesWith (λ e d. HearsPacket r s e v d) 1 s (whole t c.args.terms.now) c.args.outs.now.items c.push_out.new.outs.items c.args.incoming.now.at c.args.incoming.now.moment c.args.incoming.now.item.now Forwarded) (sym next)
-    (goes_down r s c.args.incoming.now.at c.args.incoming.now.item.now c.args.outs.now.items c.requires.here v c.down-fate.new.packet.payload c.put_in_frame.new.frame.payload x l port c.push_out.new.outs.items
-    (sym c.in-Some.ensures) (sym c.in-Some-lease.ensures) (c.requires.tied n x l at (sym c.in-Some-lease.ensures)) (sym c.in-Some-port_of.ensures)
-    (subst (λ (f : Fate). DownFate (found_down s) c.args.incoming.now.item.now.frame.payload f) on (fated d)) (subst (λ (octets : List ℕ). IsPassedOn v octets c.down-fate.new.packet.payload) (ap (λ (f : Packet). f.payload) c.copy_from.ensures) passed) c.put_in_frame.ensures.framed c.put_in_frame.ensures.again
-    (c.push_out.ensures.items ∙ ap (λ (y : Charge). c.args.outs.now.items ++ out c.args.incoming.now.at (Access x.port) port.peer c.put_in_frame.new.frame.payload (Some y) ∷ []) c.charge_of-charge.ensures) c.args.incoming.now.moment)
+    (goes_down r s c.args.incoming.now.at c.args.incoming.now.item.now c.args.outs.now.items c.requires.here moment v c.down-fate.new.packet.payload c.put_in_frame.new.frame.payload x l port c.holder_view-view.result c.down-fate.new.holder
+    c.push_out.new.outs.items (found d) spends (sym c.in-Some.ensures) (sym c.in-Some-lease.ensures) (c.requires.tied n x l at (sym c.in-Some-lease.ensures)) (sym c.in-Some-port_of.ensures)
+    (subst (λ (f : Fate). DownFate (found_down s) moment c.args.incoming.now.item.now.frame.payload f) on (fated d)) (subst (λ (octets : List ℕ). IsPassedOn v octets c.down-fate.new.packet.payload) (ap (λ (f : Packet). f.payload) c.copy_from.ensures) passed) c.put_in_frame.ensures.framed c.put_in_frame.ensures.again
+    (c.push_out.ensures.items ∙ ap (λ (y : Charge). c.args.outs.now.items ++ out c.args.incoming.now.at (Access x.port) port.peer c.put_in_frame.new.frame.payload (Some y) ∷ []) c.charge_of-charge.ensures))

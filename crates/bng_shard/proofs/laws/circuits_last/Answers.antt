@@ -2,7 +2,7 @@ use Rattle.bng_shard.proofs.CircuitsKept.{circuits_kept, circuits_opened, circui
 use Rattle.bng_shard.proofs.laws.circuits_last.Goals as goal
 
 pub returns-clause-opened : goal.returns-clause-opened
-returns-clause-opened c number circuits now low own apart = circuits_opened number circuits now apart
+returns-clause-opened c number profiles circuits now low own apart = circuits_opened number profiles circuits now apart
 
 pub returns-clause-kept : goal.returns-clause-kept
 returns-clause-kept c = circuits_kept

@@ -3,7 +3,7 @@ use Rattle.bng_shard.proofs.Housing.{housed_kept}
 use Rattle.bng_shard.proofs.laws.terms_are_housed.Goals as goal
 
 pub returns-clause-opened : goal.returns-clause-opened
-returns-clause-opened c number circuits now low own apart = housed_opened number circuits now apart
+returns-clause-opened c number profiles circuits now low own apart = housed_opened number profiles circuits now apart
 
 pub returns-clause-kept : goal.returns-clause-kept
 returns-clause-kept c = housed_kept

@@ -2,7 +2,7 @@ use Rattle.bng_shard.proofs.Numbered.{step_tenures, tenures_later, tenures_opene
 use Rattle.bng_shard.proofs.laws.terms_are_numbered.Goals as goal
 
 pub returns-clause-opened : goal.returns-clause-opened
-returns-clause-opened c number circuits now low own apart = tenures_opened number now circuits own
+returns-clause-opened c number profiles circuits now low own apart = tenures_opened number now profiles circuits own
 
 pub returns-clause-kept : goal.returns-clause-kept
 returns-clause-kept c r s limited d moment step sound le h = step_tenures r s limited d moment sound le h step

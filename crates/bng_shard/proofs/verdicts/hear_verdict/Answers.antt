@@ -1,5 +1,4 @@
 use Rattle.std.proofs.Common.{◌≡◌, ◌∙◌, ℕ, List, None, Some, subst, sym}
-use Rattle.bng_base.specs.declared.settings.NamedRange.{NamedRange}
 use Rattle.bng_shard.specs.Questions.{open_ask_at}
 use Rattle.bng_shard.specs.Running.{whole}
 use Rattle.bng_shard.specs.Wishes.{Decides}
@@ -18,26 +17,23 @@ returns-then-ne-clause-does c =
 pub told_for-requires-clause-answered : goal.told_for-requires-clause-answered
 told_for-requires-clause-answered c =
     let asked = sym c.open_ask.ensures ∙ same_ask c.open_ask.result c.args.incoming.now.item.now.ask (sym c.ne.ensures ∙ c.if-ne.false) in
-    subst (λ (pools : List NamedRange). Answered pools c.args.limited c.payload.result.now c.args.claim) (sym c.as_slice-pools.ensures)
-    (subst (λ (octets : List ℕ). Answered c.args.incoming.now.rules.now.pools c.args.limited octets c.args.claim) (sym c.payload.ensures.octets)
-    (answered_open c.args.incoming.now.rules.now c.args.served.now c.args.incoming.now.item.now c.args.limited c.args.claim c.requires.kind c.requires.asked asked))
+    subst (λ (octets : List ℕ). Answered c.args.incoming.now.rules.now c.args.limited octets c.args.claim) (sym c.payload.ensures.octets)
+    (answered_open c.args.incoming.now.rules.now c.args.served.now c.args.incoming.now.item.now c.args.limited c.args.claim c.requires.kind c.requires.asked asked)
 
 pub returns-in_default-clause-does : goal.returns-in_default-clause-does
 returns-in_default-clause-does c =
     let rules = c.args.incoming.now.rules.now in
     let item = c.args.incoming.now.item.now in
     let asked = sym c.open_ask.ensures ∙ same_ask c.open_ask.result item.ask (sym c.ne.ensures ∙ c.if-ne.false) in
-    let decides = subst (λ (octets : List ℕ). Decides rules.pools c.args.limited octets c.args.claim None) c.payload.ensures.octets
-    (subst (λ (pools : List NamedRange). Decides pools c.args.limited c.payload.result.now c.args.claim None) c.as_slice-pools.ensures c.in_default.ensures) in
+    let decides = subst (λ (octets : List ℕ). Decides rules c.args.limited octets c.args.claim None) c.payload.ensures.octets c.in_default.ensures in
     no_verdict rules (whole c.args.served.now c.args.terms.now) c.args.limited c.args.incoming.now.at c.args.incoming.now.moment item c.args.claim c.args.outs.now.items asked decides
 
 pub settle_question-requires-clause-begins : goal.settle_question-requires-clause-begins
 settle_question-requires-clause-begins c a leased =
     let rules = c.args.incoming.now.rules.now in
     let item = c.args.incoming.now.item.now in
-    let decides = subst (λ (octets : List ℕ). Decides rules.pools c.args.limited octets c.args.claim (Some c.in-Some.told)) c.payload.ensures.octets
-    (subst (λ (pools : List NamedRange). Decides pools c.args.limited c.payload.result.now c.args.claim (Some c.in-Some.told)) c.as_slice-pools.ensures c.in-Some.ensures) in
-    let claimed = decided_lease rules.pools c.args.limited item.frame.payload c.args.claim c.in-Some.told a decides leased in
+    let decides = subst (λ (octets : List ℕ). Decides rules c.args.limited octets c.args.claim (Some c.in-Some.told)) c.payload.ensures.octets c.in-Some.ensures in
+    let claimed = decided_lease rules c.args.limited item.frame.payload c.args.claim c.in-Some.told a decides leased in
     (claimed.0, c.requires.begins a claimed.1)
 
 pub settle_question-requires-clause-asks : goal.settle_question-requires-clause-asks
@@ -50,7 +46,6 @@ returns-clause-does c =
     let rules = c.args.incoming.now.rules.now in
     let item = c.args.incoming.now.item.now in
     let asked = sym c.open_ask.ensures ∙ same_ask c.open_ask.result item.ask (sym c.ne.ensures ∙ c.if-ne.false) in
-    let decides = subst (λ (octets : List ℕ). Decides rules.pools c.args.limited octets c.args.claim (Some c.in-Some.told)) c.payload.ensures.octets
-    (subst (λ (pools : List NamedRange). Decides pools c.args.limited c.payload.result.now c.args.claim (Some c.in-Some.told)) c.as_slice-pools.ensures c.in-Some.ensures) in
+    let decides = subst (λ (octets : List ℕ). Decides rules c.args.limited octets c.args.claim (Some c.in-Some.told)) c.payload.ensures.octets c.in-Some.ensures in
     is_told rules (whole c.args.served.now c.args.terms.now) c.args.limited c.args.incoming.now.at c.args.incoming.now.moment item c.args.claim c.args.outs.now.items c.requires.here asked c.in-Some.told decides
     (whole c.settle_question.new.served c.settle_question.new.terms) c.settle_question.new.outs.items c.settle_question.ensures.settled c.settle_question.ensures.few

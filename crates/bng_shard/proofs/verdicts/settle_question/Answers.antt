@@ -1,10 +1,13 @@
 use Rattle.std.proofs.Common.{◌≡◌, ◌+◌, ◌++◌, ◌∷◌, [], ◌∙◌, ℕ, Some, ap, subst, sym, refl}
+use Rattle.std.specs.Prelude.{slice_set}
 use Rattle.bng_ppp.specs.declared.whole_input.WholeInput.TheVariants.{Verdict}
 use Rattle.bng_ppp.specs.PppRelation.{PppSteps}
 use Rattle.bng_slots.specs.Sessions.{value_at}
 use Rattle.bng_shard.specs.declared.session.Session.{Session}
 use Rattle.bng_shard.specs.Driven.{Driven}
 use Rattle.bng_shard.specs.Link.{IsToldVerdict, Told}
+use Rattle.bng_shard.specs.Metered.{meters_of}
+use Rattle.bng_shard.specs.Passing.{place_in}
 use Rattle.bng_shard.specs.Questions.{open_of}
 use Rattle.bng_shard.specs.Running.{tenures_in}
 use Rattle.bng_shard.specs.Tenures.{Tenure}
@@ -26,7 +29,7 @@ returns-in_default-clause-settled c x q found asks =
     let r = c.args.incoming.now.rules.now in
     let s = c.args.served.now in
     let inside = c.told.inside in
-    let t : Told = record { yes = inside.yes; lease = inside.lease; text = inside.text.items; class = inside.class.items; limits = inside.limits } in
+    let t : Told = record { yes = inside.yes; lease = inside.lease; text = inside.text.items; class = inside.class.items; limits = inside.limits; plan = inside.plan } in
     let x' = c.drive-asked.new.session in
     let asked = c.drive-asked.result.0 in
     let cause = c.drive-asked.result.1 in
@@ -54,7 +57,8 @@ put-requires-2-clause-vacant c =
     let x' = c.drive-asked.new.session in
     let number = c.drive-asked.ensures.number ∙ c.take-session.ensures.number in
     ap (λ (y : Session). value_at c.begin_term.new.served.sessions y.number.0) c.begin_term.ensures.session
-    ∙ ap (λ (s : State). value_at s.sessions x'.number.0) (c.begin_term.ensures.served ∙ ap (λ (s : State). let u : State = record s { begun = s.begun + 1 } in u) c.count_asked.ensures)
+    ∙ ap (λ (s : State). value_at s.sessions x'.number.0) c.begin_term.ensures.served
+    ∙ ap (λ (s : State). value_at s.sessions x'.number.0) c.count_asked.ensures
     ∙ vacant_back c.args.served.now c.take-session.new.self c.args.number.0 x'.number.0 c.take-session.ensures.after (ap (λ n. n.0) number)
 
 pub put-requires-2-clause-apart : goal.put-requires-2-clause-apart
@@ -62,14 +66,14 @@ put-requires-2-clause-apart c =
     let s = c.args.served.now in
     let may = (c.requires.begins c.in-Some.address (ap (λ (t : Told). t.lease) (sym c.told.view_is) ∙ c.in-Some.is)).1 in
     let sessions = ap (λ (u : State). u.sessions) c.begin_term.ensures.served ∙ ap (λ (u : State). u.sessions) c.count_asked.ensures ∙ ap (λ (u : State). u.sessions) c.take-session.ensures.after in
-    shares_begun s.sessions c.begin_term.new.served.sessions c.args.number.0 c.in-Some.address c.args.terms.now.rows c.begin_term.new.session (next_lease c.count_asked.new.self c.told.inside.limits c.args.incoming.now.moment c.in-Some.address) sessions
+    shares_begun s.sessions c.begin_term.new.served.sessions c.args.number.0 c.in-Some.address c.args.terms.now.rows c.begin_term.new.session (next_lease c.count_asked.new.self c.told.inside.plan c.told.inside.limits c.args.incoming.now.moment c.in-Some.address) sessions
     (ap (λ (y : Session). y.lease) c.begin_term.ensures.session) refl may.tied may.free
 
 pub put-requires-2-clause-leased : goal.put-requires-2-clause-leased
 put-requires-2-clause-leased c =
     let r = c.args.incoming.now.rules.now in
     let inside = c.told.inside in
-    let t : Told = record { yes = inside.yes; lease = inside.lease; text = inside.text.items; class = inside.class.items; limits = inside.limits } in
+    let t : Told = record { yes = inside.yes; lease = inside.lease; text = inside.text.items; class = inside.class.items; limits = inside.limits; plan = inside.plan } in
     let x' = c.drive-asked.new.session in
     let asked = c.drive-asked.result.0 in
     let cause = c.drive-asked.result.1 in
@@ -82,14 +86,14 @@ put-requires-2-clause-leased c =
     c.take-session.result cause x' asked outs outs' (λ old says new h. judged r.link t h.turn h.cause c.args.incoming.now.moment c.args.incoming.now.item.now.random old says new h.goes h.said h.state) c.drive-asked.ensures.driven in
     subst (λ (y : Session). KeepsLease y.service y.lease) (sym c.begin_term.ensures.session)
     (begun_keeps r c.args.incoming.now.at t c.args.incoming.now.moment c.args.incoming.now.item.now.random c.asked.result c.take-session.result cause x' asked outs outs' driven q c.in-Some.address (ap open_of it ∙ asks) accepted c.in-Some.is c.drive-asked.ensures.leased
-    (next_lease c.count_asked.new.self c.told.inside.limits c.args.incoming.now.moment c.in-Some.address))
+    (next_lease c.count_asked.new.self c.told.inside.plan c.told.inside.limits c.args.incoming.now.moment c.in-Some.address))
 
 pub returns-clause-settled : goal.returns-clause-settled
 returns-clause-settled c x q found asks =
     let r = c.args.incoming.now.rules.now in
     let s = c.args.served.now in
     let inside = c.told.inside in
-    let t : Told = record { yes = inside.yes; lease = inside.lease; text = inside.text.items; class = inside.class.items; limits = inside.limits } in
+    let t : Told = record { yes = inside.yes; lease = inside.lease; text = inside.text.items; class = inside.class.items; limits = inside.limits; plan = inside.plan } in
     let x' = c.drive-asked.new.session in
     let asked = c.drive-asked.result.0 in
     let cause = c.drive-asked.result.1 in
@@ -104,10 +108,11 @@ returns-clause-settled c x q found asks =
     (λ old says new h. judged r.link t h.turn h.cause c.args.incoming.now.moment c.args.incoming.now.item.now.random old says new h.goes h.said h.state) c.drive-asked.ensures.driven in
     let its = subst (λ (n : ℕ). Driven r c.args.incoming.now.at Told_ n x cause x' asked outs outs') before (subst (λ (y : Session). Driven r c.args.incoming.now.at Told_ c.asked.result y cause x' asked outs outs') it driven) in
     let counted = c.count_asked.ensures ∙ ap (λ (u : State). let v : State = record u { asked = asked } in v) c.take-session.ensures.after in
-    let begun = c.begin_term.ensures.served ∙ ap (λ (u : State). let v : State = record u { begun = u.begun + 1 } in v) counted in
-    let leased = c.begin_term.ensures.session ∙ ap (λ (u : State). let y : Session = record x' { lease = Some (next_lease u inside.limits c.args.incoming.now.moment a) } in y) counted in
+    let ms = meters_of inside.plan c.args.incoming.now.moment in
+    let begun = c.begin_term.ensures.served ∙ ap (λ (u : State). let v : State = record u { begun = u.begun + 1; meters = slice_set u.meters (place_in x'.number) ms } in v) counted in
+    let leased = c.begin_term.ensures.session ∙ ap (λ (u : State). let y : Session = record x' { lease = Some (next_lease u inside.plan inside.limits c.args.incoming.now.moment a) } in y) counted in
     let named = sym (c.name_of-user.ensures q (ap open_of it ∙ asks)) in
-    let term = ap (λ (u : State). next_term u x' q t.class c.args.incoming.now.moment a) counted ∙ next_same r c.args.incoming.now.at t c.args.incoming.now.moment c.args.incoming.now.item.now.random s.asked x cause x' asked outs outs' its s q t.class c.args.incoming.now.moment a in
+    let term = ap (λ (u : State). next_term u x' q t.plan t.class c.args.incoming.now.moment a) counted ∙ next_same r c.args.incoming.now.at t c.args.incoming.now.moment c.args.incoming.now.item.now.random s.asked x cause x' asked outs outs' its s q t.plan t.class c.args.incoming.now.moment a in
     let rows = c.begin_term.ensures.terms q named ∙ ap (λ (u : Tenure). tenures_in c.args.terms.now.rows ++ u ∷ []) term in
     let news = c.begin_term.ensures.news q named ∙ ap (λ (u : Tenure). tenures_in c.args.terms.now.news ++ u ∷ []) term in
     let same_number = ap (λ (y : Session). y.number.0) c.begin_term.ensures.session ∙ number in

@@ -1,5 +1,4 @@
-use Rattle.std.proofs.Common.{List, inl, sym, subst, ◌∙◌}
-use Rattle.bng_base.specs.declared.settings.NamedRange.{NamedRange}
+use Rattle.std.proofs.Common.{inl, sym, subst, ◌∙◌}
 use Rattle.bng_shard.specs.Wishes.{Wishes}
 use Rattle.bng_shard.proofs.Telling.{same_ask}
 use Rattle.bng_shard.proofs.wish.verdict_wish.Goals as goal
@@ -7,8 +6,4 @@ use Rattle.bng_shard.proofs.wish.verdict_wish.Goals as goal
 pub returns : goal.returns
 returns c =
     let asked = sym c.open_ask.ensures ∙ same_ask c.open_ask.result c.args.item.now.ask (sym c.ne.ensures ∙ c.if-ne.false) in
-    inl (
-      asked,
-      subst (λ octets. Wishes c.args.rules.now.pools c.args.limited octets c.octets_wish.result) c.payload.ensures.octets
-          (subst (λ (pools : List NamedRange). Wishes pools c.args.limited c.payload.result.now c.octets_wish.result) c.as_slice.ensures c.octets_wish.ensures),
-    )
+    inl (asked, subst (λ octets. Wishes c.args.rules.now c.args.limited octets c.octets_wish.result) c.payload.ensures.octets c.octets_wish.ensures)

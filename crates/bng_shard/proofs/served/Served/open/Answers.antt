@@ -4,12 +4,14 @@ use Rattle.std.proofs.lemmas.List.{length-replicate}
 use Rattle.std.proofs.lemmas.List.Elements.{All-replicate}
 use Rattle.bng_base.specs.declared.address.SessionNo.{SessionNo}
 use Rattle.bng_slots.specs.Sessions.{NoneShares, with_value}
+use Rattle.bng_shard.specs.declared.meters.Meters.{Meters}
 use Rattle.bng_shard.specs.declared.session.Session.{Session}
 use Rattle.bng_shard.specs.Indexed.{address_of, term_of}
 use Rattle.bng_shard.specs.Opening.{none_passed}
 use Rattle.bng_shard.specs.Serving.{AreAsking, AreLeaving, AreYoung, asks, is_young}
 use Rattle.bng_shard.specs.State.{circuit_of, leaves}
 use Rattle.bng_shard.proofs.Circuits.{Opens, at, few_begun, opened_apart, opened_is, opened_leased, opened_listed, opened_none, opened_of_shard, opened_own, opens_none, opens_pass, opens_put, shares_address, shares_circuit, shares_term, vacant_there}
+use Rattle.bng_shard.proofs.Metering.{opened_length}
 use Rattle.bng_shard.proofs.served.Served.open.Goals as goal
 use Rattle.bng_shard.proofs.served.Served.open.Goals.{in-Some, in_default-circuit_with}
 
@@ -93,6 +95,7 @@ invariant_of-result c =
       young_room = omega (arith, young_room);
       passed = ap (λ (moments : List ℕ). length moments) zeros ∙ length-replicate {A = ℕ} 1024 0;
       passed_low = subst (All (λ moment. moment < 2 ^ 60)) (sym zeros) (All-replicate (λ moment. moment < 2 ^ 60) 1024 0 (omega arith));
+      metered = ap (λ (ms : List Meters). length ms) c.in_ok-meters.ensures ∙ opened_length c.args.number c.args.profiles.now c.args.circuits.now c.args.now;
     }
 
 pub returns : goal.returns
@@ -100,5 +103,5 @@ returns c =
     let all : c.loop-n.n - (c.args.number * 1024 + 1) ≡ 1022 = search rules in
     let opens = subst (λ (k : ℕ). Opens c.args.number c.args.circuits.now k c.loop-n.sessions c.loop-n.begun) all c.loop-n.invariant in
     let zeros : c.in_ok-passed.passed.items ≡ none_passed = c.in_ok-passed.ensures.items_if_clones_equal (λ y same. same) ∙ ap (λ (n : ℕ). replicate n 0) c.from.ensures in
-    let opened = opened_is c.args.number c.args.circuits.now c.loop-n.sessions c.loop-n.begun opens 0 c.requires.own in
-    record { opened = λ i. record { sessions = (opened i).sessions; begun = (opened i).begun; asked = (opened i).asked; terms = []; news = (opened i).news; passed = zeros i } }
+    let opened = opened_is c.args.number c.args.circuits.now c.loop-n.sessions c.loop-n.begun opens c.args.profiles.now c.args.now c.requires.own in
+    record { opened = λ i. record { sessions = (opened i).sessions; begun = (opened i).begun; asked = (opened i).asked; terms = []; news = (opened i).news; passed = zeros i; meters = c.in_ok-meters.ensures i } }

@@ -24,6 +24,8 @@ loop-number-init c =
       passed = refl;
       moments = is.passed;
       moments_low = is.passed_low;
+      meters = refl;
+      metered = is.metered;
       room = is.room;
       asking = is.asking;
       asking_counted = is.asking_counted;
@@ -53,6 +55,8 @@ loop-number-preserved c =
       passed = was.passed;
       moments = was.moments;
       moments_low = was.moments_low;
+      meters = was.meters;
+      metered = was.metered;
       room = omega (arith, room, same_room);
       asking = was.asking;
       asking_counted = was.asking_counted;
@@ -91,6 +95,7 @@ invariant_of-self c =
       young_room = was.young_room;
       passed = was.moments;
       passed_low = was.moments_low;
+      metered = was.metered;
     }
 
 pub returns : goal.returns
@@ -105,6 +110,7 @@ returns c =
     let begun = was.begun in
     let asked = was.asked in
     let passed = was.passed in
+    let meters = was.meters in
     let terms = ap (λ (t : State). t.terms) c.self.view_is in
     let news = ap (λ (t : State). t.news) c.self.view_is in
-    λ i. record { sessions = all i; begun = begun i; asked = asked i; terms = terms i; news = news i; passed = passed i }
+    λ i. record { sessions = all i; begun = begun i; asked = asked i; terms = terms i; news = news i; passed = passed i; meters = meters i }

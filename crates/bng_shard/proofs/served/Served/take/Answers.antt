@@ -51,6 +51,7 @@ invariant_of-self c =
       young_room = omega (arith, young_wide, young_same);
       passed = is.passed;
       passed_low = is.passed_low;
+      metered = is.metered;
     }
 
 pub returns-clause-apart : goal.returns-clause-apart

@@ -1,6 +1,7 @@
-use Rattle.std.proofs.Common.{◌≡◌, ◌≤◌, List, length, sym, ap, subst, ◌∙◌, arith}
+use Rattle.std.proofs.Common.{◌≡◌, ◌≤◌, List, [], length, sym, ap, subst, ◌∙◌, arith}
 use Rattle.std.specs.List.{All}
 use Rattle.std.proofs.lemmas.List.{length-replicate}
+use Rattle.bng_base.specs.declared.book.Profile.{Profile}
 use Rattle.bng_base.specs.declared.item.Entry.{Entry}
 use Rattle.bng_engine.specs.Quantities.{empty_book}
 use Rattle.bng_shard.specs.declared.terms.Running.{Running}
@@ -16,7 +17,7 @@ invariant_of-result c =
     let cs = c.args.circuits.now in
     let rows = c.in-Ok-open.terms.rows in
     let served = c.in-Ok.served in
-    let sessions : served.sessions ≡ (opened_slots c.args.number cs 0).sessions = ap (λ (s : State). s.sessions) c.in-Ok.ensures.opened in
+    let sessions : served.sessions ≡ (opened_slots c.args.number [] cs 0).sessions = ap (λ (s : State). s.sessions) c.in-Ok.ensures.opened in
     let begun : served.begun ≡ length cs = ap (λ (s : State). s.begun) c.in-Ok.ensures.opened in
     let none : begun_in c.new.result.items ≡ 0 = ap (λ (es : List Entry). begun_in es) c.new.ensures in
     record {
@@ -29,7 +30,7 @@ invariant_of-result c =
       placed = opened_placed c.args.number cs served.sessions sessions c.requires.sessions c.args.rules c.requires.ports;
       auth = c.requires.auth;
       offers = c.requires.offers;
-      some_profile = c.requires.some_profile;
+      few_profiles = c.requires.few_profiles;
       named = c.in_ok-profiles.ensures.names;
       booked = ap length c.in_ok-profiles.ensures.books ∙ length-replicate (length c.args.rules.profiles) empty_book;
       few_pools = c.requires.few_pools;
@@ -41,6 +42,9 @@ invariant_of-result c =
 pub returns-clause-opened : goal.returns-clause-opened
 returns-clause-opened c =
     let cs = c.args.circuits.now in
-    let opened = opened_whole c.args.number c.args.now cs c.in-Ok.served c.in-Ok-open.terms c.in-Ok.ensures.opened c.in-Ok-open.ensures.terms c.in-Ok-open.ensures.none.0 in
+    let profiles = c.as_slice.result.now in
+    let opened =
+    opened_whole c.args.number c.args.now profiles cs c.in-Ok.served c.in-Ok-open.terms c.in-Ok.ensures.opened c.in-Ok-open.ensures.terms c.in-Ok-open.ensures.none.0
+    ∙ ap (λ (ps : List Profile). opened_slots c.args.number ps cs c.args.now) c.as_slice.ensures in
     opened_view c.args.rules c.args.number cs c.args.now (whole c.in-Ok.served c.in-Ok-open.terms) (rows_in c.in-Ok-open.terms.rows) c.in_ok-profiles.profiles.books c.new.result.items c.new-2.result.items opened c.in-Ok-open.ensures.rows
     c.in_ok-profiles.ensures.books c.new.ensures c.new-2.ensures

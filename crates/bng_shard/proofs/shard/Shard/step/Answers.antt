@@ -101,7 +101,7 @@ invariant_of-self c =
       few_pools = was.few_pools;
       auth = was.auth;
       offers = was.offers;
-      some_profile = was.some_profile;
+      few_profiles = was.few_profiles;
       named = c.book.ensures.names ∙ was.named;
       booked = c.book.ensures.rises.count ∙ was.booked;
       journal_room = omega (arith, was.journal_room, ap length items, length-append a.journal.items (e ∷ []), room, c.requires.room, ap (λ (b : Batch Entry). b.room) c.push_entry.ensures);
@@ -137,5 +137,5 @@ returns c =
     let answers = subst (λ (n : ℕ). AnswersClaim n claim pool pool') c.shard.ensures.number c.ask-claim.ensures.table in
     let holds = held_after a.rules s s' outs outs' e limited fate does s.sessions.shard pool pool' answers held in
     subst (λ (v : ShardView ShardState Entry). Handles v next pool pool' e0 fate c.args.ledger.now c.tally.new.tally) c.self.view_is
-    (handles a.rules s s' outs outs' e limited fate does rows rows' a.profiles.books c.book.new.profiles.books a.allowance a.left a.room a.journal.items c.push_entry.new.self.items was.some_profile (was.left (omega (arith, room, c.requires.room))) refl (keys_of_rows c.hear-fate.new.terms.rows) c.hear-fate.ensures.sums.sums
+    (handles a.rules s s' outs outs' e limited fate does rows rows' a.profiles.books c.book.new.profiles.books a.allowance a.left a.room a.journal.items c.push_entry.new.self.items (was.left (omega (arith, room, c.requires.room))) refl (keys_of_rows c.hear-fate.new.terms.rows) c.hear-fate.ensures.sums.sums
     e0 claim refl pool pool' answers (moved_held a.rules s s' outs outs' e limited fate does pool' holds) c.args.ledger.now c.tally.new.tally (ap (λ (b : Batch Entry). b.items) c.push_entry.ensures) short booked tallied does.few)
