@@ -6,12 +6,12 @@ use Rattle.toml.specs.View.{view, table_view}
 use Rattle.toml.specs.declared.value.Value.{Value, Table}
 use Rattle.bng_config.specs.declared.config.Config.{Config}
 use Rattle.bng_config.specs.declared.fault.Fault.{Fault}
-use Rattle.bng_config.specs.declared.fault.Fault.TheVariants.{TooLong, NotToml, OutsideForm}
+use Rattle.bng_config.specs.declared.fault.Fault.TheVariants.{TooLong, NotToml, Unknown, Broken}
 use Rattle.bng_config.specs.declared.fault.ConfigError.{ConfigError}
 use Rattle.bng_config.specs.declared.fault.ConfigError.TheVariants.{Refused, OutOfMemory}
 use Rattle.bng_config.specs.Rules.{KeepsRules}
-use Rattle.bng_config.specs.Configuration.{Configures, IsFirstFault, IsKeyOrMemory, IsFaultOrMemory, IsRead, HasFault, longest_text}
-use Rattle.bng_config.proofs.Exclusive.{no_fault, one_fault, read_of, fault_of}
+use Rattle.bng_config.specs.Configuration.{Configures, IsToldOf, IsFaultOrMemory, IsRead, HasFault, longest_text}
+use Rattle.bng_config.proofs.Exclusive.{no_fault, one_fault, read_of, name_of, fault_of}
 use Rattle.bng_config.proofs.OneReading.{one_reading}
 use Rattle.bng_config.proofs.Kept.{read_keeps}
 
@@ -24,35 +24,36 @@ module _ (text : List ℕ) (t : BTreeMap (String Global) Value) (short : length 
   answer_same (Ok answer) found c read = one_reading text answer c (read_of text t short is answer found) read
   answer_same (Err e) found c read = tt
 
-  told_memory : (e : ConfigError) → IsKeyOrMemory (IsFirstFault (view (Table t))) e → (c : Config) → IsRead text c → e ≡ OutOfMemory
-  told_memory (Refused (OutsideForm key)) told c read = absurd (no_fault text c (OutsideForm key) read (fault_of text t short is key told))
-  told_memory (Refused TooLong) told c read = absurd told
-  told_memory (Refused NotToml) told c read = absurd told
+  -- the fault that is told is the text's
+  has_told : (fault : Fault) → IsToldOf (view (Table t)) (Refused fault) → HasFault text fault
+  has_told TooLong told = absurd told
+  has_told NotToml told = absurd told
+  has_told (Unknown n) told = name_of text t short is n told
+  has_told (Broken r k) told = fault_of text t short is r k told
+
+  told_memory : (e : ConfigError) → IsToldOf (view (Table t)) e → (c : Config) → IsRead text c → e ≡ OutOfMemory
+  told_memory (Refused fault) told c read = absurd (no_fault text c fault read (has_told fault told))
   told_memory OutOfMemory told c read = refl
 
-  pub answer_read : (r : Result Config ConfigError) → IfErr r (IsKeyOrMemory (IsFirstFault (view (Table t)))) → (c : Config) → IsRead text c → IfErr r (λ e. e ≡ OutOfMemory)
+  pub answer_read : (r : Result Config ConfigError) → IfErr r (IsToldOf (view (Table t))) → (c : Config) → IsRead text c → IfErr r (λ e. e ≡ OutOfMemory)
   answer_read (Ok answer) told c read = tt
   answer_read (Err e) told c read = told_memory e told c read
 
-  told_or_memory : (e : ConfigError) → IsKeyOrMemory (IsFirstFault (view (Table t))) e → (fault : Fault) → HasFault text fault → IsFaultOrMemory fault e
-  told_or_memory (Refused (OutsideForm key)) told fault has = inl (ap Refused (one_fault text (OutsideForm key) fault (fault_of text t short is key told) has))
-  told_or_memory (Refused TooLong) told fault has = absurd told
-  told_or_memory (Refused NotToml) told fault has = absurd told
+  told_or_memory : (e : ConfigError) → IsToldOf (view (Table t)) e → (fault : Fault) → HasFault text fault → IsFaultOrMemory fault e
+  told_or_memory (Refused told_fault) told fault has = inl (ap Refused (one_fault text told_fault fault (has_told told_fault told) has))
   told_or_memory OutOfMemory told fault has = inr refl
 
-  told_fault : (e : ConfigError) → IsKeyOrMemory (IsFirstFault (view (Table t))) e → (fault : Fault) → e ≡ Refused fault → HasFault text fault
-  told_fault (Refused (OutsideForm key)) told fault e =
-      let same : OutsideForm key ≡ fault = cc in
-      subst (HasFault text) same (fault_of text t short is key told)
-  told_fault (Refused TooLong) told fault e = absurd told
-  told_fault (Refused NotToml) told fault e = absurd told
+  told_fault : (e : ConfigError) → IsToldOf (view (Table t)) e → (fault : Fault) → e ≡ Refused fault → HasFault text fault
+  told_fault (Refused first) told fault e =
+      let same : first ≡ fault = cc in
+      subst (HasFault text) same (has_told first told)
   told_fault OutOfMemory told fault e = cc
 
-  pub answer_refused : (r : Result Config ConfigError) → IfErr r (IsKeyOrMemory (IsFirstFault (view (Table t)))) → IfErr r (λ e. (fault : Fault) → e ≡ Refused fault → HasFault text fault)
+  pub answer_refused : (r : Result Config ConfigError) → IfErr r (IsToldOf (view (Table t))) → IfErr r (λ e. (fault : Fault) → e ≡ Refused fault → HasFault text fault)
   answer_refused (Ok c) told = tt
   answer_refused (Err e) told = told_fault e told
 
-  pub answer_faulty : (r : Result Config ConfigError) → IfOk r (λ c. Configures (view (Table t)) c) → IfErr r (IsKeyOrMemory (IsFirstFault (view (Table t))))
+  pub answer_faulty : (r : Result Config ConfigError) → IfOk r (λ c. Configures (view (Table t)) c) → IfErr r (IsToldOf (view (Table t)))
       → (fault : Fault) → HasFault text fault → IsErrAnd r (IsFaultOrMemory fault)
   answer_faulty (Ok c) found told fault has = no_fault text c fault (read_of text t short is c found) has
   answer_faulty (Err e) found told fault has = told_or_memory e told fault has

@@ -1,146 +1,159 @@
--- Pools, one after the other.
-use Rattle.std.proofs.Common.{◌≡◌, ◌≢◌, ℕ, zero, suc, ◌+◌, ◌≤◌, List, [], ◌∷◌, ◌++◌, length, length-append, slice_get, Option, Some, None, option_map, refl, sym, ap, subst, ◌∙◌, arith, inl, inr, ◌⊎◌}
-use Rattle.std.specs.List.{Any}
-use Rattle.std.proofs.lemmas.List.{length-map, map-append}
-use Rattle.std.proofs.lemmas.Option.{same_Some, slice_get-map, slice_get_read, slice_get_within, get_or_from_slice_get}
+-- The ranges of the pools of a document that breaks no rule.
+use Rattle.std.proofs.Common.{◌≡◌, ℕ, zero, suc, ◌+◌, ◌-◌, ◌<◌, ◌≤◌, List, [], ◌∷◌, ◌++◌, length, map, get_or, slice_get, Some, refl, sym, ap, subst, ◌∙◌, arith, inl, inr, ◌⊎◌}
+use Rattle.std.proofs.lemmas.List.{length-map, get_or-map}
+use Rattle.std.proofs.lemmas.Option.{same_Some, slice_get_within, get_or_from_slice_get}
+use mathlib.Core.Logic.{dite}
+use native.Mathlib.Decide.{dec_le}
+use Rattle.toml.specs.Data.{Data}
+use Rattle.bng_base.specs.declared.address.Ip4.{Ip4}
 use Rattle.bng_base.specs.declared.book.Range.{Range}
 use Rattle.bng_base.specs.declared.settings.NamedRange.{NamedRange}
-use Rattle.bng_config.specs.Pools.{InRange, Meets, HasAddress, Fits, ArePoolsBeside, size_of, address_count, ranges_of}
+use Rattle.bng_schema.specs.declared.keys.Table.TheVariants.{Pool as Pools}
+use Rattle.bng_schema.specs.declared.keys.Field.TheVariants.{GatewayAddress, PoolLast}
+use Rattle.bng_schema.specs.declared.keys.Key.TheVariants.{Of}
+use Rattle.bng_schema.specs.declared.rule.Rule.TheVariants.{C11}
+use Rattle.bng_schema.specs.Keys.{entries}
+use Rattle.bng_schema.specs.Forms.{StandsAt, EachPlace, IsAddress}
+use Rattle.bng_schema.specs.Ranges.{InRange, HasAddress, size_of, address_count, IsRangeAt, IsUnfit}
+use Rattle.bng_schema.specs.Circuits.{IsPooledBelow}
+use Rattle.bng_schema.specs.Checks.{IsSound}
+use Rattle.bng_schema.proofs.Places.{each_none}
+use Rattle.bng_schema.proofs.Sound.{sound_field}
+use Rattle.bng_schema.proofs.Totals.{count_push, range_once}
+use Rattle.bng_config.specs.Pools.{AreApart, ArePools, ranges_of}
+use Rattle.bng_config.specs.Configuration.{AreEntries, IsPool}
+use Rattle.bng_config.proofs.Held.{pools_between}
 
--- one range more at the end
-at_last : (rs : List Range) (r : Range) → slice_get (rs ++ r ∷ []) (length rs) ≡ Some r
-at_last [] r = refl
-at_last (x ∷ rs) r = at_last rs r
+-- the last of a list, and what holds of the places of the others
+record Cut {X : Type 0} (P : ℕ → X → Type 0) (xs : List X) (n : ℕ) : Type 0 where
+  front : List X
+  last : X
+  is : xs ≡ front ++ last ∷ []
+  long : length front ≡ n
+  each : EachPlace P front
+  here : P n last
 
-at_front : (rs : List Range) (r : Range) (k : ℕ) (q : Range) → slice_get rs k ≡ Some q → slice_get (rs ++ r ∷ []) k ≡ Some q
-at_front [] r k q e = cc
-at_front (x ∷ rs) r zero q e = e
-at_front (x ∷ rs) r (suc k) q e = at_front rs r k q e
+each_cons : {X : Type 0} (P : ℕ → X → Type 0) (x : X) (xs : List X) → P 0 x → EachPlace (λ i. P (suc i)) xs → EachPlace P (x ∷ xs)
+each_cons P x xs first rest zero d less = first
+each_cons P x xs first rest (suc i) d less = rest i d (omega arith)
 
--- a range is one of the earlier ones or the last
-abbrev Placed : List Range → Range → ℕ → Range → Type 0
-Placed rs r k q = (slice_get rs k ≡ Some q) ⊎ ((k ≡ length rs) × (q ≡ r))
+cut : {X : Type 0} (P : ℕ → X → Type 0) (xs : List X) (n : ℕ) → length xs ≡ suc n → EachPlace P xs → Cut P xs n
+cut P [] n long each = absurd (omega arith)
+cut P (x ∷ []) zero long each = record { front = []; last = x; is = refl; long = refl; each = each_none P [] refl; here = each 0 x (omega arith) }
+cut P (x ∷ []) (suc n) long each = absurd (omega arith)
+cut P (x ∷ y ∷ ys) zero long each = absurd (omega arith)
+cut P (x ∷ y ∷ ys) (suc n) long each =
+    let rest = cut (λ i. P (suc i)) (y ∷ ys) n (omega arith) (λ i d less. each (suc i) d (omega arith)) in
+    let back = rest.is in
+    record {
+      front = x ∷ rest.front;
+      last = rest.last;
+      is = ap (λ zs. x ∷ zs) back;
+      long = ap suc rest.long;
+      each = each_cons P x rest.front (each 0 x (omega arith)) rest.each;
+      here = rest.here;
+    }
 
-later : (x : Range) (rs : List Range) (r : Range) (k : ℕ) (q : Range) → Placed rs r k q → Placed (x ∷ rs) r (suc k) q
-later x rs r k q (inl at) = inl at
-later x rs r k q (inr (here, is)) = inr (ap suc here, is)
+-- as places of what the elements have
+each_map : {X Y : Type 0} (f : X → Y) (P : ℕ → Y → Type 0) (xs : List X) → EachPlace (λ i x. P i (f x)) xs → EachPlace P (map f xs)
+each_map f P [] each i d less = absurd (omega arith)
+each_map f P (x ∷ xs) each i d less =
+    let high : i < length (x ∷ xs) = subst (λ n. i < n) (length-map (x ∷ xs) f) less in
+    rw (get_or-map f (x ∷ xs) i x d high) (each i x high)
 
-placed : (rs : List Range) (r : Range) (k : ℕ) (q : Range) → slice_get (rs ++ r ∷ []) k ≡ Some q → Placed rs r k q
-placed [] r zero q e = inr (refl, sym (same_Some _ _ e))
-placed [] r (suc k) q e = cc
-placed (x ∷ rs) r zero q e = inl e
-placed (x ∷ rs) r (suc k) q e = later x rs r k q (placed rs r k q e)
+-- an element at a place, of a list as it is read
+at_place : {X : Type 0} (P : ℕ → X → Type 0) (xs : List X) (k : ℕ) (x : X) → EachPlace P xs → slice_get xs k ≡ Some x → P k x
+at_place P xs k x each at = subst (P k) (get_or_from_slice_get xs k x x at) (each k x (slice_get_within xs k x at))
 
-count_push : (rs : List Range) (r : Range) → address_count (rs ++ r ∷ []) ≡ address_count rs + size_of r
-count_push [] r = omega arith
-count_push (x ∷ rs) r = let more = count_push rs r in omega arith
+-- and as it is counted
+placed : {X : Type 0} (xs : List X) (i : ℕ) (x : X) → i < length xs → slice_get xs i ≡ Some (get_or xs i x)
+placed [] i x less = absurd (omega arith)
+placed (y ∷ ys) zero x less = refl
+placed (y ∷ ys) (suc i) x less = placed ys i x (omega arith)
 
--- the pool whose range stands at a place
-of_some : (o : Option NamedRange) (r : Range) → option_map (λ p. p.range) o ≡ Some r → (p : NamedRange) × (o ≡ Some p) × (p.range ≡ r)
-of_some None r e = cc
-of_some (Some p) r e = (p, refl, same_Some _ _ e)
+-- a list has the address or has it not
+has_later : (r : Range) (rs : List Range) (a : ℕ) → (InRange r a → ⊥) → HasAddress rs a ⊎ (HasAddress rs a → ⊥) → HasAddress (r ∷ rs) a ⊎ (HasAddress (r ∷ rs) a → ⊥)
+has_later r rs a none (inl (k, q, at, has)) = inl (suc k, q, at, has)
+has_later r rs a none (inr never) = inr (λ h. without h.0 h.1 h.2 h.3) where
+  without : (k : ℕ) (q : Range) → slice_get (r ∷ rs) k ≡ Some q → InRange q a → ⊥
+  without zero q at has = none (subst (λ x. InRange x a) (sym (same_Some r q at)) has)
+  without (suc k) q at has = never (k, q, at, has)
 
-pool_of : (pools : List NamedRange) (k : ℕ) (r : Range) → slice_get (ranges_of pools) k ≡ Some r → (p : NamedRange) × (slice_get pools k ≡ Some p) × (p.range ≡ r)
-pool_of pools k r e = of_some (slice_get pools k) r (sym (slice_get-map (λ p. p.range) pools k) ∙ e)
+has_or_not : (rs : List Range) (a : ℕ) → HasAddress rs a ⊎ (HasAddress rs a → ⊥)
+has_or_not [] a = inr (λ h. let at = h.2 in cc)
+has_or_not (r ∷ rs) a =
+    dite (dec_le r.first.0 a)
+    (λ low. dite (dec_le a r.last.0) (λ high. inl (0, r, refl, (low, high))) (λ never. has_later r rs a (λ h. never h.1) (has_or_not rs a)))
+    (λ never. has_later r rs a (λ h. never h.0) (has_or_not rs a))
 
-range_of : (pools : List NamedRange) (k : ℕ) (p : NamedRange) → slice_get pools k ≡ Some p → slice_get (ranges_of pools) k ≡ Some p.range
-range_of pools k p e = slice_get-map (λ p. p.range) pools k ∙ ap (option_map (λ p. p.range)) e
+module _ (document : Data) (sound : IsSound document) (pools : List NamedRange) (of : AreEntries document Pools (IsPool document) pools) where
+  each_range : EachPlace (IsRangeAt document) (ranges_of pools)
+  each_range = each_map (λ p. p.range) (IsRangeAt document) pools (λ i d less. ((of.are i d less).first, (of.are i d less).last))
 
-module _ (P : Range → Type 0) (pools : List NamedRange) where
-  some_pool : (k : ℕ) (r : Range) → slice_get (ranges_of pools) k ≡ Some r → P r → Any (λ p. P p.range) pools
-  some_pool k r at has =
-      let p = pool_of pools k r at in
-      (k, p.0, slice_get_within pools k p.0 p.1, get_or_from_slice_get pools k p.0 p.0 p.1, subst P (sym p.2) has)
+  range_count : length (ranges_of pools) ≡ entries document Pools
+  range_count = length-map pools (λ p. p.range) ∙ of.all
 
-  some_range : Any (λ p. P p.range) pools → (k : ℕ) × (r : Range) × (slice_get (ranges_of pools) k ≡ Some r) × P r
-  some_range (k, p, less, is, has) = (k, p.range, range_of pools k p (slice_get_read pools (length pools) k p refl less (sym is)), has)
+  is_range : (k : ℕ) (r : Range) → slice_get (ranges_of pools) k ≡ Some r → IsRangeAt document k r
+  is_range k r at = at_place (IsRangeAt document) (ranges_of pools) k r each_range at
 
--- an address that a pool has
-pub pooled : (pools : List NamedRange) (a : ℕ) → Any (λ p. InRange p.range a) pools → HasAddress (ranges_of pools) a
-pooled pools a any = some_range (λ r. InRange r a) pools any
+  within : (k : ℕ) (r : Range) → slice_get (ranges_of pools) k ≡ Some r → k < entries document Pools
+  within k r at = subst (λ n. k < n) range_count (slice_get_within (ranges_of pools) k r at)
 
-pub in_pool : (pools : List NamedRange) (a : ℕ) → HasAddress (ranges_of pools) a → Any (λ p. InRange p.range a) pools
-in_pool pools a (k, r, at, has) = some_pool (λ r. InRange r a) pools k r at has
+  fit : (k : ℕ) (r : Range) → k < entries document Pools → IsRangeAt document k r → ¬ IsUnfit document k r
+  fit k r less is unfit = sound_field document sound C11 PoolLast k less (r, is, unfit)
 
-none_there : (k : ℕ) (r : Range) → slice_get [] k ≡ Some r → ⊥
-none_there k r e = cc
+  ordered : (k : ℕ) (r : Range) → slice_get (ranges_of pools) k ≡ Some r → r.first.0 ≤ r.last.0
+  ordered k r at =
+      let never : r.last.0 < r.first.0 → ⊥ = λ less. fit k r (within k r at) (is_range k r at) (inl less) in
+      omega (arith, never)
 
--- ranges that meet have an address in common, where neither ends before it begins
-in_common : (r q : Range) (a : ℕ) → InRange r a → InRange q a → Meets r q
-in_common r q a h g = (omega (arith, h.0, g.1), omega (arith, g.0, h.1))
+  apart_at : (i j : ℕ) (r q : Range) → i < j → slice_get (ranges_of pools) i ≡ Some r → slice_get (ranges_of pools) j ≡ Some q → (a : ℕ) → InRange r a → InRange q a → ⊥
+  apart_at i j r q less at_r at_q a in_r in_q =
+      fit j q (within j q at_q) (is_range j q at_q) (inr (inr (inl (i, less, r, is_range i r at_r, (a, in_r, in_q)))))
 
-shared : (r q : Range) → r.first.0 ≤ r.last.0 → q.first.0 ≤ q.last.0 → Meets r q → ((a : ℕ) → InRange r a → InRange q a → ⊥) → ⊥
-shared r q long wide meet apart =
-    let one : ¬ (q.first.0 ≤ r.first.0) = λ low. apart r.first.0 (omega arith, long) (low, meet.0) in
-    let two : ¬ (r.first.0 ≤ q.first.0) = λ low. apart q.first.0 (low, meet.1) (omega arith, wide) in
-    omega (arith, one, two)
+  apart : AreApart (ranges_of pools)
+  apart i j r q other at_r at_q a in_r in_q =
+      dite (dec_le i j)
+      (λ low. let less : i < j = grind (arith, other) in apart_at i j r q less at_r at_q a in_r in_q)
+      (λ never. let less : j < i = omega arith in apart_at j i q r less at_q at_r a in_q in_r)
 
--- a range that fits follows the pools
-module _ (own : ℕ) (pools : List NamedRange) (r : Range) where
-  abbrev next : List Range
-  next = ranges_of pools ++ r ∷ []
+  -- the last pool has room behind the others
+  room : (n : ℕ) → length (ranges_of pools) ≡ suc n → address_count (ranges_of pools) ≤ 262144
+  room n long =
+      let c = cut (IsRangeAt document) (ranges_of pools) n long each_range in
+      let less : n < entries document Pools = let same = range_count in omega arith in
+      let never : 262144 < address_count c.front + size_of c.last → ⊥ = λ high. fit n c.last less c.here (inr (inr (inr (c.front, record { all = c.long; are = c.each }, high)))) in
+      let sum = count_push c.front c.last in
+      let same : address_count (ranges_of pools) ≡ address_count (c.front ++ c.last ∷ []) = ap address_count c.is in
+      omega (arith, never)
 
-  module _ (are : ArePoolsBeside own (ranges_of pools)) (fits : Fits own pools r) where
-    apart_from : (k : ℕ) (q s : Range) → slice_get (ranges_of pools) k ≡ Some q → s ≡ r → (a : ℕ) → InRange q a → InRange s a → ⊥
-    apart_from k q s at is a in_q in_s = fits.2 (some_pool (λ p. Meets p r) pools k q at (in_common q r a in_q (subst (λ x. InRange x a) is in_s)))
+  addresses : address_count (ranges_of pools) ≤ 262144
+  addresses =
+      let some = (pools_between document sound).0 in
+      let same = range_count in
+      room (length (ranges_of pools) - 1) (omega arith)
 
-    ordered_at : (k : ℕ) (q : Range) → Placed (ranges_of pools) r k q → q.first.0 ≤ q.last.0
-    ordered_at k q (inl at) = are.pools.ordered k q at
-    ordered_at k q (inr (here, is)) = subst (λ x. x.first.0 ≤ x.last.0) (sym is) fits.0
+  pub are_pools : ArePools (ranges_of pools)
+  are_pools = record {
+    few = let most = (pools_between document sound).1 in let same = range_count in omega arith;
+    ordered = ordered;
+    apart = apart;
+    addresses = addresses;
+  }
 
-    apart_at : (i j : ℕ) (q s : Range) → i ≢ j → Placed (ranges_of pools) r i q → Placed (ranges_of pools) r j s → (a : ℕ) → InRange q a → InRange s a → ⊥
-    apart_at i j q s other (inl at_q) (inl at_s) a in_q in_s = are.pools.apart i j q s other at_q at_s a in_q in_s
-    apart_at i j q s other (inl at_q) (inr (here, is)) a in_q in_s = apart_from i q s at_q is a in_q in_s
-    apart_at i j q s other (inr (here, is)) (inl at_s) a in_q in_s = apart_from j s q at_s is a in_s in_q
-    apart_at i j q s other (inr (here, is)) (inr (too, same)) a in_q in_s = other (here ∙ sym too)
+  pub own_free : (own : Ip4) → StandsAt document (Of GatewayAddress 0) (λ d. IsAddress d own) → ¬ HasAddress (ranges_of pools) own.0
+  own_free own stands h = fit h.0 h.1 (within h.0 h.1 h.2) (is_range h.0 h.1 h.2) (inr (inl (own, stands, h.3)))
 
-    free_at : (k : ℕ) (q : Range) → Placed (ranges_of pools) r k q → InRange q own → ⊥
-    free_at k q (inl at) has = are.free (k, q, at, has)
-    free_at k q (inr (here, is)) has = fits.1 (subst (λ x. InRange x own) is has)
+  -- an address that some pool has
+  found_in : (a : Ip4) (i : ℕ) → i < entries document Pools → (r : Range) → IsRangeAt document i r → InRange r a.0 → HasAddress (ranges_of pools) a.0
+  found_in a i less r is has =
+      let long : i < length (ranges_of pools) = subst (λ n. i < n) (sym range_count) less in
+      let at = placed (ranges_of pools) i r long in
+      let here : IsRangeAt document i (get_or (ranges_of pools) i r) = each_range i r long in
+      (i, get_or (ranges_of pools) i r, at, subst (λ x. InRange x a.0) (range_once document i r (get_or (ranges_of pools) i r) is here) has)
 
-    pub joined : suc (length pools) ≤ 16 → ArePoolsBeside own next
-    joined few =
-        let long = length-append (ranges_of pools) (r ∷ []) in
-        let same = length-map pools (λ p. p.range) in
-        let count = count_push (ranges_of pools) r in
-        let room = fits.3 in
-        record {
-          pools = record {
-            few = omega arith;
-            ordered = λ k q at. ordered_at k q (placed (ranges_of pools) r k q at);
-            apart = λ i j q s other at_q at_s. apart_at i j q s other (placed (ranges_of pools) r i q at_q) (placed (ranges_of pools) r j s at_s);
-            addresses = omega arith;
-          };
-          free = λ h. free_at h.0 h.1 (placed (ranges_of pools) r h.0 h.1 h.2) h.3;
-        }
-
-  -- and one that follows them fits
-  pub parted : ArePoolsBeside own next → Fits own pools r
-  parted h =
-      let last = at_last (ranges_of pools) r in
-      let count = count_push (ranges_of pools) r in
-      let room = h.pools.addresses in (
-        h.pools.ordered (length (ranges_of pools)) r last,
-        (λ has. h.free (length (ranges_of pools), r, last, has)),
-        (λ any.
-            let at = some_range (λ p. Meets p r) pools any in
-            let front = at_front (ranges_of pools) r at.0 at.1 at.2 in
-            let less = slice_get_within (ranges_of pools) at.0 at.1 at.2 in
-            let other : at.0 ≢ length (ranges_of pools) = λ e. omega arith in
-            shared at.1 r (h.pools.ordered at.0 at.1 front) (h.pools.ordered (length (ranges_of pools)) r last) at.3 (h.pools.apart at.0 (length (ranges_of pools)) at.1 r other front last)),
-        omega arith,
-      )
-
-pub ranges_push : (pools : List NamedRange) (pool : NamedRange) → ranges_of (pools ++ pool ∷ []) ≡ ranges_of pools ++ pool.range ∷ []
-ranges_push pools pool = map-append (λ p. p.range) pools (pool ∷ [])
-
-pub none_beside : (own : ℕ) (pools : List NamedRange) → pools ≡ [] → ArePoolsBeside own (ranges_of pools)
-none_beside own pools none = rw none record {
-  pools = record {
-    few = omega arith;
-    ordered = λ k r at. absurd (none_there k r at);
-    apart = λ i j r q other at_r at_q a in_r in_q. none_there i r at_r;
-    addresses = omega arith;
-  };
-  free = λ h. none_there h.0 h.1 h.2;
-}
+  pub pooled : (a : Ip4) → ((IsPooledBelow document (entries document Pools) a → ⊥) → ⊥) → HasAddress (ranges_of pools) a.0
+  pooled a twice = decided (has_or_not (ranges_of pools) a.0) where
+    decided : HasAddress (ranges_of pools) a.0 ⊎ (HasAddress (ranges_of pools) a.0 → ⊥) → HasAddress (ranges_of pools) a.0
+    decided (inl has) = has
+    decided (inr never) = absurd (twice (λ h. never (found_in a h.0 h.1 h.2 h.3 h.4)))

@@ -1,10 +1,8 @@
 pub mod Pools
 pub mod Rules
-pub mod Address
-pub mod Keys
-pub mod Parts
 pub mod Configuration
+pub mod Texts
+pub mod Sound
 pub mod Gateway
 pub mod Ends
 pub mod Radius
-pub mod Find

@@ -1,5 +1,7 @@
 use arrayvec::ArrayVec;
-use bng_base::{AccessPort, AuthKind, Ip4, Listed, NamedRange, Peer, Profile, Static};
+use bng_base::{
+    AccessPort, AuthKind, CoaPart, Ip4, Lac, Listed, NamedRange, Peer, Profile, Static,
+};
 
 /// What the gateway serves: its name, of 1 to 64 printable octets of ASCII without space; the number of its shards, 1 to
 /// 64; the services that it offers beside any, at most 8 of 1 to 64 octets each; the ways to authenticate that it asks
@@ -40,6 +42,14 @@ pub struct Config {
     /// The profiles that subscribers are metered by, 1 to 16. Their names are different, 1 to 32 of `a` to `z`, `0` to `9`, `-`
     /// and `_` each, and each circuit's profile is a place, from 0, of this list.
     pub profiles: Listed<Profile>,
+    /// How many workers handle what comes, 1 to 16.
+    pub workers: u16,
+    /// The gateway's end of L2TP (RFC 2661 section 8.1), which is there where there are access concentrators.
+    pub tunnel_local: Option<Peer>,
+    /// The L2TP access concentrators, at most 16, with different addresses.
+    pub lacs: Listed<Lac>,
+    /// Who may ask for changes of sessions (RFC 5176), 1 to 16 addresses, and what they share with the gateway.
+    pub coa: Option<CoaPart>,
 }
 
 impl Drop for Config {
@@ -67,6 +77,10 @@ impl Drop for Config {
             dns: _,
             pools: _,
             profiles: _,
+            workers: _,
+            tunnel_local: _,
+            lacs: _,
+            coa: _,
         } = self;
     }
 }

@@ -1,55 +1,32 @@
-//! The ends of the sockets that there are once.
-ghost use Rattle.std.specs.Prelude.{◌≡◌, IfOk, IfErr, OnOk, OnErr};
+//! The ends of the sockets to the core and to Control.
 ghost use Rattle.toml.specs.View.{view};
-ghost use Rattle.bng_config.specs.Keys.{end_keys};
-ghost use Rattle.bng_config.specs.Configuration.{StandsAt, IsPeer, IsSound, AreSound, IsFirstOf};
+ghost use Rattle.bng_schema.specs.Checks.{IsSound};
 ghost use Rattle.bng_config.specs.Ends.{AreEnds};
 
-use crate::fault::Key;
-use crate::values::peer_at;
+use crate::values::peer_of;
 use bng_base::Peer;
+use bng_schema::{Field, Key};
 use toml::Value;
 
-/// The ends that stand at the keys before the lists.
+/// The ends of the sockets that there are once.
 #[derive(Clone, Copy)]
 pub(crate) struct Ends {
-    pub control_local: Peer,
     pub core_local: Peer,
     pub core_peer: Peer,
+    pub control_local: Peer,
 }
 
-/// The ends of the document, or the first of their keys that is missing or outside its form.
-pub(crate) fn ends_of(document: &Value) -> Result<Ends, Key>
-    ensures found { IfOk result (λ e. AreEnds (view document.now) e) }
-    ensures sound { OnOk result (AreSound (view document.now) end_keys) }
-    ensures refused { IfErr result (λ key. IsFirstOf (view document.now) end_keys key) }
+/// The ends of a document that breaks no rule.
+pub(crate) fn ends_of(document: &Value) -> Ends
+    requires { IsSound (view document.now) }
+    ensures { AreEnds (view document.now) result }
 {
-    let control_local = peer_at(document, Key::ControlLocal)?;
-    let core_local = core_end_at(document, control_local)?;
-    let core_peer = peer_at(document, Key::CorePeer)?;
-    Ok(Ends {
-        control_local,
+    let core_local = peer_of(document, Key::Of(Field::CoreLocal, 0));
+    let core_peer = peer_of(document, Key::Of(Field::CorePeer, 0));
+    let control_local = peer_of(document, Key::Of(Field::ControlLocal, 0));
+    Ends {
         core_local,
         core_peer,
-    })
-}
-
-// The gateway's end to the core, which is not the end of Control.
-fn core_end_at(document: &Value, control: Peer) -> Result<Peer, Key>
-    requires { StandsAt (view document.now) Key.ControlLocal (λ d. IsPeer d control) }
-    ensures found { IfOk result (λ p. StandsAt (view document.now) Key.CoreLocal (λ d. IsPeer d p)) }
-    ensures sound { OnOk result (IsSound (view document.now) Key.CoreLocal) }
-    ensures refused { IfErr result (λ key. key ≡ Key.CoreLocal) }
-    ensures faulty { OnErr result (¬ IsSound (view document.now) Key.CoreLocal) }
-{
-    match peer_at(document, Key::CoreLocal) {
-        Ok(peer) => {
-            if peer == control {
-                Err(Key::CoreLocal)
-            } else {
-                Ok(peer)
-            }
-        }
-        Err(key) => Err(key),
+        control_local,
     }
 }

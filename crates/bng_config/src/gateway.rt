@@ -1,33 +1,24 @@
 //! The table of the gateway itself.
-ghost use Rattle.std.specs.Prelude.{IfOk, IfErr, OnOk};
 ghost use Rattle.toml.specs.View.{view};
-ghost use Rattle.bng_config.specs.Keys.{gateway_keys};
-ghost use Rattle.bng_config.specs.Configuration.{AreSound, IsFirstOf};
+ghost use Rattle.bng_schema.specs.Checks.{IsSound};
 ghost use Rattle.bng_config.specs.Gateway.{IsGateway};
 
-use crate::fault::Key;
 use crate::values::{
-    address_at, kinds_or_both, name_at, number_or, servers_or_none, services_or_none,
+    address_of, kinds_or_both, name_of, number_or, servers_or_none, services_or_none,
 };
 use arrayvec::ArrayVec;
 use bng_base::{AuthKind, Ip4};
+use bng_schema::{Field, Key};
 use toml::Value;
-
-/// The most shards.
-const MOST_SHARDS: u32 = 64;
-/// The fewest terms for which there is room.
-const FEWEST_TERMS: u32 = 64;
-/// The most terms for which there is room.
-const MOST_TERMS: u32 = 262_144;
-/// The most seconds between two Echo-Requests.
-const LONGEST_ECHO: u32 = 3600;
 
 /// What stands at the keys of the gateway, and the defaults of those at which nothing stands.
 #[derive(Drop)]
 pub(crate) struct Gateway {
     pub name: ArrayVec<u8, 64>,
     pub address: Ip4,
+    pub nas_ip: Ip4,
     pub shards: u16,
+    pub workers: u16,
     pub terms: u32,
     pub services: ArrayVec<ArrayVec<u8, 64>, 12>,
     pub dns: ArrayVec<Ip4, 2>,
@@ -35,28 +26,31 @@ pub(crate) struct Gateway {
     pub echo: u16,
 }
 
-/// The gateway of the document, or the first of its keys that is missing or outside its form.
-pub(crate) fn gateway_of(document: &Value) -> Result<Gateway, Key>
-    ensures found { IfOk result (λ g. IsGateway (view document.now) g) }
-    ensures sound { OnOk result (AreSound (view document.now) gateway_keys) }
-    ensures refused { IfErr result (λ key. IsFirstOf (view document.now) gateway_keys key) }
+/// The gateway of a document that breaks no rule.
+pub(crate) fn gateway_of(document: &Value) -> Gateway
+    requires { IsSound (view document.now) }
+    ensures { IsGateway (view document.now) result }
 {
-    let name = name_at(document, Key::GatewayName)?;
-    let address = address_at(document, Key::GatewayAddress)?;
-    let shards = number_or(document, Key::GatewayShards, 1, MOST_SHARDS, 4)?;
-    let terms = number_or(document, Key::GatewayTerms, FEWEST_TERMS, MOST_TERMS, 8192)?;
-    let services = services_or_none(document, Key::GatewayServices)?;
-    let dns = servers_or_none(document, Key::GatewayDns)?;
-    let auth = kinds_or_both(document, Key::GatewayAuth)?;
-    let echo = number_or(document, Key::GatewayEcho, 0, LONGEST_ECHO, 30)?;
-    Ok(Gateway {
+    let name = name_of(document, Key::Of(Field::GatewayName, 0));
+    let address = address_of(document, Key::Of(Field::GatewayAddress, 0));
+    let nas_ip = address_of(document, Key::Of(Field::GatewayNasIp, 0));
+    let shards = number_or(document, Key::Of(Field::GatewayShards, 0), 1, 64, 4);
+    let workers = number_or(document, Key::Of(Field::GatewayWorkers, 0), 1, 16, 2);
+    let terms = number_or(document, Key::Of(Field::GatewayTerms, 0), 64, 262_144, 8192);
+    let services = services_or_none(document, Key::Of(Field::GatewayServices, 0));
+    let dns = servers_or_none(document, Key::Of(Field::GatewayDns, 0));
+    let auth = kinds_or_both(document, Key::Of(Field::GatewayAuth, 0));
+    let echo = number_or(document, Key::Of(Field::GatewayEcho, 0), 0, 3600, 30);
+    Gateway {
         name,
         address,
+        nas_ip,
         shards: shards as u16,
-        terms,
+        workers: workers as u16,
+        terms: terms as u32,
         services,
         dns,
         auth,
         echo: echo as u16,
-    })
+    }
 }

@@ -1,28 +1,23 @@
-//! The configuration: which keys are read, what each has to be, and what the gateway serves by it. `read` answers what
-//! a TOML text says, or the first rule that it breaks; the contract of `read` says the whole of it over the document.
+//! The configuration: what a TOML text says that the gateway serves by, over the grammar of `bng_schema`. `read` answers
+//! what the text says, or the first rule that it breaks; the contract of `read` says the whole of it over the document.
 #![tactic(auto)]
 
 mod access;
+mod changes;
 mod circuits;
 mod config;
-mod dns;
 mod ends;
 mod fault;
-mod find;
 mod gateway;
-mod kinds;
-mod mac;
-mod names;
-mod peer;
+mod lacs;
 mod pools;
 mod profiles;
 mod radius;
 mod reading;
-mod session;
 mod texts;
 mod values;
 
 pub use crate::config::Config;
-pub use crate::fault::{ConfigError, Fault, Key};
+pub use crate::fault::{ConfigError, Fault};
 pub use crate::reading::read;
-pub use crate::texts::fault_text;
+pub use crate::texts::{FaultText, fault_text};

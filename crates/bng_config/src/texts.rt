@@ -1,86 +1,157 @@
-//! What is written of a fault.
-ghost use Rattle.std.specs.Prelude.{◌≡◌, ◌≤◌, ◌+◌, ◌++◌, ◌∷◌, [], length};
+//! What is written of a fault, and of an unknown name.
+ghost use Rattle.std.specs.Prelude.{◌≡◌, ◌≤◌, ◌++◌, ◌∷◌, [], ◌^◌, ◌<◌, length, codes, IfOk};
 ghost use Rattle.std.specs.Fmt.{decimal};
-ghost use Rattle.std.specs.List.{join_with_byte};
 ghost use Rattle.arrayvec.specs.ArrayString.{array_string_len};
-ghost use Rattle.bng_config.specs.Keys.{fault_text as text_of, key_text};
+ghost use Rattle.bng_schema.specs.declared.keys.Table.{Table as Kind};
+ghost use Rattle.bng_schema.specs.Keys.{row, table_row, entry_path};
+ghost use Rattle.bng_schema.specs.Texts.{key_text, path_text, unknown_text};
+ghost use Rattle.bng_schema.specs.Checks.{mention_of};
+ghost use Rattle.bng_config.specs.Texts.{fault_text as text_of, rule_text as name_of};
 
-use crate::fault::{Fault, Key};
+use crate::fault::Fault;
 use arrayvec::ArrayString;
+use bng_base::Listed;
+use bng_schema::{Key, Rule, Table, Unknown, is_listed, row_of};
 use itoa::Buffer;
+use std::alloc::{AllocError, Global};
 
-/// The rule that is broken and the key that breaks it, as `C5 static.1.session`, with the places of entries written
-/// from 1 on.
-pub fn fault_text(fault: Fault) -> ArrayString<32>
-    ensures text { result.bytes ≡ text_of fault }
-    ensures short { array_string_len result ≤ 32 }
+/// What is written of a fault: the rule and the key, or the rule and then the name that is unknown.
+#[derive(Drop)]
+pub struct FaultText<'a> {
+    /// `C1 text`, `C3 ` before a name, or `C14 static.1.session`.
+    pub front: ArrayString<64>,
+    /// The name that is unknown, else nothing.
+    pub name: &'a [u8],
+}
+
+/// The rule that is broken and the key or the name that breaks it, as `C6 static.1.session` or `C3 pool.2.speed`, with the
+/// places of entries written from 1 on.
+pub fn fault_text(fault: &Fault) -> FaultText<'_>
+    ensures { result.front.bytes ++ result.name.now ≡ text_of fault.now }
 {
-    let mut text = ArrayString::new();
     match fault {
-        Fault::TooLong => text.push_str("C1 text"),
-        Fault::NotToml => text.push_str("C2 text"),
-        Fault::OutsideForm(key) => {
-            text.push_str("C5 ");
-            push_key(&mut text, key);
-        }
+        Fault::TooLong => plain("C1 text"),
+        Fault::NotToml => plain("C2 text"),
+        Fault::Unknown(name) => FaultText {
+            front: front_of("C3 "),
+            name: name.as_slice(),
+        },
+        Fault::Broken(rule, key) => FaultText {
+            front: broken_text(*rule, *key),
+            name: &[],
+        },
     }
+}
+
+fn plain(text: &'static str) -> FaultText<'static>
+    requires { length text.now ≤ 64 }
+    ensures { result.front.bytes ++ result.name.now ≡ text.now }
+{
+    FaultText {
+        front: front_of(text),
+        name: &[],
+    }
+}
+
+fn front_of(text: &str) -> ArrayString<64>
+    requires { length text.now ≤ 64 }
+    ensures text { result.bytes ≡ text.now }
+    ensures long { array_string_len result ≡ length text.now }
+{
+    let mut front = ArrayString::new();
+    front.push_str(text);
+    front
+}
+
+fn broken_text(rule: Rule, key: Key) -> ArrayString<64>
+    ensures { result.bytes ≡ name_of rule ++ key_text key }
+{
+    let mut text = front_of(rule_text(rule));
+    push_key(&mut text, key);
     text
 }
 
-fn push_key(text: &mut ArrayString<32>, key: Key)
-    requires { array_string_len text.old ≡ 3 }
-    ensures key { text.new.bytes ≡ text.old.bytes ++ key_text key }
-    ensures short { array_string_len text.new ≤ 32 }
+fn rule_text(rule: Rule) -> &'static str
+    ensures text { result.now ≡ name_of rule }
+    ensures short { length result.now ≤ 4 }
 {
-    match key {
-        Key::GatewayName => text.push_str("gateway.name"),
-        Key::GatewayAddress => text.push_str("gateway.address"),
-        Key::GatewayShards => text.push_str("gateway.shards"),
-        Key::GatewayTerms => text.push_str("gateway.terms"),
-        Key::GatewayServices => text.push_str("gateway.services"),
-        Key::GatewayDns => text.push_str("gateway.dns"),
-        Key::GatewayAuth => text.push_str("gateway.auth"),
-        Key::GatewayEcho => text.push_str("gateway.echo"),
-        Key::ControlLocal => text.push_str("control.local"),
-        Key::CoreLocal => text.push_str("core.local"),
-        Key::CorePeer => text.push_str("core.peer"),
-        Key::Access => text.push_str("access"),
-        Key::AccessLocal(place) => push_entry(text, "access", place, "local"),
-        Key::AccessPeer(place) => push_entry(text, "access", place, "peer"),
-        Key::AccessMac(place) => push_entry(text, "access", place, "mac"),
-        Key::Pools => text.push_str("pool"),
-        Key::PoolName(place) => push_entry(text, "pool", place, "name"),
-        Key::PoolFirst(place) => push_entry(text, "pool", place, "first"),
-        Key::PoolLast(place) => push_entry(text, "pool", place, "last"),
-        Key::Statics => text.push_str("static"),
-        Key::StaticPort(place) => push_entry(text, "static", place, "port"),
-        Key::StaticMac(place) => push_entry(text, "static", place, "mac"),
-        Key::StaticSession(place) => push_entry(text, "static", place, "session"),
-        Key::StaticAddress(place) => push_entry(text, "static", place, "address"),
-        Key::StaticUser(place) => push_entry(text, "static", place, "user"),
-        Key::GatewayNasIp => text.push_str("gateway.nas_ip"),
-        Key::RadiusAuthLocal => text.push_str("radius.auth_local"),
-        Key::RadiusAuthServer => text.push_str("radius.auth_server"),
-        Key::RadiusAcctLocal => text.push_str("radius.acct_local"),
-        Key::RadiusAcctServer => text.push_str("radius.acct_server"),
-        Key::RadiusSecret => text.push_str("radius.secret"),
-        Key::RadiusTries => text.push_str("radius.tries"),
+    match rule {
+        Rule::C4 => "C4 ",
+        Rule::C5 => "C5 ",
+        Rule::C6 => "C6 ",
+        Rule::C7 => "C7 ",
+        Rule::C8 => "C8 ",
+        Rule::C9 => "C9 ",
+        Rule::C10 => "C10 ",
+        Rule::C11 => "C11 ",
+        Rule::C12 => "C12 ",
+        Rule::C13 => "C13 ",
+        Rule::C14 => "C14 ",
     }
 }
 
-// The key of the entry at this place, from 0, of a list.
-fn push_entry(text: &mut ArrayString<32>, list: &str, place: u16, name: &str)
-    requires text { array_string_len text.old ≡ 3 }
-    requires list { length list.now ≤ 6 }
-    requires name { length name.now ≤ 7 }
-    ensures short { array_string_len text.new ≤ 32 }
-    ensures key { text.new.bytes ≡ text.old.bytes ++ join_with_byte 46 (list.now ∷ decimal (place + 1) ∷ name.now ∷ []) }
+fn push_key(text: &mut ArrayString<64>, key: Key)
+    requires { array_string_len text.old ≤ 4 }
+    ensures { text.new.bytes ≡ text.old.bytes ++ key_text key }
 {
-    let mut buffer = Buffer::new();
-    let number = buffer.format(u32::from(place) + 1);
-    text.push_str(list);
+    let table = row_of(key).table;
+    match key {
+        Key::Whole(_) => push_name(text, key),
+        Key::Of(_, place) => {
+            push_entry(text, table, place);
+            push_name(text, key);
+        }
+    }
+}
+
+// The name of the key in its table.
+fn push_name(text: &mut ArrayString<64>, key: Key)
+    requires { array_string_len text.old ≤ 53 }
+    ensures { text.new.bytes ≡ text.old.bytes ++ (row key).name }
+{
+    text.push_str(name_in_table(key));
+}
+
+fn name_in_table(key: Key) -> &'static str
+    ensures name { result.now ≡ (row key).name }
+    ensures short { length result.now ≤ 11 }
+{
+    row_of(key).name
+}
+
+// The table, with the place of the entry where it is a list, and a dot.
+fn push_entry(text: &mut ArrayString<64>, table: Table, place: usize)
+    requires { array_string_len text.old ≤ 4 }
+    ensures text { text.new.bytes ≡ text.old.bytes ++ path_text (entry_path table place) ++ codes "." }
+    ensures long { array_string_len text.new ≤ 53 }
+{
+    text.push_str(table_name(table));
+    if is_listed(table) {
+        let mut buffer = Buffer::new();
+        let number = buffer.format(place as u128 + 1);
+        text.push_str(".");
+        text.push_str(number);
+    }
     text.push_str(".");
-    text.push_str(number);
-    text.push_str(".");
-    text.push_str(name);
+}
+
+fn table_name(table: Table) -> &'static str
+    ensures name { result.now ≡ (table_row table).name }
+    ensures short { length result.now ≤ 7 }
+{
+    row_of(Key::Whole(table)).name
+}
+
+/// What is written of an unknown name.
+pub(crate) fn written(alloc: Global, unknown: Unknown) -> Result<Listed<u8>, AllocError>
+    ensures { IfOk result (λ t. t ≡ unknown_text (mention_of unknown.entry)) }
+{
+    let mut text = Vec::new(alloc);
+    if let Some((table, place)) = unknown.entry {
+        let mut entry = ArrayString::new();
+        push_entry(&mut entry, table, place);
+        text.extend_from_slice(entry.as_bytes())?;
+    }
+    text.extend_from_slice(unknown.name.as_bytes())?;
+    Ok(Listed::of(text))
 }

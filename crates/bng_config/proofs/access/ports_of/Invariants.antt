@@ -1,12 +1,11 @@
 use Rattle.std.proofs.Common.{◌≡◌, length}
 use Rattle.toml.specs.View.{view}
-use Rattle.bng_config.specs.Keys.{access_keys, of_entries}
-use Rattle.bng_config.specs.Configuration.{IsPort, AreSound, EachPlace}
+use Rattle.bng_schema.specs.Forms.{EachPlace}
+use Rattle.bng_config.specs.Configuration.{IsPort}
 use Rattle.bng_config.proofs.access.ports_of.Given as goal
 
 abbrev pub invariant-loop-place : goal.invariant-loop-place
 invariant-loop-place l = record {
   done : length l.ports.items ≡ l.place;
   are : EachPlace (IsPort (view l.document)) l.ports.items;
-  sound : AreSound (view l.document) (of_entries access_keys l.place);
 }

@@ -1,45 +1,34 @@
-use Rattle.std.proofs.Common.{[], ◌∷◌, refl}
-use Rattle.std.proofs.lemmas.Result.{err_from_is_err_and}
+use Rattle.std.proofs.Common.{refl}
 use Rattle.toml.specs.View.{view}
-use Rattle.bng_config.specs.declared.fault.Key.TheVariants.{StaticPort, StaticMac, StaticSession, StaticAddress, StaticUser}
-use Rattle.bng_config.specs.Configuration.{IsMac, IsUser}
-use Rattle.bng_config.proofs.Faults.{first_fault, fit_of, unfit_of}
-use Rattle.bng_config.proofs.Counts.{port_sound, port_outside}
+use Rattle.bng_schema.specs.declared.keys.Field.TheVariants.{StaticPort, StaticMac, StaticSession, StaticAddress, StaticUser}
+use Rattle.bng_schema.specs.declared.keys.Form.TheVariants.{PortNumber, MacText, SessionNumber, AddressText, OctetText}
+use Rattle.bng_config.proofs.Held.{there_as, ports_between}
 use Rattle.bng_config.proofs.circuits.circuit_at.Goals as goal
 
-pub returns-in_err-port-clause-refused : goal.returns-in_err-port-clause-refused
-returns-in_err-port-clause-refused c =
-    let p = err_from_is_err_and c.from_residual.result c.from_residual.ensures.1 in
-    rw (p.1, p.2) (first_fault (view c.args.document.now) (StaticPort c.args.place) _ [] (StaticMac c.args.place ∷ StaticSession c.args.place ∷ StaticAddress c.args.place ∷ StaticUser c.args.place ∷ []) c.in_err-port.ensures.refused
-    tt (port_outside (view c.args.document.now) c.args.place c.args.ports c.requires.ports (c.in_err-port.ensures.none refl)))
+pub port_of-port-requires-clause-there : goal.port_of-port-requires-clause-there
+port_of-port-requires-clause-there c =
+    let document = view c.args.document.now in
+    there_as document c.requires.sound StaticPort c.args.place PortNumber c.requires.there refl refl
 
-pub returns-in_err-mac-clause-refused : goal.returns-in_err-mac-clause-refused
-returns-in_err-mac-clause-refused c =
-    let p = err_from_is_err_and c.from_residual-in_err-mac.result c.from_residual-in_err-mac.ensures.1 in
-    let port = port_sound (view c.args.document.now) c.args.place c.args.ports c.in_ok-port.port c.requires.ports c.in_ok-port.ensures.found in
-    rw (p.1, p.2) (first_fault (view c.args.document.now) (StaticMac c.args.place) _ (StaticPort c.args.place ∷ []) (StaticSession c.args.place ∷ StaticAddress c.args.place ∷ StaticUser c.args.place ∷ []) c.in_err-mac.ensures.refused
-    (port, tt) (unfit_of IsMac (c.in_err-mac.ensures.none refl) (λ d h. h)))
+pub mac_of-mac-requires : goal.mac_of-mac-requires
+mac_of-mac-requires c =
+    let document = view c.args.document.now in
+    there_as document c.requires.sound StaticMac c.args.place MacText c.requires.there refl refl
 
-pub returns-in_err-session-clause-refused : goal.returns-in_err-session-clause-refused
-returns-in_err-session-clause-refused c =
-    let p = err_from_is_err_and c.from_residual-in_err-session.result c.from_residual-in_err-session.ensures.1 in
-    let port = port_sound (view c.args.document.now) c.args.place c.args.ports c.in_ok-port.port c.requires.ports c.in_ok-port.ensures.found in
-    let mac = fit_of IsMac c.in_ok-mac.mac c.in_ok-mac.ensures.found (λ d h. (c.in_ok-mac.mac, h)) tt in
-    rw (p.1, p.2) (first_fault (view c.args.document.now) (StaticSession c.args.place) _ (StaticPort c.args.place ∷ StaticMac c.args.place ∷ []) (StaticAddress c.args.place ∷ StaticUser c.args.place ∷ []) c.in_err-session.ensures.refused
-    (port, (mac, tt)) c.in_err-session.ensures.faulty)
+pub session_of-session-requires-clause-there : goal.session_of-session-requires-clause-there
+session_of-session-requires-clause-there c =
+    let document = view c.args.document.now in
+    there_as document c.requires.sound StaticSession c.args.place SessionNumber c.requires.there refl refl
 
-pub returns-in_err-address-clause-refused : goal.returns-in_err-address-clause-refused
-returns-in_err-address-clause-refused c =
-    let p = err_from_is_err_and c.from_residual-in_err-address.result c.from_residual-in_err-address.ensures.1 in
-    let port = port_sound (view c.args.document.now) c.args.place c.args.ports c.in_ok-port.port c.requires.ports c.in_ok-port.ensures.found in
-    let mac = fit_of IsMac c.in_ok-mac.mac c.in_ok-mac.ensures.found (λ d h. (c.in_ok-mac.mac, h)) tt in
-    rw (p.1, p.2) (first_fault (view c.args.document.now) (StaticAddress c.args.place) _ (StaticPort c.args.place ∷ StaticMac c.args.place ∷ StaticSession c.args.place ∷ []) (StaticUser c.args.place ∷ []) c.in_err-address.ensures.refused
-    (port, (mac, (c.in_ok-session.ensures.sound, tt))) c.in_err-address.ensures.faulty)
+pub address_of-address-requires : goal.address_of-address-requires
+address_of-address-requires c =
+    let document = view c.args.document.now in
+    there_as document c.requires.sound StaticAddress c.args.place AddressText c.requires.there refl refl
 
-pub returns-in_err-user-clause-refused : goal.returns-in_err-user-clause-refused
-returns-in_err-user-clause-refused c =
-    let p = err_from_is_err_and c.from_residual-in_err-user.result c.from_residual-in_err-user.ensures.1 in
-    let port = port_sound (view c.args.document.now) c.args.place c.args.ports c.in_ok-port.port c.requires.ports c.in_ok-port.ensures.found in
-    let mac = fit_of IsMac c.in_ok-mac.mac c.in_ok-mac.ensures.found (λ d h. (c.in_ok-mac.mac, h)) tt in
-    rw (p.1, p.2) (first_fault (view c.args.document.now) (StaticUser c.args.place) _ (StaticPort c.args.place ∷ StaticMac c.args.place ∷ StaticSession c.args.place ∷ StaticAddress c.args.place ∷ []) [] c.in_err-user.ensures.refused
-    (port, (mac, (c.in_ok-session.ensures.sound, (c.in_ok-address.ensures.sound, tt)))) (unfit_of IsUser (c.in_err-user.ensures.none refl) (λ d h. h)))
+pub user_of-user-requires : goal.user_of-user-requires
+user_of-user-requires c =
+    let document = view c.args.document.now in
+    there_as document c.requires.sound StaticUser c.args.place (OctetText 128) c.requires.there refl refl
+
+pub port_of-port-requires-clause-few : goal.port_of-port-requires-clause-few
+port_of-port-requires-clause-few c = (ports_between (view c.args.document.now) c.requires.sound).1

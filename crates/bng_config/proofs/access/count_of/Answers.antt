@@ -1,6 +1,0 @@
-use Rattle.toml.specs.View.{view}
-use Rattle.bng_config.proofs.Counts.{ports_missing}
-use Rattle.bng_config.proofs.access.count_of.Goals as goal
-
-pub returns-in-None-clause-faulty : goal.returns-in-None-clause-faulty
-returns-in-None-clause-faulty c = ports_missing (view c.args.document.now) c.in-None.ensures.none

@@ -1,0 +1,13 @@
+use Rattle.toml.specs.View.{view}
+use Rattle.bng_schema.specs.Ranges.{IsRangeAt, Meets}
+use Rattle.bng_schema.proofs.Totals.{range_once}
+use Rattle.bng_schema.proofs.Such.{one_such, none_such}
+use Rattle.bng_schema.proofs.ranges.meets_at.Goals as goal
+
+pub returns-in-Some : goal.returns-in-Some
+returns-in-Some c =
+    let document = view c.args.document.now in
+    one_such (IsRangeAt document c.args.place) (λ r. Meets r c.args.range) (range_once document c.args.place) c.in-Some.other c.meet.result c.in-Some.ensures.found c.meet.ensures
+
+pub returns-in-None : goal.returns-in-None
+returns-in-None c = none_such (IsRangeAt (view c.args.document.now) c.args.place) (λ r. Meets r c.args.range) c.in-None.ensures.none

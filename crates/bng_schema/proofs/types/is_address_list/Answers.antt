@@ -1,0 +1,18 @@
+use Rattle.std.proofs.Common.{◌↔◌, IsTrue, subst}
+use Rattle.std.specs.List.{All}
+use Rattle.toml.specs.View.{view}
+use Rattle.bng_schema.specs.Forms.{IsAddressText}
+use Rattle.bng_schema.proofs.Finding.{items_of_list, items_of_none}
+use Rattle.bng_schema.proofs.Items.{is_list_of, no_list_of}
+use Rattle.bng_schema.proofs.types.is_address_list.Goals as goal
+
+pub returns-in-Some : goal.returns-in-Some
+returns-in-Some c =
+    let d = view c.args.value.now in
+    is_list_of IsAddressText d c.in-Some.list.now.items c.are_addresses.result (items_of_list d c.as_array.result c.as_array.ensures c.in-Some.list c.in-Some.is)
+    (subst (λ vs. IsTrue c.are_addresses.result ↔ All (λ v. IsAddressText (view v)) vs) c.as_slice.ensures.value c.are_addresses.ensures)
+
+pub returns-in-None : goal.returns-in-None
+returns-in-None c =
+    let d = view c.args.value.now in
+    no_list_of IsAddressText d (items_of_none d c.as_array.result c.as_array.ensures c.in-None.is)

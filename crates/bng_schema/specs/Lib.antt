@@ -1,0 +1,15 @@
+pub mod Address
+pub mod Parts
+pub mod Names
+pub mod Keys
+pub mod Forms
+pub mod First
+pub mod Repeats
+pub mod Ranges
+pub mod Rates
+pub mod Lacs
+pub mod Circuits
+pub mod Rules
+pub mod Checks
+pub mod Table
+pub mod Texts
