@@ -2,7 +2,7 @@ ghost use Rattle.std.specs.Prelude.{◌≡◌, ◌↔◌, true, IsTrue};
 ghost use Rattle.bng_l2tp_wire.specs.View.{avps_of, control_of};
 ghost use Rattle.bng_l2tp_call.specs.View.{octets_of, payloads, said};
 ghost use Rattle.bng_l2tp_call.specs.Numbers.{icrq_type, iccn_type};
-ghost use Rattle.bng_l2tp_call.specs.CallState.{fresh, stands};
+ghost use Rattle.bng_l2tp_call.specs.CallState.{fresh, stands, is_established};
 ghost use Rattle.bng_l2tp_call.specs.Values.{message_type};
 ghost use Rattle.bng_l2tp_call.specs.Refusals.{refusal_of, IsRefused};
 ghost use Rattle.bng_l2tp_call.specs.Spelling.{code_of as code_of_refusal, administrative as code_of_end, TellsCode, TellsReply};
@@ -122,6 +122,16 @@ impl Call {
         ensures { result ≡ self.now.peer_number }
     {
         self.peer_number
+    }
+
+    /// Whether the call is established: its ICCN was taken, and it has not ended (RFC 2661 section 7.4.2).
+    pub fn is_connected(&self) -> bool
+        ensures { result ≡ is_established self.now.phase }
+    {
+        match self.phase {
+            Phase::Established => true,
+            Phase::Idle | Phase::WaitConnect | Phase::Ended => false,
+        }
     }
 
     // The session of the peer that messages go to.

@@ -268,7 +268,7 @@ fn a_tunnel_is_refused_over_its_channel(rt: HostRuntime) -> Result<(), Fail> {
 }
 
 #[test]
-fn a_stop_ccn_clears_and_a_call_is_refused(rt: HostRuntime) -> Result<(), Fail> {
+fn a_stop_ccn_clears_and_a_call_is_handed_over(rt: HostRuntime) -> Result<(), Fail> {
     let alloc = rt.alloc();
     let mut tunnel = established(alloc)?;
     // an ICRQ of session 9
@@ -278,12 +278,11 @@ fn a_stop_ccn_clears_and_a_call_is_refused(rt: HostRuntime) -> Result<(), Fail> 
         "c80200260401000000020001800800000000000a80080000000e0009800a0000000f00000001",
         0,
     )?;
-    assert_holds(&rt, step.call && step.ended && !step.cleared);
-    assert_same(
-        &rt,
-        &outs(alloc, &step)?.as_str(),
-        &"c80200260005000900010003800800000000000e80080000000e0000800a0000000100020004 ",
-    );
+    assert_holds(&rt, step.call && !step.ended && !step.cleared);
+    assert_holds(&rt, step.outs.is_empty());
+    let zlb = hex::encode(alloc, tunnel.acknowledge().payload())?;
+    assert_same(&rt, &zlb.as_str(), &"c802000c0005000000010003");
+    assert_holds(&rt, tunnel.is_standing() && tunnel.secret().is_none());
     let stop = "c80200240401000000020001800800000000000480080000000900058008000000010001";
     let mut tunnel = established(alloc)?;
     let step = takes(alloc, &mut tunnel, stop, 0)?;

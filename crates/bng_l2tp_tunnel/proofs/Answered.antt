@@ -16,9 +16,9 @@ use Rattle.bng_l2tp_tunnel.specs.declared.refusal.Refusal.{Refusal}
 use Rattle.bng_l2tp_tunnel.specs.Values.{message_type}
 use Rattle.bng_l2tp_tunnel.specs.Messages.{is_type, is_of_call}
 use Rattle.bng_l2tp_tunnel.specs.Refusals.{refusal_of}
-use Rattle.bng_l2tp_tunnel.specs.Spelling.{stop_ccn, cdn, code_of, no_resources}
-use Rattle.bng_l2tp_tunnel.specs.Steps.{stands, is_established, to_peer, flushed, queued_text, session_of, call_refused, ended, established, accepted, judged, delivered, heard, heard_by, having_heard, in_phase, message_step}
-use Rattle.bng_l2tp_tunnel.specs.Sound.{IsAnswered}
+use Rattle.bng_l2tp_tunnel.specs.Spelling.{stop_ccn, code_of}
+use Rattle.bng_l2tp_tunnel.specs.Steps.{stands, is_established, to_peer, flushed, queued_text, handed_over, ended, established, accepted, judged, delivered, heard, heard_by, having_heard, in_phase, message_step}
+use Rattle.bng_l2tp_tunnel.specs.Sound.{IsAnswered, is_delivered, is_for_call}
 
 -- where a ZLB is due something goes out
 some_any : (tunnel : ℕ) (c : ChannelState) (outs : List (List ℕ)) → 0 < length (with_zlb ByAny tunnel c outs)
@@ -53,27 +53,30 @@ module _ (s : TunnelState) where
   judged_some type now None = accepted_some type
   judged_some type now (Some refusal) = queued_some (control_text (stop_ccn s.number (code_of refusal))) now
 
-  delivered_some : (avps : List L2tpAvp) (now : ℕ) → 0 < length (delivered s avps now).said.outs
-  delivered_some avps now =
-      elim (is_established s.phase && is_of_call (message_type avps)) as (λ b. 0 < length (cond b (call_refused s avps now) (judged s (message_type avps) now (refusal_of s avps))).said.outs)
-      [ true ↦ queued_some (control_text (cdn (session_of s avps) 0 no_resources)) now | false ↦ judged_some (message_type avps) now (refusal_of s avps) ]
+  delivered_some : (avps : List L2tpAvp) (now : ℕ) → (is_established s.phase && is_of_call (message_type avps)) ≡ false → 0 < length (delivered s avps now).said.outs
+  delivered_some avps now other =
+      by (is_established s.phase && is_of_call (message_type avps)) other
+    where
+      by : (b : Bool) → b ≡ false → 0 < length (cond b (handed_over s) (judged s (message_type avps) now (refusal_of s avps))).said.outs
+      by true other = absurd cc
+      by false other = judged_some (message_type avps) now (refusal_of s avps)
 
-  pub heard_answered : (avps : List L2tpAvp) (now : ℕ) (answer : Heard) → IsAnswered answer (heard s avps now answer).said.outs
-  heard_answered avps now Deliver = delivered_some avps now
-  heard_answered avps now Repeat = flushed_some
-  heard_answered avps now Ahead = tt
-  heard_answered avps now Acked = tt
+  pub heard_answered : (avps : List L2tpAvp) (now : ℕ) (answer : Heard) → (is_established s.phase && (is_delivered answer && is_of_call (message_type avps))) ≡ false → IsAnswered answer (heard s avps now answer).said.outs
+  heard_answered avps now Deliver other = delivered_some avps now other
+  heard_answered avps now Repeat other = flushed_some
+  heard_answered avps now Ahead other = tt
+  heard_answered avps now Acked other = tt
 
--- a message to a tunnel that stands is answered
-pub message_answered : (s : TunnelState) (m : ControlMessage) (random : List ℕ) (now : ℕ) → stands s.phase ≡ true → IsAnswered (heard_by s m) (message_step s m random now).said.outs
+-- a message to a tunnel that stands is answered, where it is not for a call
+pub message_answered : (s : TunnelState) (m : ControlMessage) (random : List ℕ) (now : ℕ) → stands s.phase ≡ true → is_for_call s m ≡ false → IsAnswered (heard_by s m) (message_step s m random now).said.outs
 unfolding message_step
-message_answered s m random now e =
+message_answered s m random now e other =
     by_phase s.phase e
   where
     by_phase : (p : Phase) → stands p ≡ true → IsAnswered (heard_by s m) (in_phase p s m random now).said.outs
     by_phase Idle e = absurd cc
-    by_phase Replied e = heard_answered (having_heard s m now) m.avps now (heard_by s m)
-    by_phase Established e = heard_answered (having_heard s m now) m.avps now (heard_by s m)
+    by_phase Replied e = heard_answered (having_heard s m now) m.avps now (heard_by s m) other
+    by_phase Established e = heard_answered (having_heard s m now) m.avps now (heard_by s m) other
     by_phase Cleared e = absurd cc
 
 pub as_answered : (answer : Heard) (outs wanted : List (List ℕ)) → outs ≡ wanted → IsAnswered answer wanted → IsAnswered answer outs

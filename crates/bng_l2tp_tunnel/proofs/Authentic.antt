@@ -12,7 +12,7 @@ use Rattle.bng_l2tp_tunnel.specs.declared.refusal.Refusal.{Refusal}
 use Rattle.bng_l2tp_tunnel.specs.Values.{message_type}
 use Rattle.bng_l2tp_tunnel.specs.Messages.{is_type, is_of_call}
 use Rattle.bng_l2tp_tunnel.specs.Refusals.{fails_challenge, refusal_of}
-use Rattle.bng_l2tp_tunnel.specs.Steps.{nothing, is_established, flushed, clears, opened_by, begins, opening, call_refused, ended, established, accepted, judged, heard, heard_by, having_heard, hearing, in_phase, message_step}
+use Rattle.bng_l2tp_tunnel.specs.Steps.{nothing, is_established, flushed, clears, opened_by, begins, opening, handed_over, ended, established, accepted, judged, heard, heard_by, having_heard, hearing, in_phase, message_step}
 use Rattle.bng_l2tp_tunnel.proofs.Refused.{passed, answers}
 use Rattle.bng_l2tp_tunnel.specs.Sound.{IsAnswerOf}
 
@@ -34,7 +34,7 @@ module _ (s : TunnelState) (m : ControlMessage) where
   heard_authentic now Deliver e =
       by (is_established s.phase && is_of_call (message_type m.avps)) e
     where
-      by : (b : Bool) → (cond b (call_refused s m.avps now) (judged s (message_type m.avps) now (refusal_of s m.avps))).said.established ≡ true → IsAnswerOf s m
+      by : (b : Bool) → (cond b (handed_over s) (judged s (message_type m.avps) now (refusal_of s m.avps))).said.established ≡ true → IsAnswerOf s m
       by true e = absurd cc
       by false e = judged_authentic now (refusal_of s m.avps) refl e
   heard_authentic now Repeat e = absurd cc

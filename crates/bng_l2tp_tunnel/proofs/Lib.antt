@@ -3,8 +3,10 @@ mod Placing
 mod Waiting
 mod Flights
 mod Answering
-mod Spelled
+pub mod Spelled
 mod Refused
-mod Soundness
+pub mod Soundness
 mod Answered
 mod Authentic
+mod Kept
+pub mod Few

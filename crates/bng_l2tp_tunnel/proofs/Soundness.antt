@@ -26,8 +26,8 @@ use Rattle.bng_l2tp_tunnel.specs.declared.refusal.Refusal.{Refusal}
 use Rattle.bng_l2tp_tunnel.specs.Values.{value_of, message_type, assigned_tunnel, window_of}
 use Rattle.bng_l2tp_tunnel.specs.Messages.{is_type, is_of_call, is_taken}
 use Rattle.bng_l2tp_tunnel.specs.Refusals.{refusal_of}
-use Rattle.bng_l2tp_tunnel.specs.Spelling.{sccrp, stop_ccn, cdn, hello, code_of, shut_down, no_resources}
-use Rattle.bng_l2tp_tunnel.specs.Steps.{Step, sends, nothing, stands, is_established, to_peer, flushed, queued_text, answered, clears, turned_away, made, replied, opened_by, begins, opening, session_of, call_refused, ended, established, accepted, judged, delivered, heard, is_zlb, heard_by, having_heard, hearing, in_phase, message_step, reminded, due_step, send_step, stop_step}
+use Rattle.bng_l2tp_tunnel.specs.Spelling.{sccrp, stop_ccn, hello, code_of, shut_down}
+use Rattle.bng_l2tp_tunnel.specs.Steps.{Step, sends, nothing, stands, is_established, to_peer, flushed, queued_text, answered, clears, turned_away, made, replied, opened_by, begins, opening, handed_over, ended, established, accepted, judged, delivered, heard, is_zlb, heard_by, having_heard, hearing, in_phase, message_step, reminded, due_step, send_step, stop_step}
 use Rattle.bng_l2tp_tunnel.proofs.Refused.{passed, replied_if, has_tunnel, has_number}
 use Rattle.bng_l2tp_tunnel.specs.Sound.{is_replied, is_cleared, IsSpelled, AreSpelled, IsTunnel, IsSentTo, IsSound}
 use Rattle.bng_l2tp_tunnel.proofs.Spelled.{AllByRecursion-append, AllByRecursion-drop, after_out-keeps, let_out_sent, flight_sent}
@@ -150,11 +150,10 @@ module _ (s : TunnelState) (t : IsReady s) (e : stands s.phase ≡ true) where
       let text = control_text (stop_ccn s.number shut_down) in
       clears_sound (queued_text Never s text now) (queued_good Never s text now t.spelled t.window (stop_ccn s.number shut_down, refl)) refl
 
-  pub call_sound : (avps : List L2tpAvp) (now : ℕ) → IsSound s (call_refused s avps now)
-  call_sound avps now =
-      let text = control_text (cdn (session_of s avps) 0 no_resources) in
-      let g = queued_good ByAny s text now t.spelled t.window (cdn (session_of s avps) 0 no_resources, refl) in
-      sound_if_good s (call_refused s avps now) t e (record { spelled = g.spelled; window = g.window; rules = g.rules; peer = g.peer; outs = g.outs }) (λ _. drained (queued s.channel (record { items = text }) now) t.window) (stays s.phase).0 (stays s.phase).1
+  pub handed_sound : IsSound s (handed_over s)
+  handed_sound =
+      let g = flushed_good Never s t.spelled t.window in
+      sound_if_good s (handed_over s) t e (record { spelled = g.spelled; window = g.window; rules = g.rules; peer = g.peer; outs = g.outs }) (λ _. drained s.channel t.window) (stays s.phase).0 (stays s.phase).1
 
   pub ended_sound : IsSound s (ended s)
   ended_sound =
@@ -184,8 +183,8 @@ module _ (s : TunnelState) (t : IsReady s) (e : stands s.phase ≡ true) where
 
   pub delivered_sound : (avps : List L2tpAvp) (now : ℕ) → IsSound s (delivered s avps now)
   delivered_sound avps now =
-      elim (is_established s.phase && is_of_call (message_type avps)) as (λ b. IsSound s (cond b (call_refused s avps now) (judged s (message_type avps) now (refusal_of s avps))))
-      [ true ↦ call_sound avps now | false ↦ judged_sound avps now (refusal_of s avps) refl ]
+      elim (is_established s.phase && is_of_call (message_type avps)) as (λ b. IsSound s (cond b (handed_over s) (judged s (message_type avps) now (refusal_of s avps))))
+      [ true ↦ handed_sound | false ↦ judged_sound avps now (refusal_of s avps) refl ]
 
   pub heard_sound : (avps : List L2tpAvp) (now : ℕ) (answer : Heard) → IsSound s (heard s avps now answer)
   heard_sound avps now Deliver = delivered_sound avps now

@@ -33,17 +33,17 @@ none_on : (n : ℕ) → n < 65536 → n ≡ steps_on n 0
 none_on n few = omega arith
 
 -- what was let out is the message at the place after those in flight
-record IsNext (d : ChannelState) (o : Outgoing) : Type 0 where
-  message : Message
-  found : slice_get d.messages (length d.sends) ≡ Some message
-  is : o ≡ numbered d d.ns message
+pub record IsNext (d : ChannelState) (o : Outgoing) : Type 0 where
+  pub message : Message
+  pub found : slice_get d.messages (length d.sends) ≡ Some message
+  pub is : o ≡ numbered d d.ns message
 
 module _ (d : ChannelState) (o : Outgoing) where
   from_found : (found : Option Message) → slice_get d.messages (length d.sends) ≡ found → option_map (numbered d d.ns) found ≡ Some o → IsNext d o
   from_found None e q = absurd cc
   from_found (Some m) e q = record { message = m; found = e; is = cc }
 
-  next_some : next_out d ≡ Some o → IsNext d o
+  pub next_some : next_out d ≡ Some o → IsNext d o
   next_some q =
       by (nat_lt (length d.sends) d.window) q
     where

@@ -3,8 +3,8 @@ use Rattle.std.specs.Prelude.{ℕ, true, false, List, [], ◌∷◌, ◌++◌, O
 use Rattle.byteorder.specs.Endian.{big_bytes}
 use Rattle.bng_l2tp_wire.specs.Avps.{L2tpAvp}
 use Rattle.bng_l2tp_wire.specs.Messages.{ControlMessage}
-use Rattle.bng_l2tp_wire.specs.declared.kind.TheConstants.{MESSAGE_TYPE, RESULT_CODE, PROTOCOL_VERSION, FRAMING_CAPABILITIES, HOST_NAME, ASSIGNED_TUNNEL_ID, RECEIVE_WINDOW_SIZE, CHALLENGE, CHALLENGE_RESPONSE, ASSIGNED_SESSION_ID}
-use Rattle.bng_l2tp_wire.specs.declared.message.TheConstants.{SCCRP, STOP_CCN, HELLO, CDN}
+use Rattle.bng_l2tp_wire.specs.declared.kind.TheConstants.{MESSAGE_TYPE, RESULT_CODE, PROTOCOL_VERSION, FRAMING_CAPABILITIES, HOST_NAME, ASSIGNED_TUNNEL_ID, RECEIVE_WINDOW_SIZE, CHALLENGE, CHALLENGE_RESPONSE}
+use Rattle.bng_l2tp_wire.specs.declared.message.TheConstants.{SCCRP, STOP_CCN, HELLO}
 use Rattle.bng_l2tp_tunnel.specs.declared.refusal.ResultCode.{ResultCode}
 use Rattle.bng_l2tp_tunnel.specs.declared.refusal.Refusal.{Refusal}
 use Rattle.bng_l2tp_tunnel.specs.declared.refusal.Refusal.TheVariants.{NotConfigured, WrongVersion, UnknownAvp, WrongAvp, NotAuthorized, Unexpected, NoNumber}
@@ -89,10 +89,6 @@ code_of NoNumber = general_error 4
 abbrev pub shut_down : ResultCode
 shut_down = result_only 6
 
--- no resources are left
-abbrev pub no_resources : ResultCode
-no_resources = general_error 4
-
 -- a Stop-Control-Connection-Notification of the tunnel with this number (section 6.4)
 abbrev pub stop_avps : ℕ → ResultCode → List L2tpAvp
 stop_avps number code =
@@ -100,11 +96,6 @@ stop_avps number code =
 
 abbrev pub stop_ccn : ℕ → ResultCode → ControlMessage
 stop_ccn number code = unsent 0 (stop_avps number code)
-
--- a Call-Disconnect-Notify of the call with this number, 0 where none was made, for a session of the peer (section 6.12)
-abbrev pub cdn : (session number : ℕ) → ResultCode → ControlMessage
-cdn session number code =
-    unsent session (number_avp MESSAGE_TYPE CDN ∷ number_avp ASSIGNED_SESSION_ID number ∷ avp RESULT_CODE (code_octets code) ∷ [])
 
 -- section 6.5
 abbrev pub hello : ControlMessage

@@ -11,19 +11,19 @@ use Rattle.bng_l2tp_reliable.specs.Calls.{queued_of, queued, heard_of, received}
 use Rattle.bng_l2tp_reliable.specs.Timers.{due_of, after_due}
 use Rattle.bng_l2tp_wire.specs.Avps.{L2tpAvp}
 use Rattle.bng_l2tp_wire.specs.Messages.{ControlMessage, control_text}
-use Rattle.bng_l2tp_wire.specs.declared.kind.TheConstants.{CHALLENGE, ASSIGNED_SESSION_ID}
+use Rattle.bng_l2tp_wire.specs.declared.kind.TheConstants.{CHALLENGE}
 use Rattle.bng_l2tp_wire.specs.declared.message.TheConstants.{SCCRQ, SCCCN, STOP_CCN}
 use Rattle.bng_l2tp_tunnel.specs.declared.phase.Phase.{Phase}
 use Rattle.bng_l2tp_tunnel.specs.declared.phase.Phase.TheVariants.{Idle, Replied, Established, Cleared}
 use Rattle.bng_l2tp_tunnel.specs.declared.refusal.Refusal.{Refusal}
 use Rattle.bng_l2tp_tunnel.specs.declared.acknowledging.Acknowledging.{Acknowledging}
 use Rattle.bng_l2tp_tunnel.specs.declared.acknowledging.Acknowledging.TheVariants.{Never, ByAny, ByZlb}
-use Rattle.bng_l2tp_tunnel.specs.Values.{value_of, number_in, message_type, assigned_tunnel, window_of}
+use Rattle.bng_l2tp_tunnel.specs.Values.{value_of, message_type, assigned_tunnel, window_of}
 use Rattle.bng_l2tp_tunnel.specs.View.{Said}
 use Rattle.bng_l2tp_tunnel.specs.Messages.{is_type, is_of_call}
 use Rattle.bng_l2tp_tunnel.specs.TunnelState.{TunnelState}
 use Rattle.bng_l2tp_tunnel.specs.Refusals.{refusal_of}
-use Rattle.bng_l2tp_tunnel.specs.Spelling.{sccrp, stop_ccn, cdn, hello, code_of, shut_down, no_resources}
+use Rattle.bng_l2tp_tunnel.specs.Spelling.{sccrp, stop_ccn, hello, code_of, shut_down}
 use Rattle.bng_l2tp_tunnel.specs.Outs.{datagram, flight_before, zlb, outs_of, after_out, flight_most}
 
 -- what a call gives, and the tunnel after it
@@ -122,15 +122,9 @@ opening s m random now =
 
 -- Messages of a tunnel that was made --------------------------------------------------------------------------------------------------------
 
--- the session of the peer that a call's message names, 0 where it names none
-abbrev pub session_of : TunnelState → List L2tpAvp → ℕ
-session_of s avps = unwrap_or (number_in (value_of s.secret ASSIGNED_SESSION_ID avps)) 0
-
--- A call's message is acknowledged and refused: no call is made.
-abbrev pub call_refused : TunnelState → List L2tpAvp → ℕ → Step
-call_refused s avps now =
-    let step = answered ByAny s (cdn (session_of s avps) 0 no_resources) now in
-    record step { said = record step.said { call = true; ended = true } }
+-- A call's message is handed over to its call. What the window lets out goes out; the call's answer, or a ZLB, is still to acknowledge it.
+abbrev pub handed_over : TunnelState → Step
+handed_over s = let step = flushed Never s in record step { said = record step.said { call = true } }
 
 -- a StopCCN of the peer
 abbrev pub ended : TunnelState → Step
@@ -153,7 +147,7 @@ judged s type now (Some refusal) = clears (answered ByAny s (stop_ccn s.number (
 -- a message that the channel delivers
 abbrev pub delivered : TunnelState → List L2tpAvp → ℕ → Step
 delivered s avps now =
-    if is_established s.phase && is_of_call (message_type avps) then call_refused s avps now
+    if is_established s.phase && is_of_call (message_type avps) then handed_over s
     else judged s (message_type avps) now (refusal_of s avps)
 
 abbrev pub heard : TunnelState → List L2tpAvp → ℕ → Heard → Step

@@ -26,6 +26,17 @@ pub record TunnelState : Type 0 where
   pub challenge : List ℕ
   pub channel : ChannelState
 
+-- what stays as a tunnel was made with it: its rules, its number and its peer
+pub record Lasting : Type 0 where
+  pub name : List ℕ
+  pub secret : Option (List ℕ)
+  pub known : Bool
+  pub number : ℕ
+  pub peer : Peer
+
+abbrev pub lasting_of : TunnelState → Lasting
+lasting_of s = record { name = s.name; secret = s.secret; known = s.known; number = s.number; peer = s.peer }
+
 -- a tunnel that has taken no message
 abbrev pub fresh : TunnelRules → TunnelNo → Peer → ℕ → TunnelState
 fresh rules number peer now = record {

@@ -4,7 +4,7 @@ ghost use Rattle.bng_l2tp_tunnel.specs.View.{payloads, said};
 ghost use Rattle.bng_l2tp_tunnel.specs.Messages.{is_of_call as belongs_to_call};
 ghost use Rattle.bng_l2tp_tunnel.specs.Refusals.{refusal_of};
 ghost use Rattle.bng_l2tp_tunnel.specs.Spelling.{stop_ccn as stop_ccn_of, code_of as code_of_refusal};
-ghost use Rattle.bng_l2tp_tunnel.specs.Steps.{is_established, begins as does_begin, flushed, turned_away as turns_away, refused, opening, made, replied, answered, clears, session_of, call_refused, established, ended, accepted, delivered, is_zlb as has_no_avps, heard_by, having_heard, hearing};
+ghost use Rattle.bng_l2tp_tunnel.specs.Steps.{is_established, begins as does_begin, flushed, turned_away as turns_away, refused, opening, made, replied, answered, clears, handed_over, established, ended, accepted, delivered, is_zlb as has_no_avps, heard_by, having_heard, hearing};
 
 use crate::acknowledging::Acknowledging;
 use crate::judge::{
@@ -13,15 +13,15 @@ use crate::judge::{
 };
 use crate::outs::{Outs, zlb};
 use crate::phase::Phase;
-use crate::refusal::{Refusal, code_of, no_resources};
-use crate::spelling::{cdn, sccrp, stop_ccn};
+use crate::refusal::{Refusal, code_of};
+use crate::spelling::{sccrp, stop_ccn};
 use crate::step::{cleared, nothing, sends};
 use crate::tunnel::Tunnel;
 use crate::values::{number_at, type_in, value_of, window_of};
 use arrayvec::ArrayVec;
 use bng_base::TunnelStep;
 use bng_l2tp_reliable::{Channel, Heard};
-use bng_l2tp_wire::kind::{ASSIGNED_SESSION_ID, ASSIGNED_TUNNEL_ID, CHALLENGE};
+use bng_l2tp_wire::kind::{ASSIGNED_TUNNEL_ID, CHALLENGE};
 use bng_l2tp_wire::message::{SCCCN, SCCRQ, STOP_CCN};
 use bng_l2tp_wire::{Avp, Control};
 
@@ -175,7 +175,7 @@ impl Tunnel {
     {
         let found = type_in(avps);
         if is_for_call(self.phase, found) {
-            return self.refuse_call(avps, now);
+            return self.hand_over();
         }
         match self.refusal(avps) {
             Some(refusal) => self.refuse(refusal, now),
@@ -183,22 +183,13 @@ impl Tunnel {
         }
     }
 
-    // The session of the peer that a call's message names.
-    fn session_of(&self, avps: &[Avp<'_>]) -> u16
-        ensures { result ≡ session_of self.now (avps_of avps.now) }
+    // Hands a call's message over to its call.
+    fn hand_over(&mut self) -> TunnelStep
+        ensures said { said result ≡ (handed_over self.old).said }
+        ensures after { self.new ≡ (handed_over self.old).after }
     {
-        number_at(avps, &self.rules.secret, ASSIGNED_SESSION_ID).unwrap_or(0)
-    }
-
-    // Acknowledges a call's message, and refuses it: no call is made.
-    fn refuse_call(&mut self, avps: &[Avp<'_>], now: u64) -> TunnelStep
-        ensures said { said result ≡ (call_refused self.old (avps_of avps.now) now).said }
-        ensures after { self.new ≡ (call_refused self.old (avps_of avps.now) now).after }
-    {
-        let answer = cdn(self.session_of(avps), no_resources());
-        let mut step = self.queue(answer.payload(), now, Acknowledging::ByAny);
+        let mut step = self.flush(Acknowledging::Never);
         step.call = true;
-        step.ended = true;
         step
     }
 

@@ -6,7 +6,8 @@
 //! messages that a tunnel takes, `specs/Refusals.antt` the list of the cases in which it is refused, and `specs/Spelling.antt`
 //! what the gateway sends. `specs/Steps.antt` puts these together: each call of [`Tunnel`] is a step of that file. The laws in
 //! `specs/Sound.antt` hold of every step: each datagram is a control message to the peer's tunnel and acknowledges all that was
-//! delivered, what is heard is acknowledged, and nothing that the window lets out is held back.
+//! delivered, what is heard is acknowledged, and nothing that the window lets out is held back. A call's message is handed over to
+//! whoever keeps the calls, and is to be acknowledged by what its call answers, or by a ZLB.
 #![tactic(auto)]
 
 mod acknowledging;

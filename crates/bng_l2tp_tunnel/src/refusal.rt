@@ -1,5 +1,5 @@
 ghost use Rattle.std.specs.Prelude.{◌≡◌};
-ghost use Rattle.bng_l2tp_tunnel.specs.Spelling.{result_only as only_result, general_error as error_of, code_of as code_of_refusal, shut_down as code_of_shut_down, no_resources as code_of_want};
+ghost use Rattle.bng_l2tp_tunnel.specs.Spelling.{result_only as only_result, general_error as error_of, code_of as code_of_refusal, shut_down as code_of_shut_down};
 
 /// Why a tunnel is refused (RFC 2661 sections 4.4.2 and 7.2.1). Each is told by a StopCCN.
 #[derive(Clone, Copy, PartialEq, Eq, Debug)]
@@ -79,11 +79,4 @@ pub(crate) fn shut_down() -> ResultCode
     ensures { result ≡ code_of_shut_down }
 {
     result_only(SHUT_DOWN)
-}
-
-/// The code of a refusal for want of resources.
-pub(crate) fn no_resources() -> ResultCode
-    ensures { result ≡ code_of_want }
-{
-    general_error(NO_RESOURCES)
 }

@@ -5,7 +5,7 @@ ghost use Rattle.bng_l2tp_wire.specs.Avps.{AvpFits, avps_text};
 ghost use Rattle.bng_l2tp_wire.specs.Messages.{control_text};
 ghost use Rattle.bng_l2tp_wire.specs.View.{avp_of, avps_of};
 ghost use Rattle.bng_l2tp_tunnel.specs.View.{octets_of};
-ghost use Rattle.bng_l2tp_tunnel.specs.Spelling.{avp as must_avp, sccrp as sccrp_of, stop_ccn as stop_ccn_of, cdn as cdn_of, hello as hello_of, code_octets as octets_of_code, challenge_avps, response_avps, answer_avps};
+ghost use Rattle.bng_l2tp_tunnel.specs.Spelling.{avp as must_avp, sccrp as sccrp_of, stop_ccn as stop_ccn_of, hello as hello_of, code_octets as octets_of_code, challenge_avps, response_avps, answer_avps};
 
 use crate::judge::{VERSION, challenge_response};
 use crate::refusal::ResultCode;
@@ -13,10 +13,10 @@ use crate::values::Value;
 use arrayvec::ArrayVec;
 use bng_base::{Frame, LONGEST, Written};
 use bng_l2tp_wire::kind::{
-    ASSIGNED_SESSION_ID, ASSIGNED_TUNNEL_ID, CHALLENGE, CHALLENGE_RESPONSE, FRAMING_CAPABILITIES,
-    HOST_NAME, MESSAGE_TYPE, PROTOCOL_VERSION, RECEIVE_WINDOW_SIZE, RESULT_CODE,
+    ASSIGNED_TUNNEL_ID, CHALLENGE, CHALLENGE_RESPONSE, FRAMING_CAPABILITIES, HOST_NAME,
+    MESSAGE_TYPE, PROTOCOL_VERSION, RECEIVE_WINDOW_SIZE, RESULT_CODE,
 };
-use bng_l2tp_wire::message::{CDN, HELLO, SCCRP, STOP_CCN};
+use bng_l2tp_wire::message::{HELLO, SCCRP, STOP_CCN};
 use bng_l2tp_wire::{Avp, Control};
 
 /// How many messages the gateway takes before it acknowledges one (RFC 2661 section 4.4.3).
@@ -156,20 +156,6 @@ pub(crate) fn stop_ccn(tunnel: u16, nr: u16, number: u16, code: ResultCode) -> F
     avps.push(avp(ASSIGNED_TUNNEL_ID, &number));
     avps.push(avp(RESULT_CODE, code.as_slice()));
     spelled(tunnel, 0, 0, nr, avps)
-}
-
-/// The CDN of a call of which none was made, for a session of the peer (RFC 2661 section 6.12).
-pub(crate) fn cdn(session: u16, code: ResultCode) -> Frame
-    ensures text { result.payload ≡ control_text (cdn_of session 0 code) }
-    ensures size { length result.payload ≤ 512 }
-{
-    let message = CDN.to_be_bytes();
-    let code = code_octets(code);
-    let mut avps = ArrayVec::new();
-    avps.push(avp(MESSAGE_TYPE, &message));
-    avps.push(avp(ASSIGNED_SESSION_ID, &[0, 0]));
-    avps.push(avp(RESULT_CODE, code.as_slice()));
-    spelled(0, session, 0, 0, avps)
 }
 
 /// The HELLO (RFC 2661 section 6.5).

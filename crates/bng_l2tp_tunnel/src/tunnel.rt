@@ -1,22 +1,23 @@
-ghost use Rattle.std.specs.Prelude.{◌≡◌, ◌≢◌, ◌≤◌, ◌<◌, ◌↔◌, ℕ, length, true, IsTrue};
+ghost use Rattle.std.specs.Prelude.{◌≡◌, ◌≢◌, ◌≤◌, ◌<◌, ◌↔◌, ℕ, length, true, false, IsTrue};
 ghost use Rattle.bng_l2tp_reliable.specs.ChannelState.{waiting};
 ghost use Rattle.bng_l2tp_reliable.specs.Timers.{never, due_of, after_due, deadline_of};
 ghost use Rattle.bng_l2tp_wire.specs.View.{control_of};
 ghost use Rattle.bng_l2tp_tunnel.specs.View.{octets_of, payloads, said};
-ghost use Rattle.bng_l2tp_tunnel.specs.TunnelState.{fresh};
+ghost use Rattle.bng_l2tp_tunnel.specs.Outs.{zlb as zlb_of};
+ghost use Rattle.bng_l2tp_tunnel.specs.TunnelState.{fresh, lasting_of};
 ghost use Rattle.bng_l2tp_tunnel.specs.Sound.{IsTunnel, IsSpelled, IsSound, IsAnswered, IsAnswerOf, is_for_call};
 ghost use Rattle.bng_l2tp_tunnel.specs.Spelling.{stop_ccn as stop_ccn_of, hello as hello_of, shut_down as code_of_shut_down};
-ghost use Rattle.bng_l2tp_tunnel.specs.Steps.{flushed, queued_text, answered, clears, stands, heard_by, message_step, reminded, due_step, send_step, stop_step, to_peer};
+ghost use Rattle.bng_l2tp_tunnel.specs.Steps.{flushed, queued_text, answered, clears, stands, is_established, heard_by, message_step, reminded, due_step, send_step, stop_step, to_peer};
 
 use crate::acknowledging::Acknowledging;
-use crate::outs::{outs_of, resent};
+use crate::outs::{outs_of, resent, zlb};
 use crate::phase::Phase;
 use crate::refusal::shut_down;
 use crate::rules::TunnelRules;
 use crate::spelling::{hello, stop_ccn};
 use crate::step::{cleared, nothing, sends};
 use arrayvec::ArrayVec;
-use bng_base::{Peer, TunnelNo, TunnelStep};
+use bng_base::{Frame, Peer, TunnelNo, TunnelStep};
 use bng_l2tp_reliable::{Channel, Due, MESSAGE_MOST, Queued, WAITING_MOST};
 use bng_l2tp_wire::Control;
 use std::marker::Model;
@@ -106,11 +107,11 @@ impl Tunnel {
     /// outside of any channel, and none where the peer's Assigned Tunnel ID cannot be read; no tunnel is made then, nor by
     /// another first message, which gets no answer. Later messages go through the channel: one that it delivers is taken,
     /// or refused by a StopCCN over the channel that clears the tunnel. A StopCCN of the peer clears it too. A message of a
-    /// call of an established tunnel is refused by a CDN with Result Code 2 and Error Code 4. Nothing more is done for a
-    /// tunnel that was cleared.
+    /// call of an established tunnel is handed over: the caller gives it to its call, and what the call answers, or a ZLB, is
+    /// to acknowledge it ([`Tunnel::send`], [`Tunnel::acknowledge`]). Nothing more is done for a tunnel that was cleared.
     ///
-    /// `established` says that an SCCCN was taken, `cleared` that the tunnel was cleared or none is made, `call` and `ended`
-    /// that the message is a call's and was refused, and `left_out` that 64 messages waited and the answer was left out.
+    /// `established` says that an SCCCN was taken, `cleared` that the tunnel was cleared or none is made, `call` that the
+    /// message is a call's and was handed over, and `left_out` that 64 messages waited and the answer was left out.
     #[tactic(auto, unfolding(crate::specs::Steps::message_step))]
     pub fn on_message(&mut self, message: &Control<'_>, random: &[u8; 16], now: u64) -> TunnelStep
         ensures said { said result ≡ (message_step self.old (control_of message.now) random.now now).said }
@@ -118,7 +119,13 @@ impl Tunnel {
         ensures sound { IsTunnel self.old → IsSound self.old (record { said = said result; after = self.new }) }
         ensures authentic { IsTrue result.established → IsAnswerOf self.old (control_of message.now) }
         ensures call { result.call ≡ is_for_call self.old (control_of message.now) }
-        ensures acknowledged { stands self.old.phase ≡ true → IsAnswered (heard_by self.old (control_of message.now)) (payloads result.outs.items) }
+        ensures established { IsTrue result.call → is_established self.new.phase ≡ true }
+        // A call's message is acknowledged by whoever hands it to its call.
+        ensures acknowledged { stands self.old.phase ≡ true → is_for_call self.old (control_of message.now) ≡ false
+            → IsAnswered (heard_by self.old (control_of message.now)) (payloads result.outs.items) }
+        ensures lasting { lasting_of self.new ≡ lasting_of self.old }
+        ensures few { length (payloads result.outs.items) ≤ 9 }
+        ensures room { IsTrue result.call → length (payloads result.outs.items) ≤ 8 }
     {
         match self.phase {
             Phase::Idle => self.open(message, random, now),
@@ -135,6 +142,8 @@ impl Tunnel {
         ensures said { said result ≡ (due_step self.old now).said }
         ensures after { self.new ≡ (due_step self.old now).after }
         ensures sound { IsTunnel self.old → IsSound self.old (record { said = said result; after = self.new }) }
+        ensures lasting { lasting_of self.new ≡ lasting_of self.old }
+        ensures few { length (payloads result.outs.items) ≤ 8 }
     {
         match self.phase {
             Phase::Idle | Phase::Cleared => nothing(),
@@ -160,6 +169,8 @@ impl Tunnel {
         ensures said { said result ≡ (send_step self.old message.now now).said }
         ensures after { self.new ≡ (send_step self.old message.now now).after }
         ensures sound { IsTunnel self.old → IsSpelled message.now → IsSound self.old (record { said = said result; after = self.new }) }
+        ensures lasting { lasting_of self.new ≡ lasting_of self.old }
+        ensures one { IsTunnel self.old → length (payloads result.outs.items) ≤ 1 }
         ensures left_out { IsTrue result.left_out ↔ ((stands self.old.phase ≡ true) × (length (waiting self.old.channel) ≡ WAITING_MOST)) }
     {
         match self.phase {
@@ -175,11 +186,37 @@ impl Tunnel {
         ensures said { said result ≡ (stop_step self.old now).said }
         ensures after { self.new ≡ (stop_step self.old now).after }
         ensures sound { IsTunnel self.old → IsSound self.old (record { said = said result; after = self.new }) }
+        ensures lasting { lasting_of self.new ≡ lasting_of self.old }
+        ensures one { IsTunnel self.old → length (payloads result.outs.items) ≤ 1 }
     {
         match self.phase {
             Phase::Idle | Phase::Cleared => nothing(),
             Phase::Replied | Phase::Established => self.shut_down(now),
         }
+    }
+
+    /// A ZLB, which acknowledges all that was delivered (RFC 2661 section 5.8).
+    pub fn acknowledge(&self) -> Frame
+        ensures { result.payload ≡ zlb_of (to_peer self.now) self.now.channel }
+    {
+        zlb(&self.channel, self.to_peer())
+    }
+
+    /// Whether the tunnel was made and was not cleared.
+    pub fn is_standing(&self) -> bool
+        ensures { result ≡ stands self.now.phase }
+    {
+        match self.phase {
+            Phase::Replied | Phase::Established => true,
+            Phase::Idle | Phase::Cleared => false,
+        }
+    }
+
+    /// The secret that is shared with the peer, if any.
+    pub fn secret(&self) -> &Option<ArrayVec<u8, 64>>
+        ensures { octets_of result.now ≡ self.now.secret }
+    {
+        &self.rules.secret
     }
 
     /// The peer's Assigned Tunnel ID (RFC 2661 section 4.4.3). None comes exactly where none was read.
