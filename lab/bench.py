@@ -1,7 +1,8 @@
 """Measures what the real program forwards between a subscriber and the core, beside a plain loop in C, both over sockets of
 the loopback, in turns on the same machine. The numbers are of this machine and this moment; the ratios say more.
 
-Saturated: as many packets as come back, of a provisioned circuit and of a session that logged in, with 4 and with 64 shards.
+Saturated: as many packets as come back, of a provisioned circuit, of one beside it that is metered, and of a session that logged
+in, with 4 and with 64 shards; and what a metered packet costs to one that is not.
 Paced: 2,500 packets a second, with 1 and with 64 shards, and with many sessions beside the one circuit, in processor time a
 packet. Memory: what the program holds with many terms live."""
 
@@ -48,9 +49,36 @@ Run = collections.namedtuple("Run", "pace used faults came lost")
 Subscriber = collections.namedtuple("Subscriber", "mac session address")
 
 
+# A second circuit, whose packets are metered and always green.
+METERED = """\
+[[profile]]
+name = "unmetered"
+[[profile]]
+name = "metered"
+up_cir = 1000000000000
+up_cbs = 4294967295
+up_ebs = 4294967295
+down_cir = 1000000000000
+down_cbs = 4294967295
+down_ebs = 4294967295
+[[static]]
+port = 1
+mac = "02:00:00:00:00:03"
+session = 1026
+address = "10.0.0.3"
+user = "fixed2"
+profile = "metered"
+"""
+
+
 def circuit(lab):
     """The provisioned circuit."""
     return Subscriber("020000000001", lab.session, "10.0.0.2")
+
+
+def metered_circuit():
+    """The one that is metered."""
+    return Subscriber("020000000003", 1026, "10.0.0.3")
 
 
 def logged_in(lab):
@@ -97,15 +125,25 @@ def table(results):
     print("A ratio is ours to plain C's: in packets for the same wall time, and for the same processor time.")
 
 
+def weigh(results):
+    """What a metered packet costs to one of the circuit that is not metered: in processor time, the medians of the turns."""
+    print("Metered, in processor time a packet to unmetered:")
+    for way in ("up", "down"):
+        for size in SIZES:
+            plain, metered = (results[kind, way, size][1] for kind in ("circuit", "metered"))
+            ratio = statistics.median(one.used / max(other.used, 0.01) for one, other in zip(metered, plain))
+            print(f"        {way:4} {size:6} {ratio:6.2f}")
+
+
 def serve(lab):
     lab.start([BNG, "serve", lab.configuration], patience=BUILDING, stderr=None)
 
 
 def compare(tool, shards, rounds, seconds):
     """The gateway with so many shards beside the plain loop, in turns."""
-    with Lab() as plain, Lab(f"shards = {shards}\necho = 0\n") as ours:
+    with Lab() as plain, Lab(f"shards = {shards}\necho = 0\n", tables=METERED) as ours:
         serve(ours)
-        subscribers = {"circuit": circuit(ours), "session": logged_in(ours)}
+        subscribers = {"circuit": circuit(ours), "metered": metered_circuit(), "session": logged_in(ours)}
         peers = [plain.core.getsockname()[1], plain.access.getsockname()[1]]
         ports = [plain.ports["access"], plain.ports["core"], *peers, plain.ports["control"]]
         plain.start([tool, "loop", *map(str, ports)], roles=["access", "core", "control"])
@@ -129,6 +167,7 @@ def compare(tool, shards, rounds, seconds):
         plain.end()
         status, out, _ = ours.end()
         table(results)
+        weigh(results)
         said = next(line for line in out.splitlines() if line.startswith("total "))
         print(f"The report says {said}, and in={octets['up']} out={octets['down']} came, {lost} packets lost on the way.")
         return status

@@ -125,10 +125,10 @@ def tried(configuration, seconds=30):
     return ["rt", "try", "--seconds", str(seconds), "--data", f"lab.toml={configuration}", "--", "serve", "lab.toml"]
 
 
-def udp(address=LOOPBACK):
-    """A socket of the loopback on a port that the system picks, which waits five seconds at most."""
+def udp(address=LOOPBACK, port=0):
+    """A socket of the loopback on this port, or on one that the system picks, which waits five seconds at most."""
     end = socket.socket(socket.AF_INET, socket.SOCK_DGRAM)
-    end.bind((address, 0))
+    end.bind((address, port))
     end.settimeout(5)
     return end
 
@@ -145,10 +145,13 @@ class Lab:
     table `gateway`, `radius_keys` of its table `radius`, and `session` is the SESSION_ID of the circuit. Where `server`
     is a port of the loopback, it is that of another RADIUS server than ours, for authentication, and `keeper` is that of
     another one for accounting. Each record of accounting that comes to ours is acknowledged at once and kept in `records`,
-    unless `acknowledges` says that nobody reads `accounting`. `last` is the last address of the pool."""
+    unless `acknowledges` says that nobody reads `accounting`. `last` is the last address of the pool, and `tables` stands
+    behind all that."""
 
-    def __init__(self, keys="", session=1025, radius_keys="", server=None, acknowledges=True, last="10.0.0.101", keeper=None):
-        self.keys, self.session, self.acknowledges, self.last = keys, session, acknowledges, last
+    def __init__(
+        self, keys="", session=1025, radius_keys="", server=None, acknowledges=True, last="10.0.0.101", keeper=None, tables=""
+    ):
+        self.keys, self.session, self.acknowledges, self.last, self.tables = keys, session, acknowledges, last, tables
         self.radius_keys, self.server, self.keeper = radius_keys, server, keeper
         self.records = []
 
@@ -177,7 +180,8 @@ class Lab:
             .replace("[core]", self.keys + "[core]")
             .replace("[[access]]", self.radius_keys + "[[access]]")
             .replace("session = 1025", f"session = {self.session}")
-            .replace("10.0.0.101", self.last),
+            .replace("10.0.0.101", self.last)
+            + self.tables,
         )
         return self
 

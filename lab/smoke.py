@@ -8,10 +8,12 @@ import sys
 import threading
 import time
 
+from example import reads_the_example
 from gateway import CRATE, PROGRAM, USAGE, Lab, delivery, frame, is_built, packet, report, run, tried, udp
 from habits import keeps_an_operators_habits
 from logins import authenticates, gives_up_on_a_silent_server
 from leases import leases_addresses
+from metering import meters_profiles
 from records import records_a_circuit, tells_a_stop_that_nobody_acknowledges
 from sessions import serves_sessions
 from terms import counts_past_sixteen_bits, ends_a_thousand_terms, ends_by_timeouts, keeps_records_while_nobody_takes_them
@@ -148,22 +150,24 @@ def refuses_bad_configurations(checks):
             good = file.read()
         local, peer = (f'"127.0.0.1:{port}"' for port in (lab.ports["core"], lab.access.getsockname()[1]))
         faults = {
-            "core.local": (local, "9000"),
-            "access.1.peer": (peer, '"127.0.0.1:0"'),
-            "access.1.mac": ("02:00:00:00:00:fe", "02:00:00:00:00:FE"),
-            "gateway.address": ('address = "10.0.0.1"', 'address = "10.0.0"'),
-            "pool.1.last": ("10.0.0.101", "10.0.0.1"),
-            "static.1.port": ("port = 1", "port = 2"),
-            "static.1.address": ('address = "10.0.0.2"', 'address = "10.0.0.256"'),
-            "gateway.nas_ip": ("192.168.1.16", "192.168.1"),
-            "radius.auth_local": (f":{lab.ports['auth']}\"", f":{lab.ports['core']}\""),
-            "radius.acct_local": (f":{lab.ports['acct']}\"", f":{lab.ports['auth']}\""),
-            "radius.secret": ('"xyzzy5461"', '""'),
-            "static.1.user": ('"fixed1"', '""'),
+            "C3 gateway.speed": ("[core]", "speed = 1\n[core]"),
+            "C5 core.local": (local, "9000"),
+            "C5 access.1.peer": (peer, '"127.0.0.1:0"'),
+            "C5 access.1.mac": ("02:00:00:00:00:fe", "02:00:00:00:00:FE"),
+            "C5 gateway.address": ('address = "10.0.0.1"', 'address = "10.0.0"'),
+            "C11 pool.1.last": ("10.0.0.101", "10.0.0.1"),
+            "C6 static.1.port": ("port = 1", "port = 2"),
+            "C5 static.1.address": ('address = "10.0.0.2"', 'address = "10.0.0.256"'),
+            "C5 gateway.nas_ip": ("192.168.1.16", "192.168.1"),
+            "C10 radius.auth_local": (f":{lab.ports['auth']}\"", f":{lab.ports['core']}\""),
+            "C10 radius.acct_local": (f":{lab.ports['acct']}\"", f":{lab.ports['auth']}\""),
+            "C7 radius.secret": ('"xyzzy5461"', '""'),
+            "C7 static.1.user": ('"fixed1"', '""'),
+            "C14 static.1.profile": ('user = "fixed1"', 'user = "fixed1"\nprofile = "other"'),
         }
-        for key, (right, wrong) in faults.items():
+        for fault, (right, wrong) in faults.items():
             bad = lab.write("bad.toml", good.replace(right, wrong))
-            checks.same(f"the key {key}", run([PROGRAM, "serve", bad]), (2, "", f"bng: config: C5 {key}\n"))
+            checks.same(f"the fault {fault}", run([PROGRAM, "serve", bad]), (2, "", f"bng: config: {fault}\n"))
         ours = lab.control.getsockname()[1]
         taken = lab.write("taken.toml", good.replace(f":{lab.ports['control']}\"", f":{ours}\""))
         unbound = (3, "", "bng: cannot open control\n")
@@ -208,6 +212,7 @@ def try_all(checks):
         authenticates(checks, built, 10)
         gives_up_on_a_silent_server(checks, built, 10)
         leases_addresses(checks, built, 10)
+        meters_profiles(checks, built, 10)
         ends_by_timeouts(checks, built, 10)
         shares_three_addresses_among_five(checks, built, 10)
         counts_past_sixteen_bits(checks, built, 10)
@@ -223,6 +228,7 @@ def try_all(checks):
         goes_on_after_memory_was_refused(checks)
         refuses_bad_beginnings(checks)
         refuses_bad_configurations(checks)
+        reads_the_example(checks)
         says_when_nobody_takes_its_report(checks)
         keeps_an_operators_habits(checks)
     else:

@@ -213,7 +213,7 @@ replaced_count s n x y found =
 settled_count : (s : State) (n : ℕ) (x : Session) (q : Question) (t : Told) (moment : ℕ) (y : Session) (asked : ℕ) (address : Option Ip4) → value_at s.sessions n ≡ Some x
     → count_in (settled_by s n x q t moment y asked address) ≡ count_in s
 settled_count s n x q t moment y asked None found = replaced_count s n x y found
-settled_count s n x q t moment y asked (Some a) found = replaced_count s n x (record y { lease = Some (next_lease s t.limits moment a) }) found
+settled_count s n x q t moment y asked (Some a) found = replaced_count s n x (record y { lease = Some (next_lease s t.plan t.limits moment a) }) found
 
 judged : (s : State) (e : Entry) (d : Deed) (r : Rules) (t : Told) → Judges r s e t d → count_in d.next ≡ count_in s
 judged s e d r t j = ap (λ (x : Deed). count_in x.next) j.done ∙ settled_count s e.item.target j.x j.question t e.moment j.after j.asked t.lease j.found

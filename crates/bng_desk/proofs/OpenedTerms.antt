@@ -19,7 +19,8 @@ use Rattle.bng_engine.specs.Lists.{AnyOf}
 use Rattle.bng_engine.specs.Views.{ShardView}
 use Rattle.bng_engine.proofs.Adding.{sum_plus}
 use Rattle.bng_config.specs.declared.config.Config.{Config}
-use Rattle.bng_config.specs.Rules.{IsSessionOf, KeepsRules}
+use Rattle.bng_config.specs.Rules.{KeepsRules}
+use Rattle.bng_schema.specs.Names.{IsSessionOf}
 use Rattle.bng_shard.specs.declared.rules.Rules.{Rules}
 use Rattle.bng_shard.specs.Lasting.{IsTenureOf}
 use Rattle.bng_shard.specs.Opening.{circuit_at, in_order, tenures_after}
@@ -171,9 +172,9 @@ module _ (r : Rules) (circuits : List Static) (now : ℕ) (served : AreServed r 
   opened_keeps few n low =
       let of = are_of r circuits n served in
       record {
-        sound = opened_sound n (of_shard circuits n) of.sessions now low of.own;
+        sound = opened_sound n (of_shard circuits n) of.sessions r.profiles now low of.own;
         number = refl;
-        tenures = tenures_opened n now (of_shard circuits n) of.own;
+        tenures = tenures_opened n now r.profiles (of_shard circuits n) of.own;
         owes_none = refl;
         numbers = omega (arith, few, length-filter (λ (c : Static). shard_of c == n) circuits, count_by-le-length (λ (c : Static). shard_of c == n) circuits);
       }

@@ -6,7 +6,7 @@ use Rattle.bng_acct.specs.Texts.{session_id, port_id}
 use Rattle.bng_base.specs.declared.address.Ip4.{Ip4}
 use Rattle.bng_base.specs.declared.book.Book.{Book}
 use Rattle.bng_base.specs.declared.book.Profile.{Profile}
-use Rattle.bng_config.specs.Address.{address_text}
+use Rattle.bng_schema.specs.Address.{address_text}
 use Rattle.bng_base.specs.declared.fate.DropCause.{DropCause}
 use Rattle.bng_base.specs.declared.fate.DropCause.TheVariants.{Malformed, NoSession, NotOpen, Expired, Spoofed, TooBig, Exceeded, LinkFailed, WantOfMemory}
 use Rattle.bng_desk.specs.declared.line.Line.{Line}

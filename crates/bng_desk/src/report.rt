@@ -1,6 +1,6 @@
 ghost use Rattle.std.specs.Prelude.{◌≡◌, ◌≤◌, ◌++◌, codes, IfOk, OnOk, length, map, string_bytes};
 ghost use Rattle.std.specs.List.{All, range_with_len};
-ghost use Rattle.bng_config.specs.Address.{address_text};
+ghost use Rattle.bng_schema.specs.Address.{address_text};
 ghost use Rattle.bng_desk.specs.Model.{traffic_by, traffic_under};
 ghost use Rattle.bng_desk.specs.Report.{report_text, traffic_line, worker_line, worker_lines, profile_line, profile_lines, static_line, static_lines, drop_line, drop_lines, causes, quantities, cause_name};
 

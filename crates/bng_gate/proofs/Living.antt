@@ -4,6 +4,7 @@ use Rattle.std.proofs.Common.{◌≡◌, ◌≢◌, ◌⊎◌, inl, inr, ℕ, �
 use Rattle.std.specs.List.{All, AllByRecursion, AllPairs, AllZip}
 use Rattle.std.proofs.lemmas.Bool.{false≢true}
 use Rattle.std.proofs.lemmas.List.Elements.{recursion_from_All}
+use Rattle.bng_base.specs.declared.book.Profile.{Profile}
 use Rattle.bng_base.specs.declared.settings.Static.{Static}
 use Rattle.bng_engine.specs.Journals.{after, AreSteps}
 use Rattle.bng_engine.specs.Terms.{Term, is_ended}
@@ -106,11 +107,11 @@ each_own : (n now k : ℕ) (cs : List Static) → AllByRecursion (λ c. IsNumber
 each_own n now k [] own = tt
 each_own n now k (c ∷ cs) own = (of_shard n c.session.0 own.0, each_own n now (k + 1) cs own.1)
 
-pub opened_keeps : (n : ℕ) (cs : List Static) (now : ℕ) → n < 64 → All (λ c. IsNumberOf n c.session.0) cs → AllPairs (λ a b. a.session ≢ b.session) cs → Keeps n (length cs) (opened_slots n cs now)
-opened_keeps n cs now low own apart = record {
-  sound = opened_sound n cs apart now low own;
-  housed = housed_opened n cs now apart;
-  lasting = circuits_opened n cs now apart;
+pub opened_keeps : (n : ℕ) (profiles : List Profile) (cs : List Static) (now : ℕ) → n < 64 → All (λ c. IsNumberOf n c.session.0) cs → AllPairs (λ a b. a.session ≢ b.session) cs → Keeps n (length cs) (opened_slots n profiles cs now)
+opened_keeps n profiles cs now low own apart = record {
+  sound = opened_sound n cs apart profiles now low own;
+  housed = housed_opened n profiles cs now apart;
+  lasting = circuits_opened n profiles cs now apart;
   shard = refl;
   own = each_own n now 0 (in_order n cs) (all_in_order (λ c. IsNumberOf n c.session.0) n cs (recursion_from_All (λ c. IsNumberOf n c.session.0) cs own));
 }

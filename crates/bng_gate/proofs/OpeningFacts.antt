@@ -91,7 +91,7 @@ none_read f (Some x) h = h x refl
 
 module _ (number : ℕ) (cs : List Static) (now : ℕ) (apart : ordered.Apart cs) where
   abbrev slots : State
-  slots = opened_slots number cs now
+  slots = opened_slots number [] cs now
 
   all_none : AllByRecursion HasNone (values slots.sessions)
   all_none = subst (AllByRecursion HasNone) (sym (ap (λ (es : List (ℕ × Session)). map (λ e. e.1) es) (ordered.opened_entries number cs now apart))) (provisioned_none 0 (in_order number cs))
@@ -122,7 +122,7 @@ module _ (config : Config) (kept : KeepsRules config) (r : Rules) (now : ℕ) wh
         number = refl;
         rules = refl;
         shard = refl;
-        sound = opened_sound n cs apart now (omega (arith, low, kept.few_shards)) (All-from_recursion (λ c. IsNumberOf n c.session.0) cs (shard_own config kept n));
+        sound = opened_sound n cs apart r.profiles now (omega (arith, low, kept.few_shards)) (All-from_recursion (λ c. IsNumberOf n c.session.0) cs (shard_own config kept n));
         unasked = refl;
         none_last = no_last n cs now (shard_apart config kept n);
         none_accepted = no_accepted n cs now (shard_apart config kept n);

@@ -2,7 +2,7 @@
 use Rattle.std.proofs.Common.{◌≡◌, ◌||◌, ℕ, zero, suc, ◌+◌, ◌*◌, Bool, true, false, List, [], ◌∷◌, Option, Some, None, is_some, ◌/◌, cond, map, length, refl, sym, ap, ◌∙◌, arith, eqb, zero-add}
 use Rattle.std.specs.Prelude.{filter, replicate, ◌<◌}
 use Rattle.std.specs.Option.{option_map}
-use Rattle.std.specs.List.{All, AllByRecursion, sum_by, count_by, range_with_len}
+use Rattle.std.specs.List.{AllByRecursion, sum_by, count_by, range_with_len}
 use Rattle.std.proofs.lemmas.List.{get_or-replicate, length-replicate}
 use Rattle.std.proofs.lemmas.Bool.{eqb-true, ne_eqb}
 use Rattle.std.proofs.lemmas.List.Elements.{recursion_from_All}
@@ -13,7 +13,8 @@ use Rattle.bng_base.specs.declared.address.Ip4.{Ip4}
 use Rattle.bng_base.specs.declared.book.Profile.{Profile}
 use Rattle.bng_base.specs.declared.settings.Static.{Static}
 use Rattle.bng_config.specs.declared.config.Config.{Config}
-use Rattle.bng_config.specs.Rules.{KeepsRules, IsSessionOf}
+use Rattle.bng_config.specs.Rules.{KeepsRules}
+use Rattle.bng_schema.specs.Names.{IsSessionOf}
 use Rattle.bng_engine.specs.Accounted.{AreEmpty, IsNew, SayNothing, nothing_yet}
 use Rattle.bng_engine.specs.Claims.{is_held}
 use Rattle.bng_engine.specs.Exact.{holders}
@@ -136,7 +137,7 @@ as_many n cs own = omega (arith, ones cs, ones (in_order n cs), ordered.sum_in_o
 
 module _ (r : Rules) (now : ℕ) where
   abbrev fresh : ℕ → List Static → ShardState
-  fresh number cs = record { rules = r; slots = opened_slots number cs now }
+  fresh number cs = record { rules = r; slots = opened_slots number r.profiles cs now }
 
   new_shard : (number : ℕ) (cs : List Static) → AllByRecursion (λ c. IsNumberOf number c.session.0) cs → AllByRecursion (HasOneOf (length r.profiles)) cs → IsNew pppoe (with_journal {E = Handled} (opened number r cs now) [])
   new_shard number cs own profiles =

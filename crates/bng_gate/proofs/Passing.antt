@@ -94,19 +94,19 @@ two_up : (n : ℕ) → (n ≤ 1 → ⊥) → 2 ≤ n
 two_up n h = omega arith
 
 -- a packet that goes on is not expired
-alive_up : (found : Found) (info : List ℕ) (fate : Fate) (v : Ipv4) → UpFate found info fate → fate ≡ Forwarded → IsIpv4 v info → 2 ≤ v.ttl
-alive_up found info fate v (inl (h, is)) on packet = absurd cc
-alive_up found info fate v (inr (a, inl (h, is))) on packet = absurd cc
-alive_up found info fate v (inr (a, inr (b, inl (h, is)))) on packet = absurd cc
-alive_up found info fate v (inr (a, inr (b, inr (c, inl (h, is))))) on packet = absurd cc
-alive_up found info fate v (inr (a, inr (b, inr (c, inr (unexpired, rest))))) on packet = two_up v.ttl (λ le. unexpired (v, packet, le))
+alive_up : (found : Found) (now : ℕ) (info : List ℕ) (fate : Fate) (v : Ipv4) → UpFate found now info fate → fate ≡ Forwarded → IsIpv4 v info → 2 ≤ v.ttl
+alive_up found now info fate v (inl (h, is)) on packet = absurd cc
+alive_up found now info fate v (inr (a, inl (h, is))) on packet = absurd cc
+alive_up found now info fate v (inr (a, inr (b, inl (h, is)))) on packet = absurd cc
+alive_up found now info fate v (inr (a, inr (b, inr (c, inl (h, is))))) on packet = absurd cc
+alive_up found now info fate v (inr (a, inr (b, inr (c, inr (unexpired, rest))))) on packet = two_up v.ttl (λ le. unexpired (v, packet, le))
 
-alive_down : (holder : Holders) (octets : List ℕ) (fate : Fate) (v : Ipv4) → DownFate holder octets fate → fate ≡ Forwarded → IsIpv4 v octets → 2 ≤ v.ttl
-alive_down holder octets fate v (inl (h, is)) on packet = absurd cc
-alive_down holder octets fate v (inr (a, inl (h, is))) on packet = absurd cc
-alive_down holder octets fate v (inr (a, inr (b, inl (h, is)))) on packet = absurd cc
-alive_down holder octets fate v (inr (a, inr (b, inr (c, inl (h, is))))) on packet = absurd cc
-alive_down holder octets fate v (inr (a, inr (b, inr (c, inr (unexpired, rest))))) on packet = two_up v.ttl (λ le. unexpired (v, packet, le))
+alive_down : (holder : Holders) (now : ℕ) (octets : List ℕ) (fate : Fate) (v : Ipv4) → DownFate holder now octets fate → fate ≡ Forwarded → IsIpv4 v octets → 2 ≤ v.ttl
+alive_down holder now octets fate v (inl (h, is)) on packet = absurd cc
+alive_down holder now octets fate v (inr (a, inl (h, is))) on packet = absurd cc
+alive_down holder now octets fate v (inr (a, inr (b, inl (h, is)))) on packet = absurd cc
+alive_down holder now octets fate v (inr (a, inr (b, inr (c, inl (h, is))))) on packet = absurd cc
+alive_down holder now octets fate v (inr (a, inr (b, inr (c, inr (unexpired, rest))))) on packet = two_up v.ttl (λ le. unexpired (v, packet, le))
 
 -- a port that is there has a number from 1 on
 some_number : (n : ℕ) → (n == 0) ≡ false → 1 ≤ n
@@ -155,7 +155,7 @@ module _ (r : Rules) (s : State) (e : Entry) (d : Deed) (on : d.fate ≡ Forward
   other f is not_on = absurd (not_on (sym (ap (λ (x : Deed). x.fate) is) ∙ on))
 
   goes_up : (number : ℕ) (p : PppoeFrame) (info : List ℕ) (fate : Fate) → e.item.kind ≡ kind.Access number → IsFrame r.access number (arrival_in e) p → Carries p info
-      → UpFate (found_up s number p) info fate → fate ≡ Forwarded → GoesUp r s e number p info d → Goes
+      → UpFate (found_up s number p) e.moment info fate → fate ≡ Forwarded → GoesUp r s e number p info d → Goes
   goes_up number p info fate is_kind (port, is_port, came) carries decides forwards h =
       let whole = whole_read_as Core h.packet (Some (charge_of h.x h.lease true h.header.total)) (spelled_up h.x h.lease h.header info h.packet h.passed h.source) in
       record {
@@ -175,7 +175,7 @@ module _ (r : Rules) (s : State) (e : Entry) (d : Deed) (on : d.fate ≡ Forward
               carries = carries;
               header = h.header;
               source = refl;
-              alive = alive_up (found_up s number p) info fate h.header decides forwards h.passed.was;
+              alive = alive_up (found_up s number p) e.moment info fate h.header decides forwards h.passed.was;
               went = refl;
               to = refl;
               packet = h.passed;
@@ -185,7 +185,7 @@ module _ (r : Rules) (s : State) (e : Entry) (d : Deed) (on : d.fate ≡ Forward
         });
       }
 
-  goes_down : (v : Ipv4) (fate : Fate) → e.item.kind ≡ kind.Core → IsCorePacket r.core_peer (arrival_in e) v → DownFate (found_down s) e.item.frame.payload fate → fate ≡ Forwarded → GoesDown r s e v d → Goes
+  goes_down : (v : Ipv4) (fate : Fate) → e.item.kind ≡ kind.Core → IsCorePacket r.core_peer (arrival_in e) v → DownFate (found_down s) e.moment e.item.frame.payload fate → fate ≡ Forwarded → GoesDown r s e v d → Goes
   goes_down v fate is_kind came decides forwards h =
       let octets = circuit_frame h.port h.x.mac h.x.number.0 h.packet in
       let whole = whole_read_as (Access h.x.port) octets (Some (charge_of h.x h.lease false v.total)) (spelled_down h.x h.lease v e.item.frame.payload h.packet h.passed h.port h.address h.again) in
@@ -201,7 +201,7 @@ module _ (r : Rules) (s : State) (e : Entry) (d : Deed) (on : d.fate ≡ Forward
             header = v;
             is_packet = record { whole = refl; sender = came.sender; packet = came.packet };
             destination = refl;
-            alive = alive_down (found_down s) e.item.frame.payload fate v decides forwards h.passed.was;
+            alive = alive_down (found_down s) e.moment e.item.frame.payload fate v decides forwards h.passed.was;
             number = h.x.port;
             port = h.port;
             is_port = its_number r.access h.x.port h.port h.its_port;

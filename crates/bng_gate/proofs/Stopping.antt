@@ -283,7 +283,7 @@ module _ (config : Config) (rules : KeepsRules config) where
         let apart = AllPairs-filter (λ a b. a.session ≡ b.session → ⊥) (λ c. eqb (shard_of c) n) config.statics rules.sessions in
         record {
           live = all_live now 0 (in_order n cs);
-          keeps = opened_keeps n cs now (omega (arith, low, rules.few_shards)) (All-from_recursion (λ c. IsNumberOf n c.session.0) cs (shard_own config rules n)) apart;
+          keeps = opened_keeps n r.profiles cs now (omega (arith, low, rules.few_shards)) (All-from_recursion (λ c. IsNumberOf n c.session.0) cs (shard_own config rules n)) apart;
         }
 
     terms_before : (n : ℕ) → terms_so_far (shard_before n) ≡ keys_at config n

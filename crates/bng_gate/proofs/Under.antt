@@ -1,12 +1,11 @@
 -- What is printed for the profiles is what was sent under each, and together it is all that was sent.
-use Rattle.std.proofs.Common.{◌≡◌, ℕ, zero, suc, Bool, true, false, List, [], ◌∷◌, map, length, refl, sym, ap, subst, ◌∙◌, arith}
+use Rattle.std.proofs.Common.{◌≡◌, ℕ, Bool, true, false, List, [], ◌∷◌, map, length, refl, sym, ap, subst, ◌∙◌, arith}
 use Rattle.std.specs.List.{AllByRecursion, range_with_len, sum_by}
 use Rattle.std.proofs.lemmas.List.Sums.{sum_by-cons}
 use Rattle.bng_base.specs.declared.book.Book.{Book}
 use Rattle.bng_base.specs.declared.book.Profile.{Profile}
 use Rattle.bng_base.specs.declared.item.Entry.{Entry}
 use Rattle.bng_base.specs.declared.outside.Datagram.{Datagram}
-use Rattle.bng_base.specs.declared.settings.Static.{Static}
 use Rattle.bng_config.specs.declared.config.Config.{Config}
 use Rattle.bng_engine.specs.Books.{book_at, sent_in_all, sent_under}
 use Rattle.bng_engine.specs.Histories.{ShardTurn}
@@ -22,7 +21,7 @@ use Rattle.bng_shard.specs.declared.sums.Traffic.{Traffic}
 use Rattle.bng_shard.specs.Protocol.{ShardState, Handled, opened, pppoe}
 use Rattle.bng_desk.specs.Model.{Desk, by_profile, traffic_under}
 use Rattle.bng_desk.specs.Opening.{opened_shards, statics_of}
-use Rattle.bng_desk.specs.Round.{view_of, views_of}
+use Rattle.bng_desk.specs.Round.{views_of}
 use Rattle.bng_gate.specs.Headline.{AddsUpTo, StopsAccount, all_profile_traffic, profile_traffic, total_in}
 use Rattle.bng_gate.proofs.Lines.{traffic_is}
 use Rattle.bng_gate.proofs.Traffic.{stops_say}

@@ -2,7 +2,7 @@
 use Rattle.std.specs.Prelude.{ℕ, List, ◌++◌, codes}
 use Rattle.std.specs.Fmt.{decimal}
 use Rattle.bng_config.specs.declared.fault.Fault.{Fault}
-use Rattle.bng_config.specs.Keys.{fault_text}
+use Rattle.bng_config.specs.Texts.{fault_text}
 use Rattle.bng_gate.specs.declared.texts.Line.{Line}
 use Rattle.bng_gate.specs.declared.texts.Opening.{Opening}
 use Rattle.bng_gate.specs.declared.texts.Opening.TheVariants.{Configuration, Seed, Control, Core, Access, Auth, Acct}
@@ -45,6 +45,6 @@ status_of OutOfMemory = 4
 status_of TraceFailed = 5
 status_of OutputFailed = 5
 
--- the three parts of a line, one after the other
+-- the four parts of a line, one after the other
 abbrev pub line_text : Line → List ℕ
-line_text l = l.front.now ++ l.middle.bytes ++ l.back.now
+line_text l = l.front.now ++ (l.middle.bytes ++ (l.name.now ++ l.back.now))

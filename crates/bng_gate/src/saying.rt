@@ -12,12 +12,22 @@ fn say_text<X: Sink>(sink: &mut X, text: &[u8]) -> Wrote
     sink.write(text)
 }
 
+// Writes the last two parts.
+fn say_end<X: Sink>(sink: &mut X, line: &Line) -> Wrote
+    ensures { Says (X.told sink.old) (X.told sink.new) (line.now.name.now ++ line.now.back.now) result }
+{
+    match say_text(sink, line.name) {
+        Wrote::Ok => say_text(sink, line.back.as_bytes()),
+        Wrote::Failed => Wrote::Failed,
+    }
+}
+
 // Writes the parts after the first.
 fn say_rest<X: Sink>(sink: &mut X, line: &Line) -> Wrote
-    ensures { Says (X.told sink.old) (X.told sink.new) (line.now.middle.bytes ++ line.now.back.now) result }
+    ensures { Says (X.told sink.old) (X.told sink.new) (line.now.middle.bytes ++ (line.now.name.now ++ line.now.back.now)) result }
 {
     match say_text(sink, line.middle.as_bytes()) {
-        Wrote::Ok => say_text(sink, line.back.as_bytes()),
+        Wrote::Ok => say_end(sink, line),
         Wrote::Failed => Wrote::Failed,
     }
 }

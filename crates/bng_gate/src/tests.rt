@@ -19,6 +19,7 @@ mod forwarding;
 mod host;
 mod link;
 mod logins;
+mod metering;
 mod statuses;
 
 const CONFIGURATION: &str = r#"[gateway]

@@ -1,10 +1,10 @@
 //! What is written where a run fails.
 ghost use Rattle.std.specs.Prelude.{◌≡◌};
 ghost use Rattle.std.specs.Fmt.{decimal};
-ghost use Rattle.bng_gate.specs.Texts.{refusal_text, cannot_open_text, status_of, line_text};
+ghost use Rattle.bng_gate.specs.Texts.{refusal_text, refused_text, cannot_open_text, status_of, line_text};
 
 use arrayvec::ArrayString;
-use bng_config::{Fault, fault_text};
+use bng_config::{Fault, FaultText, fault_text};
 use itoa::Buffer;
 
 #[cfg(test)]
@@ -24,7 +24,7 @@ pub enum Opening {
 }
 
 /// Why a run did not come to its report.
-#[derive(Clone, Copy, PartialEq, Eq, Debug)]
+#[derive(Drop)]
 pub enum Refusal {
     /// The words are no command.
     Usage,
@@ -39,17 +39,18 @@ pub enum Refusal {
     OutputFailed,
 }
 
-/// A line in three parts.
+/// A line in four parts. The third is a name that is no text of the program.
 #[derive(Drop)]
-pub struct Line {
+pub struct Line<'a> {
     pub front: &'static str,
-    pub middle: ArrayString<32>,
+    pub middle: ArrayString<64>,
+    pub name: &'a [u8],
     pub back: &'static str,
 }
 
 /// The status of a run that ends so.
-pub fn status(refusal: Refusal) -> u8
-    ensures { result ≡ status_of refusal }
+pub fn status(refusal: &Refusal) -> u8
+    ensures { result ≡ status_of refusal.now }
 {
     match refusal {
         Refusal::Usage => 1,
@@ -62,37 +63,47 @@ pub fn status(refusal: Refusal) -> u8
 }
 
 /// The line that says so.
-pub fn line_of(refusal: Refusal) -> Line
-    ensures { line_text result ≡ refusal_text refusal }
+pub fn line_of(refusal: &Refusal) -> Line<'_>
+    ensures { line_text result ≡ refusal_text refusal.now }
 {
     match refusal {
         Refusal::Usage => whole(
             "usage: bng serve CONFIG [--trace FILE] [--rounds N] | check CONFIG | exercise N [--workers W] | audit FILE\n",
         ),
-        Refusal::Refused(fault) => Line {
-            front: "bng: config: ",
-            middle: fault_text(fault),
-            back: "\n",
-        },
-        Refusal::CannotOpen(what) => cannot_open(what),
+        Refusal::Refused(fault) => refused(fault),
+        Refusal::CannotOpen(what) => cannot_open(*what),
         Refusal::OutOfMemory => whole("bng: out of memory\n"),
         Refusal::TraceFailed => whole("bng: trace failed\n"),
         Refusal::OutputFailed => whole("bng: output failed\n"),
     }
 }
 
-fn whole(text: &'static str) -> Line
+// What is written of a fault of the configuration.
+fn refused(fault: &Fault) -> Line<'_>
+    ensures { line_text result ≡ refused_text fault.now }
+{
+    let FaultText { front, name } = fault_text(fault);
+    Line {
+        front: "bng: config: ",
+        middle: front,
+        name,
+        back: "\n",
+    }
+}
+
+fn whole(text: &'static str) -> Line<'static>
     ensures { line_text result ≡ text.now }
 {
     Line {
         front: text,
         middle: ArrayString::new(),
+        name: &[],
         back: "",
     }
 }
 
 // A number in decimal digits.
-fn digits(number: u8) -> ArrayString<32>
+fn digits(number: u8) -> ArrayString<64>
     ensures { result.bytes ≡ decimal number }
 {
     let mut text = ArrayString::new();
@@ -101,7 +112,7 @@ fn digits(number: u8) -> ArrayString<32>
 }
 
 // What could not be opened.
-fn cannot_open(what: Opening) -> Line
+fn cannot_open(what: Opening) -> Line<'static>
     ensures { line_text result ≡ cannot_open_text what }
 {
     match what {
@@ -114,6 +125,7 @@ fn cannot_open(what: Opening) -> Line
         Opening::Access(number) => Line {
             front: "bng: cannot open access ",
             middle: digits(number),
+            name: &[],
             back: "\n",
         },
     }

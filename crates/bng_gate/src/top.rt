@@ -270,8 +270,8 @@ where
 fn refuse<X: Sink>(err: &mut X, refusal: Refusal) -> u8
     ensures { Told (X.told err.old) (X.told err.new) refusal result }
 {
-    match say(err, &texts::line_of(refusal)) {
-        Wrote::Ok => texts::status(refusal),
+    match say(err, &texts::line_of(&refusal)) {
+        Wrote::Ok => texts::status(&refusal),
         Wrote::Failed => OUTPUT_FAILED,
     }
 }

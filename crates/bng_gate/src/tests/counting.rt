@@ -28,11 +28,15 @@ fn packets(alloc: Global) -> Result<Vec<Arrival>, AllocError> {
 #[test]
 fn sums_count_octets_packets_terms_stops_and_drops(rt: HostRuntime) -> Result<(), Fail> {
     let alloc = rt.alloc();
-    let config = bng_config::read(alloc, TWO_PORTS.as_bytes())?;
+    let Ok(config) = bng_config::read(alloc, TWO_PORTS.as_bytes()) else {
+        panic!(rt; "no configuration")
+    };
     let mut plant = MemoryPlant::new(alloc, packets(alloc)?, Vec::new(alloc), 64)?;
     let mut clock = MemoryClock::new(alloc, 10, 1_700_000_000, 64)?;
     let mut trace = NoTrace;
-    let mut desk = open_desk(alloc, config, SEED, &mut plant, &mut clock)?;
+    let Ok(mut desk) = open_desk(alloc, config, SEED, &mut plant, &mut clock) else {
+        panic!(rt; "no desk")
+    };
     serve(
         &rt, alloc, &mut desk, &mut plant, &mut clock, &mut trace, &OpenGate,
     )?;

@@ -39,7 +39,7 @@ pub(super) const PADDED: [u8; 60] = [
 ];
 
 /// The packet that goes to the core for it.
-const UP: [u8; 20] = [
+pub(super) const UP: [u8; 20] = [
     0x45, 0, 0, 0x14, 0, 2, 0, 0, 1, 0x11, 0xed, 0xd4, 10, 0, 0, 2, 0xc0, 0, 2, 1,
 ];
 
@@ -49,7 +49,7 @@ pub(super) const FROM_CORE: [u8; 20] = [
 ];
 
 /// The frame that goes on the circuit for it.
-const DOWN: [u8; 42] = [
+pub(super) const DOWN: [u8; 42] = [
     0x02, 0, 0, 0, 0, 0x01, 0x02, 0, 0, 0, 0, 0xfe, 0x88, 0x64, 0x11, 0x00, 0x04, 0x01, 0x00, 0x16,
     0x00, 0x21, 0x45, 0, 0, 0x14, 0, 2, 0, 0, 1, 0x11, 0xed, 0xd4, 0xc0, 0, 2, 1, 10, 0, 0, 2,
 ];

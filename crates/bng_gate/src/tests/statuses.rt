@@ -50,7 +50,7 @@ fn each_status_has_its_line(rt: HostRuntime) -> Result<(), Fail> {
     assert_err(&rt, &none, USAGE.as_bytes());
     let refused = run_over(&rt, alloc, &SERVE, NO_SESSION, Vec::new(alloc), &[], &[])?;
     assert_status(&rt, &refused, 2);
-    assert_err(&rt, &refused, b"bng: config: C5 static.1.session\n");
+    assert_err(&rt, &refused, b"bng: config: C6 static.1.session\n");
     let unbound = run_over(&rt, alloc, &SERVE, TWO_PORTS, Vec::new(alloc), &[4], &[])?;
     assert_status(&rt, &unbound, 3);
     assert_err(&rt, &unbound, b"bng: cannot open access 2\n");
@@ -103,6 +103,31 @@ fn each_status_has_its_line(rt: HostRuntime) -> Result<(), Fail> {
     let unwritten = run_over(&rt, alloc, &SERVE, CONFIGURATION, script, &[], &[1])?;
     assert_status(&rt, &unwritten, 5);
     assert_err(&rt, &unwritten, b"bng: output failed\n");
+    Ok(())
+}
+
+#[test]
+fn a_fault_of_the_configuration_is_told(rt: HostRuntime) -> Result<(), Fail> {
+    let alloc = rt.alloc();
+    let rows: [(&str, &str, &[u8]); 2] = [
+        (
+            "[core]",
+            "shards = 0\n[core]",
+            b"bng: config: C6 gateway.shards\n",
+        ),
+        (
+            "[[static]]",
+            "speed = 1\n[[static]]",
+            b"bng: config: C3 pool.1.speed\n",
+        ),
+    ];
+    for (place, faulty, line) in rows {
+        let text = CONFIGURATION.replace(alloc, place, faulty)?;
+        let refused = run_over(&rt, alloc, &SERVE, text.as_str(), Vec::new(alloc), &[], &[])?;
+        assert_status(&rt, &refused, 2);
+        assert_err(&rt, &refused, line);
+        assert_sent(&rt, &refused, 0);
+    }
     Ok(())
 }
 

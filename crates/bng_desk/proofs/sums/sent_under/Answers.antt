@@ -1,4 +1,4 @@
-use Rattle.std.proofs.Common.{◌≡◌, ◌<◌, Bool, true, false, length, get_or, sym, ap, subst, arith}
+use Rattle.std.proofs.Common.{◌<◌, Bool, true, false, length, sym, ap, subst, arith}
 use Rattle.std.proofs.lemmas.List.Sums.{sum_by_more}
 use Rattle.bng_base.specs.declared.book.Book.{Book}
 use Rattle.bng_engine.specs.Books.{book_at}

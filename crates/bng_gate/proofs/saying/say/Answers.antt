@@ -1,4 +1,4 @@
-use Rattle.std.proofs.Common.{ℕ, ◌++◌, List, sym, subst, append_assoc}
+use Rattle.std.proofs.Common.{ℕ, ◌++◌, List, subst}
 use Rattle.bng_plant.specs.declared.answers.Wrote.TheVariants.{Ok, Failed}
 use Rattle.bng_gate.specs.Saying.{Says}
 use Rattle.bng_gate.proofs.Sayings.{says_front, says_more}
@@ -9,8 +9,7 @@ returns-in-Failed g c =
     let a = g.X.Sink.told c.args.sink.now in
     let b = g.X.Sink.told c.say_text.new.sink in
     let l = c.args.line.now in
-    subst (λ (text : List ℕ). Says a b text Failed) (sym (append_assoc l.front.now l.middle.bytes l.back.now))
-    (says_front a b l.front.now (l.middle.bytes ++ l.back.now) (subst (λ (text : List ℕ). Says a b text Failed) c.as_bytes.ensures.value c.in-Failed.ensures))
+    says_front a b l.front.now (l.middle.bytes ++ (l.name.now ++ l.back.now)) (subst (λ (text : List ℕ). Says a b text Failed) c.as_bytes.ensures.value c.in-Failed.ensures)
 
 pub returns-in-Ok : goal.returns-in-Ok
 returns-in-Ok g c =
@@ -18,5 +17,4 @@ returns-in-Ok g c =
     let b = g.X.Sink.told c.say_text.new.sink in
     let d = g.X.Sink.told c.say_rest.new.sink in
     let l = c.args.line.now in
-    subst (λ (text : List ℕ). Says a d text c.say_rest.result) (sym (append_assoc l.front.now l.middle.bytes l.back.now))
-    (says_more a b d l.front.now (l.middle.bytes ++ l.back.now) c.say_rest.result (subst (λ (text : List ℕ). Says a b text Ok) c.as_bytes.ensures.value c.in-Ok.ensures) c.say_rest.ensures)
+    says_more a b d l.front.now (l.middle.bytes ++ (l.name.now ++ l.back.now)) c.say_rest.result (subst (λ (text : List ℕ). Says a b text Ok) c.as_bytes.ensures.value c.in-Ok.ensures) c.say_rest.ensures

@@ -1,4 +1,3 @@
-use Rattle.bng_gate.specs.Run.{RunEnds}
 use Rattle.bng_gate.specs.Words.{texts}
 use Rattle.bng_gate.proofs.Causes.{no_command, faulty, complete, unfailed}
 use Rattle.bng_gate.proofs.Ends.{told_of, unready, unserved}

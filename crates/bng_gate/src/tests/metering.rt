@@ -1,0 +1,294 @@
+//! Packets that are metered by the profile of their term (RFC 2697). Their colours were worked out by hand: of a bucket token n has come t
+//! milliseconds after the start of the meter exactly where CIR * t is at least 1000 * n, and the term of a circuit starts when the gateway
+//! opens, one step of the clock before the first turn. The records and the replies of the server were made from the tables of RFC 2865 and
+//! RFC 2866 by a script over Python's hashlib.
+use super::authentication::{OWN_ADDRESS, PAP, PASSED, TERMINATE, begun, reply, sends_after, stop};
+use super::forwarding::{DOWN, FROM_CORE, PADDED, UP};
+use super::host::{PADT, TO_HOST, framed, from_host};
+use super::logins::{
+    ANY, ASKS, FROM_HOST, GETS, TAKES, TO_BE, UP as UP_OF_HOST, records, response, run_in,
+};
+use super::{
+    CONFIGURATION, SERVE, assert_out, assert_status, loopback, run_over, script_of, sends,
+};
+use crate::asserts::assert_holds;
+use bng_base::Role;
+use bng_plant::Arrival;
+use std::alloc::{AllocError, Global};
+use std::test::Fail;
+
+/// What follows the circuit's user: of two profiles it has the second, whose rates come behind this.
+const OF_GOLD: &str =
+    "fixed1\"\nprofile = \"gold\"\n[[profile]]\nname = \"bronze\"\n[[profile]]\nname = \"gold\"\n";
+
+/// 60 octets a second from the subscriber, and 20 at once: the octets of one packet come in a third of a second.
+const THIRDS: &str = "up_cir = 60\nup_cbs = 20\nup_ebs = 0\n";
+
+/// The same with 20 octets more at once from the subscriber, and without them towards it.
+const WITH_EXCESS: &str =
+    "up_cir = 60\nup_cbs = 20\nup_ebs = 20\ndown_cir = 60\ndown_cbs = 20\ndown_ebs = 0\n";
+
+/// One octet a second from the subscriber, with 20 and 20 more at once, and the highest rate towards it.
+const SLOW_AND_FAST: &str =
+    "up_cir = 1\nup_cbs = 20\nup_ebs = 20\ndown_cir = 1000000000000\ndown_cbs = 4294967295\ndown_ebs = 4294967295\n";
+
+/// The Start of the circuit's term, formed at the second 1,700,000,000, its Stop, formed a second later with four packets of 20 octets in,
+/// and the Accounting-Responses to them.
+const START: &str =
+    "0400009581924e767205c66103a26f2ebbecef7d01086669786564310406c0a8011005060000040106060000000207060000000108060a0000021f1330323a30303a30303a30303a30303a30312006626e67312806000000012c1a36353533663130303034303130303030303030303030303137066553f1003d0600000005571670312f3032303030303030303030312f31303235";
+
+const STARTED: &str = "05000014b1330a5b080dbca80dfe343e56135636";
+
+const STOP: &str =
+    "040100c5530560122791882e19bbffc901cd75a801086669786564310406c0a8011005060000040106060000000207060000000108060a0000021f1330323a30303a30303a30303a30303a30312006626e67312806000000022a06000000502b06000000002c1a3635353366313030303430313030303030303030303030312e06000000012f060000000430060000000031060000000a34060000000035060000000037066553f1013d0600000005571670312f3032303030303030303030312f31303235";
+
+const STOPPED: &str = "05010014e87490156cd0eae6c539ee1fe2a0d8fc";
+
+/// Access-Accepts of a host: with the Framed-IP-Address 10.0.0.50 and the Filter-Id gold (RFC 2865 section 5.11), and with the Filter-Id
+/// gol, which names no profile.
+const ACCEPT_GOLD: &str = "02000020c409a9bf86399a167739b79a60c857be08060a0000320b06676f6c64";
+
+const ACCEPT_GOL: &str = "020000194d9439c5ab34c46ec21c40f778534c920b05676f6c";
+
+/// The Authenticate-Nak of the latter.
+const NO_PROFILE: &[u8] = b"\xc0\x23\x03\x07\x00\x0f\x0ano profile";
+
+/// Two profiles for hosts that authenticate themselves by PAP, before the pool. The second lets the 40 octets of one packet come at once,
+/// and again in a second.
+const HOSTS: &str =
+    "[[profile]]\nname = \"bronze\"\n[[profile]]\nname = \"gold\"\nup_cir = 40\nup_cbs = 40\nup_ebs = 0\n[[pool]]";
+
+/// The circuit has a profile with these rates.
+fn metered(alloc: Global, rates: &str) -> Result<String, AllocError> {
+    let mut text = CONFIGURATION.replace(alloc, "fixed1\"\n", OF_GOLD)?;
+    text.push_str(rates)?;
+    Ok(text)
+}
+
+/// A packet of the circuit of 20 octets.
+fn packet() -> Arrival {
+    Arrival::new(Role::Access(1), loopback(9011), &PADDED)
+}
+
+/// One of 20 octets towards it.
+fn answer() -> Arrival {
+    Arrival::new(Role::Core, loopback(9001), &FROM_CORE)
+}
+
+/// An unknown word at Control, which is read before all else of a turn: so what comes next comes in the next turn.
+fn next_turn() -> Arrival {
+    Arrival::new(Role::Control, loopback(5), b"next")
+}
+
+/// In turns that are 1 ms apart a packet comes at 1, 333, 334, 666, 667 and 1,000 ms. The reply to the Start comes in the second turn, and
+/// that to the Stop in the second one of the grace. A turn in which nothing comes waits once.
+fn by_the_millisecond(alloc: Global) -> Result<Vec<Arrival>, Fail> {
+    let mut script = Vec::new(alloc);
+    script.push(packet())?;
+    script.push(response(alloc, STARTED)?)?;
+    script.push(packet().after(330))?;
+    script.push(next_turn())?;
+    script.push(packet())?;
+    script.push(packet().after(331))?;
+    script.push(next_turn())?;
+    script.push(packet())?;
+    script.push(packet().after(332))?;
+    script.push(stop(0))?;
+    script.push(response(alloc, STOPPED)?.after(1))?;
+    Ok(script)
+}
+
+#[test]
+fn a_packet_passes_from_the_millisecond_of_its_last_token_on(rt: HostRuntime) -> Result<(), Fail> {
+    let alloc = rt.alloc();
+    let configuration = metered(alloc, THIRDS)?;
+    let script = by_the_millisecond(alloc)?;
+    let ended = run_in(&rt, alloc, configuration.as_str(), script, 1)?;
+    assert_status(&rt, &ended, 0);
+    // Token 20 has come by 334 ms, token 40 by 667 ms and token 60 by 1,000 ms, and none of them a millisecond sooner. So the packets at
+    // 333 and 666 ms are red. They take no tokens: else those a millisecond later were red too.
+    assert_out(
+        &rt,
+        &ended,
+        b"stopped in=80 out=0\nlive in=0 out=0\ntotal in=80 out=0\nworker 0 in=80 out=0\nprofile bronze in=0 out=0\nprofile gold in=80 out=0\nstatic 10.0.0.2 in=80 out=0\ndrop Malformed 0\ndrop NoSession 0\ndrop NotOpen 0\ndrop Expired 0\ndrop Spoofed 0\ndrop TooBig 0\ndrop Exceeded 2\ndrop LinkFailed 0\ndrop WantOfMemory 0\n",
+    );
+    let core: (Role, u16, &[u8]) = (Role::Core, 9001, &UP);
+    let unknown: (Role, u16, &[u8]) = (Role::Control, 5, b"unknown\n");
+    let wanted: [(Role, u16, &[u8]); 7] = [
+        core,
+        unknown,
+        core,
+        unknown,
+        core,
+        core,
+        (Role::Control, 5, b"stopping\n"),
+    ];
+    sends(&rt, &ended, &wanted);
+    records(&rt, alloc, &ended, &[START, STOP])
+}
+
+#[test]
+fn green_and_yellow_packets_pass_and_red_ones_do_not(rt: HostRuntime) -> Result<(), Fail> {
+    let alloc = rt.alloc();
+    let configuration = metered(alloc, WITH_EXCESS)?;
+    // At 334 ms three packets each way, from full buckets: from the subscriber one is green, one yellow and one red, and towards it one is
+    // green and two red.
+    let mut script = Vec::new(alloc);
+    for _ in 0..3 {
+        script.push(packet())?;
+    }
+    for _ in 0..3 {
+        script.push(answer())?;
+    }
+    // At 668 ms two each way: 20 tokens have come since, all into the first bucket, so one is green and one red.
+    script.push(next_turn())?;
+    for _ in 0..2 {
+        script.push(packet())?;
+    }
+    for _ in 0..2 {
+        script.push(answer())?;
+    }
+    script.push(stop(0))?;
+    let ended = run_in(&rt, alloc, configuration.as_str(), script, 334)?;
+    assert_status(&rt, &ended, 6);
+    assert_out(
+        &rt,
+        &ended,
+        b"stopped in=60 out=40\nlive in=0 out=0\ntotal in=60 out=40\nworker 0 in=60 out=40\nprofile bronze in=0 out=0\nprofile gold in=60 out=40\nstatic 10.0.0.2 in=60 out=40\ndrop Malformed 0\ndrop NoSession 0\ndrop NotOpen 0\ndrop Expired 0\ndrop Spoofed 0\ndrop TooBig 0\ndrop Exceeded 5\ndrop LinkFailed 0\ndrop WantOfMemory 0\n",
+    );
+    let core: (Role, u16, &[u8]) = (Role::Core, 9001, &UP);
+    let port: (Role, u16, &[u8]) = (Role::Access(1), 9011, &DOWN);
+    let wanted: [(Role, u16, &[u8]); 7] = [
+        core,
+        core,
+        port,
+        (Role::Control, 5, b"unknown\n"),
+        core,
+        port,
+        (Role::Control, 5, b"stopping\n"),
+    ];
+    sends(&rt, &ended, &wanted);
+    Ok(())
+}
+
+#[test]
+fn a_packet_whose_send_fails_is_in_no_book(rt: HostRuntime) -> Result<(), Fail> {
+    let alloc = rt.alloc();
+    let configuration = metered(alloc, THIRDS)?;
+    let list: [(Role, u16, &[u8]); 3] = [
+        (Role::Access(1), 9011, &PADDED),
+        (Role::Access(1), 9011, &PADDED),
+        (Role::Core, 9001, &FROM_CORE),
+    ];
+    let script = script_of(alloc, &list)?;
+    // Five binds, the receives of Control, of Acct, of Auth, three times of the access port and twice of the core, and then the first send.
+    // Its packet was green and has taken its tokens, so the second one is red.
+    let ended = run_over(
+        &rt,
+        alloc,
+        &SERVE,
+        configuration.as_str(),
+        script,
+        &[14],
+        &[],
+    )?;
+    assert_status(&rt, &ended, 6);
+    assert_out(
+        &rt,
+        &ended,
+        b"stopped in=0 out=20\nlive in=0 out=0\ntotal in=0 out=20\nworker 0 in=0 out=20\nprofile bronze in=0 out=0\nprofile gold in=0 out=20\nstatic 10.0.0.2 in=0 out=20\ndrop Malformed 0\ndrop NoSession 0\ndrop NotOpen 0\ndrop Expired 0\ndrop Spoofed 0\ndrop TooBig 0\ndrop Exceeded 1\ndrop LinkFailed 1\ndrop WantOfMemory 0\n",
+    );
+    let wanted: [(Role, u16, &[u8]); 2] = [
+        (Role::Access(1), 9011, &DOWN),
+        (Role::Control, 5, b"stopping\n"),
+    ];
+    sends(&rt, &ended, &wanted);
+    Ok(())
+}
+
+#[test]
+fn days_of_silence_fill_the_buckets_and_no_more(rt: HostRuntime) -> Result<(), Fail> {
+    let alloc = rt.alloc();
+    let configuration = metered(alloc, SLOW_AND_FAST)?;
+    // A day after the opening, and two days later: each time one packet is green, one yellow and one red, and each answer is green.
+    let mut script = Vec::new(alloc);
+    for waits in [0, 1] {
+        script.push(packet().after(waits))?;
+        for _ in 0..2 {
+            script.push(packet())?;
+        }
+        for _ in 0..3 {
+            script.push(answer())?;
+        }
+    }
+    script.push(stop(0))?;
+    let ended = run_in(&rt, alloc, configuration.as_str(), script, 86_400_000)?;
+    assert_holds(
+        &rt,
+        ended.out.text().starts_with(
+            b"stopped in=80 out=120\nlive in=0 out=0\ntotal in=80 out=120\nworker 0 in=80 out=120\nprofile bronze in=0 out=0\nprofile gold in=80 out=120\n",
+        ),
+    );
+    assert_holds(
+        &rt,
+        ended.out.text().ends_with(b"drop Exceeded 2\ndrop LinkFailed 0\ndrop WantOfMemory 0\n"),
+    );
+    Ok(())
+}
+
+#[test]
+fn a_host_is_metered_by_the_profile_that_its_accept_names(rt: HostRuntime) -> Result<(), Fail> {
+    let alloc = rt.alloc();
+    let configuration = PAP.replace(alloc, "[[pool]]", HOSTS)?;
+    let mut script = begun(alloc)?;
+    script.push(reply(alloc, 1812, ACCEPT_GOLD)?)?;
+    script.push(from_host(alloc, ANY)?.after(1))?;
+    // Two packets of 40 octets at one moment, of which the second is red.
+    for heard in [ASKS, TAKES, FROM_HOST, FROM_HOST] {
+        script.push(from_host(alloc, heard)?)?;
+    }
+    script.push(stop(0))?;
+    let ended = run_in(&rt, alloc, configuration.as_str(), script, 10)?;
+    assert_out(
+        &rt,
+        &ended,
+        b"stopped in=40 out=0\nlive in=0 out=0\ntotal in=40 out=0\nworker 0 in=40 out=0\nprofile bronze in=0 out=0\nprofile gold in=40 out=0\ndrop Malformed 0\ndrop NoSession 0\ndrop NotOpen 0\ndrop Expired 0\ndrop Spoofed 0\ndrop TooBig 0\ndrop Exceeded 1\ndrop LinkFailed 0\ndrop WantOfMemory 0\n",
+    );
+    let passed = framed(alloc, &TO_HOST, PASSED)?;
+    let own = framed(alloc, &TO_HOST, OWN_ADDRESS)?;
+    let to_be = framed(alloc, &TO_HOST, TO_BE)?;
+    let gets = framed(alloc, &TO_HOST, GETS)?;
+    let port = Role::Access(1);
+    // The server says nothing to the records.
+    let rest: [(Role, u16, &[u8]); 7] = [
+        (port, 9011, passed.as_slice()),
+        (port, 9011, own.as_slice()),
+        (port, 9011, to_be.as_slice()),
+        (port, 9011, gets.as_slice()),
+        (Role::Core, 9001, UP_OF_HOST),
+        (Role::Control, 5, b"stopping\n"),
+        (port, 9011, &PADT),
+    ];
+    sends_after(&rt, alloc, &ended, 6, &rest)
+}
+
+#[test]
+fn an_accept_that_names_no_profile_is_no_login(rt: HostRuntime) -> Result<(), Fail> {
+    let alloc = rt.alloc();
+    let configuration = PAP.replace(alloc, "[[pool]]", HOSTS)?;
+    let mut script = begun(alloc)?;
+    script.push(reply(alloc, 1812, ACCEPT_GOL)?)?;
+    script.push(stop(0))?;
+    let ended = run_in(&rt, alloc, configuration.as_str(), script, 10)?;
+    let refused = framed(alloc, &TO_HOST, NO_PROFILE)?;
+    let closed = framed(alloc, &TO_HOST, TERMINATE)?;
+    let port = Role::Access(1);
+    let rest: [(Role, u16, &[u8]); 4] = [
+        (port, 9011, refused.as_slice()),
+        (port, 9011, closed.as_slice()),
+        (Role::Control, 5, b"stopping\n"),
+        (port, 9011, &PADT),
+    ];
+    sends_after(&rt, alloc, &ended, 0, &rest)?;
+    records(&rt, alloc, &ended, &[])
+}
