@@ -125,14 +125,20 @@ def table(results):
     print("A ratio is ours to plain C's: in packets for the same wall time, and for the same processor time.")
 
 
+def spent(runs):
+    """The processor time a packet over all turns: a clock that ticks a hundred times a second tells little of one of them."""
+    return sum(run.used * run.came for run in runs) / max(sum(run.came for run in runs), 1)
+
+
 def weigh(results):
-    """What a metered packet costs to one of the circuit that is not metered: in processor time, the medians of the turns."""
+    """What a metered packet costs to one of the circuit that is not metered, in processor time."""
     print("Metered, in processor time a packet to unmetered:")
     for way in ("up", "down"):
         for size in SIZES:
-            plain, metered = (results[kind, way, size][1] for kind in ("circuit", "metered"))
-            ratio = statistics.median(one.used / max(other.used, 0.01) for one, other in zip(metered, plain))
-            print(f"        {way:4} {size:6} {ratio:6.2f}")
+            plain, metered = (spent(results[kind, way, size][1]) for kind in ("circuit", "metered"))
+            print(f"        {way:4} {size:6} {metered / max(plain, 0.01):6.2f}")
+    plain, metered = (spent([run for key, runs in results.items() if key[0] == kind for run in runs[1]]) for kind in ("circuit", "metered"))
+    print(f"        all         {metered / max(plain, 0.01):6.2f}")
 
 
 def serve(lab):
