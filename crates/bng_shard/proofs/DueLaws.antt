@@ -6,8 +6,8 @@ use Rattle.bng_shard.specs.declared.session.Lease.{Lease}
 use Rattle.bng_shard.specs.declared.session.Service.{Service}
 use Rattle.bng_shard.specs.declared.session.Service.TheVariants.{Provisioned, Discovered}
 use Rattle.bng_shard.specs.declared.session.Session.{Session}
-use Rattle.bng_shard.specs.State.{State}
-use Rattle.bng_shard.specs.Timers.{deadline_in, deadline_of, deadline_unless, due_at, does_live, lives_at, lives_in}
+use Rattle.bng_shard.specs.State.{State, lives_in}
+use Rattle.bng_shard.specs.Timers.{deadline_in, deadline_of, deadline_unless, due_at, does_live, lives_at}
 use Rattle.bng_shard.proofs.Values.{none_some}
 
 read_some : (o : Option Session) (d : ℕ) → option_and_then deadline_of o ≡ Some d → (x : Session) × (o ≡ Some x) × (deadline_of x ≡ Some d)

@@ -44,12 +44,12 @@ use Rattle.bng_shard.specs.declared.session.Lease.{Lease}
 use Rattle.bng_shard.specs.declared.session.Service.{Service}
 use Rattle.bng_shard.specs.declared.session.Service.TheVariants.{Provisioned, Discovered}
 use Rattle.bng_shard.specs.declared.session.Session.{Session}
-use Rattle.bng_shard.specs.State.{State, circuit_of, leaves, session_of, settled, with_session, with_driven, with_ended, with_tunnels}
-use Rattle.bng_shard.specs.Deed.{Deed, at_of, frame_outs}
+use Rattle.bng_shard.specs.State.{Beside, State, circuit_of, leaves, session_of, settled, with_session, with_driven, with_ended, with_tunnels}
+use Rattle.bng_shard.specs.Deed.{Deed, at_of, frame_outs, tunnel_outs}
 use Rattle.bng_shard.specs.Discovery.{Answers, Makes, host_uniq_of, new_session}
 use Rattle.bng_shard.specs.Frames.{HearsData, HearsPpp, HearsControl, HearsIn, HearsFrame, HearsAccess, HearsCore}
 use Rattle.bng_shard.specs.Granting.{HasQuestion, IsGranted, IsGrantedOn, IsSound, IsYesOn, accepted_ask_at, accepted_in}
-use Rattle.bng_shard.specs.L2tp.{HearsTunnel, TellInTurn, TellsIts, tunnel_outs, tunnels_most}
+use Rattle.bng_shard.specs.L2tp.{HearsTunnel, TellInTurn, TellsIts, tunnels_most}
 use Rattle.bng_shard.specs.Link.{LinkStep, Drives, EndsWith, Told, asked_after, ended, ended_service, hears, nas_request, next_ask, question_after, settles, told, user_request}
 use Rattle.bng_shard.specs.Metered.{meters_at, meters_of, spent_input, spent_output}
 use Rattle.bng_shard.specs.Passing.{cause_at, lapsed, looked, passed_at, place_in, with_passed}
@@ -169,21 +169,21 @@ decided_yes r limited octets claim t (inr (inr (v, says, allows, g, grant, answe
 -- A link that was told this ------------------------------------------------------------------------------------------------
 
 -- what a step of a session's link does to its question, and what it sends
-record Drove (what : WholeInput) (asked : ℕ) (x : Session) (outs : List OutRecord) (x' : Session) (asked' : ℕ) : Type 0 where
+record Drove (what : WholeInput) (asked : ℕ) (x : Session) (outs : List OutRecord) (x' : Session) (beside' : Beside) : Type 0 where
   made : Made
   is_made : x.service ≡ Discovered made
   number : x'.number ≡ x.number
   asking : (q : Question) → asking_of x' q ≡ asking_of x q
   accepted : (q : Question) → accepted_in x'.service ≡ Some q → (made.question ≡ Some q) × MayAccept what made.link.auth
-  last : (q : Question) → last_in x'.service ≡ Some q → (made.question ≡ Some q) ⊎ ((is_frame what ≡ true) × (q.ask ≡ next_ask asked) × (asked' ≡ next_ask asked))
-  few : asked' ≤ asked + 1
-  still : is_frame what ≡ false → asked' ≡ asked
+  last : (q : Question) → last_in x'.service ≡ Some q → (made.question ≡ Some q) ⊎ ((is_frame what ≡ true) × (q.ask ≡ next_ask asked) × (beside' ≡ next_ask asked))
+  few : beside' ≤ asked + 1
+  still : is_frame what ≡ false → beside' ≡ asked
   has : HasQuestion x.service → HasQuestion x'.service
   yes : (o : OutRecord) → Contains outs o → x.number.0 < 65536 → (port : ℕ) (mac : Mac) (n : ℕ) → IsYesOn port mac n o.role o.frame
       → (port ≡ x.port) × (mac ≡ x.mac) × (n ≡ x.number.0) × MayAccept what made.link.auth
 
 module _ (r : Rules) (e : Entry) (a : At) (Steps : LinkStep) (what : WholeInput) (to : (old : PppState) (says : PppSaid) (new : PppState) → Steps old says new → PppSteps r.link what e.moment e.item.random old says new)
-    (asked : ℕ) (x : Session) (outs : List OutRecord) (cause : Option ℕ) (x' : Session) (asked' : ℕ) (h : Drives r a asked x Steps outs cause x' asked') where
+    (asked : ℕ) (x : Session) (outs : List OutRecord) (cause : Option ℕ) (x' : Session) (beside' : Beside) (h : Drives r a beside x Steps outs cause x' beside') where
   steps : PppSteps r.link what e.moment e.item.random h.made.link h.says h.link
   steps = to h.made.link h.says h.link h.steps
 
@@ -198,7 +198,7 @@ module _ (r : Rules) (e : Entry) (a : At) (Steps : LinkStep) (what : WholeInput)
         | inr before ↦ (before.1, accepted_by_verdict r.link e.moment e.item.random what h.made.link h.says h.link steps inside.0)
       ]
 
-  drove_last : (q : Question) → last_in x'.service ≡ Some q → (h.made.question ≡ Some q) ⊎ ((is_frame what ≡ true) × (q.ask ≡ next_ask asked) × (asked' ≡ next_ask asked))
+  drove_last : (q : Question) → last_in x'.service ≡ Some q → (h.made.question ≡ Some q) ⊎ ((is_frame what ≡ true) × (q.ask ≡ next_ask asked) × (beside' ≡ next_ask asked))
   drove_last q is =
       elim (after_question asked h.says.asked (is_begun h.link.auth) h.made.question q (ap (λ (y : Session). last_in y.service) (sym h.session) ∙ is)) [
         | inl new ↦
@@ -224,7 +224,7 @@ module _ (r : Rules) (e : Entry) (a : At) (Steps : LinkStep) (what : WholeInput)
       ] in
       subst (λ (y : Session). HasQuestion y.service) (sym h.session) new_has
 
-  drove : Drove what asked x outs x' asked'
+  drove : Drove what asked x outs x' beside'
   drove = record {
     made = h.made;
     is_made = h.is_made;
@@ -242,9 +242,9 @@ module _ (r : Rules) (e : Entry) (a : At) (Steps : LinkStep) (what : WholeInput)
   }
 
 -- whatever the session leases after the step
-abbrev leased : (what : WholeInput) (asked : ℕ) (x : Session) (outs : List OutRecord) (x' : Session) (asked' : ℕ) (lease : Option Lease)
-    → Drove what asked x outs x' asked' → Drove what asked x outs (record x' { lease = lease }) asked'
-leased what asked x outs x' asked' lease d = record {
+abbrev leased : (what : WholeInput) (asked : ℕ) (x : Session) (outs : List OutRecord) (x' : Session) (beside' : Beside) (lease : Option Lease)
+    → Drove what asked x outs x' beside' → Drove what asked x outs (record x' { lease = lease }) beside'
+leased what asked x outs x' beside' lease d = record {
   made = d.made;
   is_made = d.is_made;
   number = d.number;
@@ -258,8 +258,8 @@ leased what asked x outs x' asked' lease d = record {
 }
 
 -- or leased before it
-abbrev before_lapse : (what : WholeInput) (asked : ℕ) (x : Session) (outs : List OutRecord) (x' : Session) (asked' : ℕ) → Drove what asked (lapsed x) outs x' asked' → Drove what asked x outs x' asked'
-before_lapse what asked x outs x' asked' d = record {
+abbrev before_lapse : (what : WholeInput) (asked : ℕ) (x : Session) (outs : List OutRecord) (x' : Session) (beside' : Beside) → Drove what asked (lapsed x) outs x' beside' → Drove what asked x outs x' beside'
+before_lapse what asked x outs x' beside' d = record {
   made = d.made;
   is_made = d.is_made;
   number = d.number;
@@ -425,11 +425,11 @@ over_still s n x outs terms at none = kept_still s n x (ended x) outs terms at r
     same_last (Provisioned l) = refl
     same_last (Discovered m) = refl
 
-module _ (s : State) (n : ℕ) (x : Session) (outs : List OutRecord) (x' : Session) (asked' : ℕ) (what : WholeInput) (at : value_at s.sessions n ≡ Some x) (d : Drove what s.asked x outs x' asked')
+module _ (s : State) (n : ℕ) (x : Session) (outs : List OutRecord) (x' : Session) (beside' : Beside) (what : WholeInput) (at : value_at s.sessions n ≡ Some x) (d : Drove what s.asked x outs x' beside')
     (begun : ℕ) (terms news : List Tenure) (meters : List Meters) where
-  drove_sound : IsSound s → IsSound (state_with s n x' asked' begun terms news meters)
+  drove_sound : IsSound s → IsSound (state_with s n x' beside' begun terms news meters)
   drove_sound h =
-      sound_driven s n x' asked' begun terms news meters (sound_with s n x' h (ap (λ (i : SessionNo). i.0) d.number ∙ h.own n x at) (h.of_shard n (ap is_some at)) (d.has (h.questions n x at)))
+      sound_driven s n x' beside' begun terms news meters (sound_with s n x' h (ap (λ (i : SessionNo). i.0) d.number ∙ h.own n x at) (h.of_shard n (ap is_some at)) (d.has (h.questions n x at)))
 
   circuit_same : (port : ℕ) (mac : Mac) (m : ℕ) → port ≡ x.port → mac ≡ x.mac → m ≡ x.number.0 → circuit_of x ≡ Pppoe port mac (record { 0 = m })
   circuit_same port mac m p q t = λ i. Pppoe (sym p i) (sym q i) (record { 0 = sym t i })
@@ -453,7 +453,7 @@ module _ (s : State) (n : ℕ) (x : Session) (outs : List OutRecord) (x' : Sessi
       }
 
   drove_accepts : (Is : ℕ → ℕ → Type 0) → ((q : Question) → d.made.question ≡ Some q → MayAccept what d.made.link.auth → Is n q.ask) → ((m ask : ℕ) → accepted_ask_at s m ≡ Some ask → Is m ask)
-      → (m ask : ℕ) → accepted_ask_at (state_with s n x' asked' begun terms news meters) m ≡ Some ask → Is m ask
+      → (m ask : ℕ) → accepted_ask_at (state_with s n x' beside' begun terms news meters) m ≡ Some ask → Is m ask
   drove_accepts Is grant was m ask is =
       elim (accepted_with s n x' m ask is) [
         | inl here ↦
@@ -463,7 +463,7 @@ module _ (s : State) (n : ℕ) (x : Session) (outs : List OutRecord) (x' : Sessi
       ]
 
   drove_grants : (Is : ℕ → ℕ → Type 0) → ((q : Question) → d.made.question ≡ Some q → MayAccept what d.made.link.auth → Is n q.ask) → ((m ask : ℕ) → accepted_ask_at s m ≡ Some ask → Is m ask)
-      → Grants s Is outs (state_with s n x' asked' begun terms news meters)
+      → Grants s Is outs (state_with s n x' beside' begun terms news meters)
   drove_grants Is grant was = record {
     sound = drove_sound;
     yes = drove_yes Is grant;
@@ -471,7 +471,7 @@ module _ (s : State) (n : ℕ) (x : Session) (outs : List OutRecord) (x' : Sessi
     last = λ low m a is. elim (last_with s n x' m a is) [
       | inl here ↦ elim (d.last here.1 here.2) [
         | inl before ↦ inl (ap (λ (i : ℕ). last_asking_at s i) here.0 ∙ last_there s n x at d.made d.is_made here.1 before ∙ ap (λ (b : Asking). Some b) (sym (d.asking here.1) ∙ here.3))
-        | inr new ↦ inr (new_number s.asked asked' a.number.ask new.2 (sym (ap (λ (b : Asking). b.number.ask) here.3) ∙ new.1) low)
+        | inr new ↦ inr (new_number s.asked beside' a.number.ask new.2 (sym (ap (λ (b : Asking). b.number.ask) here.3) ∙ new.1) low)
       ]
       | inr before ↦ inl before
     ];
@@ -479,7 +479,7 @@ module _ (s : State) (n : ℕ) (x : Session) (outs : List OutRecord) (x' : Sessi
   }
 
   -- neither a frame nor a verdict
-  drove_still : is_frame what ≡ false → is_yes_verdict what ≡ false → Still s outs (state_with s n x' asked' begun terms news meters)
+  drove_still : is_frame what ≡ false → is_yes_verdict what ≡ false → Still s outs (state_with s n x' beside' begun terms news meters)
   drove_still no_frame no_verdict = record {
     sound = drove_sound;
     yes = drove_yes (Was s) only_was;
@@ -519,16 +519,16 @@ module _ (r : Rules) (e : Entry) where
   looks_still : (o : Option ℕ) (s : State) (n : ℕ) (x : Session) (outs : List OutRecord) (s' : State) → value_at s.sessions n ≡ Some x → LooksAt o r e s n x outs s' → Still s outs s'
   looks_still None s n x outs s' at (none, next) =
       subst (Still s outs) (sym next) (kept_still s n x (looked (passed_at s.passed x.number) x) outs s.terms at refl (λ h. h) refl refl (λ q. refl) (empty_no_yes outs none))
-  looks_still (Some cause) s n x outs s' at (y, none, asked', drives, next) =
-      let d = before_lapse Close s.asked x outs y asked' (drove r e (at_of s e) (told r e Close) Close (told_is Close) s.asked (lapsed x) outs none y asked' drives) in
-      subst (Still s outs) (sym next) (drove_still s n x outs y asked' Close at d s.begun (closed x.lease (Some cause) s.terms) s.news s.meters refl refl)
+  looks_still (Some cause) s n x outs s' at (y, none, beside', drives, next) =
+      let d = before_lapse Close s.asked x outs y beside' (drove r e (at_of s e) (told r e Close) Close (told_is Close) s.asked (lapsed x) outs none y beside' drives) in
+      subst (Still s outs) (sym next) (drove_still s n x outs y beside' Close at d s.begun (closed x.lease (Some cause) s.terms) s.news s.meters refl refl)
 
   timed_still : (s : State) (n : ℕ) (outs : List OutRecord) (s' : State) → IsTimed r e s n outs s' → Still s outs s'
   timed_still s n outs s' h =
-      let d = drove r e (at_of s e) (told r e Timer) Timer (told_is Timer) s.asked h.x h.first h.cause h.after h.asked h.drives in
-      let next = with_driven s n h.x.lease h.cause h.after h.asked in
+      let d = drove r e (at_of s e) (told r e Timer) Timer (told_is Timer) s.asked h.x h.first h.cause h.after h.beside h.drives in
+      let next = with_driven s n h.x.lease h.cause h.after h.beside in
       equal_still s (h.first ++ h.then) outs s' h.outs_are
-      (chain_still s next s' h.first h.then (drove_still s n h.x h.first h.after h.asked Timer h.found d s.begun (closed h.x.lease h.cause s.terms) s.news s.meters refl refl)
+      (chain_still s next s' h.first h.then (drove_still s n h.x h.first h.after h.beside Timer h.found d s.begun (closed h.x.lease h.cause s.terms) s.news s.meters refl refl)
       (looks_still (cause_at (passed_at s.passed h.after.number) h.after.lease e.moment) next n h.after h.then s' (value_at-with_value s.sessions n h.after) h.looks))
 
   ticks_still : (k : ℕ) (s : State) (outs : List OutRecord) (s' : State) → Ticks k r e s outs s' → Still s outs s'
@@ -590,8 +590,8 @@ module _ (r : Rules) (s : State) (limited : Bool) (e : Entry) (d : Deed) where
     fresh : Session
     fresh = new_session h.session number p.src (host_uniq_of tags) h.link
 
-    started : Drove Start s.asked (new_session h.session number p.src (host_uniq_of tags) h.link) h.outs h.x h.asked
-    started = drove r e (at_of s e) (told r e Start) Start (told_is r e Start) s.asked (new_session h.session number p.src (host_uniq_of tags) h.link) h.outs h.cause h.x h.asked h.starts
+    started : Drove Start s.asked (new_session h.session number p.src (host_uniq_of tags) h.link) h.outs h.x h.beside
+    started = drove r e (at_of s e) (told r e Start) Start (told_is r e Start) s.asked (new_session h.session number p.src (host_uniq_of tags) h.link) h.outs h.cause h.x h.beside h.starts
 
     auth_in : Authentication → Service → Authentication
     auth_in a (Provisioned l) = a
@@ -626,7 +626,7 @@ module _ (r : Rules) (s : State) (limited : Bool) (e : Entry) (d : Deed) where
 
     makes_grants : Deeds
     makes_grants = deed _ h.done (record {
-      sound = λ sound. sound_driven s h.session h.x h.asked s.begun s.terms s.news s.meters (sound_with s h.session h.x sound (ap (λ (i : SessionNo). i.0) started.number) h.vacant.of_shard (started.has has_none));
+      sound = λ sound. sound_driven s h.session h.x h.beside s.begun s.terms s.news s.meters (sound_with s h.session h.x sound (ap (λ (i : SessionNo). i.0) started.number) h.vacant.of_shard (started.has has_none));
       yes = λ sound port' mac n o c tells. absurd (both_no_yes (frame_outs (at_of s e) number port (pads_of offers p.src h.session tags)) h.outs pads_no_yes (start_no_yes sound) port' mac n o c tells);
       accepted = λ n ask is. elim (accepted_with s h.session h.x n ask is) [
         | inl here ↦ absurd (no_question here.1 (started.accepted here.1 here.2).0)
@@ -655,9 +655,9 @@ module _ (r : Rules) (s : State) (limited : Bool) (e : Entry) (d : Deed) where
   -- the link of a session hears a frame
   ppp : (x : Session) (made : Made) (p : PppoeFrame) → value_at s.sessions p.session ≡ Some x → HearsPpp r s e x made p d → Deeds
   ppp x made p at (inl (gone, h)) = quiet _ h refl none_yes
-  ppp x made p at (inr (live, outs, cause, x', asked', drives, h)) =
-      let heard = drove r e (at_of s e) (hears r e p.payload) (frame_of p.payload) (hears_is r e p.payload) s.asked x outs cause x' asked' drives in
-      deed _ h (drove_grants s p.session x outs x' asked' (frame_of p.payload) at heard s.begun (closed x.lease cause s.terms) s.news s.meters (IsGranted s e) (λ q is may. elim may [
+  ppp x made p at (inr (live, outs, cause, x', beside', drives, h)) =
+      let heard = drove r e (at_of s e) (hears r e p.payload) (frame_of p.payload) (hears_is r e p.payload) s.asked x outs cause x' beside' drives in
+      deed _ h (drove_grants s p.session x outs x' beside' (frame_of p.payload) at heard s.begun (closed x.lease cause s.terms) s.news s.meters (IsGranted s e) (λ q is may. elim may [
         | inl was ↦ inl (accepted_there s p.session x at heard.made heard.is_made q is was)
         | inr found ↦ absurd (false≢true found.0)
       ]) (λ m ask is. inl is))
@@ -695,8 +695,8 @@ module _ (r : Rules) (s : State) (limited : Bool) (e : Entry) (d : Deed) where
 
   -- the session's link was told what the octets of the entry come to
   module _ (kind : e.item.kind ≡ Verdict) (asks : open_ask_at s e.item.target ≡ Some e.item.ask) (t : Told) (decides : Decides r limited e.item.frame.payload e.claim (Some t)) (h : Judges r s e t d) where
-    was_told : Drove (verdict_of t) s.asked h.x h.outs h.after h.asked
-    was_told = drove r e (at_of s e) (settles r e t) (verdict_of t) (settles_is r e t) s.asked h.x h.outs h.cause h.after h.asked h.drives
+    was_told : Drove (verdict_of t) s.asked h.x h.outs h.after h.beside
+    was_told = drove r e (at_of s e) (settles r e t) (verdict_of t) (settles_is r e t) s.asked h.x h.outs h.cause h.after h.beside h.drives
 
     ask_there : option_map (λ (p : Question). p.ask) (open_of h.x) ≡ Some e.item.ask
     ask_there = ap (λ (o : Option Session). option_map (λ (p : Question). p.ask) (option_and_then open_of o)) (sym h.found) ∙ asks
@@ -709,13 +709,13 @@ module _ (r : Rules) (s : State) (limited : Bool) (e : Entry) (d : Deed) where
         inr (record { kind = kind; target = refl; number = sym same; verdict = v.0; says = v.1; yes = v.2 }, asks ∙ ap (λ (i : ℕ). Some i) (sym same))
 
     -- whether a term begins or not
-    settled_grants : (lease : Option Ip4) → Grants s (IsGranted s e) h.outs (settled_by s e.item.target h.x h.question t e.moment h.after h.asked lease)
+    settled_grants : (lease : Option Ip4) → Grants s (IsGranted s e) h.outs (settled_by s e.item.target h.x h.question t e.moment h.after h.beside lease)
     settled_grants None =
-        drove_grants s e.item.target h.x h.outs h.after h.asked (verdict_of t) h.found was_told s.begun s.terms s.news s.meters (IsGranted s e) told_grants (λ m k before. inl before)
+        drove_grants s e.item.target h.x h.outs h.after h.beside (verdict_of t) h.found was_told s.begun s.terms s.news s.meters (IsGranted s e) told_grants (λ m k before. inl before)
     settled_grants (Some a) =
         let new = next_term s h.x h.question t.plan t.class e.moment a in
         let lease = Some (next_lease s t.plan t.limits e.moment a) in
-        drove_grants s e.item.target h.x h.outs (record h.after { lease = lease }) h.asked (verdict_of t) h.found (leased (verdict_of t) s.asked h.x h.outs h.after h.asked lease was_told)
+        drove_grants s e.item.target h.x h.outs (record h.after { lease = lease }) h.beside (verdict_of t) h.found (leased (verdict_of t) s.asked h.x h.outs h.after h.beside lease was_told)
         (s.begun + 1) (s.terms ++ new ∷ []) (s.news ++ new ∷ []) (slice_set s.meters (place_in h.after.number) (meters_of t.plan e.moment)) (IsGranted s e) told_grants (λ m k before. inl before)
 
   judged : e.item.kind ≡ Verdict → HearsVerdict r s e limited d → Deeds

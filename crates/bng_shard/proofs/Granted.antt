@@ -21,9 +21,8 @@ use Rattle.bng_pppoe_wire.proofs.Judging.{one_layout}
 use Rattle.bng_pppoe_wire.proofs.Spelled.{six, laid_text, length-pppoe_text}
 use Rattle.bng_base.specs.declared.item.At.{At}
 use Rattle.bng_shard.specs.declared.session.Session.{Session}
-use Rattle.bng_shard.specs.Deed.{out, frame_outs}
+use Rattle.bng_shard.specs.Deed.{frame_outs, out, tunnel_outs}
 use Rattle.bng_shard.specs.Granting.{IsYesOn}
-use Rattle.bng_shard.specs.L2tp.{tunnel_outs}
 use Rattle.bng_shard.specs.Link.{padt_outs, ppp_outs, said_outs}
 use Rattle.bng_shard.proofs.QuestionLaws.{held}
 

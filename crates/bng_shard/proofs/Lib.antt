@@ -51,6 +51,7 @@ pub mod Discovering
 pub mod Arriving
 pub mod Timing
 pub mod Looking
+pub mod Reminding
 pub mod Framing
 pub mod ByKind
 pub mod Values

@@ -51,11 +51,11 @@ use Rattle.bng_shard.specs.declared.session.Lease.{Lease}
 use Rattle.bng_shard.specs.declared.session.Service.{Service}
 use Rattle.bng_shard.specs.declared.session.Service.TheVariants.{Provisioned, Discovered}
 use Rattle.bng_shard.specs.declared.session.Session.{Session}
-use Rattle.bng_shard.specs.State.{State, port_at, session_of, with_driven, with_ended, with_tunnels}
-use Rattle.bng_shard.specs.Deed.{Deed, at_of, out, frame_outs, only, handled, arrival_in}
+use Rattle.bng_shard.specs.State.{Beside, State, port_at, session_of, with_driven, with_ended, with_tunnels}
+use Rattle.bng_shard.specs.Deed.{Deed, arrival_in, at_of, beside_of, frame_outs, handled, only, out, tunnel_outs}
 use Rattle.bng_shard.specs.Discovery.{Answers, Discovers, IsNewLink, IsVacancy, Makes, Repeats, host_uniq_of, new_session, repeated}
 use Rattle.bng_shard.specs.Frames.{charge_of, forwarded, found_up, found_down, GoesUp, GoesDown, HearsData, HearsPadt, HearsPpp, HearsControl, HearsIn, HearsFrame, HearsAccess, HearsPacket, HearsCore}
-use Rattle.bng_shard.specs.L2tp.{HearsAnswer, HearsMessage, HearsTunnel, heard_by, tunnel_outs, tunnels_most}
+use Rattle.bng_shard.specs.L2tp.{HearsAnswer, HearsMessage, HearsTunnel, heard_by, tunnels_most}
 use Rattle.bng_shard.specs.Link.{LinkStep, Drives, EndsWith, padt_outs, said_outs, asked_after, with_link, Told, told, hears, nas_request, settles, ended}
 use Rattle.bng_shard.specs.Metered.{meters_at, spent_input, spent_output}
 use Rattle.bng_shard.specs.Passing.{cause_at, lapsed, passed_at}
@@ -79,9 +79,9 @@ same_found o x y e f = same_Some x y (sym e ∙ f)
 abbrev IsOne : LinkStep → Type 0
 IsOne Goes = (old new next : PppState) (says other : PppSaid) → Goes old says new → Goes old other next → (says ≡ other) × (new ≡ next)
 
-module _ (r : Rules) (a : At) (asked : ℕ) (Goes : LinkStep) (one : IsOne Goes) (x : Session) (outs outs' : List OutRecord) (cause cause' : Option ℕ) (x' x'' : Session) (asked' asked'' : ℕ) where
+module _ (r : Rules) (a : At) (asked : ℕ) (Goes : LinkStep) (one : IsOne Goes) (x : Session) (outs outs' : List OutRecord) (cause cause' : Option ℕ) (x' x'' : Session) (beside' beside'' : Beside) where
   -- the session's link makes one step
-  drives_one : Drives r a asked x Goes outs cause x' asked' → Drives r a asked x Goes outs' cause' x'' asked'' → (outs ≡ outs') × (x' ≡ x'') × (asked' ≡ asked'') × (cause ≡ cause')
+  drives_one : Drives r a beside x Goes outs cause x' beside' → Drives r a beside x Goes outs' cause' x'' beside'' → (outs ≡ outs') × (x' ≡ x'') × (beside' ≡ beside'') × (cause ≡ cause')
   drives_one h k =
       let made = same_made x.service h.made k.made h.is_made k.is_made in
       let port = same_found _ h.port k.port h.at.port_is k.at.port_is in
@@ -152,32 +152,32 @@ EndsAt k n r e s outs s' =
     (x : Session) × (value_at s.sessions n ≡ Some x) × (padt rest : List OutRecord) × TellsEnd x.service r (at_of s e) x padt
     × Ends k r e (with_ended s n x.lease nas_request (ended x)) rest s' × (outs ≡ padt ++ rest)
 
-driven_equal : (s : State) (n : ℕ) (lease : Option Lease) (cause cause' : Option ℕ) (x y : Session) (asked asked' : ℕ) → cause ≡ cause' → x ≡ y → asked ≡ asked'
-    → with_driven s n lease cause x asked ≡ with_driven s n lease cause' y asked'
-driven_equal s n lease cause cause' x y asked asked' causes same count =
+driven_equal : (s : State) (n : ℕ) (lease : Option Lease) (cause cause' : Option ℕ) (x y : Session) (asked beside' : ℕ) → cause ≡ cause' → x ≡ y → asked ≡ beside'
+    → with_driven s n lease cause x asked ≡ with_driven s n lease cause' y beside'
+driven_equal s n lease cause cause' x y asked beside' causes same count =
     ap (λ (c : Option ℕ). with_driven s n lease c x asked) causes ∙ ap (λ (z : Session). with_driven s n lease cause' z asked) same ∙ ap (λ (m : ℕ). with_driven s n lease cause' y m) count
 
 -- a session's live term is looked at in one way
 looks_one : (over : Option ℕ) (r : Rules) (e : Entry) (s : State) (n : ℕ) (x : Session) (outs outs' : List OutRecord) (s' s'' : State) → LooksAt over r e s n x outs s' → LooksAt over r e s n x outs' s'' → (outs ≡ outs') × (s' ≡ s'')
 looks_one None r e s n x outs outs' s' s'' h k = (h.0 ∙ sym k.0, h.1 ∙ sym k.1)
-looks_one (Some over) r e s n x outs outs' s' s'' (after, none, asked, drives, is) (after', none', asked', drives', is') =
-    let one = drives_one r (at_of s e) s.asked (told r e Close) (told_is_one r e Close) (lapsed x) outs outs' none none' after after' asked asked' drives drives' in
-    (one.0, is ∙ driven_equal s n x.lease (Some over) (Some over) after after' asked asked' refl one.1 one.2 ∙ sym is')
+looks_one (Some over) r e s n x outs outs' s' s'' (after, none, asked, drives, is) (after', none', beside', drives', is') =
+    let one = drives_one r (at_of s e) (beside_of s e) (told r e Close) (told_is_one r e Close) (lapsed x) outs outs' none none' after after' asked beside' drives drives' in
+    (one.0, is ∙ driven_equal s n x.lease (Some over) (Some over) after after' asked beside' refl one.1 one.2 ∙ sym is')
 
 module _ (r : Rules) (e : Entry) where
   -- and so is a deadline handled
   timed_one : (s : State) (n : ℕ) (outs outs' : List OutRecord) (s' s'' : State) → IsTimed r e s n outs s' → IsTimed r e s n outs' s'' → (outs ≡ outs') × (s' ≡ s'')
   timed_one s n outs outs' s' s'' h k =
       let same = same_found _ h.x k.x h.found k.found in
-      let moved : Drives r (at_of s e) s.asked h.x (told r e Timer) k.first k.cause k.after k.asked = subst (λ (z : Session). Drives r (at_of s e) s.asked z (told r e Timer) k.first k.cause k.after k.asked) (sym same) k.drives in
-      let one = drives_one r (at_of s e) s.asked (told r e Timer) (told_is_one r e Timer) h.x h.first k.first h.cause k.cause h.after k.after h.asked k.asked h.drives moved in
-      let driven : with_driven s n h.x.lease h.cause h.after h.asked ≡ with_driven s n k.x.lease k.cause k.after k.asked =
-      ap (λ (z : Session). with_driven s n z.lease h.cause h.after h.asked) same ∙ driven_equal s n k.x.lease h.cause k.cause h.after k.after h.asked k.asked one.3 one.1 one.2 in
+      let moved : Drives r (at_of s e) (beside_of s e) h.x (told r e Timer) k.first k.cause k.after k.beside = subst (λ (z : Session). Drives r (at_of s e) (beside_of s e) z (told r e Timer) k.first k.cause k.after k.beside) (sym same) k.drives in
+      let one = drives_one r (at_of s e) (beside_of s e) (told r e Timer) (told_is_one r e Timer) h.x h.first k.first h.cause k.cause h.after k.after h.beside k.beside h.drives moved in
+      let driven : with_driven s n h.x.lease h.cause h.after h.beside ≡ with_driven s n k.x.lease k.cause k.after k.beside =
+      ap (λ (z : Session). with_driven s n z.lease h.cause h.after h.beside) same ∙ driven_equal s n k.x.lease h.cause k.cause h.after k.after h.beside k.beside one.3 one.1 one.2 in
       let over : Session → Option ℕ = λ z. cause_at (passed_at s.passed z.number) z.lease e.moment in
-      let by_state : LooksAt (over k.after) r e (with_driven s n h.x.lease h.cause h.after h.asked) n k.after k.then s'' = subst (λ (t : State). LooksAt (over k.after) r e t n k.after k.then s'') (sym driven) k.looks in
-      let by_session : LooksAt (over h.after) r e (with_driven s n h.x.lease h.cause h.after h.asked) n h.after k.then s'' =
-      subst (λ (z : Session). LooksAt (over z) r e (with_driven s n h.x.lease h.cause h.after h.asked) n z k.then s'') (sym one.1) by_state in
-      let last = looks_one (over h.after) r e (with_driven s n h.x.lease h.cause h.after h.asked) n h.after h.then k.then s' s'' h.looks by_session in
+      let by_state : LooksAt (over k.after) r e (with_driven s n h.x.lease h.cause h.after h.beside) n k.after k.then s'' = subst (λ (t : State). LooksAt (over k.after) r e t n k.after k.then s'') (sym driven) k.looks in
+      let by_session : LooksAt (over h.after) r e (with_driven s n h.x.lease h.cause h.after h.beside) n h.after k.then s'' =
+      subst (λ (z : Session). LooksAt (over z) r e (with_driven s n h.x.lease h.cause h.after h.beside) n z k.then s'') (sym one.1) by_state in
+      let last = looks_one (over h.after) r e (with_driven s n h.x.lease h.cause h.after h.beside) n h.after h.then k.then s' s'' h.looks by_session in
       (h.outs_are ∙ ap (λ (os : List OutRecord). os ++ h.then) one.0 ∙ ap (λ (os : List OutRecord). k.first ++ os) last.0 ∙ sym k.outs_are, last.1)
 
   tick_one : (k n : ℕ) → Alone (Ticks k r e) → Alone (TicksAt k n r e)
@@ -351,13 +351,13 @@ module _ (r : Rules) (s : State) (e : Entry) (d d' : Deed) where
       let link = link_one e.item.random h.link k.link h.new k.new in
       let fresh : new_session h.session number p.src (host_uniq_of tags) h.link ≡ new_session k.session number p.src (host_uniq_of tags) k.link =
       ap (λ (n : ℕ). new_session n number p.src (host_uniq_of tags) h.link) session ∙ ap (λ (l : PppState). new_session k.session number p.src (host_uniq_of tags) l) link in
-      let starts : Drives r (at_of s e) s.asked (new_session h.session number p.src (host_uniq_of tags) h.link) (told r e Start) k.outs k.cause k.x k.asked =
-      subst (λ (y : Session). Drives r (at_of s e) s.asked y (told r e Start) k.outs k.cause k.x k.asked) (sym fresh) k.starts in
-      let one = drives_one r (at_of s e) s.asked (told r e Start) (told_is_one r e Start) (new_session h.session number p.src (host_uniq_of tags) h.link) h.outs k.outs h.cause k.cause h.x k.x h.asked k.asked h.starts starts in
+      let starts : Drives r (at_of s e) (beside_of s e) (new_session h.session number p.src (host_uniq_of tags) h.link) (told r e Start) k.outs k.cause k.x k.beside =
+      subst (λ (y : Session). Drives r (at_of s e) (beside_of s e) y (told r e Start) k.outs k.cause k.x k.beside) (sym fresh) k.starts in
+      let one = drives_one r (at_of s e) (beside_of s e) (told r e Start) (told_is_one r e Start) (new_session h.session number p.src (host_uniq_of tags) h.link) h.outs k.outs h.cause k.cause h.x k.x h.beside k.beside h.starts starts in
       let front : ℕ → List OutRecord = λ n. frame_outs (at_of s e) number port (pads_of offers p.src n tags) in
-      same_handled (front h.session ++ h.outs) (front k.session ++ k.outs) (with_driven s h.session None h.cause h.x h.asked) (with_driven s k.session None k.cause k.x k.asked) (
+      same_handled (front h.session ++ h.outs) (front k.session ++ k.outs) (with_driven s h.session None h.cause h.x h.beside) (with_driven s k.session None k.cause k.x k.beside) (
         ap (λ (n : ℕ). front n ++ h.outs) session ∙ ap (λ (os : List OutRecord). front k.session ++ os) one.0,
-        ap (λ (n : ℕ). with_driven s n None h.cause h.x h.asked) session ∙ driven_equal s k.session None h.cause k.cause h.x k.x h.asked k.asked one.3 one.1 one.2,
+        ap (λ (n : ℕ). with_driven s n None h.cause h.x h.beside) session ∙ driven_equal s k.session None h.cause k.cause h.x k.x h.beside k.beside one.3 one.1 one.2,
       )
       h.done k.done
 
@@ -402,12 +402,12 @@ module _ (r : Rules) (s : State) (e : Entry) (d d' : Deed) where
 
   ppp_one : (x : Session) (made : Made) (p : PppoeFrame) → HearsPpp r s e x made p d → HearsPpp r s e x made p d' → d ≡ d'
   ppp_one x made p (inl (over, h)) (inl (over', k)) = same_deed _ h k
-  ppp_one x made p (inl (over, h)) (inr (live', outs', cause', x'', asked'', drives', k)) = absurd (false≢true (sym live' ∙ over))
-  ppp_one x made p (inr (live, outs, cause, x', asked', drives, h)) (inl (over', k)) = absurd (false≢true (sym live ∙ over'))
-  ppp_one x made p (inr (live, outs, cause, x', asked', drives, h)) (inr (live', outs', cause', x'', asked'', drives', k)) =
-      let one = drives_one r (at_of s e) s.asked (hears r e p.payload) (frame_is_one r e p.payload) x outs outs' cause cause' x' x'' asked' asked'' drives drives' in
-      same_handled outs outs' (with_driven s p.session x.lease cause x' asked') (with_driven s p.session x.lease cause' x'' asked'')
-      (one.0, driven_equal s p.session x.lease cause cause' x' x'' asked' asked'' one.3 one.1 one.2) h k
+  ppp_one x made p (inl (over, h)) (inr (live', outs', cause', x'', beside'', drives', k)) = absurd (false≢true (sym live' ∙ over))
+  ppp_one x made p (inr (live, outs, cause, x', beside', drives, h)) (inl (over', k)) = absurd (false≢true (sym live ∙ over'))
+  ppp_one x made p (inr (live, outs, cause, x', beside', drives, h)) (inr (live', outs', cause', x'', beside'', drives', k)) =
+      let one = drives_one r (at_of s e) (beside_of s e) (hears r e p.payload) (frame_is_one r e p.payload) x outs outs' cause cause' x' x'' beside' beside'' drives drives' in
+      same_handled outs outs' (with_driven s p.session x.lease cause x' beside') (with_driven s p.session x.lease cause' x'' beside'')
+      (one.0, driven_equal s p.session x.lease cause cause' x' x'' beside' beside'' one.3 one.1 one.2) h k
 
   padt_one : (x : Session) (made : Made) (p : PppoeFrame) → HearsPadt s e x made p d → HearsPadt s e x made p d' → d ≡ d'
   padt_one x made p (inl (over, h)) (inl (over', k)) = same_deed _ h k
@@ -466,15 +466,15 @@ module _ (r : Rules) (s : State) (e : Entry) (d d' : Deed) where
       let n = e.item.target in
       let x = same_found _ h.x k.x h.found k.found in
       let question = same_found (open_of k.x) h.question k.question (ap open_of (sym x) ∙ h.asks) k.asks in
-      let drives : Drives r (at_of s e) s.asked h.x (settles r e t) k.outs k.cause k.after k.asked =
-      subst (λ (y : Session). Drives r (at_of s e) s.asked y (settles r e t) k.outs k.cause k.after k.asked) (sym x) k.drives in
-      let one = drives_one r (at_of s e) s.asked (settles r e t) (verdict_is_one r e t) h.x h.outs k.outs h.cause k.cause h.after k.after h.asked k.asked h.drives drives in
+      let drives : Drives r (at_of s e) (beside_of s e) h.x (settles r e t) k.outs k.cause k.after k.beside =
+      subst (λ (y : Session). Drives r (at_of s e) (beside_of s e) y (settles r e t) k.outs k.cause k.after k.beside) (sym x) k.drives in
+      let one = drives_one r (at_of s e) (beside_of s e) (settles r e t) (verdict_is_one r e t) h.x h.outs k.outs h.cause k.cause h.after k.after h.beside k.beside h.drives drives in
       let states =
-      ap (λ (y : Session). settled_by s n y h.question t e.moment h.after h.asked t.lease) x
-      ∙ ap (λ (q : Question). settled_by s n k.x q t e.moment h.after h.asked t.lease) question
-      ∙ ap (λ (y : Session). settled_by s n k.x k.question t e.moment y h.asked t.lease) one.1
+      ap (λ (y : Session). settled_by s n y h.question t e.moment h.after h.beside t.lease) x
+      ∙ ap (λ (q : Question). settled_by s n k.x q t e.moment h.after h.beside t.lease) question
+      ∙ ap (λ (y : Session). settled_by s n k.x k.question t e.moment y h.beside t.lease) one.1
       ∙ ap (λ (m : ℕ). settled_by s n k.x k.question t e.moment k.after m t.lease) one.2 in
-      same_handled h.outs k.outs (settled_by s n h.x h.question t e.moment h.after h.asked t.lease) (settled_by s n k.x k.question t e.moment k.after k.asked t.lease) (one.0, states) h.done k.done
+      same_handled h.outs k.outs (settled_by s n h.x h.question t e.moment h.after h.beside t.lease) (settled_by s n k.x k.question t e.moment k.after k.beside t.lease) (one.0, states) h.done k.done
 
   verdict_entry : (limited : Bool) → HearsVerdict r s e limited d → HearsVerdict r s e limited d' → d ≡ d'
   verdict_entry limited (inl (asks, t, decides, h)) (inl (asks', u, decides', k)) =

@@ -15,9 +15,9 @@ use Rattle.bng_shard.specs.declared.session.Session.{Session}
 use Rattle.bng_shard.specs.Indexed.{address_of, term_of}
 use Rattle.bng_shard.specs.Listing.{does_pass}
 use Rattle.bng_shard.specs.Serving.{AreApart, AreLeased, AreOwn, AreOfShard, KeepsLease}
-use Rattle.bng_shard.specs.State.{circuit_of, leaves, leaves_in}
+use Rattle.bng_shard.specs.State.{circuit_of, leaves, leaves_in, lives_in}
 use Rattle.bng_shard.specs.Tenures.{kept_lease}
-use Rattle.bng_shard.specs.Timers.{does_live, does_stay, lives_in}
+use Rattle.bng_shard.specs.Timers.{does_live, does_stay}
 use Rattle.bng_shard.proofs.Earliest.{read_there}
 use Rattle.bng_shard.proofs.Values.{same_some, none_some}
 

@@ -151,9 +151,9 @@ module _ (r : Rules) (s : State) (limited : Bool) (a : At) (now : ℕ) (item : I
       → length outs' ≤ length outs + 5 → Does (HearsVerdict r s entry limited) 5 s s' outs outs' entry Consumed
   is_told here asked t decides s' outs' settled few =
       let (x, q, found, asks) = asks_there s item.target item.ask asked in
-      let (x', cause, asked', step, no_term, next) = settled x q found asks in
+      let (x', cause, beside', step, no_term, next) = settled x q found asks in
       record {
-        deed = handled s entry step.more (settled_by s item.target x q t now x' asked' t.lease);
+        deed = handled s entry step.more (settled_by s item.target x q t now x' beside' t.lease);
         entry = refl;
         fate_is = refl;
         next = sym next;
@@ -169,12 +169,12 @@ module _ (r : Rules) (s : State) (limited : Bool) (a : At) (now : ℕ) (item : I
             asks = asks;
             outs = step.more;
             after = x';
-            asked = asked';
+            asked = beside';
             cause = cause;
-            drives = drives r s a now item outs outs' x x' (IsToldVerdict r.link t now item.random) s.asked cause asked' here step;
+            drives = drives r s a now item outs outs' x x' (IsToldVerdict r.link t now item.random) s.asked cause beside' here step;
             done = refl;
           },
         );
         outs_are = step.outs_are;
-        few = driven_few r s a now item outs outs' x x' (IsToldVerdict r.link t now item.random) s.asked cause asked' here step 5 few;
+        few = driven_few r s a now item outs outs' x x' (IsToldVerdict r.link t now item.random) s.asked cause beside' here step 5 few;
       }

@@ -2,7 +2,6 @@
 use Rattle.std.proofs.Common.{◌≡◌, ◌<◌, ◌≤◌, ◌+◌, ◌-◌, ℕ, suc, true, false, List, [], ◌++◌, length, Option, Some, None, refl, inl, inr, sym, ap, subst, ◌∙◌, arith, append_assoc, append-nil, length-append, add-zero, zero-add}
 use Rattle.bng_base.specs.declared.item.Entry.{Entry}
 use Rattle.bng_base.specs.declared.item.OutRecord.{OutRecord}
-use Rattle.bng_lns.specs.Timed.{reminded}
 use Rattle.bng_lns.specs.Tunnels.{TunnelsState}
 use Rattle.bng_shard.specs.declared.rules.Rules.{Rules}
 use Rattle.bng_base.specs.declared.item.At.{At}
@@ -10,7 +9,7 @@ use Rattle.bng_shard.specs.declared.session.Session.{Session}
 use Rattle.bng_shard.specs.State.{State, with_tunnels}
 use Rattle.bng_shard.specs.Deed.{at_of}
 use Rattle.bng_shard.specs.Timers.{Ticks, Ends, TellsEnd, IsFirstDue, IsTimed, LooksAt, NoneIsDue, StopsTunnels, at_once}
-use Rattle.bng_shard.specs.Timed.{TickedOnce, EndedOnce, Ticked, Ended, TickDone, EndDone, ToldInTurn}
+use Rattle.bng_shard.specs.Timed.{TickedOnce, EndedOnce, Ticked, Ended, TickDone, EndDone, RemindedInTurn}
 
 -- whose outs they are stays while the shard's number stays
 same_at : (s s₀ : State) (e : Entry) → s.sessions.shard ≡ s₀.sessions.shard → at_of s e ≡ at_of s₀ e
@@ -138,14 +137,14 @@ module _ (r : Rules) (a : At) (s₀ s : State) (outs₀ outs : List OutRecord) w
 -- What a Tick and an End did in all ---------------------------------------------------------------------------------------
 
 -- the tunnels spoke first
-pub tick_done : (r : Rules) (a : At) (now : ℕ) (random : List ℕ) (s s₁ s' : State) (t : TunnelsState) (outs outs₁ outs' : List OutRecord) → s₁ ≡ with_tunnels s t
-    → ToldInTurn reminded a now s.tunnels t outs outs₁ → length outs₁ ≤ length outs + 128 → Ticked at_once r a now random s₁ s' outs₁ outs' → TickDone r a now random s s' outs outs'
-tick_done r a now random s s₁ s' t outs outs₁ outs' same told few ticked = record {
+pub tick_done : (r : Rules) (a : At) (now : ℕ) (random : List ℕ) (s s₁ s' : State) (outs outs₁ outs' : List OutRecord) → s₁.sessions.shard ≡ s.sessions.shard
+    → RemindedInTurn a now s s₁ outs outs₁ → length outs₁ ≤ length outs + 128 → Ticked at_once r a now random s₁ s' outs₁ outs' → TickDone r a now random s s' outs outs'
+tick_done r a now random s s₁ s' outs outs₁ outs' number told few ticked = record {
   first = told.more;
-  tunnels = t;
-  tells = told.tells;
+  next = s₁;
+  reminds = told.reminds;
   rest = ticked.more;
-  ticks = λ e moment octets at. subst (λ (q : State). Ticks at_once r e q ticked.more s') same (ticked.ticks e moment octets (ap (λ (q : State). at_of q e) same ∙ at));
+  ticks = λ e moment octets at. ticked.ticks e moment octets (same_at s₁ s e number ∙ at);
   outs_are = ticked.outs_are ∙ ap (λ (os : List OutRecord). os ++ ticked.more) told.outs_are ∙ append_assoc outs told.more ticked.more;
   few = omega (arith, few, ap length told.outs_are, length-append outs told.more, length-append told.more ticked.more, ticked.few);
 }

@@ -18,12 +18,15 @@ const SCCRP: &[u8; 64] =
 const SCCCN: &[u8; 20] =
     b"\xc8\x02\x00\x14\x00\x01\x00\x00\x00\x01\x00\x01\x80\x08\x00\x00\x00\x00\x00\x03";
 
-// an ICRQ of session 9, and the CDN with Result Code 4 that refuses it
+// an ICRQ of session 9, the ICRP that gives it the session 3, and the ICCN
 const ICRQ: &[u8; 48] =
     b"\xc8\x02\x00\x30\x00\x01\x00\x00\x00\x02\x00\x01\x80\x08\x00\x00\x00\x00\x00\x0a\x80\x08\x00\x00\x00\x0e\x00\x09\x80\x0a\x00\x00\x00\x0f\x00\x00\x00\x01\x80\x0a\x00\x00\x00\x12\x00\x00\x00\x00";
 
-const CDN: &[u8; 36] =
-    b"\xc8\x02\x00\x24\x00\x05\x00\x09\x00\x01\x00\x03\x80\x08\x00\x00\x00\x00\x00\x0e\x80\x08\x00\x00\x00\x0e\x00\x00\x80\x08\x00\x00\x00\x01\x00\x04";
+const ICRP: &[u8; 28] =
+    b"\xc8\x02\x00\x1c\x00\x05\x00\x09\x00\x01\x00\x03\x80\x08\x00\x00\x00\x00\x00\x0b\x80\x08\x00\x00\x00\x0e\x00\x03";
+
+const ICCN: &[u8; 40] =
+    b"\xc8\x02\x00\x28\x00\x01\x00\x03\x00\x03\x00\x02\x80\x08\x00\x00\x00\x00\x00\x0c\x80\x0a\x00\x00\x00\x18\x00\x00\x00\x00\x80\x0a\x00\x00\x00\x13\x00\x00\x00\x01";
 
 // an LCP frame of the session 1
 const DATA: &[u8; 14] = b"\x00\x02\x00\x01\x00\x01\xff\x03\xc0\x21\x09\x01\x00\x04";
@@ -90,18 +93,35 @@ fn established(rt: &impl Abort, alloc: Global) -> Result<Bench, Fail> {
 }
 
 #[test]
-fn a_tunnel_is_made_once_and_takes_no_call(rt: HostRuntime) -> Result<(), Fail> {
+fn a_tunnel_is_made_once_and_takes_a_call(rt: HostRuntime) -> Result<(), Fail> {
     let alloc = rt.alloc();
     let mut bench = open_bench(alloc, rules(alloc)?, TWO)?;
     answer(&rt, alloc, &mut bench, 0, SCCRQ, SCCRP);
     answer(&rt, alloc, &mut bench, 1, SCCRQ, &zlb(1, 1));
     assert_due(&rt, bench.shard.due(), Some(1_000));
     answer(&rt, alloc, &mut bench, 2, SCCCN, &zlb(1, 2));
-    answer(&rt, alloc, &mut bench, 3, ICRQ, CDN);
+    answer(&rt, alloc, &mut bench, 3, ICRQ, ICRP);
     let mut tally = NOTHING;
     let (fate, outs) = bench.handled(&rt, alloc, &mut tally, 4, item(ItemKind::Tunnel, DATA));
     assert_same(&rt, &fate, &Fate::Dropped(DropCause::NoSession));
     assert_count(&rt, outs.len(), 0);
+    Ok(())
+}
+
+// Once the ICCN came the call's link asks first, in a data message after the acknowledgement.
+#[test]
+fn a_call_speaks_once_it_is_connected(rt: HostRuntime) -> Result<(), Fail> {
+    let alloc = rt.alloc();
+    let mut bench = established(&rt, alloc)?;
+    answer(&rt, alloc, &mut bench, 1, ICRQ, ICRP);
+    let mut tally = NOTHING;
+    let outs = bench.round(&rt, alloc, &mut tally, 2, item(ItemKind::Tunnel, ICCN));
+    assert_count(&rt, outs.len(), 2);
+    assert_octets(&rt, octets(&outs, 0), &zlb(2, 4));
+    if let Some(out) = outs.get(1) {
+        assert_same(&rt, &out.role, &Role::Tunnel);
+        assert_same(&rt, &out.to, &peer(9011));
+    }
     Ok(())
 }
 

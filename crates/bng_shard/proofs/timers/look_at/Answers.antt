@@ -1,4 +1,5 @@
 use Rattle.std.proofs.Common.{◌≡◌, ◌∙◌, ℕ, Option, Some, None, IsSome, refl, sym, ap, subst, arith, length, length-append}
+use Rattle.bng_shard.specs.State.{beside_at}
 use Rattle.bng_shard.specs.declared.session.Lease.{Lease}
 use Rattle.bng_shard.specs.declared.session.Service.{Service}
 use Rattle.bng_shard.specs.declared.session.Session.{Session}
@@ -20,6 +21,6 @@ returns-clause-few c =
     let same : c.lapse.new.self.service ≡ x.service = ap (λ (y : Session). y.service) c.lapse.ensures ∙ ap (λ (y : Session). y.service) c.in-Some.ensures.over in
     let keeps = subst (λ (v : Service). KeepsLease v x.lease) (sym same) c.requires.leased in
     let some = over_leased c.args.passed x.lease c.args.incoming.now.moment c.in-Some.cause (sym c.in-Some.ensures.cause) in
-    let most = leased_by_close c.args.incoming.now.rules.now c.args.incoming.now.at c.args.incoming.now.moment c.args.incoming.now.item.now.random c.args.asked c.lapse.new.self d.more c.drive-asked.result.1 c.drive-asked.new.session c.drive-asked.result.0 d.drives x.lease keeps some in
+    let most = leased_by_close c.args.incoming.now.rules.now c.args.incoming.now.at c.args.incoming.now.moment c.args.incoming.now.item.now.random (beside_at c.args.incoming.now.moment c.args.asked c.args.served.now.tunnels) c.lapse.new.self d.more c.drive-asked.result.1 c.drive-asked.new.session (beside_at c.args.incoming.now.moment c.drive-asked.result.0 c.drive-asked.new.served.tunnels) d.drives x.lease keeps some in
     let all = length-append c.args.outs.now.items d.more in
     omega (arith, most, all, ap length d.outs_are)
