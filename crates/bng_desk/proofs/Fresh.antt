@@ -106,7 +106,7 @@ any_moment None = tt
 any_moment (Some at) = omega arith
 
 any_awaits : (moment : ℕ) (v : ShardView ShardState Entry) → AwaitsAt moment v no_reports
-any_awaits moment v = record { awaits = λ n x is. any_moment (interim_at no_reports.last x); soon = omega arith }
+any_awaits moment v = record { awaits = λ empty n x is. any_moment (interim_at no_reports.last x); soon = omega arith }
 
 fresh_awaited : (moment : ℕ) (f : ℕ → ShardView ShardState Entry) (ns : List ℕ) → AreAwaited moment (map f ns) (map (λ (n : ℕ). no_reports) ns)
 fresh_awaited moment f [] = tt

@@ -45,9 +45,10 @@ last_after moment rows last = fold (λ l (r : Row). with_report l moment r.key.t
 abbrev pub TakesInterims : {E : Type 0} → ℕ → ShardView ShardState E → Reports → Reports → Type 0
 TakesInterims moment v r r' = r'.last ≡ last_after moment (owed v r.last moment) r.last
 
--- No Interim of the shard is due before the moment that is kept for that, which is at most a minute past this one.
+-- The moment that is kept for that is at most a minute past this one. No Interim of the shard is due before it, unless the shard answered
+-- requests for changes that were not told yet: they may have brought one forward.
 pub record AwaitsAt {E : Type 0} (moment : ℕ) (v : ShardView ShardState E) (r : Reports) : Type 0 where
-  pub awaits : AwaitsInterims v.state.slots r
+  pub awaits : v.state.changed ≡ [] → AwaitsInterims v.state.slots r
   pub soon : r.next ≤ moment + 60000
 
 -- so of each shard, of which there is a list each

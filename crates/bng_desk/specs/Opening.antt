@@ -57,8 +57,8 @@ AreOffers config seed ports offers = AreOffersOf config.name.items config.servic
 abbrev pub dns_of : List Ip4 → List (Option Ip4)
 dns_of servers = slice_get servers 0 ∷ slice_get servers 1 ∷ []
 
--- by what the shards work
-pub record AreRules (config : Config) (seed : List ℕ) (r : Rules) : Type 0 where
+-- by what the shards work, where the run opened at this second on the wall
+pub record AreRules (config : Config) (seed : List ℕ) (wall : ℕ) (r : Rules) : Type 0 where
   pub shards : r.shards ≡ config.shards
   pub core_peer : r.core_peer ≡ config.core_peer
   pub access : r.access ≡ config.access
@@ -67,6 +67,9 @@ pub record AreRules (config : Config) (seed : List ℕ) (r : Rules) : Type 0 whe
   pub profiles : r.profiles ≡ config.profiles
   pub lacs : r.lacs ≡ config.lacs
   pub serves_tunnels : r.serves_tunnels ≡ is_some config.tunnel_local
+  pub nas_ip : r.nas_ip ≡ config.nas_ip
+  pub wall : r.wall ≡ wall
+  pub serves_changes : r.serves_changes ≡ is_some config.coa
   pub name : r.link.name.items ≡ config.name.items
   pub address : r.link.address ≡ config.address
   pub dns : r.link.dns ≡ dns_of config.dns.items
@@ -135,7 +138,7 @@ pub record OpensAccounts (rules : BillingRules) (lines : List Line) (reports : L
 -- number.
 pub record IsOpened (config : Config) (rounds : ℕ) (seed : List ℕ) (now wall : ℕ) (d : Desk) : Type 0 where
   pub rules : Rules
-  pub are_rules : AreRules config seed rules
+  pub are_rules : AreRules config seed wall rules
   pub lane : LaneState
   pub new_lane : IsNewLane (lane_rules config) lane
   pub pool : PlainView

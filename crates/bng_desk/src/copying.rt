@@ -197,6 +197,9 @@ pub(crate) fn rules_copied(alloc: Global, rules: &Rules) -> Result<Rules, DeskEr
         profiles: Listed::of(profiles),
         lacs: Listed::of(lacs),
         serves_tunnels: rules.serves_tunnels,
+        nas_ip: rules.nas_ip,
+        wall: rules.wall,
+        serves_changes: rules.serves_changes,
         link: link_copied(&rules.link),
     })
 }

@@ -169,6 +169,7 @@ impl Desk {
     ) -> Result<Desk, DeskError>
         requires some { 1 ≤ rounds }
         requires most { rounds ≤ 2 ^ 40 }
+        requires moment { now < 2 ^ 60 }
         requires rules { KeepsRules config }
         requires pools { ArePoolRanges (map (λ (p : NamedRange). p.range) config.pools) }
         requires within { All (λ c. HasAddress (map (λ (p : NamedRange). p.range) config.pools) c.address.0) config.statics }
@@ -184,7 +185,7 @@ impl Desk {
         let pool = opening::pool(alloc, &config)?;
         let (handed, reports) = opening::notes(alloc, config.shards)?;
         let kept = room_to_keep(alloc)?;
-        let rules = opening::rules(alloc, &config, offers)?;
+        let rules = opening::rules(alloc, &config, offers, wall)?;
         let circuits = mem::replace(&mut config.statics, Listed::of(Vec::new(alloc)));
         let opens = opening::shards(alloc, &rules, circuits.into_vec(), now)?;
         let accounts = opening::accounts(alloc, billing, lines, reports, opens.as_slice(), now)?;

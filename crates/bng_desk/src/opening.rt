@@ -45,13 +45,14 @@ fn dns(servers: &ArrayVec<Ip4, 2>) -> [Option<Ip4>; 2]
     [servers.get(0).copied(), servers.get(1).copied()]
 }
 
-/// By what all shards work.
+/// By what all shards work. `wall` is the second on the wall at which the run opened.
 pub(crate) fn rules(
     alloc: Global,
     config: &Config,
     offers: Vec<PortRules>,
+    wall: u64,
 ) -> Result<Rules, DeskError>
-    ensures { IfOk result (λ r. r ≡ record { shards = config.now.shards; core_peer = config.now.core_peer; access = config.now.access; offers = offers.items; pools = config.now.pools; profiles = config.now.profiles; lacs = config.now.lacs; serves_tunnels = is_some config.now.tunnel_local; link = record { name = config.now.name; address = config.now.address; dns = dns_of config.now.dns.items; auth = config.now.auth; echo = config.now.echo } }) }
+    ensures { IfOk result (λ r. r ≡ record { shards = config.now.shards; core_peer = config.now.core_peer; access = config.now.access; offers = offers.items; pools = config.now.pools; profiles = config.now.profiles; lacs = config.now.lacs; serves_tunnels = is_some config.now.tunnel_local; nas_ip = config.now.nas_ip; wall = wall; serves_changes = is_some config.now.coa; link = record { name = config.now.name; address = config.now.address; dns = dns_of config.now.dns.items; auth = config.now.auth; echo = config.now.echo } }) }
 {
     let access = ports_copied(alloc, config.access.as_slice())?;
     let pools = pools_copied(alloc, config.pools.as_slice())?;
@@ -66,6 +67,9 @@ pub(crate) fn rules(
         profiles: Listed::of(profiles),
         lacs: Listed::of(lacs),
         serves_tunnels: config.tunnel_local.is_some(),
+        nas_ip: config.nas_ip,
+        wall,
+        serves_changes: config.coa.is_some(),
         link: LinkRules {
             name: copied(&config.name),
             address: config.address,
@@ -285,6 +289,7 @@ pub(crate) fn shards(
     circuits: Vec<Static>,
     now: u64,
 ) -> Result<Vec<Shard>, DeskError>
+    requires moment { now < 2 ^ 60 }
     requires few { rules.now.shards ≤ 64 }
     requires few_pools { length rules.now.pools ≤ 16 }
     requires some_profile { 0 < length rules.now.profiles }

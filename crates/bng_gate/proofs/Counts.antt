@@ -52,12 +52,12 @@ use Rattle.bng_gate.proofs.OpeningFacts.{OpeningFacts}
 -- a step asks one question at most
 steps_ask : (s : ShardState) (es : List Handled) → AreSteps pppoe s es → (after_all pppoe s es).slots.asked ≤ s.slots.asked + length es
 steps_ask s [] steps = omega arith
-steps_ask s (e ∷ es) steps = omega (arith, step_few s.rules s.slots e.limited e.deed steps.0.step, steps_ask (record s { slots = e.deed.next }) es steps.1)
+steps_ask s (e ∷ es) steps = omega (arith, step_few s.rules s.slots e.limited e.deed steps.0.step, steps_ask (pppoe.next s e) es steps.1)
 
 -- and so does each in it
 one_asks : (s : ShardState) (earlier : List Handled) (h : Handled) (later : List Handled) → AreSteps pppoe s (earlier ++ h ∷ later) → h.deed.next.asked ≤ s.slots.asked + length (earlier ++ h ∷ later)
 one_asks s [] h later steps = omega (arith, step_few s.rules s.slots h.limited h.deed steps.0.step)
-one_asks s (e ∷ earlier) h later steps = omega (arith, step_few s.rules s.slots e.limited e.deed steps.0.step, one_asks (record s { slots = e.deed.next }) earlier h later steps.1)
+one_asks s (e ∷ earlier) h later steps = omega (arith, step_few s.rules s.slots e.limited e.deed steps.0.step, one_asks (pppoe.next s e) earlier h later steps.1)
 
 -- What a round has ------------------------------------------------------------------------------------------------------
 

@@ -35,8 +35,7 @@ use Rattle.bng_engine.specs.Wire.{is_input, is_from, is_output, is_to, is_on, is
 use Rattle.bng_l2tp_tunnel.specs.Sound.{IsSpelled}
 use Rattle.bng_shard.specs.declared.sums.Traffic.{Traffic}
 use Rattle.bng_shard.specs.Protocol.{Handled, ShardState, terms_of, terms_of_circuits, pppoe}
-use Rattle.bng_shard.specs.Lasting.{IsCause}
-use Rattle.bng_shard.specs.Link.{nas_request}
+use Rattle.bng_shard.specs.Lasting.{IsCause, IsCircuitCause}
 use Rattle.bng_shard.specs.Reader.{is_session_data, is_tunnel, pppoe_reader, tells_pppoe}
 use Rattle.bng_desk.specs.Counting.{by_number}
 use Rattle.bng_desk.specs.Model.{traffic_by}
@@ -204,12 +203,13 @@ pub record IsSafe (config : Config) (seed : List ℕ) (old new : World) (course 
   pub history : History ShardState
   pub rounds : Chain (RightRound pppoe) (history_of course.opening) (rounds_of course.turns course.endings) history
   -- The terms are those that the circuits have from the opening on, and those of which a Start was formed: each has one Stop, or is live in
-  -- the end, and there is no other. The Stop of a circuit's term says that the gateway stopped, and each Stop has one of the causes that
-  -- there are: User Request, Lost Carrier, Idle Timeout, Session Timeout, NAS Request (RFC 2866 section 5.10). For each circuit, address and
+  -- the end, and there is no other. The Stop of a circuit's term says that one of its timeouts was over, that a Disconnect-Request ended it, or
+  -- that the gateway stopped, and each Stop has one of the causes that there are: User Request, Lost Carrier, Idle Timeout, Session Timeout,
+  -- Admin Reset, NAS Request (RFC 2866 section 5.10). For each circuit, address and
   -- direction what was sent is what the Stops and the live terms say, in octets and in packets; and the books of the profiles, the tallies
   -- of the seats and what the terms carried have one total, all that was sent.
   pub terms : AllZip HaveTerms history.shards (terms_of_run config (rounds_of course.turns course.endings))
-  pub causes : All (λ s. IsOfCircuit config s.key → s.cause ≡ nas_request) (stops_of (rounds_of course.turns course.endings))
+  pub causes : All (λ s. IsOfCircuit config s.key → IsCircuitCause s.cause) (stops_of (rounds_of course.turns course.endings))
   pub causes_known : All (λ s. IsCause s.cause) (stops_of (rounds_of course.turns course.endings))
   pub conserved : ConservedAt pppoe history.shards
   pub balanced : Balanced (view_of course.last.shards course.last.pool course.last.tallies) history

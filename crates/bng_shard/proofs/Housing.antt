@@ -7,6 +7,7 @@ use Rattle.std.proofs.lemmas.List.Elements.{All-from_recursion, recursion_from_A
 use Rattle.bng_base.specs.declared.address.Ip4.{Ip4}
 use Rattle.bng_base.specs.declared.item.Claim.{Claim}
 use Rattle.bng_base.specs.declared.item.Claim.TheVariants.{NoClaim, Claimed, Held, Exhausted}
+use Rattle.bng_base.specs.declared.item.Entry.{Entry}
 use Rattle.bng_base.specs.declared.item.OutRecord.{OutRecord}
 use Rattle.bng_base.specs.declared.settings.NamedRange.{NamedRange}
 use Rattle.bng_grant.specs.Grants.{Gift}
@@ -34,6 +35,9 @@ use Rattle.bng_shard.specs.declared.session.Session.{Session}
 use Rattle.bng_shard.specs.Deed.{Deed, at_of}
 use Rattle.bng_shard.specs.Discovery.{IsNewLink, new_session}
 use Rattle.bng_shard.specs.Granting.{IsSound}
+use Rattle.bng_coa.specs.Wants.{wanted}
+use Rattle.bng_radius_wire.specs.Grammar.{Packet}
+use Rattle.bng_shard.specs.Changes.{Found, changed_by, found_by, lease_after, place_of, recast_by}
 use Rattle.bng_shard.specs.Lasting.{AreHoused, HasPhases, IsHousedIn, KeepsTerm}
 use Rattle.bng_shard.specs.Link.{Drives, LinkStep, Told, ended, ended_service, hears, nas_request, settles, told, user_request}
 use Rattle.bng_shard.specs.Metered.{meters_of, plan_for}
@@ -49,8 +53,9 @@ use Rattle.bng_shard.proofs.CircuitsKept.{lease_was}
 use Rattle.bng_shard.proofs.LinkSteps.{frame_steps, verdict_steps}
 use Rattle.bng_shard.proofs.SeenLeases.{looked_was, seen_at}
 use Rattle.bng_shard.proofs.TermBegins.{asks_open}
+use Rattle.bng_shard.proofs.Changing.{found_is}
 use Rattle.bng_shard.proofs.Values.{none_some, same_some}
-use Rattle.bng_shard.proofs.Walking.{Stops, WalksBy, step_walks_by}
+use Rattle.bng_shard.proofs.Walking.{Stops, WalksBy, change_walks_by, step_walks_by}
 
 not_both : {X : Type 0} (b : Bool) → b ≡ true → b ≡ false → X
 not_both b e f = absurd cc
@@ -213,6 +218,27 @@ module _ (s : State) (n : ℕ) (lease : Option Lease) (y : Session) (was : (x : 
       absurd (other (sym here.2 ∙ ap (λ (k : Lease). k.serial) (same_some here.0 l (sym here.1 ∙ leased)))))
       (house_or t (h (sym (ap (λ (u : Tenure). u.cause) same) ∙ live))))
 
+  -- or is under another profile, by a lease of the same number
+  house_recast : (l k : Lease) (t : Tenure) → lease ≡ Some l → y.lease ≡ Some k → k.serial ≡ l.serial → Housed s t → Housed (with_session s n y) t
+  house_recast l k t leased now same h live = ⊎_elim
+      (λ (other : IsHousedIn (with_session s n y) t). other)
+      (λ (here : (j : Lease) × (lease ≡ Some j) × (j.serial ≡ t.term.serial) × (t.term.session.0 ≡ n)).
+      house_on t k now (same ∙ ap (λ (j : Lease). j.serial) (same_some l here.0 (sym leased ∙ here.1)) ∙ here.2) here.3)
+      (house_or t (h live))
+
+  one_recast : (b : Bool) (place : ℕ) (t : Tenure) → Housed (with_session s n y) t → Housed (with_session s n y) (cond b (record t { profile = place }) t)
+  one_recast true place t h = h
+  one_recast false place t h = h
+
+  each_recast : (l k : Lease) (place : ℕ) (ts : List Tenure) → lease ≡ Some l → y.lease ≡ Some k → k.serial ≡ l.serial → AllByRecursion (Housed s) ts → AllByRecursion (Housed (with_session s n y)) (map (recast_by k.serial place) ts)
+  each_recast l k place [] leased now same h = tt
+  each_recast l k place (t ∷ ts) leased now same h =
+      (one_recast ((t.term.serial == k.serial) && not (is_over t)) place t (house_recast l k t leased now same h.0), each_recast l k place ts leased now same h.1)
+
+  houses_recast : (l k : Lease) (place : ℕ) → lease ≡ Some l → y.lease ≡ Some k → k.serial ≡ l.serial → All (Housed s) s.terms → All (Housed (with_session s n y)) (map (recast_by k.serial place) s.terms)
+  houses_recast l k place leased now same h =
+      All-from_recursion (Housed (with_session s n y)) (map (recast_by k.serial place) s.terms) (each_recast l k place s.terms leased now same (recursion_from_All (Housed s) s.terms h))
+
   each_so : (ts : List Tenure) → ((t : Tenure) → Housed s t → Housed (with_session s n y) t) → AllByRecursion (Housed s) ts → AllByRecursion (Housed (with_session s n y)) ts
   each_so [] f h = tt
   each_so (t ∷ ts) f h = (f t h.0, each_so ts f h.1)
@@ -275,6 +301,22 @@ keeps_looked s n at x found h =
       housed = houses_looked s n x.lease (looked at x) (same_lease s n x found) at refl h.housed;
     }
 
+-- a term is under another profile, and within other limits
+keeps_recast : (r : Rules) (s : State) (e : Entry) (p : Packet) (f : Found) → found_by r s p.attributes ≡ Some f → Keeps s (changed_by r s e p f)
+keeps_recast r s e p f is h =
+    let found = found_is r s p.attributes f is in
+    let w = wanted r.profiles p in
+    let k = lease_after f.lease w (place_of f.term.profile w) in
+    let n = f.term.term.session.0 in
+    let y : Session = record f.session { lease = Some k } in
+    let was = kept_at s n f.session found.at h in
+    let each = sessions_with s n y (record { phases = was.phases; lasting = λ l leased. was.lasting f.lease found.leased }) h in
+    record {
+      phases = λ m x at. (each m x at).phases;
+      lasting = λ m x l at leased. (each m x at).lasting l leased;
+      housed = houses_recast s n f.session.lease y (same_lease s n f.session found.at) f.lease k k.profile found.leased refl refl h.housed;
+    }
+
 keeps_walk : (r : Rules) → WalksBy r Keeps
 keeps_walk r = record {
   same = λ s s' e h. subst AreHoused (sym e) h;
@@ -300,6 +342,9 @@ keeps_walk r = record {
       (lease_after r (at_of s e) s.asked (lapsed x) x' outs none asked' (told r e Close) drives ∙ none_kept none)
       (λ h. driven_none r (at_of s e) s.asked (lapsed x) x' outs none asked' (told r e Close) drives
       (λ keeps. phases_kept r.link e.moment e.item.random Close drives.made.link drives.says drives.link keeps drives.steps) refl (kept_at s n x at h).phases);
+  lapses_circuit = λ s n x over cause at is lapse.
+      keeps_with s n x.lease (Some cause) (lapsed x) s.asked (same_lease s n x at) refl
+      (λ h. record { phases = (kept_at s n x at h).phases; lasting = λ l leased. absurd (none_some l leased) });
   tells = λ s t h. record { phases = h.phases; lasting = h.lasting; housed = h.housed };
 }
 
@@ -406,4 +451,5 @@ module _ (r : Rules) (s : State) (limited : Bool) (d : Deed) (t : Told) (h : Jud
 pub housed_kept : (r : Rules) (s : State) (limited : Bool) (d : Deed) → Step r s limited d → IsSound s → AreHoused s → AreHoused d.next
 housed_kept r s limited d h sound =
     step_walks_by r Keeps (keeps_walk r) keeps_stops s limited d
-    (λ t decides j. judged_keeps r s limited d t j t.lease sound (λ a. decides_yes r limited d.entry.item.frame.payload d.entry.claim t a decides) refl) h
+    (λ t decides j. judged_keeps r s limited d t j t.lease sound (λ a. decides_yes r limited d.entry.item.frame.payload d.entry.claim t a decides) refl)
+    (λ is change. change_walks_by r Keeps (keeps_walk r) s limited d.entry d (λ p f found. keeps_recast r s d.entry p f found) change) h

@@ -167,6 +167,9 @@ fn rules_over(alloc: Global, pools: Vec<NamedRange>) -> Result<Rules, AllocError
         link: links(),
         lacs: Listed::of(lacs),
         serves_tunnels: true,
+        nas_ip: Ip4(0xc0a80110),
+        wall: 1_700_000_000,
+        serves_changes: true,
     })
 }
 

@@ -50,7 +50,7 @@ module _ (c : After-new-4) where
   abbrev made : Rules
   made = c.in_ok-rules.rules
 
-  made_as : made ≡ record { shards = c.args.config.shards; core_peer = c.args.config.core_peer; access = c.args.config.access; offers = c.in_ok-offers.offers.items; pools = c.args.config.pools; profiles = c.args.config.profiles; lacs = c.args.config.lacs; serves_tunnels = is_some c.args.config.tunnel_local; link = record { name = c.args.config.name; address = c.args.config.address; dns = dns_of c.args.config.dns.items; auth = c.args.config.auth; echo = c.args.config.echo } }
+  made_as : made ≡ record { shards = c.args.config.shards; core_peer = c.args.config.core_peer; access = c.args.config.access; offers = c.in_ok-offers.offers.items; pools = c.args.config.pools; profiles = c.args.config.profiles; lacs = c.args.config.lacs; serves_tunnels = is_some c.args.config.tunnel_local; nas_ip = c.args.config.nas_ip; wall = c.args.wall; serves_changes = is_some c.args.config.coa; link = record { name = c.args.config.name; address = c.args.config.address; dns = dns_of c.args.config.dns.items; auth = c.args.config.auth; echo = c.args.config.echo } }
   made_as = c.in_ok-rules.ensures
 
   circuits : c.into_vec.result.items ≡ c.args.config.statics
@@ -101,7 +101,7 @@ module _ (c : After-new-4) where
       (subst (λ (ps : List AccessPort). AreOffersOf c.args.config.name.items c.args.config.services.items (draw c.args.seed 0) 1 ps c.in_ok-offers.offers.items) c.as_slice-access.ensures
       (subst (λ (key : List ℕ). AreOffersOf c.args.config.name.items c.args.config.services.items key 1 c.as_slice-access.result.now c.in_ok-offers.offers.items) key_is c.in_ok-offers.ensures))
 
-  are_rules : AreRules c.args.config c.args.seed made
+  are_rules : AreRules c.args.config c.args.seed c.args.wall made
   are_rules = record {
     shards = ap (λ (r : Rules). r.shards) made_as;
     core_peer = ap (λ (r : Rules). r.core_peer) made_as;
@@ -111,6 +111,9 @@ module _ (c : After-new-4) where
     profiles = ap (λ (r : Rules). r.profiles) made_as;
     lacs = ap (λ (r : Rules). r.lacs) made_as;
     serves_tunnels = ap (λ (r : Rules). r.serves_tunnels) made_as;
+    nas_ip = ap (λ (r : Rules). r.nas_ip) made_as;
+    wall = ap (λ (r : Rules). r.wall) made_as;
+    serves_changes = ap (λ (r : Rules). r.serves_changes) made_as;
     name = ap (λ (r : Rules). r.link.name.items) made_as;
     address = ap (λ (r : Rules). r.link.address) made_as;
     dns = ap (λ (r : Rules). r.link.dns) made_as;
