@@ -8,7 +8,7 @@ from records import acknowledge, hear_record
 EXAMPLE = os.path.join(HOME, "lab", "example.toml")
 TESTED = os.path.join(HOME, "crates", "bng_config_tests", "src", "config", "example.rt")
 
-PORTS = {"core": 9000, "control": 9002, "auth": 9003, "acct": 9004, "access": 9010, "second": 9020}
+PORTS = {"core": 9000, "control": 9002, "auth": 9003, "acct": 9004, "access": 9010, "second": 9020, "tunnel": 1701}
 SERVER = 1813
 
 

@@ -51,6 +51,17 @@ address = "10.0.0.2"
 user = "fixed1"
 """
 
+# An end for tunnels, and two access concentrators, of which one shares a secret.
+TUNNELS = """\
+[tunnel]
+local = "127.0.0.1:{tunnel}"
+[[lac]]
+ip = "127.0.0.1"
+[[lac]]
+ip = "127.0.0.5"
+secret = "xyzzy"
+"""
+
 USAGE = "usage: bng serve CONFIG [--trace FILE] [--rounds N] | check CONFIG | exercise N [--workers W] | audit FILE"
 
 CAUSES = "Malformed NoSession NotOpen Expired Spoofed TooBig Exceeded LinkFailed WantOfMemory".split()
@@ -146,19 +157,29 @@ class Lab:
     is a port of the loopback, it is that of another RADIUS server than ours, for authentication, and `keeper` is that of
     another one for accounting. Each record of accounting that comes to ours is acknowledged at once and kept in `records`,
     unless `acknowledges` says that nobody reads `accounting`. `last` is the last address of the pool, and `tables` stands
-    behind all that."""
+    behind all that. With `tunnels` the gateway has an end for them."""
 
     def __init__(
-        self, keys="", session=1025, radius_keys="", server=None, acknowledges=True, last="10.0.0.101", keeper=None, tables=""
+        self,
+        keys="",
+        session=1025,
+        radius_keys="",
+        server=None,
+        acknowledges=True,
+        last="10.0.0.101",
+        keeper=None,
+        tables="",
+        tunnels=False,
     ):
         self.keys, self.session, self.acknowledges, self.last, self.tables = keys, session, acknowledges, last, tables
-        self.radius_keys, self.server, self.keeper = radius_keys, server, keeper
+        self.radius_keys, self.server, self.keeper, self.tunnels = radius_keys, server, keeper, tunnels
         self.records = []
 
     def __enter__(self):
         self.folder = tempfile.mkdtemp(prefix="bng-lab-")
         self.access, self.core, self.control, self.radius, self.accounting, self.stranger = (udp() for _ in range(6))
-        held = {name: udp() for name in ("access", "core", "control", "auth", "acct")}
+        roles = ["access", "core", "control", "auth", "acct"] + ["tunnel"] * self.tunnels
+        held = {name: udp() for name in roles}
         self.ports = {name: end.getsockname()[1] for name, end in held.items()}
         for end in held.values():
             end.close()
@@ -170,7 +191,7 @@ class Lab:
             self.clerk.start()
         self.configuration = self.write(
             "lab.toml",
-            CONFIGURATION.format(
+            (CONFIGURATION + TUNNELS * self.tunnels).format(
                 **self.ports,
                 core_peer=self.core.getsockname()[1],
                 access_peer=self.access.getsockname()[1],

@@ -11,6 +11,7 @@ import time
 from example import reads_the_example
 from gateway import CRATE, PROGRAM, USAGE, Lab, delivery, frame, is_built, packet, report, run, tried, udp
 from habits import keeps_an_operators_habits
+from lac import keeps_a_silent_tunnel, says_when_its_end_is_taken, serves_tunnels
 from logins import authenticates, gives_up_on_a_silent_server
 from leases import leases_addresses
 from metering import meters_profiles
@@ -18,6 +19,9 @@ from records import records_a_circuit, tells_a_stop_that_nobody_acknowledges
 from sessions import serves_sessions
 from terms import counts_past_sixteen_bits, ends_a_thousand_terms, ends_by_timeouts, keeps_records_while_nobody_takes_them
 from terms import refuses_where_terms_are_used_up, reports_after_a_minute, shares_three_addresses_among_five
+
+# Each takes a minute of the clock.
+MINUTES = (keeps_records_while_nobody_takes_them, reports_after_a_minute, keeps_a_silent_tunnel)
 
 PACKET = packet()
 LOWERED = bytes.fromhex("45000054 00010000 3f01afa5 0a000002 c0000201") + PACKET[20:]
@@ -209,6 +213,7 @@ def try_all(checks):
         drops_and_counts_bad_input(checks, built, 10)
         forwards_bursts_in_order(checks, built, 10)
         serves_sessions(checks, built, 10)
+        serves_tunnels(checks, built, 10)
         authenticates(checks, built, 10)
         gives_up_on_a_silent_server(checks, built, 10)
         leases_addresses(checks, built, 10)
@@ -217,9 +222,8 @@ def try_all(checks):
         shares_three_addresses_among_five(checks, built, 10)
         counts_past_sixteen_bits(checks, built, 10)
         refuses_where_terms_are_used_up(checks, built, 10)
-        # Each takes a minute of the clock.
         with concurrent.futures.ThreadPoolExecutor() as together:
-            minutes = [together.submit(each, checks, built, 10) for each in (keeps_records_while_nobody_takes_them, reports_after_a_minute)]
+            minutes = [together.submit(each, checks, built, 10) for each in MINUTES]
         for minute in minutes:
             minute.result()
         ends_a_thousand_terms(checks, built, 10)
@@ -228,6 +232,7 @@ def try_all(checks):
         goes_on_after_memory_was_refused(checks)
         refuses_bad_beginnings(checks)
         refuses_bad_configurations(checks)
+        says_when_its_end_is_taken(checks)
         reads_the_example(checks)
         says_when_nobody_takes_its_report(checks)
         keeps_an_operators_habits(checks)

@@ -14,7 +14,7 @@ use itoa::Buffer;
 pub(crate) const PORT_ID_MOST: usize = 34;
 
 /// The Acct-Session-Id (RFC 2866 section 5.5) of a term, where the run opened at this second.
-pub(crate) fn session_id(wall: u64, term: TermId) -> [u8; 24]
+pub fn session_id(wall: u64, term: TermId) -> [u8; 24]
     ensures { result ≡ session_id wall term }
 {
     let [_, _, _, _, a, b, c, d] = wall.to_be_bytes();
@@ -35,7 +35,7 @@ fn digits_of(mac: Mac) -> [u8; 12]
 }
 
 /// The Calling-Station-Id (RFC 2865 section 5.31) of a MAC.
-pub(crate) fn station_id(mac: Mac) -> [u8; 17]
+pub fn station_id(mac: Mac) -> [u8; 17]
     ensures { result ≡ station_id mac.0 }
 {
     let [a, b, c, d, e, f, g, h, i, j, k, l] = digits_of(mac);

@@ -1,5 +1,5 @@
 -- What a datagram leaves in hand and kept, seen of the whole desk.
-use Rattle.std.proofs.Common.{◌≡◌, ℕ, List, refl, ap}
+use Rattle.std.proofs.Common.{ℕ, List, refl, ap}
 use Rattle.bng_base.specs.declared.address.Peer.{Peer}
 use Rattle.bng_radius_wire.specs.Grammar.{Packet}
 use Rattle.bng_coa.specs.declared.request.Request.{Request}

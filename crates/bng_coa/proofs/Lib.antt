@@ -8,5 +8,6 @@ pub mod Keeping
 pub mod Standing
 pub mod Staying
 pub mod Places
+pub mod Digits
 pub mod Drafts
 pub mod Signing

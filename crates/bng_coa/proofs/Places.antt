@@ -1,6 +1,6 @@
 -- The place of the first element that passes a test.
 use Rattle.std.proofs.Common.{◌≡◌, ℕ, suc, ◌+◌, ◌<◌, Bool, true, false, cond, not, ◌||◌, ltb, List, [], ◌∷◌, length, Option, Some, None, refl, sym, ap, subst, ◌∙◌, arith}
-use Rattle.std.specs.Prelude.{slice_get, position}
+use Rattle.std.specs.Prelude.{find, slice_get, position}
 use Rattle.std.specs.List.{list_any, prefix_len, position_or_len}
 use Rattle.std.proofs.lemmas.Bool.{ltb-true, lt-ltb}
 use Rattle.bng_coa.specs.declared.request.Stage.{Stage}
@@ -51,6 +51,15 @@ module _ {X : Type 0} (p : X → Bool) where
       let some : position p xs ≡ Some (position_or_len p xs) = ap (λ (b : Bool). cond b (Some (position_or_len p xs)) None) (lt-ltb (position_or_len p xs) (length xs) (within xs any)) in
       let clash : ◌≡◌ {A = Option ℕ} None (Some (position_or_len p xs)) = sym none ∙ some in
       cc
+
+  -- where one was found, one passes
+  found_or : (b : Bool) (y x : X) (ys : List X) → (find p ys ≡ Some x → list_any p ys ≡ true) → cond b (Some y) (find p ys) ≡ Some x → b || list_any p ys ≡ true
+  found_or true y x ys rest e = refl
+  found_or false y x ys rest e = rest e
+
+  pub found_any : (xs : List X) (x : X) → find p xs ≡ Some x → list_any p xs ≡ true
+  found_any [] x e = absurd (let clash : ◌≡◌ {A = Option X} None (Some x) = e in cc)
+  found_any (y ∷ ys) x e = found_or (p y) y x ys (found_any ys x) e
 
 -- a request that has a number is in hand
 pub numbered_in_hand : (number : ℕ) (s : Stage) → is_numbered_at number s ≡ true → is_in_hand_at s ≡ true

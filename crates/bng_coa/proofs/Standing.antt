@@ -1,18 +1,18 @@
 -- What stands after any list of calls: never two equal requests, never two in hand under one number, at most 256, and each
 -- that is in hand until it is answered.
-use Rattle.std.proofs.Common.{◌≡◌, ◌≢◌, ℕ, zero, suc, ◌+◌, ◌-◌, ◌<◌, ◌≤◌, Bool, true, false, cond, not, ◌||◌, ◌&&◌, eqb, ltb, List, [], ◌∷◌, ◌++◌, length, Option, Some, None, refl, sym, ap, subst, ◌∙◌, arith, length-append}
-use Rattle.std.specs.Prelude.{slice_get, slice_set, filter, find, position, remove, count_by}
-use Rattle.std.specs.List.{list_any, AllByRecursion, IsDistinct, position_or_len, prefix_len}
+use Rattle.std.proofs.Common.{◌≡◌, ℕ, zero, suc, ◌+◌, ◌<◌, ◌≤◌, Bool, true, false, cond, ◌||◌, ◌&&◌, ltb, List, [], ◌∷◌, ◌++◌, length, Option, Some, None, refl, sym, ap, subst, arith, length-append}
+use Rattle.std.specs.Prelude.{slice_get, slice_set, filter, position, remove, count_by}
+use Rattle.std.specs.List.{list_any, AllByRecursion, IsDistinct}
 use Rattle.std.proofs.lemmas.List.Sums.{length-filter, count_by-le-length}
-use Rattle.std.proofs.lemmas.Bool.{ltb-true, ltb-false, lt-ltb, le-ltb}
+use Rattle.std.proofs.lemmas.Bool.{ltb-true, ltb-false, le-ltb}
 use Rattle.bng_coa.specs.declared.request.Key.{Key}
 use Rattle.bng_coa.specs.declared.request.Request.{Request}
 use Rattle.bng_coa.specs.declared.request.Stage.{Stage}
 use Rattle.bng_coa.specs.declared.request.Stage.TheVariants.{InHand, Answered}
-use Rattle.bng_coa.specs.Requests.{is_same, is_in_hand, is_answered, is_answered_at, is_numbered, is_numbered_at, is_held, is_held_at, is_standing, standing, without, with_room, admitted}
-use Rattle.bng_coa.specs.Runs.{IsTakenIn, IsSettled, Event, Takes, Settles, Follows, Run, are_equal, shares_at, share_number, settles, Rises, was_before}
+use Rattle.bng_coa.specs.Requests.{is_same, is_in_hand, is_answered, is_numbered, is_held, is_standing, standing, without, with_room, admitted}
+use Rattle.bng_coa.specs.Runs.{Event, Takes, Settles, Follows, Run, are_equal, shares_at, share_number, Rises, was_before}
 use Rattle.bng_coa.proofs.Each.{filtered, removed, appended, replaced}
-use Rattle.bng_coa.proofs.Places.{PassesAt, passes_at}
+use Rattle.bng_coa.proofs.Places.{passes_at}
 use Rattle.bng_coa.proofs.Rooms.{none_answered, fewer}
 
 -- ---- requests that differ from each other

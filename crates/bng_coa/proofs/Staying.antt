@@ -1,19 +1,18 @@
 -- Requests in hand are neither forgotten nor counted twice.
-use Rattle.std.proofs.Common.{◌≡◌, ℕ, zero, suc, ◌+◌, ◌<◌, ◌≤◌, Bool, true, false, cond, not, ◌||◌, eqb, ltb, List, [], ◌∷◌, ◌++◌, length, take, Option, Some, None, refl, sym, ap, subst, ◌∙◌, arith}
+use Rattle.std.proofs.Common.{◌≡◌, ℕ, zero, suc, ◌+◌, Bool, true, false, cond, ◌||◌, eqb, ltb, List, [], ◌∷◌, ◌++◌, length, take, Option, Some, None, refl, sym, ap, ◌∙◌, arith}
 use Rattle.std.specs.Prelude.{slice_get, slice_set, filter, position, remove, count_by}
 use Rattle.std.specs.List.{list_any}
 use Rattle.std.proofs.lemmas.List.Sums.{sum_by-cons, sum_by-append}
 use Rattle.std.proofs.lemmas.Bool.Decides.{Decides-eqb}
 use Rattle.bng_base.specs.declared.address.Peer.{Peer}
 use Rattle.bng_radius_wire.specs.Grammar.{length_in}
-use Rattle.bng_coa.specs.declared.request.Key.{Key}
 use Rattle.bng_coa.specs.declared.request.Request.{Request}
 use Rattle.bng_coa.specs.declared.request.Stage.{Stage}
 use Rattle.bng_coa.specs.declared.request.Stage.TheVariants.{InHand, Answered}
 use Rattle.bng_coa.specs.declared.rules.Admitted.{Admitted}
 use Rattle.bng_coa.specs.declared.rules.Admitted.TheVariants.{New, Repeat, InHand as StillInHand, Ignored}
 use Rattle.bng_coa.specs.Requests.{is_in_hand, is_in_hand_at, is_answered, is_answered_at, is_numbered, is_numbered_at, is_held, is_held_at, key_of, without, with_room, admitted}
-use Rattle.bng_coa.specs.Runs.{IsTakenIn, IsSettled, Event, Takes, Settles, Follows, Run, settles}
+use Rattle.bng_coa.specs.Runs.{IsSettled, Event, Takes, Settles, Follows, Run, settles}
 use Rattle.bng_coa.specs.Admission.{Keeps, WhenNew, more_in_hand}
 use Rattle.bng_coa.specs.State.{State}
 use Rattle.bng_coa.proofs.Places.{passes_at, numbered_in_hand}

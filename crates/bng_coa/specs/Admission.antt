@@ -14,7 +14,7 @@ use Rattle.bng_coa.specs.declared.rules.Admitted.{Admitted}
 use Rattle.bng_coa.specs.declared.rules.Admitted.TheVariants.{New, Repeat, InHand as StillInHand, Ignored}
 use Rattle.bng_coa.specs.declared.rules.Ignored.{Ignored as Cause}
 use Rattle.bng_coa.specs.declared.rules.Ignored.TheVariants.{Stranger, Malformed, WrongDigest, Stale}
-use Rattle.bng_coa.specs.Requests.{key_of, is_numbered, standing, admitted}
+use Rattle.bng_coa.specs.Requests.{key_of, standing}
 use Rattle.bng_coa.specs.Runs.{IsTakenIn}
 use Rattle.bng_coa.specs.State.{State}
 

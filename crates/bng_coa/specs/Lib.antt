@@ -3,5 +3,8 @@ pub mod Requests
 pub mod Runs
 pub mod Admission
 pub mod Refusals
+pub mod Leads
+pub mod Naming
+pub mod Wants
 pub mod Replies
 pub mod State

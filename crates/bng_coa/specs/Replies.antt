@@ -1,16 +1,15 @@
 -- The reply to a request (RFC 5176 sections 2.3, 3.1, 3.3, 3.4 and 3.5).
-use Rattle.std.specs.Prelude.{◌≡◌, ◌==◌, ℕ, Bool, ◌&&◌, nat_le, if◌then◌else◌, List, ◌++◌, ◌∷◌, [], length, Option, Some, None, filter, find, position, slice_get, slice_set, option_to_list}
+use Rattle.std.specs.Prelude.{◌≡◌, ◌==◌, ℕ, Bool, ◌&&◌, nat_le, if◌then◌else◌, List, ◌++◌, ◌∷◌, [], length, Option, Some, None, filter, find, option_to_list}
 use Rattle.byteorder.specs.Endian.{big_bytes}
 use Rattle.bng_base.specs.Packet.{Packet as Bytes}
 use Rattle.bng_radius_wire.specs.Attributes.{Field}
 use Rattle.bng_radius_wire.specs.Grammar.{Packet, IsRadius, spelling}
 use Rattle.bng_radius_wire.specs.Digests.{zeros, signed_reply}
 use Rattle.bng_coa.specs.declared.request.Request.{Request}
-use Rattle.bng_coa.specs.declared.request.Stage.TheVariants.{InHand, Answered}
+use Rattle.bng_coa.specs.declared.request.Stage.TheVariants.{InHand}
 use Rattle.bng_coa.specs.declared.rules.ChangeVerdict.{ChangeVerdict}
 use Rattle.bng_coa.specs.declared.rules.ChangeVerdict.TheVariants.{Applied, Refused}
 use Rattle.bng_coa.specs.Kinds.{has_kind, has_some}
-use Rattle.bng_coa.specs.Requests.{is_numbered}
 use Rattle.bng_coa.specs.Runs.{IsSettled}
 use Rattle.bng_coa.specs.State.{State}
 

@@ -1,5 +1,5 @@
 -- What is in hand and kept after a list of calls.
-use Rattle.std.specs.Prelude.{◌≡◌, ◌≢◌, ◌==◌, ℕ, ◌<◌, ◌≤◌, Bool, nat_lt, true, false, List, [], ◌∷◌, Some, None, count_by, slice_get, slice_set, IsTrue, IsFalse}
+use Rattle.std.specs.Prelude.{◌≡◌, ◌==◌, ℕ, ◌<◌, ◌≤◌, Bool, nat_lt, false, List, [], ◌∷◌, Some, None, count_by, slice_get, slice_set, IsTrue, IsFalse}
 use Rattle.std.specs.List.{list_any}
 use Rattle.bng_coa.specs.declared.request.Key.{Key}
 use Rattle.bng_coa.specs.declared.request.Request.{Request}

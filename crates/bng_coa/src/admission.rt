@@ -9,7 +9,8 @@ use crate::rules::Ignored;
 use bng_base::Peer;
 use bng_radius_wire::{Checked, check_reply, codes, read};
 
-fn is_request(code: u8) -> bool
+/// Whether this is the code of a CoA-Request or a Disconnect-Request.
+pub(crate) fn is_request(code: u8) -> bool
     ensures { result ≡ is_request code }
 {
     code == codes::DISCONNECT_REQUEST || code == codes::COA_REQUEST

@@ -1,5 +1,6 @@
-ghost use Rattle.std.specs.Prelude.{◌≡◌, ◌≤◌, ◌<◌, ◌+◌, length, IfOk, IsTrue, count_by, [], take};
+ghost use Rattle.std.specs.Prelude.{◌≡◌, ◌≤◌, ◌<◌, ◌+◌, length, find, IfOk, IfSome, IsTrue, count_by, [], take};
 ghost use Rattle.std.specs.List.{list_any};
+ghost use Rattle.std.specs.Option.{option_map};
 ghost use Rattle.bng_radius_wire.specs.Grammar.{Packet, IsRadius, length_in};
 ghost use Rattle.bng_coa.specs.Requests.{is_in_hand, is_numbered, standing, IsAnswerable};
 ghost use Rattle.bng_coa.specs.Admission.{is_peer, Stands, TakesIn, Admits, Keeps, WhenNew, more_in_hand};
@@ -125,6 +126,14 @@ impl CoaDesk {
         ensures { result ≡ count_by is_in_hand self.now.requests }
     {
         self.requests.in_hand()
+    }
+
+    /// Who sent the request that is in hand under this number; none exactly where none is. `answer` may be called where there is one.
+    pub fn sender(&self, number: u32) -> Option<Peer>
+        ensures sender { result ≡ option_map (λ r. r.key.from) (find (is_numbered number) self.now.requests) }
+        ensures in_hand { IfSome result (λ from. IsTrue (list_any (is_numbered number) self.now.requests)) }
+    {
+        self.requests.sender(number)
     }
 
     /// What a datagram of this sender is, at this moment in milliseconds and this second since 1970: a new request, which is

@@ -1,6 +1,6 @@
-ghost use Rattle.std.specs.Prelude.{◌≡◌, ◌<◌, ◌≤◌, ◌++◌, ◌∷◌, IsTrue, IsFalse, IfOk, IfSome, [], length, filter, position, slice_get, slice_set, Some, count_by};
+ghost use Rattle.std.specs.Prelude.{◌≡◌, ◌<◌, ◌≤◌, ◌++◌, ◌∷◌, IsTrue, IsFalse, IfOk, IfSome, [], length, filter, find, position, slice_get, slice_set, Some, count_by};
 ghost use Rattle.std.specs.List.{list_any};
-ghost use Rattle.std.specs.Option.{option_copied};
+ghost use Rattle.std.specs.Option.{option_copied, option_map};
 ghost use Rattle.bng_coa.specs.declared.request.Request.{Request};
 ghost use Rattle.bng_coa.specs.Requests.{is_in_hand, is_numbered, is_held, standing, with_room, admitted, IsSound};
 ghost use Rattle.bng_coa.specs.Replies.{IsReplied};
@@ -8,7 +8,7 @@ ghost use Rattle.bng_coa.specs.Replies.{IsReplied};
 use crate::reply::reply;
 use crate::request::{Key, Request, Stage};
 use crate::rules::ChangeVerdict;
-use bng_base::Frame;
+use bng_base::{Frame, Peer};
 use std::alloc::{AllocError, Global};
 use std::marker::Model;
 
@@ -55,6 +55,24 @@ impl Requests {
         ensures sound { IfSome result (λ r. IsSound r.now) }
     {
         self.list.iter().find(|r| r.is_standing(now, key))
+    }
+
+    /// The request that is in hand under this number.
+    pub fn numbered(&self, number: u32) -> Option<&Request>
+        ensures { option_copied result ≡ find (is_numbered number) self.now }
+    {
+        self.list.iter().find(|r| r.is_numbered(number))
+    }
+
+    /// Who sent the request that is in hand under this number; none exactly where none is.
+    pub fn sender(&self, number: u32) -> Option<Peer>
+        ensures sender { result ≡ option_map (λ r. r.key.from) (find (is_numbered number) self.now) }
+        ensures in_hand { IfSome result (λ from. IsTrue (list_any (is_numbered number) self.now)) }
+    {
+        match self.numbered(number) {
+            Some(request) => Some(request.key.from),
+            None => None,
+        }
     }
 
     /// Whether a request is in hand under this number.

@@ -10,8 +10,10 @@ use std::test::Fail;
 
 mod defaults;
 mod example;
+mod forms;
+mod lists;
 mod order;
-mod rules;
+mod together;
 mod unknown;
 
 /// A configuration with all tables and keys. The two pools have all addresses that there is room for.
@@ -297,8 +299,8 @@ fn assert_gateway(rt: &impl Abort, config: &Config) {
     assert_number(rt, u64::from(config.echo), 0);
 }
 
-/// Its sockets, and what it knows of its server.
-fn assert_sockets(rt: &impl Abort, config: &Config) {
+/// The sockets of a configuration, and what it knows of its server.
+fn assert_sockets(rt: &impl Abort, config: &Config, tries: u64) {
     assert_peer(rt, config.core_local, 9000);
     assert_peer(rt, config.core_peer, 9001);
     assert_peer(rt, config.control_local, 9002);
@@ -307,7 +309,7 @@ fn assert_sockets(rt: &impl Abort, config: &Config) {
     assert_peer(rt, config.acct_local, 9004);
     assert_peer(rt, config.acct_server, 1813);
     assert_octets(rt, config.secret.as_slice(), b"xyzzy5461");
-    assert_number(rt, u64::from(config.tries), 3);
+    assert_number(rt, u64::from(config.tries), tries);
     assert_same(rt, &config.tunnel_local, &Some(loopback(1701)));
 }
 
@@ -315,7 +317,7 @@ fn assert_sockets(rt: &impl Abort, config: &Config) {
 fn each_key_is_read(rt: HostRuntime) {
     let config = config_of(&rt, rt.alloc(), FULL);
     assert_gateway(&rt, &config);
-    assert_sockets(&rt, &config);
+    assert_sockets(&rt, &config, 3);
     let ends = [(9010, 9011, 0xfe), (9020, 9021, 0xff)];
     assert_ports(&rt, config.access.as_slice(), &ends);
     let concentrators: [(u32, &[u8]); 2] = [(0xc000_020b, b"tunnel"), (0xc000_020c, b"")];

@@ -122,10 +122,10 @@ module _ (seed : List ℕ) (n moment : ℕ) (kept : List Item) (answers : List A
   new_length : length new ≡ length rs + length ts + length timed + length ds
   new_length = omega (arith, length-append (rs ++ ts ++ qs) ds, length-append (rs ++ ts) qs, length-append rs ts, timeouts_length timed)
 
-  new_few : length kept + length rs + length timed ≤ 128 → length ts ≤ 448 → length shards ≤ 64 → length kept + length new ≤ 640
+  new_few : length kept + length rs + length timed ≤ 128 → length ts ≤ 672 → length shards ≤ 64 → length kept + length new ≤ 864
   new_few verdicts taken few = omega (arith, verdicts, taken, few, new_length, ticks_length moment shards)
 
-  are_gathered : AreItems kept → All is_verdict kept → length kept + length rs + length timed ≤ 128 → length ts ≤ 448 → length shards ≤ 64 → AreInOrder shards → AreItems (kept ++ drawn_from seed n new)
+  are_gathered : AreItems kept → All is_verdict kept → length kept + length rs + length timed ≤ 128 → length ts ≤ 672 → length shards ≤ 64 → AreInOrder shards → AreItems (kept ++ drawn_from seed n new)
   are_gathered items verdicts low taken few order =
       let once = λ (i : Item). is_once i.kind in
       let front = rs ++ ts ++ qs in
@@ -148,7 +148,7 @@ module _ (seed : List ℕ) (n moment : ℕ) (kept : List Item) (answers : List A
         once = subst (AllPairs IsBelow) (sym same) (AllPairs-filter IsBelow once end (drawn_rise seed (n + length front) ds (ticks_rise moment shards order)));
       }
 
-  outs_gathered : All is_verdict kept → length kept + length rs + length timed ≤ 128 → length ts ≤ 448 → outs_of_items (kept ++ drawn_from seed n new) ≤ 5760 + 320 * length shards
+  outs_gathered : All is_verdict kept → length kept + length rs + length timed ≤ 128 → length ts ≤ 672 → outs_of_items (kept ++ drawn_from seed n new) ≤ 8000 + 320 * length shards
   outs_gathered verdicts low taken =
       let f = λ (i : Item). outs_most i.kind in
       omega (
@@ -174,12 +174,12 @@ module _ (seed : List ℕ) (n moment : ℕ) (kept : List Item) (answers : List A
 pub record Gathered (r : Rules) (vs : List Shown) (moment : ℕ) (kept : List Item) (p p' : PlantTold) (l l' : LaneState) (d d' : Drawn) (list : List Item) (quiet : Bool) : Type 0 where
   pub gathers : Gathers r vs moment kept p p' l l' d d' list quiet
   pub items : AreItems list
-  pub few_outs : outs_of_items list ≤ 5760 + 320 * length vs
-  pub few_drawn : d'.drawn ≤ d.drawn + 640
+  pub few_outs : outs_of_items list ≤ 8000 + 320 * length vs
+  pub few_drawn : d'.drawn ≤ d.drawn + 864
 
 pub gathered : (r : Rules) (vs : List Shown) (moment most : ℕ) (kept : List Item) (p p₁ p₂ : PlantTold) (l l₁ l₂ : LaneState) (d d₁ d₂ d₃ d₄ : Drawn) (i₁ i₂ i₃ i₄ : List Item) (silent quiet both : Bool)
     → All is_verdict kept → length kept ≤ 128 → AreItems kept → length vs ≤ 64 → AreInOrder vs
-    → TakesAuth (is_empty kept) p p₁ l l₁ d d₁ kept i₁ silent → Takes (data_roles r) (most_of r) 448 p₁ p₂ d₁ d₂ i₁ i₂ quiet
+    → TakesAuth (is_empty kept) p p₁ l l₁ d d₁ kept i₁ silent → Takes (data_roles r) (most_of r) 672 p₁ p₂ d₁ d₂ i₁ i₂ quiet
     → most ≡ 128 - length i₁ → AddsTimeouts moment most l₁ l₂ d₂ d₃ i₂ i₃
     → i₄ ≡ i₃ ++ drawn_from d₃.seed d₃.drawn (ticks_of moment vs) → d₄ ≡ record d₃ { drawn = d₃.drawn + length (ticks_of moment vs) } → both ≡ (silent && quiet)
     → Gathered r vs moment kept p p₂ l l₂ d d₄ i₄ both
@@ -222,6 +222,6 @@ gathered r vs moment most kept p p₁ p₂ l l₁ l₂ d d₁ d₂ d₃ d₄ i�
         quiet_is = both_is ∙ ap (λ (b : Bool). b && quiet) a.quiet_is ∙ ap (λ (b : Bool). is_empty a.answers && b) t.quiet_is;
       };
       items = subst AreItems (sym all) (are_gathered seed n moment kept a.answers t.readings o.timed vs items verdicts low t.number few order);
-      few_outs = subst (λ (xs : List Item). outs_of_items xs ≤ 5760 + 320 * length vs) (sym all) (outs_gathered seed n moment kept a.answers t.readings o.timed vs verdicts low t.number);
+      few_outs = subst (λ (xs : List Item). outs_of_items xs ≤ 8000 + 320 * length vs) (sym all) (outs_gathered seed n moment kept a.answers t.readings o.timed vs verdicts low t.number);
       few_drawn = omega (arith, ap (λ (x : Drawn). x.drawn) counts, new_few seed n moment kept a.answers t.readings o.timed vs low t.number few);
     }

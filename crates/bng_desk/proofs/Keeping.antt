@@ -167,7 +167,7 @@ pub record IsLeft (d : Desk) (moment : ℕ) (w : Works) : Type 0 where
   pub tallied : AreTallied w.tally w.shards.items w.accounts.lines
   pub adds_up : AddsUp w.tally w.shards.items w.accounts.stopped
   pub counts : Within (drops_most * all_turns d + drops_most) w.drops
-  pub drawn_is : w.draws.drawn ≤ d.drawn + 1024
+  pub drawn_is : w.draws.drawn ≤ d.drawn + 2048
   pub handed_is : length w.handed.items ≡ length d.handed
   pub billed : AreBilled (keys_in w.shards.items) w.accounts.billing
   pub knows : KnowsBegun w.shards.items w.accounts.billing

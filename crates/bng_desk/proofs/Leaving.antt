@@ -27,8 +27,8 @@ use Rattle.bng_desk.proofs.Staying.{AreEnds}
 use Rattle.bng_desk.proofs.Works.{gathered, kept_with}
 
 module _ (d : Desk) (w : Works) (heard : BillingState) (lane : LaneState) (draws : Drawn) (none : Vec Item Global) (emptied : Lists) (named : Named) (lists : Lists) where
-  pub is_ready : IsKept (kept_with d w) → AreBilled (keys_in w.shards.items) heard → KnowsBegun w.shards.items heard → d.moment ≤ named.moment → named.moment < 2 ^ 60 → draws.drawn ≤ w.draws.drawn + 640 → none.items ≡ [] → length (kept_of lists.items.items) ≤ vec_capacity none
-      → AreItems lists.items.items → outs_of_items lists.items.items ≤ 5760 + 320 * length w.shards.items → AreBlank (length w.shards.items) lists → IsReady d.rules named lists (gathered w heard lane draws none emptied)
+  pub is_ready : IsKept (kept_with d w) → AreBilled (keys_in w.shards.items) heard → KnowsBegun w.shards.items heard → d.moment ≤ named.moment → named.moment < 2 ^ 60 → draws.drawn ≤ w.draws.drawn + 864 → none.items ≡ [] → length (kept_of lists.items.items) ≤ vec_capacity none
+      → AreItems lists.items.items → outs_of_items lists.items.items ≤ 8000 + 320 * length w.shards.items → AreBlank (length w.shards.items) lists → IsReady d.rules named lists (gathered w heard lane draws none emptied)
   is_ready k billed knows later early few none_kept room items few_outs blank =
       let turns = all_turns d in
       let most : octets_most * turns ≤ 2 ^ 62 + 2 ^ 61 = omega (arith, k.made, k.most, k.endings) in
@@ -86,7 +86,7 @@ module _ (d : Desk) (w w' : Works) (heard : BillingState) (lane : LaneState) (dr
   ends_near k ends settles =
       nears d.rules w.pool w'.pool before (record w'.accounts { billing = settles.booked }) named items p settles.sent w.shards.items w'.shards.items w.drops w'.drops w.tally w'.tally settles.round s.is_opened w'.kept.items settles.holds k.shards ends
 
-  pub is_left : IsKept (kept_with d w) → Settles d.rules named items mid w' p p' t t' s → KeepsWorks named.moment mid w' → draws.drawn ≤ w.draws.drawn + 640 → IsLeft (kept_with d w) named.moment w'
+  pub is_left : IsKept (kept_with d w) → Settles d.rules named items mid w' p p' t t' s → KeepsWorks named.moment mid w' → draws.drawn ≤ w.draws.drawn + 864 → IsLeft (kept_with d w) named.moment w'
   is_left k settles keeps few = record {
     shards = keeps.count;
     order = keeps.order;

@@ -40,7 +40,7 @@ pub record StandReady (r : Rules) (named : Named) (lists : Lists) (w : Works) (v
   pub billed : AreBilled (keys_in vs) w.accounts.billing
   pub knows : KnowsBegun vs w.accounts.billing
   pub awaited : AreAwaited named.moment vs w.accounts.reports
-  pub few_outs : outs_of_items lists.items.items ≤ 5760 + 320 * length vs
+  pub few_outs : outs_of_items lists.items.items ≤ 8000 + 320 * length vs
   pub blank : AreBlank (length vs) lists
   pub roomy : All (λ (v : ShardView ShardState Entry). IsRoomy (length lists.items.items) v.allowance v) vs
   pub rows : All HasRows vs

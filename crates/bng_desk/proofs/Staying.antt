@@ -249,7 +249,7 @@ items_of_ends n is low e =
 few_outs : (i : Item) → is_verdict i → HasFew 10 i
 few_outs i v = subst (λ (k : ItemKind). outs_most k ≤ 10) (sym v) (omega arith)
 
-pub outs_of_ending : (n : ℕ) (is : List Item) → AreEnds n is → outs_of_items is ≤ 5760 + 320 * n
+pub outs_of_ending : (n : ℕ) (is : List Item) → AreEnds n is → outs_of_items is ≤ 8000 + 320 * n
 outs_of_ending n is e =
     let f = λ (i : Item). outs_most i.kind in
     omega (

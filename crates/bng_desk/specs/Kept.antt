@@ -87,7 +87,7 @@ pub record IsKept (d : Desk) : Type 0 where
   pub unopened : d.unopened ≤ unopened_most
   pub left : d.endings + unopened_most * rounds_left d ≤ unopened_most * 65410 + d.unopened
   pub told : d.told ≤ all_turns d
-  pub drawn : d.drawn ≤ 1 + 1024 * all_turns d
+  pub drawn : d.drawn ≤ 1 + 2048 * all_turns d
   pub one_seat : length d.tallies ≡ 1
   pub low : All (λ v. RowsAreLow (octets_most * all_turns d) v.rows) d.shards
   pub books : All (λ v. AreLow (octets_most * all_turns d) v.books) d.shards

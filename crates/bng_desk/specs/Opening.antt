@@ -1,5 +1,5 @@
 -- A desk that was opened over a configuration.
-use Rattle.std.specs.Prelude.{◌≡◌, ◌≢◌, ℕ, ◌+◌, ◌/◌, ◌<◌, ◌≤◌, ◌==◌, false, List, [], ◌∷◌, Option, Some, find, length, map, filter, option_map, slice_get}
+use Rattle.std.specs.Prelude.{◌≡◌, ◌≢◌, ℕ, ◌+◌, ◌/◌, ◌<◌, ◌≤◌, ◌==◌, false, List, [], ◌∷◌, Option, Some, find, is_some, length, map, filter, option_map, slice_get}
 use Rattle.std.specs.List.{All, AllPairs, AllZip, range_with_len}
 use Rattle.arrayvec.specs.ArrayVec.{ArrayVec}
 use Rattle.bng_acct.specs.declared.held.Held.{Held}
@@ -65,6 +65,8 @@ pub record AreRules (config : Config) (seed : List ℕ) (r : Rules) : Type 0 whe
   pub offers : AreOffers config seed config.access r.offers
   pub pools : r.pools ≡ config.pools
   pub profiles : r.profiles ≡ config.profiles
+  pub lacs : r.lacs ≡ config.lacs
+  pub serves_tunnels : r.serves_tunnels ≡ is_some config.tunnel_local
   pub name : r.link.name.items ≡ config.name.items
   pub address : r.link.address ≡ config.address
   pub dns : r.link.dns ≡ dns_of config.dns.items

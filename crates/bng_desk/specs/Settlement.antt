@@ -30,7 +30,7 @@ pub record AreBlank (shards : ℕ) (lists : Lists) : Type 0 where
   pub journals : lists.journals.items ≡ []
   pub journals_room : shards ≤ vec_capacity lists.journals
   pub outs : lists.outs.items ≡ []
-  pub outs_room : 5760 + 320 * shards ≤ lists.outs.room
+  pub outs_room : 8000 + 320 * shards ≤ lists.outs.room
   pub allowances : lists.allowances.items ≡ replicate shards 0
 
 -- The shards are those of the rules, in their order, with nothing of a round in them, and no sum is near its end; what was carried with the
@@ -63,7 +63,7 @@ pub record IsReady (r : Rules) (named : Named) (lists : Lists) (w : Works) : Typ
   pub none_kept : w.kept.items ≡ []
   pub room : length (kept_of lists.items.items) ≤ vec_capacity w.kept
   pub items : AreItems lists.items.items
-  pub few_outs : outs_of_items lists.items.items ≤ 5760 + 320 * length w.shards.items
+  pub few_outs : outs_of_items lists.items.items ≤ 8000 + 320 * length w.shards.items
   pub blank : AreBlank (length w.shards.items) lists
 
 -- A round of these items was held, or could not be opened; then the requests of the lane were sent, and then those of accounting; and the

@@ -38,18 +38,23 @@ use Rattle.bng_desk.specs.Model.{Desk, all_stopped, grace_most, has_ended, line_
 use Rattle.bng_desk.specs.Reading.{receives, taken_in, ending_stretch, EndsRight, is_empty}
 use Rattle.bng_desk.specs.Round.{Round, IsRound, stops_of, starts_of, terms_in, news_in, handled_states, left_by, drops_in, sends_stretch, record_of, refused_of, refused_record, with_refused}
 
--- the access ports so far, and then the core
+-- the gateway's end for tunnels, where it has one
+abbrev pub tunnel_roles : Bool → List Role
+tunnel_roles serves = if serves then Tunnel ∷ [] else []
+
+-- the access ports so far
 abbrev pub ports_up_to : ℕ → List Role
 ports_up_to n = map Access (range_with_len 1 n)
 
+-- the end for tunnels, then the access ports, and then the core
 abbrev pub data_roles : Rules → List Role
-data_roles r = ports_up_to (length r.access) ++ Core ∷ []
+data_roles r = tunnel_roles r.serves_tunnels ++ (ports_up_to (length r.access) ++ Core ∷ [])
 
 -- how many datagrams of the role a turn takes: the access ports share 224
 abbrev pub most_of : Rules → Role → ℕ
 most_of r (Access number) = 224 / length r.access
 most_of r Core = 224
-most_of r Tunnel = 0
+most_of r Tunnel = 224
 most_of r Auth = 0
 most_of r Acct = 0
 most_of r Coa = 0
@@ -91,8 +96,8 @@ abbrev pub ReadsWhere : Bool → List Answered → Option Ended → Type 0
 ReadsWhere true answers auth_end = (ended : Ended) × (auth_end ≡ Some ended) × EndsRight verdicts_most (length answers) ended
 ReadsWhere false answers auth_end = (auth_end ≡ None) × (answers ≡ [])
 
--- Control is read at most 8 times, then Acct at most 128 times, then Auth, then the access ports in their order, which share 224
--- receives, and then the core, at most 224 times.
+-- Control is read at most 8 times, then Acct at most 128 times, then Auth, then the end for tunnels, where there is one, at most 224 times,
+-- then the access ports in their order, which share 224 receives, and then the core, at most 224 times.
 pub record IsReading (d : Desk) (t : Turn) : Type 0 where
   pub moment : d.moment ≤ t.moment
   pub control : EndsRight 8 (length t.control) t.control_end

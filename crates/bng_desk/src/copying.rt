@@ -3,7 +3,7 @@ ghost use Rattle.std.specs.Prelude.{◌≡◌, IfOk};
 
 use crate::desk::DeskError;
 use arrayvec::ArrayVec;
-use bng_base::{AccessPort, AuthKind, Listed, NamedRange, Profile};
+use bng_base::{AccessPort, AuthKind, Lac, Listed, NamedRange, Profile};
 use bng_discovery::PortRules;
 use bng_ppp::LinkRules;
 use bng_shard::Rules;
@@ -146,6 +146,39 @@ pub(crate) fn profiles_copied(
     Ok(copies)
 }
 
+// A secret again, where one is shared.
+fn secret_copied(secret: &Option<ArrayVec<u8, 64>>) -> Option<ArrayVec<u8, 64>>
+    ensures { result ≡ secret.now }
+{
+    match secret {
+        Some(secret) => Some(copied(secret)),
+        None => None,
+    }
+}
+
+// The same access concentrator again.
+fn lac_copied(lac: &Lac) -> Lac
+    ensures { result ≡ lac.now }
+{
+    Lac {
+        ip: lac.ip,
+        secret: secret_copied(&lac.secret),
+    }
+}
+
+/// The same access concentrators again.
+pub(crate) fn lacs_copied(alloc: Global, lacs: &[Lac]) -> Result<Vec<Lac>, DeskError>
+    ensures { IfOk result (λ copies. copies.items ≡ lacs.now) }
+{
+    let Ok(mut copies) = Vec::with_capacity(alloc, lacs.len()) else {
+        return Err(DeskError::OutOfMemory);
+    };
+    for lac in lacs {
+        copies.push_reserved(lac_copied(lac));
+    }
+    Ok(copies)
+}
+
 /// The same rules again, for one shard more.
 pub(crate) fn rules_copied(alloc: Global, rules: &Rules) -> Result<Rules, DeskError>
     ensures { IfOk result (λ copy. copy ≡ rules.now) }
@@ -154,6 +187,7 @@ pub(crate) fn rules_copied(alloc: Global, rules: &Rules) -> Result<Rules, DeskEr
     let offers = offers_copied(alloc, rules.offers.as_slice())?;
     let pools = pools_copied(alloc, rules.pools.as_slice())?;
     let profiles = profiles_copied(alloc, rules.profiles.as_slice())?;
+    let lacs = lacs_copied(alloc, rules.lacs.as_slice())?;
     Ok(Rules {
         shards: rules.shards,
         core_peer: rules.core_peer,
@@ -161,6 +195,8 @@ pub(crate) fn rules_copied(alloc: Global, rules: &Rules) -> Result<Rules, DeskEr
         offers: Listed::of(offers),
         pools: Listed::of(pools),
         profiles: Listed::of(profiles),
+        lacs: Listed::of(lacs),
+        serves_tunnels: rules.serves_tunnels,
         link: link_copied(&rules.link),
     })
 }

@@ -76,8 +76,8 @@ fn begin<P: Plant>(plant: &mut P, works: &mut Works, items: &mut Batch<Item>) ->
 }
 
 /// Puts the items that stay of the round before on the list. Where there is none it takes what came from the RADIUS server. Then it
-/// takes what came on the access ports and from the core, gives up the questions whose server was silent, as long as there are fewer
-/// than 128 verdicts, and adds a Tick for each shard that has a due deadline. Says whether nothing was taken.
+/// takes what came to the end for tunnels, on the access ports and from the core, gives up the questions whose server was silent, as long
+/// as there are fewer than 128 verdicts, and adds a Tick for each shard that has a due deadline. Says whether nothing was taken.
 pub(crate) fn gather<P: Plant>(
     rules: &Rules,
     works: &mut Works,
@@ -97,8 +97,8 @@ pub(crate) fn gather<P: Plant>(
     requires kept { AreItems works.old.kept.items }
     ensures gathers { Gathers rules.now works.old.shards.items now works.old.kept.items (P.told plant.old) (P.told plant.new) works.old.lane works.new.lane works.old.draws works.new.draws items.new.items result }
     ensures items { AreItems items.new.items }
-    ensures few_outs { outs_of_items items.new.items ≤ 5760 + 320 * length works.old.shards.items }
-    ensures few_drawn { works.new.draws.drawn ≤ works.old.draws.drawn + 640 }
+    ensures few_outs { outs_of_items items.new.items ≤ 8000 + 320 * length works.old.shards.items }
+    ensures few_drawn { works.new.draws.drawn ≤ works.old.draws.drawn + 864 }
     ensures none_kept { works.new.kept.items ≡ [] }
     ensures kept_room { vec_capacity works.new.kept ≡ vec_capacity works.old.kept }
     ensures rest { works.new ≡ record works.old { draws = works.new.draws; lane = works.new.lane; kept = works.new.kept; frame = works.new.frame } }

@@ -1,8 +1,9 @@
-//! What was taken from the access ports and the core, as the items of a round.
-ghost use Rattle.std.specs.Prelude.{◌≡◌, ◌∷◌, [], ◌+◌, ◌≤◌, ◌<◌, ◌^◌, length};
+//! What was taken from the end for tunnels, the access ports and the core, as the items of a round.
+ghost use Rattle.std.specs.Prelude.{◌≡◌, ◌∷◌, [], ◌+◌, ◌≤◌, ◌<◌, ◌^◌, ℕ, length};
+ghost use Rattle.bng_base.specs.declared.outside.Role.{Role as RoleView};
 ghost use Rattle.bng_desk.specs.Items.{kind_of};
 ghost use Rattle.bng_desk.specs.Intake.{Takes};
-ghost use Rattle.bng_desk.specs.Turn.{most_of, ports_up_to, data_roles};
+ghost use Rattle.bng_desk.specs.Turn.{most_of, tunnel_roles, ports_up_to, data_roles};
 
 use crate::calls::receive;
 use crate::flags::both;
@@ -10,6 +11,9 @@ use crate::random::Draws;
 use bng_base::{Batch, Frame, Item, ItemKind, Received, Role};
 use bng_plant::Plant;
 use bng_shard::Rules;
+
+/// How many datagrams of the end for tunnels a turn takes.
+const TUNNEL_MOST: usize = 224;
 
 /// How many datagrams of the access ports a turn takes, all together.
 const PORTS_MOST: usize = 224;
@@ -49,6 +53,37 @@ fn take_role<P: Plant>(
     quiet
 }
 
+// Takes from the end for tunnels, where there is one.
+fn take_tunnel<P: Plant>(
+    serves: bool,
+    plant: &mut P,
+    frame: &mut Frame,
+    draws: &mut Draws,
+    items: &mut Batch<Item>,
+) -> bool
+    requires room { length items.old.items + 224 ≤ items.old.room }
+    requires drawn { draws.old.drawn < 2 ^ 60 }
+    ensures takes { (most : RoleView → ℕ) → most Role.Tunnel ≡ 224
+        → Takes (tunnel_roles serves) most 224 (P.told plant.old) (P.told plant.new) draws.old draws.new items.old.items items.new.items result }
+    ensures few { length items.new.items ≤ length items.old.items + 224 }
+    ensures few_drawn { draws.new.drawn ≤ draws.old.drawn + 224 }
+    ensures capacity { items.new.room ≡ items.old.room }
+{
+    if serves {
+        take_role(
+            plant,
+            frame,
+            Role::Tunnel,
+            ItemKind::Tunnel,
+            TUNNEL_MOST,
+            draws,
+            items,
+        )
+    } else {
+        true
+    }
+}
+
 // Takes from each access port in its order.
 fn take_ports<P: Plant>(
     rules: &Rules,
@@ -83,7 +118,8 @@ fn take_ports<P: Plant>(
     quiet
 }
 
-/// Takes from the access ports and then from the core, into a frame, and says whether nothing was taken.
+/// Takes from the end for tunnels, where there is one, from the access ports and then from the core, into a frame, and says whether
+/// nothing was taken.
 pub(crate) fn take_data<P: Plant>(
     rules: &Rules,
     plant: &mut P,
@@ -93,13 +129,14 @@ pub(crate) fn take_data<P: Plant>(
 ) -> bool
     requires some { 1 ≤ length rules.now.access }
     requires few { length rules.now.access ≤ 16 }
-    requires room { length items.old.items + 448 ≤ items.old.room }
-    requires drawn { draws.old.drawn < 2 ^ 60 }
-    ensures takes { Takes (data_roles rules.now) (most_of rules.now) 448 (P.told plant.old) (P.told plant.new) draws.old draws.new items.old.items items.new.items result }
-    ensures few { length items.new.items ≤ length items.old.items + 448 }
-    ensures few_drawn { draws.new.drawn ≤ draws.old.drawn + 448 }
+    requires room { length items.old.items + 672 ≤ items.old.room }
+    requires drawn { draws.old.drawn + 224 < 2 ^ 60 }
+    ensures takes { Takes (data_roles rules.now) (most_of rules.now) 672 (P.told plant.old) (P.told plant.new) draws.old draws.new items.old.items items.new.items result }
+    ensures few { length items.new.items ≤ length items.old.items + 672 }
+    ensures few_drawn { draws.new.drawn ≤ draws.old.drawn + 672 }
     ensures capacity { items.new.room ≡ items.old.room }
 {
+    let tunnel = take_tunnel(rules.serves_tunnels, plant, frame, draws, items);
     let ports = take_ports(rules, plant, frame, draws, items);
     let core = take_role(
         plant,
@@ -110,5 +147,6 @@ pub(crate) fn take_data<P: Plant>(
         draws,
         items,
     );
-    both(ports, core)
+    let others = both(ports, core);
+    both(tunnel, others)
 }

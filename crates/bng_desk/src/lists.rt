@@ -5,12 +5,12 @@ use bng_base::{Batch, Entry, Item, Listed, Loose, OutRecord, RoundRecord};
 use std::alloc::{AllocError, Global};
 use std::mem;
 
-/// The most items that the lists have room for. At most 640 come: 128 verdicts, 448 datagrams, and one Tick or End for each of 64
+/// The most items that the lists have room for. At most 864 come: 128 verdicts, 672 datagrams, and one Tick or End for each of 64
 /// shards.
 pub(crate) const ITEMS_MOST: usize = 1024;
 
 /// The most outs that verdicts and items of the outside have, all together.
-const TAKEN_OUTS_MOST: usize = 5760;
+const TAKEN_OUTS_MOST: usize = 8000;
 
 /// The most outs of a Tick or an End.
 const SHARD_OUTS_MOST: usize = 320;
@@ -114,7 +114,7 @@ impl Lists {
         ensures loose { IfOk result (λ l. (l.loose.items ≡ []) × (1024 ≤ vec_capacity l.loose)) }
         ensures allowances { IfOk result (λ l. l.allowances.items ≡ replicate shards 0) }
         ensures journals { IfOk result (λ l. (l.journals.items ≡ []) × (shards ≤ vec_capacity l.journals)) }
-        ensures outs { IfOk result (λ l. (l.outs.items ≡ []) × (5760 + 320 * shards ≤ l.outs.room)) }
+        ensures outs { IfOk result (λ l. (l.outs.items ≡ []) × (8000 + 320 * shards ≤ l.outs.room)) }
     {
         let Lists {
             items,

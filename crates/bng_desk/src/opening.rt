@@ -1,5 +1,5 @@
 //! What a desk is opened with.
-ghost use Rattle.std.specs.Prelude.{◌≡◌, ◌≤◌, ◌<◌, ◌==◌, ◌/◌, [], ℕ, false, IfOk, length, map, filter, option_map};
+ghost use Rattle.std.specs.Prelude.{◌≡◌, ◌≤◌, ◌<◌, ◌==◌, ◌/◌, [], ℕ, false, IfOk, is_some, length, map, filter, option_map};
 ghost use Rattle.std.specs.List.{All, AllPairs, range_with_len};
 ghost use Rattle.bng_acct.specs.Roster.{same};
 ghost use Rattle.bng_base.specs.declared.settings.NamedRange.{NamedRange};
@@ -17,7 +17,8 @@ ghost use Rattle.bng_desk.specs.Taking.{HasFewSessions, HasRows};
 
 use crate::accounts::{Accounts, NO_STOPS};
 use crate::copying::{
-    all_copied, copied, kinds_copied, pools_copied, ports_copied, profiles_copied, rules_copied,
+    all_copied, copied, kinds_copied, lacs_copied, pools_copied, ports_copied, profiles_copied,
+    rules_copied,
 };
 use crate::desk::DeskError;
 use crate::line::Line;
@@ -50,11 +51,12 @@ pub(crate) fn rules(
     config: &Config,
     offers: Vec<PortRules>,
 ) -> Result<Rules, DeskError>
-    ensures { IfOk result (λ r. r ≡ record { shards = config.now.shards; core_peer = config.now.core_peer; access = config.now.access; offers = offers.items; pools = config.now.pools; profiles = config.now.profiles; link = record { name = config.now.name; address = config.now.address; dns = dns_of config.now.dns.items; auth = config.now.auth; echo = config.now.echo } }) }
+    ensures { IfOk result (λ r. r ≡ record { shards = config.now.shards; core_peer = config.now.core_peer; access = config.now.access; offers = offers.items; pools = config.now.pools; profiles = config.now.profiles; lacs = config.now.lacs; serves_tunnels = is_some config.now.tunnel_local; link = record { name = config.now.name; address = config.now.address; dns = dns_of config.now.dns.items; auth = config.now.auth; echo = config.now.echo } }) }
 {
     let access = ports_copied(alloc, config.access.as_slice())?;
     let pools = pools_copied(alloc, config.pools.as_slice())?;
     let profiles = profiles_copied(alloc, config.profiles.as_slice())?;
+    let lacs = lacs_copied(alloc, config.lacs.as_slice())?;
     Ok(Rules {
         shards: config.shards,
         core_peer: config.core_peer,
@@ -62,6 +64,8 @@ pub(crate) fn rules(
         offers: Listed::of(offers),
         pools: Listed::of(pools),
         profiles: Listed::of(profiles),
+        lacs: Listed::of(lacs),
+        serves_tunnels: config.tunnel_local.is_some(),
         link: LinkRules {
             name: copied(&config.name),
             address: config.address,

@@ -9,12 +9,13 @@ use Rattle.bng_base.specs.declared.item.OutRecord.{OutRecord}
 use Rattle.bng_base.specs.declared.outside.Datagram.{Datagram}
 use Rattle.bng_base.specs.declared.outside.Role.{Role}
 use Rattle.bng_base.specs.Roles.{is_core, is_access, is_data}
+use Rattle.bng_l2tp_tunnel.specs.Sound.{IsSpelled}
 use Rattle.bng_engine.specs.Terms.{Key, key_in}
 use Rattle.bng_engine.specs.Wire.{datagram_of, went}
 use Rattle.bng_engine.proofs.Everywhere.{all_weaker, all_filter}
-use Rattle.bng_shard.specs.Reader.{is_session_data, IsInputOf, IsOutputOf, IsInDirection, IsNoPacket}
+use Rattle.bng_shard.specs.Reader.{is_session_data, is_tunnel, IsInputOf, IsOutputOf, IsInDirection, IsNoPacket}
 use Rattle.bng_gate.specs.Headline.{IsFromTerm, IsToTerm, IsAddressed}
-use Rattle.bng_gate.specs.Rounds.{on_data}
+use Rattle.bng_gate.specs.Rounds.{carries_data, on_data}
 use Rattle.bng_gate.proofs.Keys.{IsOurs}
 
 pub all_map : {X Y : Type 0} (P : Y → Type 0) (f : X → Y) (xs : List X) → AllByRecursion (λ x. P (f x)) xs → AllByRecursion P (map f xs)
@@ -26,6 +27,7 @@ module _ (terms : List Key) where
   record IsAddressedAs (role : Role) (octets : List ℕ) : Type 0 where
     to_core : is_core role ≡ true → IsFromTerm terms octets
     to_circuit : is_access role ≡ true → is_session_data octets ≡ true → IsToTerm terms role octets
+    to_tunnel : is_tunnel role ≡ true → IsSpelled octets
 
   from_term : (c : Charge) (role : Role) (octets : List ℕ) → IsInputOf c role octets → Contains terms (key_in c) → IsFromTerm terms octets
   from_term c role octets h among = record {
@@ -53,23 +55,26 @@ module _ (terms : List Key) where
   directed true c role octets h among = record {
     to_core = λ e. from_term c role octets h among;
     to_circuit = λ e f. absurd (true≢false (sym e ∙ ap is_access h.role_is));
+    to_tunnel = λ e. absurd (true≢false (sym e ∙ ap is_tunnel h.role_is));
   }
   directed false c role octets h among = record {
     to_core = λ e. absurd (true≢false (sym e ∙ ap is_core h.role_is));
     to_circuit = λ e f. to_term c role octets h among;
+    to_tunnel = λ e. absurd (true≢false (sym e ∙ ap is_tunnel h.role_is));
   }
 
   charged : (role : Role) (octets : List ℕ) (charge : Option Charge) → MatchOption charge (IsNoPacket role octets) (λ c. IsInDirection c.input c role octets) → IfSome charge (λ c. Contains terms (key_in c)) → IsAddressedAs role octets
   charged role octets None h among = record {
     to_core = λ e. absurd (true≢false (sym e ∙ h.not_core));
     to_circuit = λ e f. absurd (true≢false (sym f ∙ h.not_data e));
+    to_tunnel = h.is_control;
   }
   charged role octets (Some c) h among = directed c.input c role octets h among
 
   one_addressed : (o : OutRecord) → IsOurs (Contains terms) o → IsAddressed terms (datagram_of o)
   one_addressed o h =
       let is = charged o.role o.frame o.charge h.whole h.known in
-      record { to_core = is.to_core; to_circuit = is.to_circuit }
+      record { to_core = is.to_core; to_circuit = is.to_circuit; to_tunnel = is.to_tunnel }
 
   pub went_addressed : (os : List OutRecord) → AllByRecursion (IsOurs (Contains terms)) os → AllByRecursion (IsAddressed terms) (went os)
   went_addressed os h =
@@ -78,22 +83,23 @@ module _ (terms : List Key) where
       (all_weaker (IsOurs (Contains terms)) (λ o. IsAddressed terms (datagram_of o)) one_addressed sent (all_filter (IsOurs (Contains terms)) (λ o. o.sent) os h))
 
   -- elsewhere nothing is asked of it
-  elsewhere : (d : Datagram) → is_data d.role ≡ false → IsAddressed terms d
+  elsewhere : (d : Datagram) → carries_data d.role ≡ false → IsAddressed terms d
   elsewhere d e =
-      let parts = or_parts (is_access d.role) (is_core d.role) e in
-      record { to_core = λ f. absurd (true≢false (sym f ∙ parts.1)); to_circuit = λ f g. absurd (true≢false (sym f ∙ parts.0)) }
+      let parts = or_parts (is_data d.role) (is_tunnel d.role) e in
+      let ways = or_parts (is_access d.role) (is_core d.role) parts.0 in
+      record { to_core = λ f. absurd (true≢false (sym f ∙ ways.1)); to_circuit = λ f g. absurd (true≢false (sym f ∙ ways.0)); to_tunnel = λ f. absurd (true≢false (sym f ∙ parts.1)) }
 
-  with_data : (b : Bool) (d : Datagram) (ds : List Datagram) → is_data d.role ≡ b → AllByRecursion (IsAddressed terms) (cond b (d ∷ on_data ds) (on_data ds)) → IsAddressed terms d × AllByRecursion (IsAddressed terms) (on_data ds)
+  with_data : (b : Bool) (d : Datagram) (ds : List Datagram) → carries_data d.role ≡ b → AllByRecursion (IsAddressed terms) (cond b (d ∷ on_data ds) (on_data ds)) → IsAddressed terms d × AllByRecursion (IsAddressed terms) (on_data ds)
   with_data true d ds e h = (h.0, h.1)
   with_data false d ds e h = (elsewhere d e, h)
 
   from_data : (ds : List Datagram) → AllByRecursion (IsAddressed terms) (on_data ds) → AllByRecursion (IsAddressed terms) ds
   from_data [] h = tt
   from_data (d ∷ ds) h =
-      let parts = with_data (is_data d.role) d ds refl h in
+      let parts = with_data (carries_data d.role) d ds refl h in
       (parts.0, from_data ds parts.1)
 
   pub all_addressed : (sent : List Datagram) (os : List OutRecord) → on_data sent ≡ on_data (went os) → AllByRecursion (IsOurs (Contains terms)) os → All (IsAddressed terms) sent
   all_addressed sent os same ours =
       All-from_recursion (IsAddressed terms) sent
-      (from_data sent (subst (AllByRecursion (IsAddressed terms)) (sym same) (all_filter (IsAddressed terms) (λ d. is_data d.role) (went os) (went_addressed os ours))))
+      (from_data sent (subst (AllByRecursion (IsAddressed terms)) (sym same) (all_filter (IsAddressed terms) (λ d. carries_data d.role) (went os) (went_addressed os ours))))

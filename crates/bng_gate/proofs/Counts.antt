@@ -35,7 +35,7 @@ use Rattle.bng_desk.specs.Logins.{reply_items, timeout_items}
 use Rattle.bng_desk.specs.Model.{Desk}
 use Rattle.bng_desk.specs.Reading.{EndsRight}
 use Rattle.bng_desk.specs.Round.{Round, IsWhoseIn, AreParts, entries_of, left_by, of_seat, views_of}
-use Rattle.bng_desk.specs.Turn.{Turn, Step, RoundOf, after_round, data_roles, ending_items, has_end, items_of, most_of, new_items, ports_up_to}
+use Rattle.bng_desk.specs.Turn.{Turn, Step, RoundOf, after_round, data_roles, ending_items, has_end, items_of, most_of, new_items, ports_up_to, tunnel_roles}
 use Rattle.bng_desk.proofs.Drawing.{drawn_length, ends_length, ticks_length}
 use Rattle.bng_desk.proofs.GatherLaws.{auth_few}
 use Rattle.bng_desk.proofs.LoginLaws.{timeouts_length}
@@ -63,7 +63,7 @@ one_asks s (e ∷ earlier) h later steps = omega (arith, step_few s.rules s.slot
 
 -- the most entries of a shard in a round
 abbrev entries_most : ℕ
-entries_most = 4096
+entries_most = 8192
 
 abbrev IsShort : ShardView ShardState Handled → Type 0
 IsShort w = length w.journal ≤ entries_most
@@ -217,13 +217,25 @@ taken_few r (x ∷ readings) some all =
       taken_few r readings some all.1,
     )
 
-roles_count : (r : Rules) → length (data_roles r) ≡ length r.access + 1
-roles_count r =
+one_tunnel : (serves : Bool) → length (tunnel_roles serves) ≤ 1
+one_tunnel true = omega arith
+one_tunnel false = omega arith
+
+roles_few : (r : Rules) → length (data_roles r) ≤ length r.access + 2
+roles_few r =
     let ports = range_with_len 1 (length r.access) in
-    omega (arith, length-append (ports_up_to (length r.access)) (Core ∷ []), length-map ports Access, length-range_with_len 1 (length r.access))
+    let others = ports_up_to (length r.access) ++ Core ∷ [] in
+    omega (
+      arith,
+      one_tunnel r.serves_tunnels,
+      length-append (tunnel_roles r.serves_tunnels) others,
+      length-append (ports_up_to (length r.access)) (Core ∷ []),
+      length-map ports Access,
+      length-range_with_len 1 (length r.access),
+    )
 
 module _ (d : Desk) (t : Turn) (low : IsServed d) (d' : Desk) (step : Step d (Some t) d') where
-  readings_few : length (taken_items t.readings) ≤ 3808
+  readings_few : length (taken_items t.readings) ≤ 4032
   readings_few =
       let read = recursion_from_All (λ (x : DataReading). EndsRight (most_of d.rules x.role) (length x.arrivals) x.ended) t.readings step.0.read in
       omega (
@@ -231,7 +243,7 @@ module _ (d : Desk) (t : Turn) (low : IsServed d) (d' : Desk) (step : Step d (So
         taken_few d.rules t.readings low.some_port read,
         length-map t.readings (λ (x : DataReading). x.role),
         ap (λ (roles : List Role). length roles) step.0.roles,
-        roles_count d.rules,
+        roles_few d.rules,
         low.few_ports,
       )
 

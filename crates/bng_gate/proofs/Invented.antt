@@ -18,7 +18,6 @@ use Rattle.bng_base.specs.declared.outside.Role.TheVariants.{Access, Core, Tunne
 use Rattle.bng_base.specs.declared.settings.AccessPort.{AccessPort}
 use Rattle.bng_base.specs.Chain.{Chain}
 use Rattle.bng_base.specs.FateOf.{Arrival}
-use Rattle.bng_base.specs.Roles.{is_data}
 use Rattle.bng_config.specs.declared.config.Config.{Config}
 use Rattle.bng_engine.specs.Accounted.{nothing_yet}
 use Rattle.bng_engine.specs.Histories.{History, NextInShard, ShardHistory, ShardTurn, sends_in}
@@ -41,11 +40,11 @@ use Rattle.bng_desk.specs.Model.{Desk}
 use Rattle.bng_desk.specs.Opening.{opened_shards, statics_of}
 use Rattle.bng_desk.specs.Reading.{taken_in}
 use Rattle.bng_desk.specs.Round.{Round, views_of}
-use Rattle.bng_desk.specs.Turn.{RoundOf, Step, Turn, data_roles, ending_items, has_end, items_of, new_items}
+use Rattle.bng_desk.specs.Turn.{RoundOf, Step, Turn, tunnel_roles, data_roles, ending_items, has_end, items_of, new_items}
 use Rattle.bng_desk.proofs.ItemLaws.{all_due, all_ends}
 use Rattle.bng_desk.proofs.RulesStay.{after_rules}
 use Rattle.bng_gate.specs.Granted.{Stage, end_stage_in, sent_by, stage_in, stages_of}
-use Rattle.bng_gate.specs.Rounds.{end_round_in, history_of, on_data, round_in, rounds_in, rounds_of, turns_of}
+use Rattle.bng_gate.specs.Rounds.{carries_data, end_round_in, history_of, on_data, round_in, rounds_in, rounds_of, turns_of}
 use Rattle.bng_gate.specs.Serving.{EndRun, Ends, Late, LateStep, Made, MadeEnd, Run, Waits}
 use Rattle.bng_gate.specs.Unchanged.{Arises, IsPassedDown, IsPassedUp, NothingIsInvented}
 use Rattle.bng_gate.proofs.Arising.{arises_append, arises_none, arises_unfiltered}
@@ -55,7 +54,7 @@ use Rattle.bng_gate.proofs.Verdicts.{kept_after}
 
 -- The items of a turn ---------------------------------------------------------------------------------------------------------------
 
--- the item is no datagram of an access port or of the core
+-- the item is no datagram of an access port, of the core or for a tunnel
 abbrev IsSilent : Item → Type 0
 IsSilent i = datagrams_in i ≡ []
 
@@ -71,7 +70,7 @@ drawn_same seed n (i ∷ items) = ap (λ (ds : List Datagram). datagrams_in i ++
 stays_silent : (k : ItemKind) (from : Peer) (octets : List ℕ) → stays k ≡ true → datagrams_as k from octets ≡ []
 stays_silent (kind.Access number) from octets h = absurd (false≢true h)
 stays_silent kind.Core from octets h = absurd (false≢true h)
-stays_silent kind.Tunnel from octets h = refl
+stays_silent kind.Tunnel from octets h = absurd (false≢true h)
 stays_silent kind.Verdict from octets h = refl
 stays_silent kind.Change from octets h = refl
 stays_silent kind.Tick from octets h = refl
@@ -129,10 +128,14 @@ ports_told : (ports : List ℕ) → AllByRecursion IsTold (map Access ports ++ C
 ports_told [] = (λ from octets. refl, tt)
 ports_told (p ∷ ports) = (λ from octets. refl, ports_told ports)
 
+roles_told : (serves : Bool) (ports : List ℕ) → AllByRecursion IsTold (tunnel_roles serves ++ (map Access ports ++ Core ∷ []))
+roles_told true ports = (λ from octets. refl, ports_told ports)
+roles_told false ports = ports_told ports
+
 -- in a turn of serving they are what was taken, and in one of the ending there are none
 items_told : (d : Desk) (t : Turn) → All IsSilent d.kept → map (λ r. r.role) t.readings ≡ data_roles d.rules → flat_map datagrams_in (items_of d t) ≡ taken_of t.readings
 items_told d t kept roles =
-    let told : AllByRecursion IsTold (map (λ r. r.role) t.readings) = subst (AllByRecursion IsTold) (sym roles) (ports_told (range_with_len 1 (length d.rules.access))) in
+    let told : AllByRecursion IsTold (map (λ r. r.role) t.readings) = subst (AllByRecursion IsTold) (sym roles) (roles_told d.rules.serves_tunnels (range_with_len 1 (length d.rules.access))) in
     let replies = reply_items t.answers in
     let taken = taken_items t.readings in
     let timed = timeout_items t.timed in
@@ -296,8 +299,8 @@ stages_went (m ∷ turns) endings =
 
 -- Runs ---------------------------------------------------------------------------------------------------------------------------------
 
--- what is read as a packet is of the access ports or of the core
-no_packet : (role : Role) (octets : List ℕ) → is_data role ≡ false → pppoe_reader role octets ≡ None
+-- what is read as a packet is of a role that may carry packets
+no_packet : (role : Role) (octets : List ℕ) → carries_data role ≡ false → pppoe_reader role octets ≡ None
 no_packet (Access port) octets e = absurd (false≢true (sym e))
 no_packet Core octets e = absurd (false≢true (sym e))
 no_packet Tunnel octets e = refl
@@ -308,9 +311,9 @@ no_packet Control octets e = refl
 
 those_on_data : (test : WirePacket → Bool) (ds : List Datagram) → those test (on_data ds) ≡ those test ds
 those_on_data test [] = refl
-those_on_data test (d ∷ ds) = by (is_data d.role) refl (those_on_data test ds)
+those_on_data test (d ∷ ds) = by (carries_data d.role) refl (those_on_data test ds)
   where
-    by : (b : Bool) → is_data d.role ≡ b → those test (on_data ds) ≡ those test ds → those test (cond b (d ∷ on_data ds) (on_data ds)) ≡ those test (d ∷ ds)
+    by : (b : Bool) → carries_data d.role ≡ b → those test (on_data ds) ≡ those test ds → those test (cond b (d ∷ on_data ds) (on_data ds)) ≡ those test (d ∷ ds)
     by true is rest = ap (λ (us : List Datagram). cond (option_map_or test (pppoe_reader d.role d.octets) false) (d ∷ us) us) rest
     by false is rest =
         rest ∙ sym (ap (λ (w : Option WirePacket). cond (option_map_or test w false) (d ∷ those test ds) (those test ds)) (no_packet d.role d.octets is))
@@ -361,7 +364,7 @@ module _ (config : Config) (r : Rules) (access : r.access ≡ config.access) (co
         let stages = stages_of turns endings in
         let same : those test (flat_map (λ (s : Stage). s.sent) stages) ≡ those test sent =
         ap (those test) (sym (stages_went turns endings)) ∙ sym (those_on_data test out) ∙ ap (those test) (sym sends) ∙ those_on_data test sent in
-        arises_unfiltered R (λ (d : Datagram). is_data d.role) taken (those test sent)
+        arises_unfiltered R (λ (d : Datagram). carries_data d.role) taken (those test sent)
         (subst (λ (ds : List Datagram). Arises R ds (those test sent)) (sym items)
         (subst (Arises R (flat_map (λ (s : Stage). s.taken) stages)) same (all_stand R test stages all)))
 

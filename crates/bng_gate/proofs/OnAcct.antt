@@ -1,5 +1,5 @@
 -- What was sent on Acct are the requests of accounting: no round has anything to send there.
-use Rattle.std.proofs.Common.{◌≡◌, ℕ, Bool, true, false, cond, List, [], ◌∷◌, ◌++◌, map, Option, Some, None, refl, sym, ap, subst, ◌∙◌}
+use Rattle.std.proofs.Common.{◌≡◌, ℕ, Bool, true, false, ◌||◌, cond, List, [], ◌∷◌, ◌++◌, map, Option, Some, None, refl, sym, ap, subst, ◌∙◌}
 use Rattle.std.specs.Prelude.{filter, MatchOption, if◌then◌else◌}
 use Rattle.std.specs.List.{AllByRecursion, flat_map}
 use Rattle.std.proofs.lemmas.Bool.{false≢true}
@@ -17,7 +17,7 @@ use Rattle.bng_engine.specs.Terms.{Key}
 use Rattle.bng_engine.specs.Wire.{datagram_of, went}
 use Rattle.bng_engine.proofs.Everywhere.{all_weaker}
 use Rattle.bng_lane.specs.Sends.{LaneSend}
-use Rattle.bng_shard.specs.Reader.{IsInDirection, IsNoPacket}
+use Rattle.bng_shard.specs.Reader.{is_tunnel, IsInDirection, IsNoPacket}
 use Rattle.bng_desk.specs.Accounting.{record_datagram, record_sends}
 use Rattle.bng_desk.specs.Control.{Heeded, reply, is_answered}
 use Rattle.bng_desk.specs.Logins.{lane_datagram, lane_sends}
@@ -36,21 +36,21 @@ IsElse o = is_acct o.role ≡ false
 
 -- What a round has to send -----------------------------------------------------------------------------------------------------------
 
-no_port_acct : (role : Role) → is_access role ≡ true → is_acct role ≡ false
-no_port_acct (Access number) e = refl
-no_port_acct Core e = absurd (false≢true e)
-no_port_acct Tunnel e = absurd (false≢true e)
-no_port_acct Auth e = absurd (false≢true e)
-no_port_acct Acct e = absurd (false≢true e)
-no_port_acct Coa e = absurd (false≢true e)
-no_port_acct Control e = absurd (false≢true e)
+no_way_acct : (role : Role) → (is_access role || is_tunnel role) ≡ true → is_acct role ≡ false
+no_way_acct (Access number) e = refl
+no_way_acct Core e = absurd (false≢true e)
+no_way_acct Tunnel e = refl
+no_way_acct Auth e = absurd (false≢true e)
+no_way_acct Acct e = absurd (false≢true e)
+no_way_acct Coa e = absurd (false≢true e)
+no_way_acct Control e = absurd (false≢true e)
 
 directed_else : (b : Bool) (c : Charge) (role : Role) (octets : List ℕ) → IsInDirection b c role octets → is_acct role ≡ false
 directed_else true c role octets h = ap is_acct h.role_is
 directed_else false c role octets h = ap is_acct h.role_is
 
 whole_else : (role : Role) (octets : List ℕ) (charge : Option Charge) → MatchOption charge (IsNoPacket role octets) (λ c. IsInDirection c.input c role octets) → is_acct role ≡ false
-whole_else role octets None h = no_port_acct role h.on_port
+whole_else role octets None h = no_way_acct role h.on_way
 whole_else role octets (Some c) h = directed_else c.input c role octets h
 
 -- each is of another role

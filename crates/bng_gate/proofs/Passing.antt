@@ -16,7 +16,7 @@ use Rattle.bng_base.specs.declared.item.ItemKind.{ItemKind}
 use Rattle.bng_base.specs.declared.item.ItemKind.TheVariants as kind
 use Rattle.bng_base.specs.declared.item.OutRecord.{OutRecord}
 use Rattle.bng_base.specs.declared.outside.Datagram.{Datagram}
-use Rattle.bng_base.specs.declared.outside.Role.TheVariants.{Access, Core}
+use Rattle.bng_base.specs.declared.outside.Role.TheVariants.{Access, Core, Tunnel}
 use Rattle.bng_base.specs.declared.settings.AccessPort.{AccessPort}
 use Rattle.bng_base.specs.Ipv4Grammar.{IsIpv4}
 use Rattle.bng_base.specs.PppoeGrammar.{PppoeFrame, PppoeTag, pppoe_text}
@@ -27,6 +27,8 @@ use Rattle.bng_engine.specs.Wire.{WirePacket, datagram_of, is_from, is_to}
 use Rattle.bng_forward.specs.Fates.{Carries, Found, Holders, IsCorePacket, IsFrame, IsPort, UpFate, DownFate}
 use Rattle.bng_forward.specs.Framed.{IsFrameTo, circuit_frame, session_frame}
 use Rattle.bng_forward.specs.Packets.{IsPassedOn}
+use Rattle.bng_l2tp_wire.specs.Messages.{ControlMessage}
+use Rattle.bng_lns.specs.Tunnels.{Answer as TunnelAnswer, NoTunnel, NoRequest, Steps, TunnelsState}
 use Rattle.bng_pppoe_wire.proofs.Spelled.{six}
 use Rattle.bng_shard.specs.Made.{Made}
 use Rattle.bng_shard.specs.declared.rules.Rules.{Rules}
@@ -36,6 +38,7 @@ use Rattle.bng_shard.specs.declared.session.Session.{Session}
 use Rattle.bng_shard.specs.Deed.{Deed, arrival_in}
 use Rattle.bng_shard.specs.Discovery.{Answers, Discovers}
 use Rattle.bng_shard.specs.Frames.{GoesDown, GoesUp, HearsAccess, HearsControl, HearsCore, HearsData, HearsFrame, HearsIn, HearsPpp, charge_of, found_down, found_up}
+use Rattle.bng_shard.specs.L2tp.{HearsAnswer, HearsTunnel, heard_by}
 use Rattle.bng_shard.specs.Reader.{pppoe_reader}
 use Rattle.bng_shard.specs.State.{State, port_at, session_of}
 use Rattle.bng_shard.specs.Step.{Hears, Step}
@@ -50,11 +53,11 @@ use Rattle.bng_gate.proofs.Arising.{arises_none}
 
 -- The datagrams of items ------------------------------------------------------------------------------------------------------
 
--- the datagram of an item of an access port or of the core
+-- the datagram of an item of an access port, of the core or for a tunnel
 abbrev pub datagrams_as : ItemKind → Peer → List ℕ → List Datagram
 datagrams_as (kind.Access number) from octets = record { role = Access number; peer = from; octets = octets } ∷ []
 datagrams_as kind.Core from octets = record { role = Core; peer = from; octets = octets } ∷ []
-datagrams_as kind.Tunnel from octets = []
+datagrams_as kind.Tunnel from octets = record { role = Tunnel; peer = from; octets = octets } ∷ []
 datagrams_as kind.Verdict from octets = []
 datagrams_as kind.Change from octets = []
 datagrams_as kind.Tick from octets = []
@@ -260,21 +263,31 @@ module _ (r : Rules) (s : State) (e : Entry) (d : Deed) (on : d.fate ≡ Forward
   core is_kind (inr (v, is, (fate, decides, inl (forwards, h)))) = goes_down v fate is_kind is decides forwards h
   core is_kind (inr (v, is, (fate, decides, inr (stays, h)))) = other _ h stays
 
+  told : (answer : TunnelAnswer) (m : ControlMessage) (t : TunnelsState) → HearsAnswer answer s e m t d → Goes
+  told NoTunnel m t h = other _ h (λ f. absurd cc)
+  told NoRequest m t h = other _ h (λ f. absurd cc)
+  told (Steps number said) m t (frames, t', takes, spelled, h) = other _ h (λ f. absurd cc)
+
+  tunnel : HearsTunnel r s e d → Goes
+  tunnel (inl (neither, h)) = other _ h (λ f. absurd cc)
+  tunnel (inr (inl (m, is, h))) = told (heard_by r s e m).answer m (heard_by r s e m).after h
+  tunnel (inr (inr (m, is, h))) = other _ h (λ f. absurd cc)
+
   judged : (limited : Bool) → HearsVerdict r s e limited d → Goes
   judged limited (inl (asks, t, decides, h)) = other _ h.done (λ f. absurd cc)
   judged limited (inr (inl (asks, decides, h))) = other _ h (λ f. absurd cc)
   judged limited (inr (inr (unasked, no_claim, h))) = other _ h (λ f. absurd cc)
 
   tick : HearsTick r s e d → Goes
-  tick (outs, s', ticks, h) = other _ h (λ f. absurd cc)
+  tick (first, t, tell, rest, s', ticks, h) = other _ h (λ f. absurd cc)
 
   ends : HearsEnd r s e d → Goes
-  ends (outs, s', all, h) = other _ h (λ f. absurd cc)
+  ends (first, next, all, rest, t, stops, h) = other _ h (λ f. absurd cc)
 
   hears_goes : (k : ItemKind) (limited : Bool) → e.item.kind ≡ k → Hears k r s limited e d → Goes
   hears_goes (kind.Access number) limited is_kind h = access number is_kind h
   hears_goes kind.Core limited is_kind h = core is_kind h
-  hears_goes kind.Tunnel limited is_kind h = other _ h (λ f. absurd cc)
+  hears_goes kind.Tunnel limited is_kind h = tunnel h
   hears_goes kind.Verdict limited is_kind h = judged limited h
   hears_goes kind.Change limited is_kind h = other _ h (λ f. absurd cc)
   hears_goes kind.Tick limited is_kind h = tick h

@@ -1,6 +1,6 @@
 -- The stages of the turns are what the turns tell: what they took from Acct, Auth, the access ports and the core, and what they sent,
 -- the answers on Control aside.
-use Rattle.std.proofs.Common.{◌≡◌, ℕ, zero, suc, ◌+◌, Bool, true, false, cond, List, [], ◌∷◌, ◌++◌, map, Option, Some, None, refl, sym, ap, subst, ◌∙◌, append-nil}
+use Rattle.std.proofs.Common.{◌≡◌, ℕ, zero, suc, ◌+◌, Bool, true, false, cond, List, [], ◌∷◌, ◌++◌, map, length, Option, Some, None, refl, sym, ap, subst, ◌∙◌, append-nil}
 use Rattle.std.specs.Prelude.{filter, not}
 use Rattle.std.specs.List.{AllByRecursion, flat_map, range_with_len}
 use Rattle.std.proofs.lemmas.List.Concat.{flat_map-append}
@@ -8,7 +8,7 @@ use Rattle.std.proofs.lemmas.List.Elements.{filter-append}
 use Rattle.std.proofs.lemmas.Option.{none-some}
 use Rattle.bng_base.specs.declared.outside.Datagram.{Datagram}
 use Rattle.bng_base.specs.declared.outside.Role.{Role}
-use Rattle.bng_base.specs.declared.outside.Role.TheVariants.{Access, Auth, Acct, Core, Control}
+use Rattle.bng_base.specs.declared.outside.Role.TheVariants.{Access, Auth, Acct, Core, Control, Tunnel}
 use Rattle.bng_base.specs.FateOf.{Arrival}
 use Rattle.bng_engine.specs.Wire.{went}
 use Rattle.bng_desk.specs.declared.reading.Ended.{Ended}
@@ -19,7 +19,7 @@ use Rattle.bng_desk.specs.Logins.{Answered}
 use Rattle.bng_desk.specs.Model.{Desk}
 use Rattle.bng_desk.specs.Reading.{is_empty, taken_in}
 use Rattle.bng_desk.specs.Round.{Round}
-use Rattle.bng_desk.specs.Turn.{Turn, GraceTurn, ReadsWhere, Step, auth_stretch, data_stretch, round_stretch, stretch_of, grace_stretch}
+use Rattle.bng_desk.specs.Turn.{Turn, GraceTurn, ReadsWhere, Step, tunnel_roles, auth_stretch, data_stretch, round_stretch, stretch_of, grace_stretch}
 use Rattle.bng_gate.specs.Granted.{Stage, sent_by, stage_in, end_stage_in, stages_of}
 use Rattle.bng_gate.specs.Rounds.{plant_of, is_acct, is_auth, is_control, on_acct, on_auth, on_data, beside_control, readings_in, readings_of}
 use Rattle.bng_gate.specs.Serving.{Made, MadeEnd, Late, Ends, Waits, Run, late_stretch, run_stretch, ending_stretch}
@@ -85,8 +85,8 @@ stages_sent turns endings =
 
 -- What was taken -----------------------------------------------------------------------------------------------------------
 
--- of the roles that pass a test, which Control, the access ports and the core do not
-module _ (is : Role → Bool) (no_control : is Control ≡ false) (no_port : (number : ℕ) → is (Access number) ≡ false) (no_core : is Core ≡ false) where
+-- of the roles that pass a test, which Control, the end for tunnels, the access ports and the core do not
+module _ (is : Role → Bool) (no_control : is Control ≡ false) (no_tunnel : is Tunnel ≡ false) (no_port : (number : ℕ) → is (Access number) ≡ false) (no_core : is Core ≡ false) where
   abbrev only : List Datagram → List Datagram
   only ds = filter (λ (d : Datagram). is d.role) ds
 
@@ -119,6 +119,10 @@ module _ (is : Role → Bool) (no_control : is Control ≡ false) (no_port : (nu
   ports_else n zero = (no_core, tt)
   ports_else n (suc m) = (no_port n, ports_else (n + 1) m)
 
+  roles_else : (serves : Bool) (n m : ℕ) → AllByRecursion (λ role. is role ≡ false) (tunnel_roles serves ++ (map Access (range_with_len n m) ++ Core ∷ []))
+  roles_else true n m = (no_tunnel, ports_else n m)
+  roles_else false n m = ports_else n m
+
   -- what a turn takes from Acct, and then from Auth
   turn_takes : (d d' : Desk) (t : Turn) → Step d (Some t) d' → (e : Desk)
       → only (stretch_of e (Some t)).plant.taken ≡ only (taken_in Acct (map (λ a. a.arrival) t.acknowledged)) ++ only (auth_stretch t.answers t.auth_end).taken
@@ -128,7 +132,7 @@ module _ (is : Role → Bool) (no_control : is Control ≡ false) (no_port : (nu
       let auth = (auth_stretch t.answers t.auth_end).taken in
       let rest = (data_stretch t.readings).taken ++ ((round_stretch t.round).taken ++ []) in
       let later = (acct ++ []) ++ (auth ++ rest) in
-      let roles : AllByRecursion (λ role. is role ≡ false) (map (λ r. r.role) t.readings) = subst (AllByRecursion (λ role. is role ≡ false)) (sym step.0.roles) (ports_else 1 _) in
+      let roles : AllByRecursion (λ role. is role ≡ false) (map (λ r. r.role) t.readings) = subst (AllByRecursion (λ role. is role ≡ false)) (sym step.0.roles) (roles_else d.rules.serves_tunnels 1 (length d.rules.access)) in
       only_append (taken_in Control heeded ++ []) later
       ∙ ap (λ (ds : List Datagram). only ds ++ only later) (append-nil (taken_in Control heeded))
       ∙ ap (λ (ds : List Datagram). ds ++ only later) (none_of Control heeded no_control)
@@ -178,14 +182,14 @@ auth_taken true answers None reads = absurd (none-some reads.0 reads.1)
 auth_taken false answers None reads = ap (λ (as' : List Answered). taken_in Auth (map (λ (a : Answered). a.arrival) as')) (sym reads.1)
 auth_taken reads answers (Some ended) is =
     let arrivals = map (λ (a : Answered). a.arrival) answers in
-    ap on_auth (append-nil (taken_in Auth arrivals)) ∙ all_of is_auth refl (λ n. refl) refl Auth arrivals refl
+    ap on_auth (append-nil (taken_in Auth arrivals)) ∙ all_of is_auth refl refl (λ n. refl) refl Auth arrivals refl
 
 turn_heard : (d d' : Desk) (t : Option Turn) → Step d t d' → (e : Desk) → on_auth (stretch_of e t).plant.taken ≡ (stage_in e t).heard
 turn_heard d d' None step e = refl
 turn_heard d d' (Some t) step e =
     let arrivals = map (λ (a : Acknowledged). a.arrival) t.acknowledged in
-    turn_takes is_auth refl (λ n. refl) refl d d' t step e
-    ∙ ap (λ (ds : List Datagram). ds ++ on_auth (auth_stretch t.answers t.auth_end).taken) (none_of is_auth refl (λ n. refl) refl Acct arrivals refl)
+    turn_takes is_auth refl refl (λ n. refl) refl d d' t step e
+    ∙ ap (λ (ds : List Datagram). ds ++ on_auth (auth_stretch t.answers t.auth_end).taken) (none_of is_auth refl refl (λ n. refl) refl Acct arrivals refl)
     ∙ auth_taken (is_empty d.kept) t.answers t.auth_end step.0.auth
 
 end_heard : (d : Desk) (t : Late) → on_auth (late_stretch d t).plant.taken ≡ (end_stage_in d t).heard
@@ -193,38 +197,38 @@ end_heard d (Ends None) = refl
 end_heard d (Ends (Some t)) = ap (λ (ds : List Datagram). on_auth (ds ++ [])) (round_takes t.round)
 end_heard d (Waits t) =
     let arrivals = map (λ (a : Acknowledged). a.arrival) t.acknowledged in
-    grace_takes is_auth refl (λ n. refl) refl d t ∙ none_of is_auth refl (λ n. refl) refl Acct arrivals refl
+    grace_takes is_auth refl refl (λ n. refl) refl d t ∙ none_of is_auth refl refl (λ n. refl) refl Acct arrivals refl
 
 -- what was taken from Auth is what the stages heard, in their order
 pub stages_heard : (d d' : Desk) (turns : List Made) (endings : List MadeEnd) → Run d turns d' → on_auth (plant_of turns endings).taken ≡ flat_map (λ s. s.heard) (stages_of turns endings)
-stages_heard d d' turns endings run = stages_tell is_auth refl (λ n. refl) refl (λ (s : Stage). s.heard) turn_heard end_heard d d' turns endings run
+stages_heard d d' turns endings run = stages_tell is_auth refl refl (λ n. refl) refl (λ (s : Stage). s.heard) turn_heard end_heard d d' turns endings run
 
 -- nothing of Auth is of Acct
 auth_else : (answers : List Answered) (ended : Option Ended) → on_acct (auth_stretch answers ended).taken ≡ []
 auth_else answers None = refl
 auth_else answers (Some ended) =
     let arrivals = map (λ (a : Answered). a.arrival) answers in
-    ap on_acct (append-nil (taken_in Auth arrivals)) ∙ none_of is_acct refl (λ n. refl) refl Auth arrivals refl
+    ap on_acct (append-nil (taken_in Auth arrivals)) ∙ none_of is_acct refl refl (λ n. refl) refl Auth arrivals refl
 
 turn_acknowledged : (d d' : Desk) (t : Option Turn) → Step d t d' → (e : Desk) → on_acct (stretch_of e t).plant.taken ≡ (stage_in e t).acknowledged
 turn_acknowledged d d' None step e = refl
 turn_acknowledged d d' (Some t) step e =
     let arrivals = map (λ (a : Acknowledged). a.arrival) t.acknowledged in
-    turn_takes is_acct refl (λ n. refl) refl d d' t step e
+    turn_takes is_acct refl refl (λ n. refl) refl d d' t step e
     ∙ ap (λ (ds : List Datagram). on_acct (taken_in Acct arrivals) ++ ds) (auth_else t.answers t.auth_end)
     ∙ append-nil (on_acct (taken_in Acct arrivals))
-    ∙ all_of is_acct refl (λ n. refl) refl Acct arrivals refl
+    ∙ all_of is_acct refl refl (λ n. refl) refl Acct arrivals refl
 
 end_acknowledged : (d : Desk) (t : Late) → on_acct (late_stretch d t).plant.taken ≡ (end_stage_in d t).acknowledged
 end_acknowledged d (Ends None) = refl
 end_acknowledged d (Ends (Some t)) = ap (λ (ds : List Datagram). on_acct (ds ++ [])) (round_takes t.round)
 end_acknowledged d (Waits t) =
     let arrivals = map (λ (a : Acknowledged). a.arrival) t.acknowledged in
-    grace_takes is_acct refl (λ n. refl) refl d t ∙ all_of is_acct refl (λ n. refl) refl Acct arrivals refl
+    grace_takes is_acct refl refl (λ n. refl) refl d t ∙ all_of is_acct refl refl (λ n. refl) refl Acct arrivals refl
 
 -- and so what was taken from Acct
 pub stages_acknowledged : (d d' : Desk) (turns : List Made) (endings : List MadeEnd) → Run d turns d' → on_acct (plant_of turns endings).taken ≡ flat_map (λ s. s.acknowledged) (stages_of turns endings)
-stages_acknowledged d d' turns endings run = stages_tell is_acct refl (λ n. refl) refl (λ (s : Stage). s.acknowledged) turn_acknowledged end_acknowledged d d' turns endings run
+stages_acknowledged d d' turns endings run = stages_tell is_acct refl refl (λ n. refl) refl (λ (s : Stage). s.acknowledged) turn_acknowledged end_acknowledged d d' turns endings run
 
 abbrev taken_of : Stage → List Datagram
 taken_of s = s.taken
@@ -249,7 +253,7 @@ endings_took (m ∷ endings) = ap (λ (ds : List Datagram). ds ++ flat_map taken
     end_took d (Ends (Some t)) = refl
     end_took d (Waits t) = refl
 
--- what was taken from the access ports and the core is what the stages took there, in their order
+-- what was taken from the end for tunnels, the access ports and the core is what the stages took there, in their order
 pub stages_taken : (d d' : Desk) (turns : List Made) (endings : List MadeEnd) → Run d turns d' → on_data (plant_of turns endings).taken ≡ flat_map (λ s. s.taken) (stages_of turns endings)
 stages_taken d d' turns endings run =
     let serving = map (λ (m : Made). stage_in m.desk m.turn) turns in

@@ -1,5 +1,5 @@
--- What the turns of a run tell: what they took on the access ports and the core, and what their rounds sent.
-use Rattle.std.proofs.Common.{◌≡◌, ℕ, zero, suc, ◌+◌, Bool, true, false, cond, List, [], ◌∷◌, ◌++◌, map, Option, Some, None, refl, sym, ap, subst, ◌∙◌, append-nil, ◌≤◌, arith}
+-- What the turns of a run tell: what they took for tunnels, on the access ports and from the core, and what their rounds sent.
+use Rattle.std.proofs.Common.{◌≡◌, ℕ, zero, suc, ◌+◌, Bool, true, false, cond, List, [], ◌∷◌, ◌++◌, map, length, Option, Some, None, refl, sym, ap, subst, ◌∙◌, append-nil, ◌≤◌, arith}
 use Rattle.std.specs.Prelude.{filter, if◌then◌else◌}
 use Rattle.std.specs.List.{AllByRecursion, count_by, flat_map, range_with_len}
 use Rattle.std.proofs.lemmas.List.Concat.{flat_map-append}
@@ -10,9 +10,8 @@ use Rattle.bng_base.specs.declared.address.Peer.{Peer}
 use Rattle.bng_base.specs.declared.item.OutRecord.{OutRecord}
 use Rattle.bng_base.specs.declared.outside.Datagram.{Datagram}
 use Rattle.bng_base.specs.declared.outside.Role.{Role}
-use Rattle.bng_base.specs.declared.outside.Role.TheVariants.{Access, Auth, Acct, Core, Control}
+use Rattle.bng_base.specs.declared.outside.Role.TheVariants.{Access, Auth, Acct, Core, Control, Tunnel}
 use Rattle.bng_base.specs.FateOf.{Arrival}
-use Rattle.bng_base.specs.Roles.{is_data}
 use Rattle.bng_engine.specs.Calls.{all_sends}
 use Rattle.bng_engine.specs.Histories.{ShardTurn}
 use Rattle.bng_engine.specs.Laws.{sends_of}
@@ -30,12 +29,12 @@ use Rattle.bng_desk.specs.Logins.{Answered, Requests, lane_datagram, lane_sends,
 use Rattle.bng_desk.specs.Model.{Desk}
 use Rattle.bng_desk.specs.Reading.{taken_in}
 use Rattle.bng_desk.specs.Round.{Round, not_sent}
-use Rattle.bng_desk.specs.Turn.{Turn, EndTurn, GraceTurn, Step, auth_stretch, data_stretch, round_stretch, stretch_of, end_stretch, grace_stretch}
-use Rattle.bng_gate.specs.Rounds.{round_in, end_round_in, rounds_in, turns_of, rounds_of, plant_of, on_data, readings_in, readings_of, requests_in, end_requests_in, requests_of, records_in, end_records_in, records_of, is_unsent}
+use Rattle.bng_desk.specs.Turn.{Turn, EndTurn, GraceTurn, Step, tunnel_roles, auth_stretch, data_stretch, round_stretch, stretch_of, end_stretch, grace_stretch}
+use Rattle.bng_gate.specs.Rounds.{round_in, end_round_in, rounds_in, turns_of, rounds_of, plant_of, carries_data, on_data, readings_in, readings_of, requests_in, end_requests_in, requests_of, records_in, end_records_in, records_of, is_unsent}
 use Rattle.bng_gate.specs.Serving.{Made, MadeEnd, Late, Ends, Waits, Run, late_stretch, run_stretch, ending_stretch}
 
 on_data_append : (a b : List Datagram) → on_data (a ++ b) ≡ on_data a ++ on_data b
-on_data_append a b = filter-append (λ (d : Datagram). is_data d.role) a b
+on_data_append a b = filter-append (λ (d : Datagram). carries_data d.role) a b
 
 -- What the rounds sent --------------------------------------------------------------------------------------------------
 
@@ -155,7 +154,7 @@ endings_sent (m ∷ endings) =
     ∙ ap (λ (ds : List Datagram). on_data here ++ ds) (endings_sent endings)
     ∙ sym (ap on_data (went_append (sends_in (end_round_in m.turn)) later) ∙ on_data_append here (went later))
 
--- what was sent on the access ports and to the core are the datagrams of the rounds
+-- what was sent on the access ports, to the core and to the other ends of tunnels are the datagrams of the rounds
 pub sent_are : (turns : List Made) (endings : List MadeEnd) → on_data (plant_of turns endings).sent ≡ on_data (went (sends_of (rounds_of turns endings)))
 sent_are turns endings =
     let serving = map (λ (m : Made). round_in m.turn) turns in
@@ -169,7 +168,7 @@ sent_are turns endings =
 
 -- What was taken --------------------------------------------------------------------------------------------------------
 
-none_of_role : (role : Role) (arrivals : List Arrival) → is_data role ≡ false → on_data (taken_in role arrivals) ≡ []
+none_of_role : (role : Role) (arrivals : List Arrival) → carries_data role ≡ false → on_data (taken_in role arrivals) ≡ []
 none_of_role role [] e = refl
 none_of_role role (a ∷ as') e =
     let d : Datagram = record { role = role; peer = a.from; octets = a.octets } in
@@ -182,7 +181,7 @@ auth_taken answers (Some ended) =
     let arrivals = map (λ (a : Answered). a.arrival) answers in
     ap on_data (append-nil (taken_in Auth arrivals)) ∙ none_of_role Auth arrivals refl
 
-all_of_role : (role : Role) (arrivals : List Arrival) → is_data role ≡ true → on_data (taken_in role arrivals) ≡ taken_in role arrivals
+all_of_role : (role : Role) (arrivals : List Arrival) → carries_data role ≡ true → on_data (taken_in role arrivals) ≡ taken_in role arrivals
 all_of_role role [] e = refl
 all_of_role role (a ∷ as') e =
     let d : Datagram = record { role = role; peer = a.from; octets = a.octets } in
@@ -192,7 +191,7 @@ all_of_role role (a ∷ as') e =
 abbrev pub taken_by_reading : DataReading → List Datagram
 taken_by_reading r = taken_in r.role r.arrivals
 
-data_taken : (readings : List DataReading) → AllByRecursion (λ role. is_data role ≡ true) (map (λ r. r.role) readings) → on_data (data_stretch readings).taken ≡ flat_map taken_by_reading readings
+data_taken : (readings : List DataReading) → AllByRecursion (λ role. carries_data role ≡ true) (map (λ r. r.role) readings) → on_data (data_stretch readings).taken ≡ flat_map taken_by_reading readings
 data_taken [] h = refl
 data_taken (r ∷ rs) h =
     on_data_append (taken_in r.role r.arrivals ++ []) (data_stretch rs).taken
@@ -200,9 +199,13 @@ data_taken (r ∷ rs) h =
     ∙ ap (λ (ds : List Datagram). ds ++ on_data (data_stretch rs).taken) (all_of_role r.role r.arrivals h.0)
     ∙ ap (λ (ds : List Datagram). taken_in r.role r.arrivals ++ ds) (data_taken rs h.1)
 
-ports_data : (n m : ℕ) → AllByRecursion (λ role. is_data role ≡ true) (map Access (range_with_len n m) ++ Core ∷ [])
+ports_data : (n m : ℕ) → AllByRecursion (λ role. carries_data role ≡ true) (map Access (range_with_len n m) ++ Core ∷ [])
 ports_data n zero = (refl, tt)
 ports_data n (suc m) = (refl, ports_data (n + 1) m)
+
+roles_data : (serves : Bool) (n m : ℕ) → AllByRecursion (λ role. carries_data role ≡ true) (tunnel_roles serves ++ (map Access (range_with_len n m) ++ Core ∷ []))
+roles_data true n m = (refl, ports_data n m)
+roles_data false n m = ports_data n m
 
 -- a round takes nothing
 pub round_takes : (round : Option Round) → (round_stretch round).taken ≡ []
@@ -218,7 +221,7 @@ turn_taken d d' (Some t) step e =
     let auth = (auth_stretch t.answers t.auth_end).taken in
     let rest = (data_stretch t.readings).taken ++ ((round_stretch t.round).taken ++ []) in
     let later = (acct ++ []) ++ (auth ++ rest) in
-    let roles : AllByRecursion (λ role. is_data role ≡ true) (map (λ r. r.role) t.readings) = subst (AllByRecursion (λ role. is_data role ≡ true)) (sym step.0.roles) (ports_data 1 _) in
+    let roles : AllByRecursion (λ role. carries_data role ≡ true) (map (λ r. r.role) t.readings) = subst (AllByRecursion (λ role. carries_data role ≡ true)) (sym step.0.roles) (roles_data d.rules.serves_tunnels 1 (length d.rules.access)) in
     on_data_append (taken_in Control heeded ++ []) later
     ∙ ap (λ (ds : List Datagram). on_data ds ++ on_data later) (append-nil (taken_in Control heeded))
     ∙ ap (λ (ds : List Datagram). ds ++ on_data later) (none_of_role Control heeded refl)

@@ -11,7 +11,6 @@ use Rattle.bng_base.specs.declared.outside.Datagram.{Datagram}
 use Rattle.bng_base.specs.declared.outside.Role.{Role}
 use Rattle.bng_base.specs.declared.outside.Role.TheVariants.{Access, Core, Tunnel, Auth, Acct, Coa, Control}
 use Rattle.bng_base.specs.declared.settings.Static.{Static}
-use Rattle.bng_base.specs.Roles.{is_data}
 use Rattle.bng_engine.specs.Accounted.{Balanced, nothing_yet, opening}
 use Rattle.bng_engine.specs.Histories.{History, ShardHistory, ShardTurn, Run}
 use Rattle.bng_engine.specs.Laws.{RowsAccountOnWire, accounted_in, sends_of, stops_of}
@@ -30,7 +29,7 @@ use Rattle.bng_desk.specs.Model.{all_stopped, carried_on, line_after, live_of, n
 use Rattle.bng_desk.specs.Opening.{line_of}
 use Rattle.bng_desk.proofs.InAll.{book_is, live_in_all, plus_in, stopped_in_all}
 use Rattle.bng_gate.specs.Headline.{StopsAccount, total_in, traffic_of}
-use Rattle.bng_gate.specs.Rounds.{on_data}
+use Rattle.bng_gate.specs.Rounds.{carries_data, on_data}
 use Rattle.bng_gate.proofs.Lines.{traffic_is}
 
 -- Sums over what was sent ------------------------------------------------------------------------------------------------
@@ -39,16 +38,16 @@ only_data : (f : Datagram → ℕ) (b : Bool) (d : Datagram) (ds : List Datagram
 only_data f true d ds none = sym (sum_by-cons f d ds)
 only_data f false d ds none = omega (arith, none refl)
 
-sum_on_data : (f : Datagram → ℕ) → ((d : Datagram) → is_data d.role ≡ false → f d ≡ 0) → (ds : List Datagram) → sum_by f ds ≡ sum_by f (on_data ds)
+sum_on_data : (f : Datagram → ℕ) → ((d : Datagram) → carries_data d.role ≡ false → f d ≡ 0) → (ds : List Datagram) → sum_by f ds ≡ sum_by f (on_data ds)
 sum_on_data f none [] = refl
-sum_on_data f none (d ∷ ds) = omega (arith, sum_by-cons f d ds, sum_on_data f none ds, only_data f (is_data d.role) d (on_data ds) (none d))
+sum_on_data f none (d ∷ ds) = omega (arith, sum_by-cons f d ds, sum_on_data f none ds, only_data f (carries_data d.role) d (on_data ds) (none d))
 
 -- two lists with the same data have the same sums of it
-sums_same : (f : Datagram → ℕ) → ((d : Datagram) → is_data d.role ≡ false → f d ≡ 0) → (a b : List Datagram) → on_data a ≡ on_data b → sum_by f a ≡ sum_by f b
+sums_same : (f : Datagram → ℕ) → ((d : Datagram) → carries_data d.role ≡ false → f d ≡ 0) → (a b : List Datagram) → on_data a ≡ on_data b → sum_by f a ≡ sum_by f b
 sums_same f none a b e = sum_on_data f none a ∙ ap (sum_by f) e ∙ sym (sum_on_data f none b)
 
 -- the octets of other roles tell no packet
-none_told : (q : Quantity) (test : WirePacket → Bool) (role : Role) (octets : List ℕ) → is_data role ≡ false → counted q test (pppoe_reader role octets) ≡ 0
+none_told : (q : Quantity) (test : WirePacket → Bool) (role : Role) (octets : List ℕ) → carries_data role ≡ false → counted q test (pppoe_reader role octets) ≡ 0
 none_told q test (Access n) octets e = absurd cc
 none_told q test Core octets e = absurd cc
 none_told q test Tunnel octets e = refl

@@ -1,5 +1,5 @@
 -- Each item of a turn that is a yes is a datagram that was taken from Auth in that turn or before it.
-use Rattle.std.proofs.Common.{◌≡◌, ℕ, ◌+◌, ◌<◌, ◌≤◌, true, false, List, [], ◌∷◌, ◌++◌, Option, Some, None, map, length, slice_get, refl, sym, ap, subst, ◌∙◌, arith}
+use Rattle.std.proofs.Common.{◌≡◌, ℕ, ◌+◌, ◌<◌, ◌≤◌, Bool, true, false, List, [], ◌∷◌, ◌++◌, Option, Some, None, map, length, slice_get, refl, sym, ap, subst, ◌∙◌, arith}
 use Rattle.std.specs.List.{All, AllByRecursion, range_with_len}
 use Rattle.std.proofs.lemmas.Bool.{true≢false}
 use Rattle.std.proofs.lemmas.List.Elements.{All-append, All-filter, All-from_recursion, All-map, All-nil}
@@ -13,7 +13,7 @@ use Rattle.bng_verdict.specs.Verdicts.{Saying, IsVerdict, Silent, Replied, NoRep
 use Rattle.bng_desk.specs.Items.{DataReading, arrived, ends_of, for_shard, kept_of, kind_of, stays, taken_items, ticks_of}
 use Rattle.bng_desk.specs.Logins.{Answered, reply_in, reply_items, silence, timeout_items, verdict_item}
 use Rattle.bng_desk.specs.Model.{Desk}
-use Rattle.bng_desk.specs.Turn.{Turn, data_roles}
+use Rattle.bng_desk.specs.Turn.{Turn, tunnel_roles, data_roles}
 use Rattle.bng_desk.proofs.ItemLaws.{all_due, all_ends}
 use Rattle.bng_gate.specs.Replied.{answers_in}
 use Rattle.bng_gate.specs.Serving.{Made}
@@ -99,7 +99,7 @@ module _ (turns : List Made) (k : ℕ) where
   pub kept_caused : (items : List Item) → All Caused items → All Caused (kept_of items)
   kept_caused items all = All-filter (λ (i : Item). stays i.kind) Caused items all
 
-  -- of the access ports and the core
+  -- of the end for tunnels, the access ports and the core
   abbrev IsElse : Role → Type 0
   IsElse role = kind_of role ≡ kind.Verdict → ⊥
 
@@ -113,6 +113,10 @@ module _ (turns : List Made) (k : ℕ) where
 ports_else : (ports : List ℕ) → AllByRecursion (λ role. kind_of role ≡ kind.Verdict → ⊥) (map Access ports ++ Core ∷ [])
 ports_else [] = (λ e. absurd cc, tt)
 ports_else (p ∷ ports) = (λ e. absurd cc, ports_else ports)
+
+roles_else : (serves : Bool) (ports : List ℕ) → AllByRecursion (λ role. kind_of role ≡ kind.Verdict → ⊥) (tunnel_roles serves ++ (map Access ports ++ Core ∷ []))
+roles_else true ports = (λ e. absurd cc, ports_else ports)
+roles_else false ports = ports_else ports
 
 -- The replies ----------------------------------------------------------------------------------------------------------------
 
@@ -142,6 +146,6 @@ module _ (turns : List Made) (k : ℕ) (m : Made) (at : slice_get turns k ≡ So
       flat [] all = All-nil (HasCause turns (k + 1))
       flat (x ∷ xs) all = All-append (HasCause turns (k + 1)) (reply_in x.arrival x.found) (reply_items xs) all.0 (flat xs all.1)
 
--- the readings are of the access ports and of the core
+-- the readings are of the end for tunnels, of the access ports and of the core
 pub readings_else : (d : Desk) (t : Turn) → map (λ r. r.role) t.readings ≡ data_roles d.rules → AllByRecursion (λ role. kind_of role ≡ kind.Verdict → ⊥) (map (λ r. r.role) t.readings)
-readings_else d t roles = subst (AllByRecursion (λ role. kind_of role ≡ kind.Verdict → ⊥)) (sym roles) (ports_else (range_with_len 1 (length d.rules.access)))
+readings_else d t roles = subst (AllByRecursion (λ role. kind_of role ≡ kind.Verdict → ⊥)) (sym roles) (roles_else d.rules.serves_tunnels (range_with_len 1 (length d.rules.access)))

@@ -44,8 +44,8 @@ use Rattle.bng_desk.specs.Round.{Round, starts_of}
 use Rattle.bng_desk.specs.Turn.{Turn}
 use Rattle.bng_gate.specs.Serving.{Made, MadeEnd, Late, Ends, Waits}
 
--- Of a turn, in their order: the datagrams that it took from Acct, those that it took from Auth, those that it took from the access
--- ports and the core, the datagrams of its round that were sent, the questions that it asked after them, each with the octets of its
+-- Of a turn, in their order: the datagrams that it took from Acct, those that it took from Auth, those that it took from the end for
+-- tunnels, the access ports and the core, the datagrams of its round that were sent, the questions that it asked after them, each with the octets of its
 -- Access-Request, the requests that were sent: those that were sent again, and then those of these questions; and the
 -- Accounting-Requests that were sent: those that were sent again, and then those of the records that waited.
 pub record Stage : Type 0 where

@@ -32,11 +32,12 @@ use Rattle.bng_engine.specs.Quantities.{Quantity, Octets, Packets, empty_book}
 use Rattle.bng_engine.specs.Sums.{stopped_where, has_lease, has_circuit, is_at, is_any}
 use Rattle.bng_engine.specs.Terms.{Key, Stop, is_live, keys, stopped_keys}
 use Rattle.bng_engine.specs.Wire.{is_input, is_from, is_output, is_to, is_on, is_on_to, told_of, went}
+use Rattle.bng_l2tp_tunnel.specs.Sound.{IsSpelled}
 use Rattle.bng_shard.specs.declared.sums.Traffic.{Traffic}
 use Rattle.bng_shard.specs.Protocol.{Handled, ShardState, terms_of, terms_of_circuits, pppoe}
 use Rattle.bng_shard.specs.Lasting.{IsCause}
 use Rattle.bng_shard.specs.Link.{nas_request}
-use Rattle.bng_shard.specs.Reader.{is_session_data, pppoe_reader, tells_pppoe}
+use Rattle.bng_shard.specs.Reader.{is_session_data, is_tunnel, pppoe_reader, tells_pppoe}
 use Rattle.bng_desk.specs.Counting.{by_number}
 use Rattle.bng_desk.specs.Model.{traffic_by}
 use Rattle.bng_desk.specs.Opening.{line_of, statics_of}
@@ -80,10 +81,12 @@ pub record IsToTerm (terms : List Key) (role : Role) (octets : List ℕ) : Type 
   pub packet : IsWhole (λ v. v.dst ≡ term.lease) (drop 22 octets)
 
 -- What went to the core is a packet from the address of one of these terms. What went out on an access port as session data of IPv4
--- (ETHER_TYPE 8864, PPP protocol 0021) is a packet on the circuit of one of them, to its address.
+-- (ETHER_TYPE 8864, PPP protocol 0021) is a packet on the circuit of one of them, to its address. What went to the other end of a tunnel is
+-- a control message (RFC 2661 section 3.1), and no packet.
 pub record IsAddressed (terms : List Key) (d : Datagram) : Type 0 where
   pub to_core : is_core d.role ≡ true → IsFromTerm terms d.octets
   pub to_circuit : is_access d.role ≡ true → is_session_data d.octets ≡ true → IsToTerm terms d.role d.octets
+  pub to_tunnel : is_tunnel d.role ≡ true → IsSpelled d.octets
 
 -- Over the octets alone of what was sent, as anyone reads them. Input: the lengths of the datagrams to the core whose source (octets 12
 -- to 15) is the circuit's address. Output: the lengths, without their first 22 octets, of the session data of IPv4 that went out on access
@@ -153,7 +156,8 @@ abbrev pub live_in : History ShardState → List (ShardTurn Handled) → List Ke
 live_in h ts = flat_map (λ (x : ShardHistory ShardState). keys (filter is_live (terms_of x.state))) h.shards ++ flat_map (λ (t : ShardTurn Handled). t.settlement.starts) ts
 
 -- A round of which each datagram that was sent is addressed by one of them: what went to the core is a packet from the address of such a
--- term, and each packet that went out on an access port is on the circuit of such a term, to its address.
+-- term, each packet that went out on an access port is on the circuit of such a term, to its address, and what went to the other end of a
+-- tunnel is a control message.
 pub record AddressesLive (h : History ShardState) (ts : List (ShardTurn Handled)) (h' : History ShardState) : Type 0 where
   pub next : NextRound pppoe h ts h'
   pub octets : All (IsAddressed (live_in h ts)) (went (sends_in ts))
@@ -190,8 +194,8 @@ pub record IsSafe (config : Config) (seed : List ℕ) (old new : World) (course 
   pub sent : List Datagram
   pub sent_grew : Grows old.plant.sent new.plant.sent sent
   pub are_sent : sent ≡ (plant_of course.turns course.endings).sent
-  -- What was taken from the access ports and the core, each once and in order, are the datagrams of the turns' readings, which are
-  -- the items of their rounds. What was sent there, each once and in order, is what the rounds had to send and the plant answered
+  -- What was taken from the access ports, the core and the end for tunnels, each once and in order, are the datagrams of the turns'
+  -- readings, which are the items of their rounds. What was sent there, each once and in order, is what the rounds had to send and the plant answered
   -- Sent for.
   pub items : on_data taken ≡ flat_map (λ r. taken_in r.role r.arrivals) (readings_of course.turns)
   pub sends : on_data sent ≡ on_data (went (sends_of (rounds_of course.turns course.endings)))
@@ -209,8 +213,8 @@ pub record IsSafe (config : Config) (seed : List ℕ) (old new : World) (course 
   pub causes_known : All (λ s. IsCause s.cause) (stops_of (rounds_of course.turns course.endings))
   pub conserved : ConservedAt pppoe history.shards
   pub balanced : Balanced (view_of course.last.shards course.last.pool course.last.tallies) history
-  -- Each datagram to the core was a packet from the address of a term, and each packet on an access port was on the circuit of a term, to
-  -- its address.
+  -- Each datagram to the core was a packet from the address of a term, each packet on an access port was on the circuit of a term, to
+  -- its address, and each datagram to the other end of a tunnel was a control message.
   pub addressed : All (IsAddressed (all_terms_of config (rounds_of course.turns course.endings))) sent
   -- And that term was live when its round was opened, or began in that round: so it is of each round's sends that were sent.
   pub addressed_live : Chain AddressesLive (history_of course.opening) (rounds_of course.turns course.endings) history
@@ -220,7 +224,7 @@ pub record IsSafe (config : Config) (seed : List ℕ) (old new : World) (course 
   -- And so it is of each turn by itself: what its round sent comes of what the same turn took, and of nothing that was taken later.
   pub stages_invented_nothing : All (λ s. NothingIsInvented config s.taken s.sent) (stages_of course.turns course.endings)
   -- What was taken from Auth, each datagram once and in order, are the datagrams that the stages of the turns heard, and so what was taken
-  -- from Acct, and what was taken from the access ports and the core, those that they took there. What was sent on all roles but
+  -- from Acct, and what was taken from the access ports, the core and the end for tunnels, those that they took there. What was sent on all roles but
   -- Control, each datagram once and in order, is what each stage sent there for its round, then its requests, and then its
   -- Accounting-Requests.
   pub stages_heard : on_auth taken ≡ flat_map (λ s. s.heard) (stages_of course.turns course.endings)

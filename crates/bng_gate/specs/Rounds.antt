@@ -1,5 +1,5 @@
 -- The rounds of a run, and what they sent and dropped.
-use Rattle.std.specs.Prelude.{Bool, true, false, not, List, [], ◌∷◌, ◌++◌, Option, Some, None, filter, length, map}
+use Rattle.std.specs.Prelude.{Bool, true, false, not, ◌||◌, List, [], ◌∷◌, ◌++◌, Option, Some, None, filter, length, map}
 use Rattle.std.specs.List.{flat_map}
 use Rattle.bng_base.specs.declared.item.Item.{Item}
 use Rattle.bng_base.specs.declared.outside.Datagram.{Datagram}
@@ -12,6 +12,7 @@ use Rattle.bng_engine.specs.Histories.{History, ShardTurn}
 use Rattle.bng_engine.specs.Views.{turn_in}
 use Rattle.bng_lane.specs.Sends.{LaneSend}
 use Rattle.bng_shard.specs.Protocol.{ShardState, Handled}
+use Rattle.bng_shard.specs.Reader.{is_tunnel}
 use Rattle.bng_desk.specs.declared.drops.Drops.{Drops}
 use Rattle.bng_desk.specs.Counting.{no_drops, plus}
 use Rattle.bng_desk.specs.Model.{Desk}
@@ -53,9 +54,13 @@ history_of d = opening (view_of d.shards d.pool d.tallies)
 abbrev pub plant_of : List Made → List MadeEnd → PlantStretch
 plant_of turns endings = plant_joined (run_stretch turns).plant (ending_stretch endings).plant
 
--- the datagrams of the access ports and of the core
+-- an access port, the core or the end for tunnels: what carries subscribers' packets, or may
+abbrev pub carries_data : Role → Bool
+carries_data role = is_data role || is_tunnel role
+
+-- the datagrams of the access ports, of the core and of the end for tunnels
 abbrev pub on_data : List Datagram → List Datagram
-on_data ds = filter (λ d. is_data d.role) ds
+on_data ds = filter (λ d. carries_data d.role) ds
 
 abbrev pub is_auth : Role → Bool
 is_auth (Access number) = false
@@ -96,7 +101,7 @@ is_control Control = true
 abbrev pub beside_control : List Datagram → List Datagram
 beside_control ds = filter (λ d. not (is_control d.role)) ds
 
--- the readings of the access ports and of the core
+-- the readings of the end for tunnels, of the access ports and of the core
 abbrev pub readings_in : Option Turn → List DataReading
 readings_in None = []
 readings_in (Some t) = t.readings

@@ -1,7 +1,8 @@
 -- A whole run, from the words to the report.
-use Rattle.std.specs.Prelude.{◌≡◌, ℕ, ◌+◌, ◌-◌, ◌^◌, ◌≤◌, ◌<◌, ◌⊎◌, false, List, [], ◌∷◌, ◌++◌, take, length, map}
+use Rattle.std.specs.Prelude.{◌≡◌, ℕ, ◌+◌, ◌-◌, ◌^◌, ◌≤◌, ◌<◌, ◌⊎◌, false, List, [], ◌∷◌, ◌++◌, Option, Some, None, IsSome, take, length, map}
 use Rattle.std.specs.List.{list_any}
-use Rattle.bng_base.specs.declared.outside.Role.TheVariants.{Access, Auth, Acct, Core, Control}
+use Rattle.bng_base.specs.declared.address.Peer.{Peer}
+use Rattle.bng_base.specs.declared.outside.Role.TheVariants.{Access, Auth, Acct, Core, Control, Tunnel}
 use Rattle.bng_base.specs.declared.outside.ClockAnswer.TheVariants.{Now, Wall}
 use Rattle.bng_base.specs.declared.outside.Bind.{Bind}
 use Rattle.bng_base.specs.Causes.{Rose}
@@ -16,7 +17,7 @@ use Rattle.bng_desk.specs.Model.{Desk, state_of, all_carried, by_profile, sums_o
 use Rattle.bng_desk.specs.Opening.{IsOpened}
 use Rattle.bng_desk.specs.Report.{report_text}
 use Rattle.bng_gate.specs.declared.texts.Opening.{Opening}
-use Rattle.bng_gate.specs.declared.texts.Opening.TheVariants.{Configuration, Seed, Control as ControlOpening, Core as CoreOpening, Access as AccessOpening, Auth as AuthOpening, Acct as AcctOpening}
+use Rattle.bng_gate.specs.declared.texts.Opening.TheVariants.{Configuration, Seed, Control as ControlOpening, Core as CoreOpening, Access as AccessOpening, Auth as AuthOpening, Acct as AcctOpening, Tunnel as TunnelOpening}
 use Rattle.bng_gate.specs.declared.texts.Refusal.{Refusal}
 use Rattle.bng_gate.specs.declared.texts.Refusal.TheVariants.{Usage, Refused, CannotOpen, OutOfMemory, TraceFailed, OutputFailed}
 use Rattle.bng_gate.specs.Words.{Serves as ServesFile}
@@ -90,6 +91,7 @@ IsUnprepared words old new (CannotOpen CoreOpening) = ⊥
 IsUnprepared words old new (CannotOpen (AccessOpening number)) = ⊥
 IsUnprepared words old new (CannotOpen AuthOpening) = ⊥
 IsUnprepared words old new (CannotOpen AcctOpening) = ⊥
+IsUnprepared words old new (CannotOpen TunnelOpening) = ⊥
 IsUnprepared words old new OutOfMemory = WantsToRead words old new
 IsUnprepared words old new TraceFailed = ⊥
 IsUnprepared words old new OutputFailed = ⊥
@@ -101,15 +103,20 @@ abbrev pub port_binds : ℕ → List AccessPort → List Bind
 port_binds number [] = []
 port_binds number (port ∷ ports) = record { role = Access number; local = port.local } ∷ port_binds (number + 1) ports
 
+-- the bind of the gateway's end for tunnels, where it has one
+abbrev pub tunnel_binds : Option Peer → List Bind
+tunnel_binds None = []
+tunnel_binds (Some local) = record { role = Tunnel; local = local } ∷ []
+
 -- the binds of the opening, in order
 abbrev pub binds_of : Config → List Bind
 binds_of config =
     record { role = Control; local = config.control_local } ∷ record { role = Core; local = config.core_local }
-    ∷ (port_binds 1 config.access ++ record { role = Auth; local = config.auth_local } ∷ record { role = Acct; local = config.acct_local } ∷ [])
+    ∷ (port_binds 1 config.access ++ record { role = Auth; local = config.auth_local } ∷ record { role = Acct; local = config.acct_local } ∷ tunnel_binds config.tunnel_local)
 
 -- how many there are
 abbrev pub binds_most : Config → ℕ
-binds_most config = 4 + length config.access
+binds_most config = 4 + length config.access + length (tunnel_binds config.tunnel_local)
 
 -- this many of the access ports were bound, and nothing else was asked of the plant
 pub record BindsPorts (number : ℕ) (ports : List AccessPort) (old new : PlantTold) : Type 0 where
@@ -124,6 +131,20 @@ pub record FailsAtPort (number : ℕ) (ports : List AccessPort) (old new : Plant
   pub low : 1 ≤ number
   pub high : number ≤ length ports
   pub before : BindsPorts (number - 1) ports old new
+  pub rose : Rose old.faults new.faults
+
+-- the end for tunnels was bound, where there is one, and nothing else was asked of the plant
+pub record BindsTunnel (local : Option Peer) (old new : PlantTold) : Type 0 where
+  pub bound : Grows old.bound new.bound (tunnel_binds local)
+  pub heard : new.heard ≡ old.heard
+  pub taken : new.taken ≡ old.taken
+  pub sent : new.sent ≡ old.sent
+  pub later : old.faults ≤ new.faults
+
+-- there is one, and it could not be bound
+pub record FailsAtTunnel (local : Option Peer) (old new : PlantTold) : Type 0 where
+  pub there : IsSome local
+  pub before : BindsTunnel None old new
   pub rose : Rose old.faults new.faults
 
 -- the first binds of the opening were made, and nothing else was asked of the plant
@@ -145,6 +166,11 @@ pub record FailsToBindPort (config : Config) (number : ℕ) (old new : PlantTold
   pub high : number ≤ length config.access
   pub fails : FailsToBind config (number + 1) old new
 
+-- there is an end for tunnels, all before it were made, and its own failed
+pub record FailsToBindTunnel (config : Config) (old new : PlantTold) : Type 0 where
+  pub there : IsSome config.tunnel_local
+  pub fails : FailsToBind config (4 + length config.access) old new
+
 abbrev pub FailsAt : Config → PlantTold → PlantTold → Opening → Type 0
 FailsAt config old new Configuration = ⊥
 FailsAt config old new Seed = ⊥
@@ -153,6 +179,7 @@ FailsAt config old new CoreOpening = FailsToBind config 1 old new
 FailsAt config old new (AccessOpening number) = FailsToBindPort config number old new
 FailsAt config old new AuthOpening = FailsToBind config (2 + length config.access) old new
 FailsAt config old new AcctOpening = FailsToBind config (3 + length config.access) old new
+FailsAt config old new TunnelOpening = FailsToBindTunnel config old new
 
 -- The seed ------------------------------------------------------------------------------------------------------------------
 
@@ -409,6 +436,7 @@ Fails words old new CoreOpening = IsUnbound words old new (λ config p p'. Fails
 Fails words old new (AccessOpening number) = IsUnbound words old new (λ config p p'. FailsToBindPort config number p p')
 Fails words old new AuthOpening = IsUnbound words old new (λ config p p'. FailsToBind config (2 + length config.access) p p')
 Fails words old new AcctOpening = IsUnbound words old new (λ config p p'. FailsToBind config (3 + length config.access) p p')
+Fails words old new TunnelOpening = IsUnbound words old new (λ config p p'. FailsToBindTunnel config p p')
 
 -- what is named could not be opened, and no receive, send or wait was made
 pub record IsUnopened (words : List (List ℕ)) (old new : World) (what : Opening) : Type 0 where

@@ -21,6 +21,7 @@ mod link;
 mod logins;
 mod metering;
 mod statuses;
+mod tunnels;
 
 const CONFIGURATION: &str = r#"[gateway]
 name = "bng1"

@@ -21,6 +21,7 @@ pub enum Opening {
     Access(u8),
     Auth,
     Acct,
+    Tunnel,
 }
 
 /// Why a run did not come to its report.
@@ -122,6 +123,7 @@ fn cannot_open(what: Opening) -> Line<'static>
         Opening::Core => whole("bng: cannot open core\n"),
         Opening::Auth => whole("bng: cannot open auth\n"),
         Opening::Acct => whole("bng: cannot open acct\n"),
+        Opening::Tunnel => whole("bng: cannot open tunnel\n"),
         Opening::Access(number) => Line {
             front: "bng: cannot open access ",
             middle: digits(number),

@@ -8,7 +8,7 @@ ghost use Rattle.bng_config.specs.Rules.{KeepsRules};
 ghost use Rattle.bng_gate.specs.Headline.{Headline, IsQuiet, WasSafe};
 ghost use Rattle.bng_gate.specs.Words.{Serves};
 ghost use Rattle.bng_gate.specs.Words.{texts as words_of};
-ghost use Rattle.bng_gate.specs.Run.{Prepares, IsUnprepared, Binds, binds_most, BindsPorts, FailsAtPort, FailsAt, Seeds, FailsToSeed, IsUnserved, Told, RunEnds, IsUnfailed, IsFaultless};
+ghost use Rattle.bng_gate.specs.Run.{Prepares, IsUnprepared, Binds, binds_most, BindsPorts, FailsAtPort, BindsTunnel, FailsAtTunnel, FailsAt, Seeds, FailsToSeed, IsUnserved, Told, RunEnds, IsUnfailed, IsFaultless};
 ghost use Rattle.bng_gate.specs.Run.{Begins, IsUnbegun, Reports, IsUnreported, IsUnready, CompletesTo, Concludes, Tells};
 ghost use Rattle.bng_gate.specs.Serving.{MakesTurns, FailsTurning};
 
@@ -16,7 +16,7 @@ use crate::saying::say;
 use crate::serving::{TraceFault, finish, has_starved, serve};
 use crate::texts::{self, Opening, Refusal};
 use crate::words;
-use bng_base::{AccessPort, Role};
+use bng_base::{AccessPort, Peer, Role};
 use bng_config::{Config, ConfigError};
 use bng_desk::{Desk, DeskError};
 use bng_plant::{Bound, Clock, Entropy, FileError, Files, Gate, Plant, Seeded, Sink, Trace, Wrote};
@@ -109,10 +109,10 @@ fn bind_access<P: Plant>(config: &Config, plant: &mut P) -> Result<(), Opening>
     }
 }
 
-// Binds one role after the other, and says which could not be bound.
-fn bind_all<P: Plant>(config: &Config, plant: &mut P) -> Result<(), Opening>
+// Binds the roles of packets, of logins and of accounting, one after the other, and says which could not be bound.
+fn bind_acct<P: Plant>(config: &Config, plant: &mut P) -> Result<(), Opening>
     requires rules { KeepsRules config.now }
-    ensures bound { OnOk result (Binds config.now (binds_most config.now) (P.told plant.old) (P.told plant.new)) }
+    ensures bound { OnOk result (Binds config.now (4 + length config.now.access) (P.told plant.old) (P.told plant.new)) }
     ensures unfailed { OnOk result ((P.told plant.new).faults ≡ (P.told plant.old).faults) }
     ensures failed { IfErr result (λ what. FailsAt config.now (P.told plant.old) (P.told plant.new) what) }
 {
@@ -122,6 +122,34 @@ fn bind_all<P: Plant>(config: &Config, plant: &mut P) -> Result<(), Opening>
     match plant.bind(Role::Acct, config.acct_local, Some(config.acct_server)) {
         Bound::Ok => Ok(()),
         Bound::Failed => Err(Opening::Acct),
+    }
+}
+
+// Binds the gateway's end for tunnels, where it has one. Who sends there is told by each datagram.
+fn bind_tunnel<P: Plant>(tunnel: Option<Peer>, plant: &mut P) -> Bound
+    ensures bound { result ≡ Bound.Ok → BindsTunnel tunnel (P.told plant.old) (P.told plant.new) }
+    ensures unfailed { result ≡ Bound.Ok → (P.told plant.new).faults ≡ (P.told plant.old).faults }
+    ensures failed { result ≡ Bound.Failed → FailsAtTunnel tunnel (P.told plant.old) (P.told plant.new) }
+{
+    let Some(local) = tunnel else {
+        return Bound::Ok;
+    };
+    plant.bind(Role::Tunnel, local, None)
+}
+
+// Binds one role after the other, the end for tunnels last, and says which could not be bound.
+fn bind_all<P: Plant>(config: &Config, plant: &mut P) -> Result<(), Opening>
+    requires rules { KeepsRules config.now }
+    ensures bound { OnOk result (Binds config.now (binds_most config.now) (P.told plant.old) (P.told plant.new)) }
+    ensures unfailed { OnOk result ((P.told plant.new).faults ≡ (P.told plant.old).faults) }
+    ensures failed { IfErr result (λ what. FailsAt config.now (P.told plant.old) (P.told plant.new) what) }
+{
+    if let Err(what) = bind_acct(config, plant) {
+        return Err(what);
+    }
+    match bind_tunnel(config.tunnel_local, plant) {
+        Bound::Ok => Ok(()),
+        Bound::Failed => Err(Opening::Tunnel),
     }
 }
 

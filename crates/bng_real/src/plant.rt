@@ -23,8 +23,6 @@ pub struct RealPlant<'a, N: Net> {
     readiness: Readiness,
     // By the roles' places.
     sockets: [Option<UdpSocket>; 262],
-    // One octet more than a frame takes, so that a longer datagram is seen to be longer.
-    room: [u8; 4097],
     pub(crate) faults: u64,
 }
 
@@ -37,7 +35,6 @@ impl<'a, N: Net> RealPlant<'a, N> {
             net,
             readiness: Readiness::new(net, alloc)?,
             sockets: array::from_fn(|_| None),
-            room: [0; 4097],
             faults: 0,
         })
     }
@@ -61,7 +58,7 @@ impl<'a, N: Net> RealPlant<'a, N> {
         let asks = self.readiness.asks(place);
         match &mut self.sockets[place] {
             Some(_) if !asks => Received::Empty,
-            Some(socket) => take_into(socket, &mut self.room, into, &mut self.faults),
+            Some(socket) => take_into(socket, into, &mut self.faults),
             None => {
                 self.faults = self.faults.saturating_add(1);
                 Received::Failed

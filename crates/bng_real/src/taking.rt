@@ -6,14 +6,14 @@ ghost use Rattle.bng_real.specs.Taking.{IsNext, IsTaken, is_earlier};
 
 use crate::ends::peer_of;
 use crate::sockets::Datagrams;
-use bng_base::{Frame, LONGEST, Peer, Received};
+use bng_base::{Frame, HEADROOM, LONGEST, Peer, Received};
 use std::io::ErrorKind;
 
 /// The most tries of one call of the system: a signal may interrupt it, and it may answer the error of an earlier
 /// datagram in place of its own.
 pub(crate) const TRIES: usize = 16;
 
-/// What a receive of the system gave, before its octets go into a frame.
+/// What a receive of the system gave.
 #[derive(Clone, Copy)]
 enum Taken {
     Datagram { count: usize, from: Peer },
@@ -21,10 +21,9 @@ enum Taken {
     Fault,
 }
 
-/// Takes the next datagram of a socket into a frame, where one is there.
+/// Takes the next datagram of a socket into a frame, where one is there: it is received where the frame stands.
 pub(crate) fn take_into<S: Datagrams>(
     socket: &mut S,
-    room: &mut [u8; 4097],
     into: &mut Frame,
     faults: &mut u64,
 ) -> Received
@@ -32,9 +31,10 @@ pub(crate) fn take_into<S: Datagrams>(
     ensures taken { IsTaken result into.new.payload (S.given socket.old) (S.given socket.new) }
     ensures cause { HasCause faults.old faults.new (result ≡ Received.Failed) }
 {
-    match take_one(socket, room, faults) {
+    let room = into.lend();
+    match take_one(socket, &mut room[HEADROOM..], faults) {
         Taken::Datagram { count, from } => {
-            into.set(&room[..count.min(LONGEST)]);
+            into.cut_back(LONGEST - count.min(LONGEST));
             let cut = count > LONGEST;
             Received::Got { from, cut }
         }
@@ -45,7 +45,7 @@ pub(crate) fn take_into<S: Datagrams>(
 
 /// Takes the next datagram of a socket, where one is there. The system tells an error of an earlier send, as by an ICMP
 /// message, in place of a datagram: it is counted, and the receive tried again.
-fn take_one<S: Datagrams>(socket: &mut S, room: &mut [u8; 4097], faults: &mut u64) -> Taken
+fn take_one<S: Datagrams>(socket: &mut S, room: &mut [u8], faults: &mut u64) -> Taken
     ensures next { IsNext result room.new (S.given socket.old) (S.given socket.new) }
     ensures cause { HasCause faults.old faults.new (result ≡ Taken.Fault) }
 {

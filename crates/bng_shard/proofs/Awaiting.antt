@@ -74,6 +74,7 @@ module _ (t : Reports) where
     looks = λ s n at x found h. with_kept Awaits s n (looked at x) (looked_awaits (reported_at t.last x.number) at x.lease (h n x found)) h;
     lapses = λ e s n x x' outs cause none asked' at over d h.
         with_kept Awaits s n x' (driven_awaits r (at_of s e) s.asked (lapsed x) x' outs none asked' (told r e Close) d tt) h;
+    tells = λ s u h. h;
   }
 
   keeps_stops : Stops Keeps

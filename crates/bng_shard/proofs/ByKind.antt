@@ -1,5 +1,5 @@
 -- What was done with an item, by its kind.
-use Rattle.std.proofs.Common.{◌≡◌, ℕ, ◌≤◌, Bool, List, length, refl, sym, subst}
+use Rattle.std.proofs.Common.{◌≡◌, ℕ, zero, suc, ◌≤◌, ◌++◌, Bool, List, length, inl, inr, refl, sym, ap, subst, ◌∙◌}
 use Rattle.bng_base.specs.declared.fate.Fate.{Fate}
 use Rattle.bng_base.specs.declared.fate.Fate.TheVariants.{Consumed}
 use Rattle.bng_base.specs.declared.item.Claim.{Claim}
@@ -9,10 +9,13 @@ use Rattle.bng_base.specs.declared.item.Item.{Item}
 use Rattle.bng_base.specs.declared.item.ItemKind.{ItemKind}
 use Rattle.bng_base.specs.declared.item.ItemKind.TheVariants.{Tick, End}
 use Rattle.bng_base.specs.declared.item.OutRecord.{OutRecord}
+use Rattle.bng_lns.specs.Timed.{reminded}
 use Rattle.bng_shard.specs.declared.rules.Rules.{Rules}
 use Rattle.bng_base.specs.declared.item.At.{At}
-use Rattle.bng_shard.specs.State.{State}
-use Rattle.bng_shard.specs.Deed.{handled, ignored}
+use Rattle.bng_shard.specs.State.{State, with_ended, with_tunnels}
+use Rattle.bng_shard.specs.Deed.{at_of, handled, ignored}
+use Rattle.bng_shard.specs.L2tp.{TellInTurn, tunnels_most}
+use Rattle.bng_shard.specs.Link.{ended as ended_session, nas_request}
 use Rattle.bng_shard.specs.Doing.{DoesWith}
 use Rattle.bng_shard.specs.Hearing.{Does, outs_most}
 use Rattle.bng_shard.specs.Protocol.{entry_of, entry_with}
@@ -21,9 +24,15 @@ use Rattle.bng_shard.specs.declared.wish.Wish.{Wish}
 use Rattle.bng_shard.specs.declared.wish.Wish.TheVariants.{Nothing}
 use Rattle.bng_shard.specs.Wished.{IsAnswered, WishesFor}
 use Rattle.bng_shard.specs.Wishes.{IsAnswerTo}
-use Rattle.bng_shard.specs.Timed.{Ticked, Ended}
-use Rattle.bng_shard.specs.Timers.{at_once}
+use Rattle.bng_shard.specs.Timed.{TickDone, EndDone}
+use Rattle.bng_shard.specs.Timers.{Ends, StopsTunnels, at_once}
 use Rattle.bng_shard.proofs.Carrying.{its_place, nothing_done}
+
+-- sessions that end leave the shard its number
+ends_number : (k : ℕ) (r : Rules) (e : Entry) (s : State) (outs : List OutRecord) (s' : State) → Ends k r e s outs s' → s'.sessions.shard ≡ s.sessions.shard
+ends_number zero r e s outs s' h = ap (λ (q : State). q.sessions.shard) h.1
+ends_number (suc k) r e s outs s' (inl h) = ap (λ (q : State). q.sessions.shard) h.2
+ends_number (suc k) r e s outs s' (inr (n, lowest, x, at, padt, rest, tells, more, are)) = ends_number k r e (with_ended s n x.lease nas_request (ended_session x)) rest s' more
 
 -- what no item of its kind asks is not answered
 pub unasked : (r : Rules) (s : State) (item : Item) (limited : Bool) (claim : Claim) (kind : ItemKind) → item.kind ≡ kind → ((wish : Wish) → WishesFor kind r s item limited wish → wish ≡ Nothing)
@@ -64,27 +73,33 @@ module _ (r : Rules) (s s' : State) (outs outs' : List OutRecord) (a : At) (now 
       abbrev entry : Entry
       entry = entry_of a.seat a.place now item
 
-      pub ticked : item.kind ≡ Tick → Ticked at_once r a now item.random s s' outs outs' → IsStep claim Consumed
+      at : a ≡ at_of s entry
+      at = its_place s a now item here
+
+      pub ticked : item.kind ≡ Tick → TickDone r a now item.random s s' outs outs' → IsStep claim Consumed
       ticked is t = stepped Consumed Tick is refl (record {
-        deed = handled s entry t.more s';
+        deed = handled s entry (t.first ++ t.rest) s';
         entry = refl;
         fate_is = refl;
         next = refl;
-        says = (t.more, s', t.ticks entry refl refl (sym (its_place s a now item here)), refl);
+        says = (t.first, t.tunnels, subst (λ (b : At). TellInTurn reminded tunnels_most 0 b now s.tunnels t.first t.tunnels) at t.tells, t.rest, s', t.ticks entry refl refl (sym at), refl);
         outs_are = t.outs_are;
         few = t.few;
       })
 
-      pub ended : item.kind ≡ End → Ended at_once r a s s' outs outs' → IsStep claim Consumed
-      ended is t = stepped Consumed End is refl (record {
-        deed = handled s entry t.more s';
-        entry = refl;
-        fate_is = refl;
-        next = refl;
-        says = (t.more, s', t.ends entry (sym (its_place s a now item here)), refl);
-        outs_are = t.outs_are;
-        few = t.few;
-      })
+      pub ended : item.kind ≡ End → EndDone r a now s s' outs outs' → IsStep claim Consumed
+      ended is t =
+          let number = ends_number at_once r entry s t.first t.next (t.ends entry (sym at)) in
+          let there : a ≡ at_of t.next entry = at ∙ ap (λ (n : ℕ). let b : At = record { shard = n; seat = a.seat; place = a.place } in b) (sym number) in
+          stepped Consumed End is refl (record {
+            deed = handled s entry (t.first ++ t.rest) (with_tunnels t.next t.tunnels);
+            entry = refl;
+            fate_is = refl;
+            next = sym t.after;
+            says = (t.first, t.next, t.ends entry (sym at), t.rest, t.tunnels, subst (λ (b : At). StopsTunnels b now t.next t.rest t.tunnels) there t.stops, refl);
+            outs_are = t.outs_are;
+            few = t.few;
+          })
 
 -- a kind that nothing here hears
 pub passed_over : (r : Rules) (s : State) (outs : List OutRecord) (a : At) (now : ℕ) (item : Item) (limited : Bool) (claim : Claim) → claim ≡ NoClaim → a.shard ≡ s.sessions.shard → (kind : ItemKind) → item.kind ≡ kind → MayClaim kind NoClaim

@@ -23,7 +23,7 @@ use Rattle.bng_slots.specs.Listed.{values}
 use Rattle.bng_shard.specs.declared.session.Session.{Session}
 use Rattle.bng_shard.specs.Indexed.{address_of, term_of}
 use Rattle.bng_shard.specs.Listing.{AreListed, does_pass, passing_in}
-use Rattle.bng_shard.specs.Opening.{circuit_at, in_order, none_passed, numbered_after, opened_meters, opened_slots, provisioned, tenures_after}
+use Rattle.bng_shard.specs.Opening.{circuit_at, in_order, no_tunnels, none_passed, numbered_after, opened_meters, opened_slots, provisioned, tenures_after}
 use Rattle.bng_shard.specs.Serving.{AreLeased, KeepsLease, AreApart, AreOwn, AreOfShard}
 use Rattle.bng_shard.specs.State.{State, circuit_of}
 use Rattle.bng_shard.proofs.Earliest.{read_there}
@@ -384,10 +384,10 @@ module _ (number : ℕ) (circuits : List Static) (sessions : Sessions Session) (
       subst (λ (y : Session). KeepsLease y.service y.lease) (sym there.is) tt
 
   pub opened_is : (profiles : List Profile) (now : ℕ) → All (λ c. IsNumberOf number c.session.0) circuits
-      → ◌≡◌ {A = State} (record { sessions = sessions; begun = begun; asked = 0; terms = tenures_after now 0 (in_order number circuits); news = []; passed = none_passed; meters = opened_meters number profiles circuits now }) (opened_slots number profiles circuits now)
+      → ◌≡◌ {A = State} (record { sessions = sessions; begun = begun; asked = 0; terms = tenures_after now 0 (in_order number circuits); news = []; passed = none_passed; meters = opened_meters number profiles circuits now; tunnels = no_tunnels number }) (opened_slots number profiles circuits now)
   opened_is profiles now own =
       let map = from_entries_of sessions.by_number (numbered_after 0 (in_order number circuits)) h.stand in
       let one : Static → ℕ = λ _. 1 in
       let count : begun ≡ length circuits =
       h.counted ∙ sym (ones (in_order number circuits)) ∙ sum_in_order one number circuits (recursion_from_All (λ (c : Static). IsNumberOf number c.session.0) circuits own) ∙ ones circuits in
-      λ i. record { sessions = record { shard = h.shard i; by_number = map i }; begun = count i; asked = 0; terms = tenures_after now 0 (in_order number circuits); news = []; passed = none_passed; meters = opened_meters number profiles circuits now }
+      λ i. record { sessions = record { shard = h.shard i; by_number = map i }; begun = count i; asked = 0; terms = tenures_after now 0 (in_order number circuits); news = []; passed = none_passed; meters = opened_meters number profiles circuits now; tunnels = no_tunnels number }

@@ -169,6 +169,7 @@ module _ (circuits : ℕ) where
         keeps_with s n x.lease (Some cause) x' asked' (lapsed_known (passed_at s.passed x.number) x.lease e.moment cause over)
         (λ h l is leased. absurd (none_some l (drives_was r (at_of s e) s.asked (lapsed x) x' outs none asked' (told r e Close) drives l leased)))
         (made_spares s n x (Some cause) at (ap made_one drives.is_made));
+    tells = λ s t h. record { few = h.few; later = h.later; causes = h.causes; known = h.known };
   }
 
   keeps_stops : Stops Keeps

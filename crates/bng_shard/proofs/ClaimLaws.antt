@@ -33,7 +33,7 @@ use Rattle.bng_base.specs.declared.item.At.{At}
 use Rattle.bng_shard.specs.declared.session.Service.{Service}
 use Rattle.bng_shard.specs.declared.session.Service.TheVariants.{Provisioned, Discovered}
 use Rattle.bng_shard.specs.declared.session.Session.{Session}
-use Rattle.bng_shard.specs.State.{State, is_on, session_of, where_on, with_session, with_driven, with_ended}
+use Rattle.bng_shard.specs.State.{State, is_on, session_of, where_on, with_session, with_driven, with_ended, with_tunnels}
 use Rattle.bng_shard.specs.Deed.{Deed, arrival_in, at_of}
 use Rattle.bng_shard.specs.Discovery.{Answers, Makes, host_uniq_of, new_session}
 use Rattle.bng_shard.specs.Frames.{HearsData, HearsPpp, HearsControl, HearsIn, HearsFrame, HearsAccess, HearsCore}
@@ -47,6 +47,7 @@ use Rattle.bng_shard.specs.Verdicts.{HearsVerdict, Judges, next_lease, settled_b
 use Rattle.bng_shard.proofs.GrantLaws.{if_some, last_there, last_with, step_last}
 use Rattle.bng_shard.proofs.LinkSteps.{verdict_of, verdict_steps}
 use Rattle.bng_shard.proofs.Naming.{at_number, same_made}
+use Rattle.bng_shard.proofs.Tunnelling.{tunnel_spoke}
 use Rattle.bng_shard.proofs.Values.{none_some, same_some}
 
 -- Sessions ----------------------------------------------------------------------------------------------------------------
@@ -280,11 +281,11 @@ module _ (r : Rules) (s : State) (limited : Bool) (d : Deed) where
   hears_heard : IsSound s → (kind : ItemKind) → d.entry.item.kind ≡ kind → Hears kind r s limited d.entry d → Heard
   hears_heard sound (Access number) is h = access sound number is h
   hears_heard sound Core is h = core h
-  hears_heard sound Tunnel is h = still _ h refl
+  hears_heard sound Tunnel is h = λ n a found. inl (ap (λ (u : State). last_asking_at u n) (sym (tunnel_spoke r s d.entry d h).next) ∙ found)
   hears_heard sound Verdict is h = judged h
   hears_heard sound Change is h = still _ h refl
-  hears_heard sound Tick is (outs, s', ticks, h) = keeping _ h (ticks_keep r d.entry at_once s outs s' ticks)
-  hears_heard sound End is (outs, s', all, h) = keeping _ h (ends_keep r d.entry at_once s outs s' all)
+  hears_heard sound Tick is (first, t, spoken, rest, s', ticks, h) = keeping _ h (chain_keeps s (with_tunnels s t) s' (λ n a found. found) (ticks_keep r d.entry at_once (with_tunnels s t) rest s' ticks))
+  hears_heard sound End is (first, next, all, rest, t, stops, h) = keeping _ h (chain_keeps s next (with_tunnels next t) (ends_keep r d.entry at_once s first next all) (λ n a found. found))
 
   -- the question that a link asked last was so before, or its claim stands in the frame that the entry is
   pub step_heard : IsSound s → Step r s limited d → Heard

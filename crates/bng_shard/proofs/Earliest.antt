@@ -4,7 +4,7 @@ use Rattle.bng_ppp.specs.LinkRelation.{earliest}
 use Rattle.bng_slots.specs.Sessions.{IsEarliest, read_at, value_at}
 use Rattle.bng_slots.specs.Listed.{values}
 use Rattle.bng_shard.specs.declared.session.Session.{Session}
-use Rattle.bng_shard.specs.Due.{due_of}
+use Rattle.bng_shard.specs.Due.{sessions_due}
 use Rattle.bng_shard.specs.State.{State}
 use Rattle.bng_shard.specs.Timers.{deadline_of, IsFirstDue, NoneIsDue}
 use Rattle.bng_shard.proofs.Values.{none_some, numbered, same_some, stands}
@@ -65,7 +65,7 @@ at_most moment later n m (inr e) = omega (arith, e.0)
 
 module _ (s : State) where
   -- the earliest deadline is the one that a session has and before which none has one
-  pub due_is : (moment n : ℕ) → IsEarliest deadline_of s.sessions moment n → due_of s ≡ Some moment
+  pub due_is : (moment n : ℕ) → IsEarliest deadline_of s.sessions moment n → sessions_due s ≡ Some moment
   due_is moment n is =
       let x = read_there deadline_of (value_at s.sessions n) moment is.has in
       fold_least (values s.sessions) None moment (inr (x.0, stands s.sessions n x.0 x.1, x.2)) (λ t e. absurd (none_some t e))
@@ -73,7 +73,7 @@ module _ (s : State) where
       let m = numbered s.sessions y c in
       at_most moment t n m.0 (is.first m.0 t (ap (option_and_then deadline_of) m.1 ∙ e)))
 
-  pub due_none : ((n : ℕ) → read_at deadline_of s.sessions n ≡ None) → due_of s ≡ None
+  pub due_none : ((n : ℕ) → read_at deadline_of s.sessions n ≡ None) → sessions_due s ≡ None
   due_none none = fold_none (values s.sessions) (λ x c. let n = numbered s.sessions x c in sym (ap (option_and_then deadline_of) n.1) ∙ none n.0)
 
   pub first_due : (now moment n : ℕ) → IsEarliest deadline_of s.sessions moment n → moment ≤ now → IsFirstDue s now n

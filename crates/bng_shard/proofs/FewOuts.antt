@@ -1,6 +1,6 @@
--- By its timers a link sends two frames at most, and by Close one.
+-- By its timers a link sends two frames at most, and by Close one; and a session that goes on sends no more than its link.
 use Rattle.std.proofs.Common.{◌≡◌, ◌≤◌, ◌+◌, ℕ, Bool, true, false, nat_le, List, [], ◌∷◌, ◌++◌, length, length-append, Option, Some, None, inl, inr, refl, ap, arith}
-use Rattle.std.specs.Prelude.{◌&&◌, if◌then◌else◌}
+use Rattle.std.specs.Prelude.{◌&&◌, IsSome, if◌then◌else◌}
 use Rattle.std.specs.List.{list_all, sum_by}
 use Rattle.std.proofs.lemmas.Bool.Decides.{nat_tests}
 use Rattle.std.proofs.lemmas.List.Sums.{sum_by-cons}
@@ -41,9 +41,12 @@ use Rattle.bng_ppp.specs.Timers.{Reminds}
 use Rattle.bng_ppp.specs.WholeTimers.{AboveReminds, AuthReminds}
 use Rattle.bng_shard.specs.declared.rules.Rules.{Rules}
 use Rattle.bng_base.specs.declared.item.At.{At}
+use Rattle.bng_shard.specs.declared.session.Lease.{Lease}
 use Rattle.bng_shard.specs.declared.session.Session.{Session}
 use Rattle.bng_shard.specs.Deed.{frame_outs, has_macs, out}
 use Rattle.bng_shard.specs.Link.{Drives, padt_outs, ppp_outs, said_outs}
+use Rattle.bng_shard.specs.Serving.{KeepsLease}
+use Rattle.bng_shard.proofs.StaysOpen.{closed_unfinished, leased_unfinished}
 
 -- The table -------------------------------------------------------------------------------------------------------------
 
@@ -306,6 +309,14 @@ said_costs a x port offers says =
     let padt = padt_costs says.finished a x port offers in
     omega (arith, both, frames, padt)
 
+-- where LCP did not finish no PADT is sent
+said_alone : (a : At) (x : Session) (port : AccessPort) (offers : PortRules) (says : PppSaid) → says.finished ≡ false → length (said_outs a x port offers says) ≤ length says.outs
+said_alone a x port offers says e =
+    let both = length-append (ppp_outs a x port says.outs) (if says.finished then padt_outs a x port offers else []) in
+    let frames = frames_cost a x port says.outs in
+    let none : length (if says.finished then padt_outs a x port offers else []) ≡ 0 = ap (λ (b : Bool). length (if b then padt_outs a x port offers else [])) e in
+    omega (arith, both, frames, none)
+
 module _ (r : Rules) (a : At) (now : ℕ) (random : List ℕ) (asked : ℕ) (x : Session) (outs : List OutRecord) (cause : Option ℕ) (x' : Session) (asked' : ℕ) where
   pub drives_by_timer : Drives r a asked x (PppSteps r.link told.Timer now random) outs cause x' asked' → length outs ≤ 3
   drives_by_timer d =
@@ -314,9 +325,18 @@ module _ (r : Rules) (a : At) (now : ℕ) (random : List ℕ) (asked : ℕ) (x :
       let is = ap (λ (o : List OutRecord). length o) d.outs_are in
       omega (arith, frames, said, is)
 
-  pub drives_by_close : Drives r a asked x (PppSteps r.link told.Close now random) outs cause x' asked' → length outs ≤ 2
-  drives_by_close d =
+  -- where the session still has a lease
+  pub leased_by_timer : Drives r a asked x (PppSteps r.link told.Timer now random) outs cause x' asked' → KeepsLease x'.service x'.lease → IsSome x'.lease → length outs ≤ 2
+  leased_by_timer d keeps some =
+      let frames = few_by_timer r.link now random d.made.link d.says d.link d.steps in
+      let said = said_alone a x d.port d.offers d.says (leased_unfinished r a now random asked x outs cause x' asked' told.Timer d keeps some) in
+      let is = ap (λ (o : List OutRecord). length o) d.outs_are in
+      omega (arith, frames, said, is)
+
+  -- where it had one before
+  pub leased_by_close : Drives r a asked x (PppSteps r.link told.Close now random) outs cause x' asked' → (lease : Option Lease) → KeepsLease x.service lease → IsSome lease → length outs ≤ 1
+  leased_by_close d lease keeps some =
       let frames = few_by_close r.link now random d.made.link d.says d.link d.steps in
-      let said = said_costs a x d.port d.offers d.says in
+      let said = said_alone a x d.port d.offers d.says (closed_unfinished r a now random asked x outs cause x' asked' d lease keeps some) in
       let is = ap (λ (o : List OutRecord). length o) d.outs_are in
       omega (arith, frames, said, is)

@@ -12,7 +12,7 @@ use Rattle.bng_shard.specs.declared.rules.Rules.{Rules}
 use Rattle.bng_shard.specs.declared.session.Service.{Service}
 use Rattle.bng_shard.specs.declared.session.Service.TheVariants.{Provisioned, Discovered}
 use Rattle.bng_shard.specs.declared.session.Session.{Session}
-use Rattle.bng_shard.specs.State.{State, count_in, with_ended, leaves, leaves_in, settled}
+use Rattle.bng_shard.specs.State.{State, count_in, with_ended, with_tunnels, leaves, leaves_in, settled}
 use Rattle.bng_shard.specs.Deed.{Deed}
 use Rattle.bng_shard.specs.Link.{ended, ended_service, nas_request}
 use Rattle.bng_shard.specs.Protocol.{ShardState, Handled, pppoe, sessions_of}
@@ -60,7 +60,7 @@ end_leaves_fewer s h is kind =
     let r = s.rules in
     let d = h.deed in
     let hears : HearsEnd r s.slots d.entry d = subst (λ (k : ItemKind). Hears k r s.slots h.limited d.entry d) kind is.step.hears in
-    let next : d.next ≡ hears.1 = ap (λ (x : Deed). x.next) hears.3 in
+    let next : d.next ≡ with_tunnels hears.1 hears.4 = ap (λ (x : Deed). x.next) hears.6 in
     let left : sessions_of (pppoe.settled (pppoe.next s h)) ≡ staying_in hears.1 = settled_count d.next ∙ ap staying_in next in
     let few = count_by-le-length stays (values s.slots.sessions) in
     ⊎_elim

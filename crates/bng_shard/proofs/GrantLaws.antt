@@ -19,6 +19,8 @@ use Rattle.bng_discovery.specs.declared.answers.Answer.{Answer}
 use Rattle.bng_discovery.specs.declared.answers.Answer.TheVariants.{Offer, Make, Again, Refuse, Ended, NoSession, Ignore}
 use Rattle.bng_discovery.specs.declared.port.PortRules.{PortRules}
 use Rattle.bng_discovery.specs.Reply.{pado_of, pads_of, refusal_of}
+use Rattle.bng_lns.specs.Timed.{Telling, reminded, stopped}
+use Rattle.bng_lns.specs.Tunnels.{TunnelsState}
 use Rattle.bng_ppp.specs.declared.authentication.Authentication.{Authentication}
 use Rattle.bng_ppp.specs.declared.authentication.Authentication.TheVariants as auth
 use Rattle.bng_ppp.specs.declared.whole_input.WholeInput.{WholeInput}
@@ -42,24 +44,26 @@ use Rattle.bng_shard.specs.declared.session.Lease.{Lease}
 use Rattle.bng_shard.specs.declared.session.Service.{Service}
 use Rattle.bng_shard.specs.declared.session.Service.TheVariants.{Provisioned, Discovered}
 use Rattle.bng_shard.specs.declared.session.Session.{Session}
-use Rattle.bng_shard.specs.State.{State, circuit_of, leaves, session_of, settled, with_session, with_driven, with_ended}
+use Rattle.bng_shard.specs.State.{State, circuit_of, leaves, session_of, settled, with_session, with_driven, with_ended, with_tunnels}
 use Rattle.bng_shard.specs.Deed.{Deed, at_of, frame_outs}
 use Rattle.bng_shard.specs.Discovery.{Answers, Makes, host_uniq_of, new_session}
 use Rattle.bng_shard.specs.Frames.{HearsData, HearsPpp, HearsControl, HearsIn, HearsFrame, HearsAccess, HearsCore}
 use Rattle.bng_shard.specs.Granting.{HasQuestion, IsGranted, IsGrantedOn, IsSound, IsYesOn, accepted_ask_at, accepted_in}
+use Rattle.bng_shard.specs.L2tp.{HearsTunnel, TellInTurn, TellsIts, tunnel_outs, tunnels_most}
 use Rattle.bng_shard.specs.Link.{LinkStep, Drives, EndsWith, Told, asked_after, ended, ended_service, hears, nas_request, next_ask, question_after, settles, told, user_request}
 use Rattle.bng_shard.specs.Metered.{meters_at, meters_of, spent_input, spent_output}
 use Rattle.bng_shard.specs.Passing.{cause_at, lapsed, looked, passed_at, place_in, with_passed}
 use Rattle.bng_shard.specs.Questions.{Asking, asking_of, last_asking, last_asking_at, last_in, open_ask_at, open_in, open_of}
 use Rattle.bng_shard.specs.Step.{Hears, Step}
 use Rattle.bng_shard.specs.Tenures.{Tenure, closed}
-use Rattle.bng_shard.specs.Timers.{IsTimed, LooksAt, Ticks, Ends, HearsTick, HearsEnd, at_once, TellsEnd}
+use Rattle.bng_shard.specs.Timers.{IsTimed, LooksAt, Ticks, Ends, HearsTick, HearsEnd, StopsTunnels, at_once, TellsEnd}
 use Rattle.bng_shard.specs.Verdicts.{HearsVerdict, Judges, next_lease, next_term, settled_by}
 use Rattle.bng_shard.specs.Wishes.{Decides, refused_with}
-use Rattle.bng_shard.proofs.Granted.{NoYes, both_no_yes, core_no_yes, discovery_no_yes, none_yes, packet_no_yes, padt_no_yes, said_yes}
+use Rattle.bng_shard.proofs.Granted.{NoYes, both_no_yes, core_no_yes, discovery_no_yes, none_yes, packet_no_yes, padt_no_yes, said_yes, tunnel_no_yes}
 use Rattle.bng_shard.proofs.LinkSteps.{frame_of, verdict_of, frame_steps, verdict_steps}
 use Rattle.bng_shard.proofs.Naming.{at_number}
 use Rattle.bng_shard.proofs.QuestionLaws.{asked_is_next, new_number, state_with}
+use Rattle.bng_shard.proofs.Tunnelling.{Act, tunnel_spoke}
 use Rattle.bng_shard.proofs.Values.{kept_from, none_some, same_some}
 
 -- Options -----------------------------------------------------------------------------------------------------------------
@@ -359,6 +363,16 @@ passes_still s n moment ms outs none = record {
   asked = refl;
 }
 
+-- the tunnels ask nothing
+tells_still : (s : State) (t : TunnelsState) (outs : List OutRecord) → NoYes outs → Still s outs (with_tunnels s t)
+tells_still s t outs none = record {
+  sound = λ h. record { shard = h.shard; own = h.own; of_shard = h.of_shard; questions = h.questions };
+  yes = λ sound port mac m o c tells. absurd (none port mac m o c tells);
+  accepted = λ m ask is. is;
+  last = λ m a is. is;
+  asked = refl;
+}
+
 chain_still : (s s' s'' : State) (outs rest : List OutRecord) → Still s outs s' → Still s' rest s'' → Still s (outs ++ rest) s''
 chain_still s s' s'' outs rest g h = record {
   sound = λ sound. h.sound (g.sound sound);
@@ -540,6 +554,23 @@ module _ (r : Rules) (e : Entry) where
 
 -- Entries -----------------------------------------------------------------------------------------------------------------
 
+-- what goes to the peers of tunnels
+same_no_yes : (outs outs' : List OutRecord) → outs' ≡ outs → NoYes outs → NoYes outs'
+same_no_yes outs outs' e none = subst (λ (os : List OutRecord). NoYes os) (sym e) none
+
+its_no_yes : (o : Option Telling) (a : At) (outs : List OutRecord) → TellsIts a o outs → NoYes outs
+its_no_yes None a outs h = same_no_yes [] outs h none_yes
+its_no_yes (Some t) a outs h = same_no_yes (tunnel_outs a t.peer t.said.outs) outs h.1 (tunnel_no_yes a t.peer t.said.outs)
+
+in_turn_no_yes : (act : Act) (n k : ℕ) (a : At) (now : ℕ) (t : TunnelsState) (outs : List OutRecord) (t' : TunnelsState) → TellInTurn act n k a now t outs t' → NoYes outs
+in_turn_no_yes act zero k a now t outs t' h = same_no_yes [] outs h.0 none_yes
+in_turn_no_yes act (suc n) k a now t outs t' (first, next, tells, rest, more, are) =
+    same_no_yes (first ++ rest) outs are (both_no_yes first rest (its_no_yes (act now t k).told a first tells.tells) (in_turn_no_yes act n (k + 1) a now next rest t' more))
+
+stops_no_yes : (a : At) (now : ℕ) (s : State) (outs : List OutRecord) (t : TunnelsState) → StopsTunnels a now s outs t → NoYes outs
+stops_no_yes a now s outs t (inl (last, h)) = in_turn_no_yes stopped tunnels_most 0 a now s.tunnels outs t h
+stops_no_yes a now s outs t (inr (some, empty, same)) = same_no_yes [] outs empty none_yes
+
 module _ (r : Rules) (s : State) (limited : Bool) (e : Entry) (d : Deed) where
   abbrev Deeds : Type 0
   Deeds = Grants s (IsGranted s e) d.outs d.next
@@ -693,15 +724,25 @@ module _ (r : Rules) (s : State) (limited : Bool) (e : Entry) (d : Deed) where
   judged kind (inr (inr (other, none, h))) = quiet _ h refl none_yes
 
   tick : HearsTick r s e d → Deeds
-  tick (outs, s', ticks, h) = still _ h (ticks_still r e at_once s outs s' ticks)
+  tick (first, t, spoken, rest, s', ticks, h) =
+      still _ h (chain_still s (with_tunnels s t) s' first rest (tells_still s t first (in_turn_no_yes reminded tunnels_most 0 (at_of s e) e.moment s.tunnels first t spoken)) (ticks_still r e at_once (with_tunnels s t) rest s' ticks))
 
   ends : HearsEnd r s e d → Deeds
-  ends (outs, s', all, h) = still _ h (ends_still r e at_once s outs s' all)
+  ends (first, next, all, rest, t, stops, h) =
+      still _ h (chain_still s next (with_tunnels next t) first rest (ends_still r e at_once s first next all) (tells_still next t rest (stops_no_yes (at_of next e) e.moment next rest t stops)))
+
+  tunnel : HearsTunnel r s e d → Deeds
+  tunnel h =
+      let spoke = tunnel_spoke r s e d h in
+      let sent = tunnel_outs (at_of s e) e.item.from spoke.frames in
+      subst (λ (os : List OutRecord). Grants s (IsGranted s e) os d.next) (sym spoke.outs)
+      (subst (λ (u : State). Grants s (IsGranted s e) sent u) (sym spoke.next)
+      (still_grants s e sent (with_tunnels s spoke.tunnels) (tells_still s spoke.tunnels sent (tunnel_no_yes (at_of s e) e.item.from spoke.frames))))
 
   hears_grants : (kind : ItemKind) → e.item.kind ≡ kind → Hears kind r s limited e d → Deeds
   hears_grants (Access number) is h = access number h
   hears_grants Core is h = core h
-  hears_grants Tunnel is h = quiet _ h refl none_yes
+  hears_grants Tunnel is h = tunnel h
   hears_grants Verdict is h = judged is h
   hears_grants Change is h = quiet _ h refl none_yes
   hears_grants Tick is h = tick h

@@ -4,9 +4,10 @@ use Rattle.std.proofs.lemmas.Bool.Decides.{nat_tests}
 use Rattle.std.proofs.lemmas.List.Elements.{Contains-append_cases}
 use Rattle.byteorder.specs.Endian.{big_from}
 use Rattle.bng_base.specs.declared.address.Mac.{Mac}
+use Rattle.bng_base.specs.declared.address.Peer.{Peer}
 use Rattle.bng_base.specs.declared.frame.TheConstants.{LONGEST}
 use Rattle.bng_base.specs.declared.item.OutRecord.{OutRecord}
-use Rattle.bng_base.specs.declared.outside.Role.TheVariants.{Access, Core}
+use Rattle.bng_base.specs.declared.outside.Role.TheVariants.{Access, Core, Tunnel}
 use Rattle.bng_base.specs.declared.settings.AccessPort.{AccessPort}
 use Rattle.bng_base.specs.PppGrammar.{PppFrame, IsPpp}
 use Rattle.bng_base.specs.PppoeGrammar.{PppoeFrame, IsLaidOut, ether_type, pppoe_text}
@@ -22,6 +23,7 @@ use Rattle.bng_base.specs.declared.item.At.{At}
 use Rattle.bng_shard.specs.declared.session.Session.{Session}
 use Rattle.bng_shard.specs.Deed.{out, frame_outs}
 use Rattle.bng_shard.specs.Granting.{IsYesOn}
+use Rattle.bng_shard.specs.L2tp.{tunnel_outs}
 use Rattle.bng_shard.specs.Link.{padt_outs, ppp_outs, said_outs}
 use Rattle.bng_shard.proofs.QuestionLaws.{held}
 
@@ -98,6 +100,9 @@ same_access a b e = cc
 not_core : (a : ℕ) → Core ≡ Access a → ⊥
 not_core a e = cc
 
+not_tunnel : (a : ℕ) → Tunnel ≡ Access a → ⊥
+not_tunnel a e = cc
+
 -- a session frame tells yes where its PPP frame does, to the host and in the session that it is for
 record Told (number : ℕ) (dst : Mac) (session : ℕ) (frame : List ℕ) (port : ℕ) (mac : Mac) (n : ℕ) : Type 0 where
   port_is : port ≡ number
@@ -159,6 +164,14 @@ only_one o o' (suc k, l, is) = absurd (omega arith)
 
 pub core_no_yes : (o : OutRecord) → o.role ≡ Core → NoYes (o ∷ [])
 core_no_yes o core port mac n o' c tells = not_core port (sym core ∙ ap (λ (x : OutRecord). x.role) (only_one o o' c) ∙ tells.role_is)
+
+one_tunnel_no_yes : (o : OutRecord) → o.role ≡ Tunnel → NoYes (o ∷ [])
+one_tunnel_no_yes o tunnel port mac n o' c tells = not_tunnel port (sym tunnel ∙ ap (λ (x : OutRecord). x.role) (only_one o o' c) ∙ tells.role_is)
+
+-- what goes to the peer of a tunnel
+pub tunnel_no_yes : (a : At) (to : Peer) (frames : List (List ℕ)) → NoYes (tunnel_outs a to frames)
+tunnel_no_yes a to [] = none_yes
+tunnel_no_yes a to (f ∷ frames) = both_no_yes (out a Tunnel to f None ∷ []) (tunnel_outs a to frames) (one_tunnel_no_yes (out a Tunnel to f None) refl) (tunnel_no_yes a to frames)
 
 no_yes_protocol : (c : ℕ) → IsYesCode 33 c → ⊥
 no_yes_protocol c (inl (e, f)) = omega (arith, e)

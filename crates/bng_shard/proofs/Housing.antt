@@ -300,6 +300,7 @@ keeps_walk r = record {
       (lease_after r (at_of s e) s.asked (lapsed x) x' outs none asked' (told r e Close) drives ∙ none_kept none)
       (λ h. driven_none r (at_of s e) s.asked (lapsed x) x' outs none asked' (told r e Close) drives
       (λ keeps. phases_kept r.link e.moment e.item.random Close drives.made.link drives.says drives.link keeps drives.steps) refl (kept_at s n x at h).phases);
+  tells = λ s t h. record { phases = h.phases; lasting = h.lasting; housed = h.housed };
 }
 
 keeps_stops : Stops Keeps

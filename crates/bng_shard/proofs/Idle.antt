@@ -102,4 +102,4 @@ module _ (s : Sessions Session) where
 pub whole_settled : (s : State) (t : TermsView) → filter has_ended t.rows ≡ [] → (reaped s).sessions ≡ s.sessions → reaped (whole s t) ≡ whole s t
 whole_settled s t none stay =
     let live = all_are_live t.rows none in
-    λ i. record { sessions = stay i; begun = s.begun; asked = s.asked; terms = live i; news = tenures_in t.news; passed = s.passed; meters = s.meters }
+    λ i. record { sessions = stay i; begun = s.begun; asked = s.asked; terms = live i; news = tenures_in t.news; passed = s.passed; meters = s.meters; tunnels = s.tunnels }

@@ -9,6 +9,7 @@ pub mod InCircuits
 pub mod ListParts
 pub mod LeavingFirst
 pub mod Beginning
+pub mod Tunnelling
 pub mod Walking
 pub mod SeenLeases
 pub mod Wishing
@@ -39,6 +40,7 @@ pub mod KeyLaws
 pub mod Stepping
 pub mod Carrying
 pub mod Driving
+pub mod StaysOpen
 pub mod FewOuts
 pub mod Lasting
 pub mod Speaking

@@ -1,5 +1,5 @@
 -- A session whose deadline has come: its link takes Timer, and then its live term is looked at.
-use Rattle.std.proofs.Common.{◌≡◌, ◌++◌, ℕ, List, [], Option, Some, None, option_map, inl, inr, refl, sym, ap, subst, ◌∙◌, append-nil}
+use Rattle.std.proofs.Common.{◌≡◌, ◌≤◌, ◌+◌, ◌++◌, ℕ, List, [], length, Option, Some, None, IsSome, is_some, option_map, inl, inr, refl, sym, ap, subst, ◌∙◌, append-nil, arith}
 use Rattle.std.specs.Cmp.{nat_cmp_total}
 use Rattle.std.specs.FinMap.{get, same_map, nat_cmp-IsAntisymmetric}
 use Rattle.std.proofs.lemmas.Bool.{cases_eq}
@@ -50,6 +50,14 @@ module _ (r : Rules) (a : At) (now : ℕ) (random : List ℕ) (passed asked : �
   pub looked_sums : (k : Option ℕ) → LookedOnce k r a now random passed asked x x' asked' t t' outs outs' → KeepSums t t'
   looked_sums None h = subst (λ (u : TermsView). KeepSums t u) (sym h.2) (keeps_same t)
   looked_sums (Some cause) h = closed_keeps t t' x.lease (Some cause) h.2
+
+  -- Nothing goes out for a session without a lease. So three go out in all, where two went out before for one that has a lease.
+  pub looked_few : (o : Option Lease) → x.lease ≡ o → (n : ℕ) → LookedOnce (cause_at passed x.lease now) r a now random passed asked x x' asked' t t' outs outs' → length outs ≤ n + 3 → (IsSome x.lease → length outs ≤ n + 2)
+      → length outs' ≤ length outs + 1 → length outs' ≤ n + 3
+  looked_few None e n h few fewer one =
+      let still = (subst (λ (l : Option Lease). LookedOnce (cause_at passed l now) r a now random passed asked x x' asked' t t' outs outs') e h).3 in
+      omega (arith, few, ap length still)
+  looked_few (Some l) e n h few fewer one = omega (arith, one, fewer (ap is_some e))
 
 -- The state then -------------------------------------------------------------------------------------------------------
 

@@ -13,7 +13,6 @@ use Rattle.bng_base.specs.declared.item.OutRecord.{OutRecord}
 use Rattle.bng_base.specs.declared.outside.Role.TheVariants as role
 use Rattle.bng_base.specs.declared.settings.AccessPort.{AccessPort}
 use Rattle.bng_base.specs.declared.settings.AuthKind.{AuthKind}
-use Rattle.bng_base.specs.declared.settings.NamedRange.{NamedRange}
 use Rattle.bng_base.specs.declared.settings.AuthKind.TheVariants.{Chap}
 use Rattle.bng_base.specs.Lowering.{lowered}
 use Rattle.bng_base.specs.PppoeGrammar.{PppoeFrame, PppoeTag}
@@ -29,8 +28,12 @@ use Rattle.bng_forward.proofs.Exclusive.{up_once, down_once}
 use Rattle.bng_forward.proofs.Readings.{one_frame, one_header}
 use Rattle.bng_grant.specs.Grants.{Gift}
 use Rattle.bng_grant.proofs.One.{one_grant}
+use Rattle.bng_l2tp_wire.specs.Messages.{ControlMessage}
+use Rattle.bng_l2tp_wire.proofs.Exact.{one_control}
 use Rattle.bng_lcp.specs.Ask.{Ask}
 use Rattle.bng_lcp.specs.declared.configure_request.SentRequest.{SentRequest}
+use Rattle.bng_lns.specs.Timed.{reminded, stopped}
+use Rattle.bng_lns.specs.Tunnels.{Answer as TunnelAnswer, NoTunnel, NoRequest, Steps, TunnelsState}
 use Rattle.bng_ppp.specs.declared.whole_input.WholeInput.{WholeInput}
 use Rattle.bng_ppp.specs.declared.whole_input.WholeInput.TheVariants.{Start, Timer, Close}
 use Rattle.bng_ppp.specs.LinkState.{IsFirstAsk}
@@ -48,21 +51,23 @@ use Rattle.bng_shard.specs.declared.session.Lease.{Lease}
 use Rattle.bng_shard.specs.declared.session.Service.{Service}
 use Rattle.bng_shard.specs.declared.session.Service.TheVariants.{Provisioned, Discovered}
 use Rattle.bng_shard.specs.declared.session.Session.{Session}
-use Rattle.bng_shard.specs.State.{State, port_at, session_of, with_driven, with_ended}
+use Rattle.bng_shard.specs.State.{State, port_at, session_of, with_driven, with_ended, with_tunnels}
 use Rattle.bng_shard.specs.Deed.{Deed, at_of, out, frame_outs, only, handled, arrival_in}
 use Rattle.bng_shard.specs.Discovery.{Answers, Discovers, IsNewLink, IsVacancy, Makes, Repeats, host_uniq_of, new_session, repeated}
 use Rattle.bng_shard.specs.Frames.{charge_of, forwarded, found_up, found_down, GoesUp, GoesDown, HearsData, HearsPadt, HearsPpp, HearsControl, HearsIn, HearsFrame, HearsAccess, HearsPacket, HearsCore}
+use Rattle.bng_shard.specs.L2tp.{HearsAnswer, HearsMessage, HearsTunnel, heard_by, tunnel_outs, tunnels_most}
 use Rattle.bng_shard.specs.Link.{LinkStep, Drives, EndsWith, padt_outs, said_outs, asked_after, with_link, Told, told, hears, nas_request, settles, ended}
 use Rattle.bng_shard.specs.Metered.{meters_at, spent_input, spent_output}
 use Rattle.bng_shard.specs.Passing.{cause_at, lapsed, passed_at}
 use Rattle.bng_shard.specs.Protocol.{pppoe, refused_by}
 use Rattle.bng_shard.specs.Questions.{open_of}
 use Rattle.bng_shard.specs.Step.{Hears, Step}
-use Rattle.bng_shard.specs.Timers.{Ticks, Ends, HearsTick, HearsEnd, at_once, IsFirstDue, IsTimed, LooksAt, NoneIsDue, ComesFirst, IsLowest, NoneStays, TellsEnd}
+use Rattle.bng_shard.specs.Timers.{Ticks, Ends, HearsTick, HearsEnd, at_once, IsFirstDue, IsTimed, LooksAt, NoneIsDue, ComesFirst, IsLowest, NoneStays, StopsTunnels, TellsEnd}
 use Rattle.bng_shard.specs.Verdicts.{HearsVerdict, Judges, settled_by}
 use Rattle.bng_shard.specs.Wishes.{Decides, refused_with, told_of}
 use Rattle.bng_shard.proofs.LinkSteps.{frame_of, verdict_of, frame_steps, verdict_steps}
 use Rattle.bng_shard.proofs.Naming.{same_made}
+use Rattle.bng_shard.proofs.Tunnelling.{in_turn_one, not_both, takes_one}
 use Rattle.bng_shard.proofs.Values.{none_some}
 
 -- what two answers of one search have in common
@@ -72,16 +77,16 @@ same_found o x y e f = same_Some x y (sym e ∙ f)
 -- Links -----------------------------------------------------------------------------------------------------------------
 
 abbrev IsOne : LinkStep → Type 0
-IsOne Steps = (old new next : PppState) (says other : PppSaid) → Steps old says new → Steps old other next → (says ≡ other) × (new ≡ next)
+IsOne Goes = (old new next : PppState) (says other : PppSaid) → Goes old says new → Goes old other next → (says ≡ other) × (new ≡ next)
 
-module _ (r : Rules) (a : At) (asked : ℕ) (Steps : LinkStep) (one : IsOne Steps) (x : Session) (outs outs' : List OutRecord) (cause cause' : Option ℕ) (x' x'' : Session) (asked' asked'' : ℕ) where
+module _ (r : Rules) (a : At) (asked : ℕ) (Goes : LinkStep) (one : IsOne Goes) (x : Session) (outs outs' : List OutRecord) (cause cause' : Option ℕ) (x' x'' : Session) (asked' asked'' : ℕ) where
   -- the session's link makes one step
-  drives_one : Drives r a asked x Steps outs cause x' asked' → Drives r a asked x Steps outs' cause' x'' asked'' → (outs ≡ outs') × (x' ≡ x'') × (asked' ≡ asked'') × (cause ≡ cause')
+  drives_one : Drives r a asked x Goes outs cause x' asked' → Drives r a asked x Goes outs' cause' x'' asked'' → (outs ≡ outs') × (x' ≡ x'') × (asked' ≡ asked'') × (cause ≡ cause')
   drives_one h k =
       let made = same_made x.service h.made k.made h.is_made k.is_made in
       let port = same_found _ h.port k.port h.at.port_is k.at.port_is in
       let offers = same_found _ h.offers k.offers h.at.offers_are k.at.offers_are in
-      let steps : Steps h.made.link k.says k.link = subst (λ (m : Made). Steps m.link k.says k.link) (sym made) k.steps in
+      let steps : Goes h.made.link k.says k.link = subst (λ (m : Made). Goes m.link k.says k.link) (sym made) k.steps in
       let says = one h.made.link h.link k.link h.says k.says h.steps steps in (
         h.outs_are ∙ ap (λ (q : AccessPort). said_outs a x q h.offers h.says) port ∙ ap (λ (o : PortRules). said_outs a x k.port o h.says) offers ∙ ap (λ (s : PppSaid). said_outs a x k.port k.offers s) says.0 ∙ sym k.outs_are,
         h.session ∙ ap (λ (m : Made). with_link x m asked h.says h.link) made ∙ ap (λ (l : PppState). with_link x k.made asked h.says l) says.1 ∙ ap (λ (s : PppSaid). with_link x k.made asked s k.link) says.0 ∙ sym k.session,
@@ -207,6 +212,13 @@ module _ (r : Rules) (e : Entry) where
   ends_one (suc k) s outs outs' s' s'' (inr (n, lowest, x, at, padt, rest, with_padt, more, are)) (inr (n', lowest', y, at', padt', rest', with_padt', more', are')) =
       let moved : EndsAt k n r e s outs' s'' = subst (λ (m : ℕ). EndsAt k m r e s outs' s'') (sym (lowest_one s n n' lowest lowest')) (y, at', padt', rest', with_padt', more', are') in
       end_one k n (ends_one k) s outs outs' s' s'' (x, at, padt, rest, with_padt, more, are) moved
+
+-- the tunnels stop in one way
+stops_one : (a : At) (now : ℕ) (s : State) (outs outs' : List OutRecord) (t t' : TunnelsState) → StopsTunnels a now s outs t → StopsTunnels a now s outs' t' → (outs ≡ outs') × (t ≡ t')
+stops_one a now s outs outs' t t' (inl (last, h)) (inl (last', k)) = in_turn_one stopped tunnels_most 0 a now s.tunnels outs outs' t t' h k
+stops_one a now s outs outs' t t' (inl (last, h)) (inr (some', empty', same')) = absurd (some' last)
+stops_one a now s outs outs' t t' (inr (some, empty, same)) (inl (last', k)) = absurd (some last')
+stops_one a now s outs outs' t t' (inr (some, empty, same)) (inr (some', empty', same')) = (empty ∙ sym empty', same ∙ sym same')
 
 -- Vacancies and new links -----------------------------------------------------------------------------------------------
 
@@ -478,15 +490,51 @@ module _ (r : Rules) (s : State) (e : Entry) (d d' : Deed) where
   verdict_entry limited (inr (inr (other, none, h))) (inr (inr (other', none', k))) = same_deed _ h k
 
   tick_entry : HearsTick r s e d → HearsTick r s e d' → d ≡ d'
-  tick_entry (outs, s', ticks, h) (outs', s'', ticks', k) = same_handled outs outs' s' s'' (ticks_one r e at_once s outs outs' s' s'' ticks ticks') h k
+  tick_entry (first, t, spoken, rest, s', ticks, h) (first', t', spoken', rest', s'', ticks', k) =
+      let one = in_turn_one reminded tunnels_most 0 (at_of s e) e.moment s.tunnels first first' t t' spoken spoken' in
+      let moved : Ticks at_once r e (with_tunnels s t) rest' s'' = subst (λ (u : TunnelsState). Ticks at_once r e (with_tunnels s u) rest' s'') (sym one.1) ticks' in
+      let last = ticks_one r e at_once (with_tunnels s t) rest rest' s' s'' ticks moved in
+      same_handled (first ++ rest) (first' ++ rest') s' s'' (ap (λ (os : List OutRecord). os ++ rest) one.0 ∙ ap (λ (os : List OutRecord). first' ++ os) last.0, last.1) h k
 
   end_entry : HearsEnd r s e d → HearsEnd r s e d' → d ≡ d'
-  end_entry (outs, s', all, h) (outs', s'', all', k) = same_handled outs outs' s' s'' (ends_one r e at_once s outs outs' s' s'' all all') h k
+  end_entry (first, next, all, rest, t, stops, h) (first', next', all', rest', t', stops', k) =
+      let one = ends_one r e at_once s first first' next next' all all' in
+      let moved : StopsTunnels (at_of next e) e.moment next rest' t' = subst (λ (u : State). StopsTunnels (at_of u e) e.moment u rest' t') (sym one.1) stops' in
+      let last = stops_one (at_of next e) e.moment next rest rest' t t' stops moved in
+      same_handled (first ++ rest) (first' ++ rest') (with_tunnels next t) (with_tunnels next' t') (
+        ap (λ (os : List OutRecord). os ++ rest) one.0 ∙ ap (λ (os : List OutRecord). first' ++ os) last.0,
+        ap (λ (u : State). with_tunnels u t) one.1 ∙ ap (λ (u : TunnelsState). with_tunnels next' u) last.1,
+      )
+      h k
+
+  answer_one : (answer : TunnelAnswer) (m : ControlMessage) (t : TunnelsState) → HearsAnswer answer s e m t d → HearsAnswer answer s e m t d' → d ≡ d'
+  answer_one NoTunnel m t h k = same_deed _ h k
+  answer_one NoRequest m t h k = same_deed _ h k
+  answer_one (Steps number said) m t (frames, t', takes, spelled, h) (frames', t'', takes', spelled', k) =
+      let one = takes_one said.call number said m e.moment t frames frames' t' t'' takes takes' in
+      same_handled (tunnel_outs (at_of s e) e.item.from frames) (tunnel_outs (at_of s e) e.item.from frames') (with_tunnels s t') (with_tunnels s t'')
+      (ap (λ (fs : List (List ℕ)). tunnel_outs (at_of s e) e.item.from fs) one.0, ap (λ (u : TunnelsState). with_tunnels s u) one.1) h k
+
+  message_one : (m : ControlMessage) → HearsMessage r s e m d → HearsMessage r s e m d' → d ≡ d'
+  message_one m h k = answer_one (heard_by r s e m).answer m (heard_by r s e m).after h k
+
+  tunnel_one : HearsTunnel r s e d → HearsTunnel r s e d' → d ≡ d'
+  tunnel_one (inl (neither, h)) (inl (neither', k)) = same_deed _ h k
+  tunnel_one (inl (neither, h)) (inr (inl (m', is', k))) = absurd (neither.no_control m' is')
+  tunnel_one (inl (neither, h)) (inr (inr (m', is', k))) = absurd (neither.no_data m' is')
+  tunnel_one (inr (inl (m, is, h))) (inl (neither', k)) = absurd (neither'.no_control m is)
+  tunnel_one (inr (inl (m, is, h))) (inr (inl (m', is', k))) =
+      let same = one_control m m' e.item.frame.payload is.message is'.message in
+      message_one m h (subst (λ (q : ControlMessage). HearsMessage r s e q d') (sym same) k)
+  tunnel_one (inr (inl (m, is, h))) (inr (inr (m', is', k))) = absurd (not_both e.item.frame.payload m m' is.message is'.message)
+  tunnel_one (inr (inr (m, is, h))) (inl (neither', k)) = absurd (neither'.no_data m is)
+  tunnel_one (inr (inr (m, is, h))) (inr (inl (m', is', k))) = absurd (not_both e.item.frame.payload m' m is'.message is.message)
+  tunnel_one (inr (inr (m, is, h))) (inr (inr (m', is', k))) = same_deed _ h k
 
   entry_one : (limited : Bool) (kind : ItemKind) → Hears kind r s limited e d → Hears kind r s limited e d' → d ≡ d'
   entry_one limited (Access number) h k = access_one number h k
   entry_one limited Core h k = core_one h k
-  entry_one limited Tunnel h k = same_deed _ h k
+  entry_one limited Tunnel h k = tunnel_one h k
   entry_one limited Verdict h k = verdict_entry limited h k
   entry_one limited Change h k = same_deed _ h k
   entry_one limited Tick h k = tick_entry h k

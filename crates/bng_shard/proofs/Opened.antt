@@ -158,6 +158,7 @@ opened_whole shard now profiles cs s t opened are none = λ i. record {
   news = tenures_in (none i);
   passed = (opened i).passed;
   meters = (opened i).meters;
+  tunnels = (opened i).tunnels;
 }
 
 module _ (r : Rules) (shard : ℕ) (cs : List Static) (now : ℕ) where

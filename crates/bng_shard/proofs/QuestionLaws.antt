@@ -16,6 +16,7 @@ use Rattle.bng_base.specs.PppoeGrammar.{PppoeFrame, PppoeTag}
 use Rattle.bng_discovery.specs.declared.answers.Answer.{Answer}
 use Rattle.bng_discovery.specs.declared.answers.Answer.TheVariants.{Offer, Make, Again, Refuse, Ended, NoSession, Ignore}
 use Rattle.bng_discovery.specs.declared.port.PortRules.{PortRules}
+use Rattle.bng_lns.specs.Tunnels.{TunnelsState}
 use Rattle.bng_ppp.specs.declared.whole_input.WholeInput.{WholeInput}
 use Rattle.bng_ppp.specs.declared.whole_input.WholeInput.TheVariants.{Start, Timer, Close}
 use Rattle.bng_ppp.specs.Claims.{Claim}
@@ -35,10 +36,11 @@ use Rattle.bng_shard.specs.declared.session.Lease.{Lease}
 use Rattle.bng_shard.specs.declared.session.Service.{Service}
 use Rattle.bng_shard.specs.declared.session.Service.TheVariants.{Provisioned, Discovered}
 use Rattle.bng_shard.specs.declared.session.Session.{Session}
-use Rattle.bng_shard.specs.State.{State, session_of, with_session, with_driven, with_ended}
+use Rattle.bng_shard.specs.State.{State, session_of, with_session, with_driven, with_ended, with_tunnels}
 use Rattle.bng_shard.specs.Deed.{Deed, at_of}
 use Rattle.bng_shard.specs.Discovery.{Answers, Makes, host_uniq_of, new_session}
 use Rattle.bng_shard.specs.Frames.{HearsData, HearsPpp, HearsControl, HearsIn, HearsFrame, HearsAccess, HearsCore}
+use Rattle.bng_shard.specs.L2tp.{HearsTunnel}
 use Rattle.bng_shard.specs.Link.{LinkStep, Drives, Told, asked_after, ended, ended_service, hears, nas_request, next_ask, question_after, settles, told, user_request, with_link}
 use Rattle.bng_shard.specs.Metered.{meters_at, meters_of, spent_input, spent_output}
 use Rattle.bng_shard.specs.Passing.{cause_at, lapsed, looked, passed_at, place_in, with_passed}
@@ -50,6 +52,7 @@ use Rattle.bng_shard.specs.Verdicts.{HearsVerdict, Judges, next_lease, next_term
 use Rattle.bng_ppp.proofs.WholeQuestions.{only_frames_ask, open_was_asked}
 use Rattle.bng_shard.proofs.LinkSteps.{frame_of, verdict_of, frame_steps, verdict_steps}
 use Rattle.bng_shard.proofs.Naming.{at_number, next_of, same_made}
+use Rattle.bng_shard.proofs.Tunnelling.{tunnel_spoke}
 use Rattle.bng_shard.proofs.Values.{none_some, numbered, same_some, stands}
 
 -- Lists of questions ------------------------------------------------------------------------------------------------------
@@ -91,6 +94,7 @@ state_with s n x asked begun terms news meters = record {
   news = news;
   passed = s.passed;
   meters = meters;
+  tunnels = s.tunnels;
 }
 
 -- then this session stands at the number, and the others stand where they stood
@@ -169,6 +173,10 @@ same s s' e = record {
 -- a packet passes
 passes_on : (s : State) (n : SessionNo) (moment : ℕ) (ms : Meters) → On s (with_passed s n moment ms)
 passes_on s n moment ms = record { counted = counts_same s.asked s.asked refl; asked = λ low a h. inl h }
+
+-- the tunnels ask nothing
+tells_on : (s : State) (t : TunnelsState) → On s (with_tunnels s t)
+tells_on s t = record { counted = counts_same s.asked s.asked refl; asked = λ low a h. inl h }
 
 chained : (s s' s'' : State) → On s s' → On s' s'' → On s s''
 chained s s' s'' g h = record {
@@ -463,15 +471,20 @@ module _ (r : Rules) (s : State) (limited : Bool) (e : Entry) (d : Deed) where
   judged (inr (inr (other, none, h))) = kept _ h refl
 
   tick : HearsTick r s e d → On s d.next
-  tick (outs, s', ticks, h) = after s' _ h refl (ticks_on r e at_once s outs s' ticks)
+  tick (first, t, spoken, rest, s', ticks, h) = after s' _ h refl (chained s (with_tunnels s t) s' (tells_on s t) (ticks_on r e at_once (with_tunnels s t) rest s' ticks))
 
   ends : HearsEnd r s e d → On s d.next
-  ends (outs, s', all, h) = after s' _ h refl (ends_on r e at_once s outs s' all)
+  ends (first, next, all, rest, t, stops, h) = after (with_tunnels next t) _ h refl (chained s next (with_tunnels next t) (ends_on r e at_once s first next all) (tells_on next t))
+
+  tunnel : HearsTunnel r s e d → On s d.next
+  tunnel h =
+      let spoke = tunnel_spoke r s e d h in
+      subst (λ (u : State). On s u) (sym spoke.next) (tells_on s spoke.tunnels)
 
   hears_on : (kind : ItemKind) → Hears kind r s limited e d → On s d.next
   hears_on (Access number) h = access number h
   hears_on Core h = core h
-  hears_on Tunnel h = kept _ h refl
+  hears_on Tunnel h = tunnel h
   hears_on Verdict h = judged h
   hears_on Change h = kept _ h refl
   hears_on Tick h = tick h

@@ -1,5 +1,5 @@
 -- What a step sends: no packet of a subscriber, or one packet of one session.
-use Rattle.std.proofs.Common.{◌≡◌, ◌≢◌, ◌⊎◌, inl, inr, ℕ, zero, suc, ◌≤◌, Bool, true, false, List, [], ◌∷◌, Option, Some, None, length, refl, sym, subst}
+use Rattle.std.proofs.Common.{◌≡◌, ◌≢◌, ◌⊎◌, inl, inr, ℕ, zero, suc, ◌+◌, ◌≤◌, Bool, true, false, List, [], ◌∷◌, Option, Some, None, length, refl, sym, subst}
 use Rattle.bng_base.specs.declared.address.Peer.{Peer}
 use Rattle.bng_base.specs.declared.fate.Fate.{Fate}
 use Rattle.bng_base.specs.declared.fate.Fate.TheVariants.{Forwarded, Consumed, Dropped}
@@ -19,6 +19,8 @@ use Rattle.bng_engine.specs.Lists.{AnyOf}
 use Rattle.bng_engine.proofs.Everywhere.{all_append}
 use Rattle.bng_forward.specs.Fates.{IsFrame, Carries}
 use Rattle.bng_forward.specs.Framed.{circuit_frame}
+use Rattle.bng_lns.specs.Timed.{Telling, reminded, stopped}
+use Rattle.bng_lns.specs.Tunnels.{TunnelsState}
 use Rattle.bng_ppp.specs.declared.whole_input.WholeInput.{WholeInput}
 use Rattle.bng_ppp.specs.declared.whole_input.WholeInput.TheVariants.{Start, Timer, Close}
 use Rattle.bng_ppp.proofs.WholeOuts.{ppp_steps_written}
@@ -29,19 +31,21 @@ use Rattle.bng_shard.specs.declared.session.Lease.{Lease}
 use Rattle.bng_shard.specs.declared.session.Service.{Service}
 use Rattle.bng_shard.specs.declared.session.Service.TheVariants.{Provisioned, Discovered}
 use Rattle.bng_shard.specs.declared.session.Session.{Session}
-use Rattle.bng_shard.specs.State.{State, IsTermOf, session_of, with_driven, with_ended}
+use Rattle.bng_shard.specs.State.{State, IsTermOf, session_of, with_driven, with_ended, with_tunnels}
 use Rattle.bng_shard.specs.Deed.{Deed, at_of, out, frame_outs, is_forwarded, arrival_in}
 use Rattle.bng_shard.specs.Discovery.{Answers, Discovers}
 use Rattle.bng_shard.specs.Frames.{charge_of, HearsData, HearsPpp, HearsControl, HearsIn, HearsFrame, HearsAccess, HearsCore}
+use Rattle.bng_shard.specs.L2tp.{HearsTunnel, TellInTurn, TellsIts, tunnels_most}
 use Rattle.bng_shard.specs.Link.{Drives, EndsWith, Told, told, hears, settles, ended, nas_request}
 use Rattle.bng_shard.specs.Passing.{cause_at, lapsed, passed_at}
 use Rattle.bng_shard.specs.Reader.{IsInDirection}
 use Rattle.bng_shard.specs.Step.{Hears, Step}
-use Rattle.bng_shard.specs.Timers.{Ticks, Ends, IsTimed, LooksAt, TellsEnd, at_once, HearsTick, HearsEnd}
+use Rattle.bng_shard.specs.Timers.{Ticks, Ends, IsTimed, LooksAt, StopsTunnels, TellsEnd, at_once, HearsTick, HearsEnd}
 use Rattle.bng_shard.specs.Verdicts.{HearsVerdict}
 use Rattle.bng_shard.proofs.LinkSteps.{frame_of, verdict_of, frame_steps, verdict_steps}
 use Rattle.bng_shard.proofs.Packets.{spelled_up, short_up, spelled_down}
-use Rattle.bng_shard.proofs.Spelling.{IsControl, AreControl, discovery_control, padt_control, said_control}
+use Rattle.bng_shard.proofs.Spelling.{IsControl, AreControl, discovery_control, padt_control, said_control, tunnel_control}
+use Rattle.bng_shard.proofs.Tunnelling.{Act, tunnel_spoke}
 
 -- nothing is charged, and what is sent is of the entry's seat
 pub record SendsNone (e : Entry) (d : Deed) : Type 0 where
@@ -115,6 +119,21 @@ ends_control (suc n) r e s outs s' (inl h) = subst (λ (os : List OutRecord). Ar
 ends_control (suc n) r e s outs s' (inr (k, lowest, x, at, padt, rest, with_padt, more, are)) =
     subst (λ (os : List OutRecord). AreControl e.seat os) (sym are)
     (all_append (IsControl e.seat) padt rest (tells_control x.service r (at_of s e) x padt with_padt) (ends_control n r e (with_ended s k x.lease nas_request (ended x)) rest s' more))
+
+-- what a tunnel tells, and what tunnels tell in turn
+its_control : (o : Option Telling) (a : At) (outs : List OutRecord) → TellsIts a o outs → AreControl a.seat outs
+its_control None a outs h = subst (λ (os : List OutRecord). AreControl a.seat os) (sym h) tt
+its_control (Some t) a outs h = subst (λ (os : List OutRecord). AreControl a.seat os) (sym h.1) (tunnel_control a t.peer t.said.outs h.0)
+
+in_turn_control : (act : Act) (n k : ℕ) (a : At) (now : ℕ) (t : TunnelsState) (outs : List OutRecord) (t' : TunnelsState) → TellInTurn act n k a now t outs t' → AreControl a.seat outs
+in_turn_control act zero k a now t outs t' h = subst (λ (os : List OutRecord). AreControl a.seat os) (sym h.0) tt
+in_turn_control act (suc n) k a now t outs t' (first, next, tells, rest, more, are) =
+    subst (λ (os : List OutRecord). AreControl a.seat os) (sym are)
+    (all_append (IsControl a.seat) first rest (its_control (act now t k).told a first tells.tells) (in_turn_control act n (k + 1) a now next rest t' more))
+
+stops_control : (a : At) (now : ℕ) (s : State) (outs : List OutRecord) (t : TunnelsState) → StopsTunnels a now s outs t → AreControl a.seat outs
+stops_control a now s outs t (inl (last, h)) = in_turn_control stopped tunnels_most 0 a now s.tunnels outs t h
+stops_control a now s outs t (inr (some, empty, same)) = subst (λ (os : List OutRecord). AreControl a.seat os) (sym empty) tt
 
 -- Entries ---------------------------------------------------------------------------------------------------------------
 
@@ -209,15 +228,22 @@ module _ (r : Rules) (s : State) (e : Entry) (d : Deed) where
   judged limited (inr (inr (other, no_claim, h))) = none s e d _ h tt refl
 
   tick : HearsTick r s e d → Sends
-  tick (outs, s', ticks, h) = none s e d _ h (ticks_control at_once r e s outs s' ticks) refl
+  tick (first, t, spoken, rest, s', ticks, h) =
+      none s e d _ h (all_append (IsControl e.seat) first rest (in_turn_control reminded tunnels_most 0 (at_of s e) e.moment s.tunnels first t spoken) (ticks_control at_once r e (with_tunnels s t) rest s' ticks)) refl
 
   ends : HearsEnd r s e d → Sends
-  ends (outs, s', all, h) = none s e d _ h (ends_control at_once r e s outs s' all) refl
+  ends (first, next, all, rest, t, stops, h) =
+      none s e d _ h (all_append (IsControl e.seat) first rest (ends_control at_once r e s first next all) (stops_control (at_of next e) e.moment next rest t stops)) refl
+
+  tunnel : HearsTunnel r s e d → Sends
+  tunnel h =
+      let spoke = tunnel_spoke r s e d h in
+      inl (record { outs = subst (λ (os : List OutRecord). AreControl e.seat os) (sym spoke.outs) (tunnel_control (at_of s e) e.item.from spoke.frames spoke.spelled); fate = spoke.fate })
 
   hears_sends : (kind : ItemKind) (limited : Bool) → Hears kind r s limited e d → Sends
   hears_sends (Access number) limited h = access number h
   hears_sends Core limited h = core h
-  hears_sends Tunnel limited h = none s e d _ h tt refl
+  hears_sends Tunnel limited h = tunnel h
   hears_sends Verdict limited h = judged limited h
   hears_sends Change limited h = none s e d _ h tt refl
   hears_sends Tick limited h = tick h

@@ -7,7 +7,7 @@ use Rattle.bng_base.specs.declared.settings.Static.{Static}
 use Rattle.bng_slots.specs.Sessions.{Sessions, IsNumberOf, with_value}
 use Rattle.bng_shard.specs.declared.session.Session.{Session}
 use Rattle.bng_shard.specs.Granting.{HasQuestion, IsSound}
-use Rattle.bng_shard.specs.Opening.{in_order, none_passed, opened_meters, opened_slots, provisioned, tenures_after}
+use Rattle.bng_shard.specs.Opening.{in_order, no_tunnels, none_passed, opened_meters, opened_slots, provisioned, tenures_after}
 use Rattle.bng_shard.specs.State.{State}
 use Rattle.bng_shard.proofs.Circuits.{Opens, circuit_found, circuit_none, opened_is, opened_of_shard, opened_own, opens_more, opens_none, opens_other, stands_for}
 
@@ -40,7 +40,7 @@ module _ (number : ℕ) (circuits : List Static) (apart : AllPairs (λ a b. a.se
   opened_sound profiles now low own =
       let h = opened_all 1022 in
       let shard : h.sessions.shard ≡ number = h.opens.shard in
-      let sound : IsSound (record { sessions = h.sessions; begun = h.begun; asked = 0; terms = tenures_after now 0 (in_order number circuits); news = []; passed = none_passed; meters = opened_meters number profiles circuits now }) = record {
+      let sound : IsSound (record { sessions = h.sessions; begun = h.begun; asked = 0; terms = tenures_after now 0 (in_order number circuits); news = []; passed = none_passed; meters = opened_meters number profiles circuits now; tunnels = no_tunnels number }) = record {
         shard = omega (arith, shard, low);
         own = opened_own number circuits h.sessions h.begun h.opens;
         of_shard = opened_of_shard number circuits h.sessions h.begun h.opens;

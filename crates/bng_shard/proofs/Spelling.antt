@@ -1,8 +1,10 @@
 -- What stands in the frames that go out: no packet of a subscriber, but for the frame of a circuit.
 use Rattle.std.proofs.Common.{◌≡◌, ℕ, ◌<◌, Bool, true, false, ◌&&◌, List, [], ◌∷◌, None, length, nat_le, if◌then◌else◌, refl, sym, ap, subst, ◌∙◌, arith, eqb}
 use Rattle.std.specs.List.{AllByRecursion}
+use Rattle.std.proofs.lemmas.Bool.{false≢true}
 use Rattle.std.proofs.lemmas.Bool.Decides.{nat_tests}
 use Rattle.bng_base.specs.declared.address.Mac.{Mac}
+use Rattle.bng_base.specs.declared.address.Peer.{Peer}
 use Rattle.bng_base.specs.declared.frame.TheConstants.{LONGEST}
 use Rattle.bng_base.specs.declared.item.OutRecord.{OutRecord}
 use Rattle.bng_base.specs.declared.outside.Role.TheVariants.{Access}
@@ -11,6 +13,7 @@ use Rattle.bng_base.specs.PppGrammar.{packet_text, ppp_text}
 use Rattle.bng_base.specs.PppoeGrammar.{PppoeFrame, pppoe_text}
 use Rattle.bng_discovery.specs.declared.port.PortRules.{PortRules}
 use Rattle.bng_discovery.specs.Reply.{padt_of}
+use Rattle.bng_l2tp_tunnel.specs.Sound.{IsSpelled}
 use Rattle.bng_shard.specs.Reader.{is_session_data, IsNoPacket}
 use Rattle.bng_engine.proofs.Everywhere.{all_append}
 use Rattle.bng_forward.specs.Framed.{session_frame}
@@ -22,6 +25,7 @@ use Rattle.bng_pppoe_wire.proofs.Spelled.{six}
 use Rattle.bng_base.specs.declared.item.At.{At}
 use Rattle.bng_shard.specs.declared.session.Session.{Session}
 use Rattle.bng_shard.specs.Deed.{out, frame_outs}
+use Rattle.bng_shard.specs.L2tp.{tunnel_outs}
 use Rattle.bng_shard.specs.Link.{ppp_outs, padt_outs, said_outs}
 use Rattle.bng_ppp.proofs.MessageLaws.{IsWritten, AreWritten}
 
@@ -67,7 +71,7 @@ other_protocol n c info e = ap (λ (m : ℕ). eqb m 33) (big_number-reads_back 2
 
 -- what goes out on an access port and is no session data is no packet
 no_data : (a : At) (number : ℕ) (port : AccessPort) (octets : List ℕ) → is_session_data octets ≡ false → IsControl a.seat (out a (Access number) port.peer octets None)
-no_data a number port octets h = record { seat_is = refl; charge = refl; unsent = refl; no_packet = record { on_port = refl; not_core = refl; not_data = λ e. h } }
+no_data a number port octets h = record { seat_is = refl; charge = refl; unsent = refl; no_packet = record { on_way = refl; not_core = refl; not_data = λ e. h; is_control = λ e. absurd (false≢true e) } }
 
 where_fits : (seat : ℕ) (b c d : Bool) (o : OutRecord) → (b ≡ true → c ≡ true → IsControl seat o) → AreControl seat (if (b && c) && d then o ∷ [] else [])
 where_fits seat false c d o h = tt
@@ -116,3 +120,11 @@ padt_if false a x port offers = tt
 pub said_control : (a : At) (x : Session) (port : AccessPort) (offers : PortRules) (says : PppSaid) → AreWritten says.outs → AreControl a.seat (said_outs a x port offers says)
 said_control a x port offers says h =
     all_append (IsControl a.seat) (ppp_outs a x port says.outs) (if says.finished then padt_outs a x port offers else []) (ppp_control a x port says.outs h) (padt_if says.finished a x port offers)
+
+-- control messages to the peer of a tunnel
+pub tunnel_control : (a : At) (to : Peer) (frames : List (List ℕ)) → AllByRecursion IsSpelled frames → AreControl a.seat (tunnel_outs a to frames)
+tunnel_control a to [] h = tt
+tunnel_control a to (f ∷ frames) h = (
+  record { seat_is = refl; charge = refl; unsent = refl; no_packet = record { on_way = refl; not_core = refl; not_data = λ e. absurd (false≢true e); is_control = λ e. h.0 } },
+  tunnel_control a to frames h.1,
+)

@@ -222,6 +222,7 @@ module _ (r : Rules) where
     looks = remain_looked AnyCause;
     lapses = λ e s n x x' outs cause none asked' at over drives.
         remain_with AnyCause s n x.lease (Some cause) x' asked' (λ c is. tt) (λ p. drives_there (at_of s e) s.asked (lapsed x) x' outs none asked' (told r e Close) drives);
+    tells = λ s t. record { shard = refl; begun = refl; terms = each_lasts AnyCause s.terms; news = refl; placed = λ p. p };
   }
 
 -- Verdicts -------------------------------------------------------------------------------------------------------------------

@@ -2,13 +2,15 @@
 use Rattle.std.proofs.Common.{◌≡◌, ◌<◌, ◌≤◌, ◌+◌, ◌-◌, ℕ, suc, true, false, List, [], ◌++◌, length, Option, Some, None, refl, inl, inr, sym, ap, subst, ◌∙◌, arith, append_assoc, append-nil, length-append, add-zero, zero-add}
 use Rattle.bng_base.specs.declared.item.Entry.{Entry}
 use Rattle.bng_base.specs.declared.item.OutRecord.{OutRecord}
+use Rattle.bng_lns.specs.Timed.{reminded}
+use Rattle.bng_lns.specs.Tunnels.{TunnelsState}
 use Rattle.bng_shard.specs.declared.rules.Rules.{Rules}
 use Rattle.bng_base.specs.declared.item.At.{At}
 use Rattle.bng_shard.specs.declared.session.Session.{Session}
-use Rattle.bng_shard.specs.State.{State}
+use Rattle.bng_shard.specs.State.{State, with_tunnels}
 use Rattle.bng_shard.specs.Deed.{at_of}
-use Rattle.bng_shard.specs.Timers.{Ticks, Ends, TellsEnd, IsFirstDue, IsTimed, LooksAt, NoneIsDue}
-use Rattle.bng_shard.specs.Timed.{TickedOnce, EndedOnce, Ticked, Ended}
+use Rattle.bng_shard.specs.Timers.{Ticks, Ends, TellsEnd, IsFirstDue, IsTimed, LooksAt, NoneIsDue, StopsTunnels, at_once}
+use Rattle.bng_shard.specs.Timed.{TickedOnce, EndedOnce, Ticked, Ended, TickDone, EndDone, ToldInTurn}
 
 -- whose outs they are stays while the shard's number stays
 same_at : (s s₀ : State) (e : Entry) → s.sessions.shard ≡ s₀.sessions.shard → at_of s e ≡ at_of s₀ e
@@ -63,16 +65,16 @@ module _ (r : Rules) (a : At) (now : ℕ) (random : List ℕ) (s₀ s : State) (
             subst (λ (outs' : List OutRecord). Ticks (n + 1 + m) r e s₀ outs' s') (sym (append_assoc on.sent said more)) (subst (λ (k : ℕ). Ticks k r e s₀ (on.sent ++ (said ++ more)) s') count all);
       }
 
-  pub ticks_done : (n : ℕ) → TicksOn n r a now random s₀ s outs₀ outs → length outs ≤ length outs₀ + 320 → Ticked n r a now random s₀ s outs₀ outs
+  pub ticks_done : (n : ℕ) → TicksOn n r a now random s₀ s outs₀ outs → length outs ≤ length outs₀ + 192 → Ticked n r a now random s₀ s outs₀ outs
   ticks_done n on few = record {
     more = on.sent;
     ticks = λ e moment octets at.
         subst (λ (k : ℕ). Ticks k r e s₀ on.sent s) (add-zero n) (subst (λ (outs' : List OutRecord). Ticks (n + 0) r e s₀ outs' s) (append-nil on.sent) (on.go_on e moment octets at 0 [] s (refl, refl)));
     outs_are = on.outs_are;
-    few = few_more outs₀ on.sent outs 320 on.outs_are few;
+    few = few_more outs₀ on.sent outs 192 on.outs_are few;
   }
 
-  pub ticks_stop : (n most : ℕ) (s₁ : State) (outs₁ : List OutRecord) → n < most → TicksOn n r a now random s₀ s outs₀ outs → TickedOnce false r a now random s s₁ outs outs₁ → length outs₁ ≤ length outs₀ + 320 → Ticked most r a now random s₀ s₁ outs₀ outs₁
+  pub ticks_stop : (n most : ℕ) (s₁ : State) (outs₁ : List OutRecord) → n < most → TicksOn n r a now random s₀ s outs₀ outs → TickedOnce false r a now random s s₁ outs outs₁ → length outs₁ ≤ length outs₀ + 192 → Ticked most r a now random s₀ s₁ outs₀ outs₁
   ticks_stop n most s₁ outs₁ lt on (none, same, still) few = record {
     more = on.sent;
     ticks = λ e moment octets at.
@@ -80,7 +82,7 @@ module _ (r : Rules) (a : At) (now : ℕ) (random : List ℕ) (s₀ s : State) (
         let end : Ticks (suc (most - n - 1)) r e s [] s₁ = inl (subst (λ (t : ℕ). NoneIsDue s t) (sym moment) none, refl, same) in
         subst (λ (k : ℕ). Ticks k r e s₀ on.sent s₁) count (subst (λ (outs' : List OutRecord). Ticks (n + suc (most - n - 1)) r e s₀ outs' s₁) (append-nil on.sent) (on.go_on e moment octets at (suc (most - n - 1)) [] s₁ end));
     outs_are = still ∙ on.outs_are;
-    few = few_more outs₀ on.sent outs₁ 320 (still ∙ on.outs_are) few;
+    few = few_more outs₀ on.sent outs₁ 192 (still ∙ on.outs_are) few;
   }
 
 -- After n sessions ended, likewise.
@@ -113,16 +115,16 @@ module _ (r : Rules) (a : At) (s₀ s : State) (outs₀ outs : List OutRecord) w
             subst (λ (outs' : List OutRecord). Ends (n + 1 + m) r e s₀ outs' s') (sym (append_assoc on.sent padt more)) (subst (λ (k : ℕ). Ends k r e s₀ (on.sent ++ (padt ++ more)) s') count all);
       }
 
-  pub ends_done : (n : ℕ) → EndsOn n r a s₀ s outs₀ outs → length outs ≤ length outs₀ + 320 → Ended n r a s₀ s outs₀ outs
+  pub ends_done : (n : ℕ) → EndsOn n r a s₀ s outs₀ outs → length outs ≤ length outs₀ + 64 → Ended n r a s₀ s outs₀ outs
   ends_done n on few = record {
     more = on.sent;
     ends = λ e at.
         subst (λ (k : ℕ). Ends k r e s₀ on.sent s) (add-zero n) (subst (λ (outs' : List OutRecord). Ends (n + 0) r e s₀ outs' s) (append-nil on.sent) (on.go_on e at 0 [] s (refl, refl)));
     outs_are = on.outs_are;
-    few = few_more outs₀ on.sent outs 320 on.outs_are few;
+    few = few_more outs₀ on.sent outs 64 on.outs_are few;
   }
 
-  pub ends_stop : (n most : ℕ) (s₁ : State) (outs₁ : List OutRecord) → n < most → EndsOn n r a s₀ s outs₀ outs → EndedOnce false r a s s₁ outs outs₁ → length outs₁ ≤ length outs₀ + 320 → Ended most r a s₀ s₁ outs₀ outs₁
+  pub ends_stop : (n most : ℕ) (s₁ : State) (outs₁ : List OutRecord) → n < most → EndsOn n r a s₀ s outs₀ outs → EndedOnce false r a s s₁ outs outs₁ → length outs₁ ≤ length outs₀ + 64 → Ended most r a s₀ s₁ outs₀ outs₁
   ends_stop n most s₁ outs₁ lt on (none, same, still) few = record {
     more = on.sent;
     ends = λ e at.
@@ -130,5 +132,35 @@ module _ (r : Rules) (a : At) (s₀ s : State) (outs₀ outs : List OutRecord) w
         let end : Ends (suc (most - n - 1)) r e s [] s₁ = inl (none, refl, same) in
         subst (λ (k : ℕ). Ends k r e s₀ on.sent s₁) count (subst (λ (outs' : List OutRecord). Ends (n + suc (most - n - 1)) r e s₀ outs' s₁) (append-nil on.sent) (on.go_on e at (suc (most - n - 1)) [] s₁ end));
     outs_are = still ∙ on.outs_are;
-    few = few_more outs₀ on.sent outs₁ 320 (still ∙ on.outs_are) few;
+    few = few_more outs₀ on.sent outs₁ 64 (still ∙ on.outs_are) few;
   }
+
+-- What a Tick and an End did in all ---------------------------------------------------------------------------------------
+
+-- the tunnels spoke first
+pub tick_done : (r : Rules) (a : At) (now : ℕ) (random : List ℕ) (s s₁ s' : State) (t : TunnelsState) (outs outs₁ outs' : List OutRecord) → s₁ ≡ with_tunnels s t
+    → ToldInTurn reminded a now s.tunnels t outs outs₁ → length outs₁ ≤ length outs + 128 → Ticked at_once r a now random s₁ s' outs₁ outs' → TickDone r a now random s s' outs outs'
+tick_done r a now random s s₁ s' t outs outs₁ outs' same told few ticked = record {
+  first = told.more;
+  tunnels = t;
+  tells = told.tells;
+  rest = ticked.more;
+  ticks = λ e moment octets at. subst (λ (q : State). Ticks at_once r e q ticked.more s') same (ticked.ticks e moment octets (ap (λ (q : State). at_of q e) same ∙ at));
+  outs_are = ticked.outs_are ∙ ap (λ (os : List OutRecord). os ++ ticked.more) told.outs_are ∙ append_assoc outs told.more ticked.more;
+  few = omega (arith, few, ap length told.outs_are, length-append outs told.more, length-append told.more ticked.more, ticked.few);
+}
+
+-- and they speak last
+pub end_done : (r : Rules) (a : At) (now : ℕ) (s s₁ s' : State) (t : TunnelsState) (outs outs₁ outs' more : List OutRecord) → Ended at_once r a s s₁ outs outs₁
+    → StopsTunnels a now s₁ more t → outs' ≡ outs₁ ++ more → length outs' ≤ length outs₁ + 16 → s' ≡ with_tunnels s₁ t → EndDone r a now s s' outs outs'
+end_done r a now s s₁ s' t outs outs₁ outs' more ended stops are few same = record {
+  first = ended.more;
+  next = s₁;
+  ends = ended.ends;
+  rest = more;
+  tunnels = t;
+  stops = stops;
+  after = same;
+  outs_are = are ∙ ap (λ (os : List OutRecord). os ++ more) ended.outs_are ∙ append_assoc outs ended.more more;
+  few = omega (arith, few, ap length are, length-append outs₁ more, length-append ended.more more, ended.few);
+}

@@ -264,6 +264,7 @@ ties_walk r = record {
   lapses = λ e s n x x' outs cause none asked' at over d h.
       let bare : x'.lease ≡ None = ap (λ (y : Session). y.lease) d.session ∙ none_kept d.says.term_ended in
       holds_with s h n x x.lease (λ k is. (at, is)) (Some cause) x' asked' (λ l its. absurd (none_some l (sym bare ∙ its)));
+  tells = λ s t h. record { own = h.own; tied = h.tied; apart = h.apart; numbered = h.numbered };
 }
 
 module _ (r : Rules) (s : State) (limited : Bool) (d : Deed) (own : AreOwn s.sessions) where

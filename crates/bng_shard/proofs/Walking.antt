@@ -11,6 +11,7 @@ use Rattle.bng_base.specs.PppoeGrammar.{PppoeFrame, PppoeTag}
 use Rattle.bng_discovery.specs.declared.answers.Answer.{Answer}
 use Rattle.bng_discovery.specs.declared.answers.Answer.TheVariants.{Offer, Make, Again, Refuse, Ended, NoSession, Ignore}
 use Rattle.bng_discovery.specs.declared.port.PortRules.{PortRules}
+use Rattle.bng_lns.specs.Tunnels.{TunnelsState}
 use Rattle.bng_ppp.specs.declared.whole_input.WholeInput.TheVariants.{Start, Timer, Close}
 use Rattle.bng_ppp.specs.PppState.{PppState}
 use Rattle.bng_slots.specs.Sessions.{IsLowestVacant, value_at}
@@ -21,10 +22,11 @@ use Rattle.bng_shard.specs.declared.rules.Rules.{Rules}
 use Rattle.bng_shard.specs.declared.session.Service.{Service}
 use Rattle.bng_shard.specs.declared.session.Service.TheVariants.{Provisioned, Discovered}
 use Rattle.bng_shard.specs.declared.session.Session.{Session}
-use Rattle.bng_shard.specs.State.{State, session_of, with_session, with_driven, with_ended}
+use Rattle.bng_shard.specs.State.{State, session_of, with_session, with_driven, with_ended, with_tunnels}
 use Rattle.bng_shard.specs.Deed.{Deed, at_of}
 use Rattle.bng_shard.specs.Discovery.{Answers, Discovers, IsNewLink, host_uniq_of, new_session}
 use Rattle.bng_shard.specs.Frames.{HearsData, HearsPpp, HearsControl, HearsIn, HearsFrame, HearsAccess, HearsCore}
+use Rattle.bng_shard.specs.L2tp.{HearsTunnel}
 use Rattle.bng_shard.specs.Link.{LinkStep, Drives, Told, ended, hears, nas_request, told, user_request}
 use Rattle.bng_shard.specs.Metered.{meters_at, spent_input, spent_output}
 use Rattle.bng_shard.specs.Passing.{cause_at, lapsed, looked, passed_at, with_passed}
@@ -33,10 +35,11 @@ use Rattle.bng_shard.specs.Timers.{IsTimed, LooksAt, Ticks, Ends, HearsTick, Hea
 use Rattle.bng_shard.specs.Verdicts.{HearsVerdict, Judges, settled_by}
 use Rattle.bng_shard.specs.Wishes.{Decides}
 use Rattle.bng_shard.proofs.Naming.{at_number, next_of}
+use Rattle.bng_shard.proofs.Tunnelling.{tunnel_spoke}
 
 -- A relation of states that holds where nothing changes, and of two changes one after the other. It holds of a step of the link of a
 -- session that stands there, of one of a session that is made, and of a PADT; of a packet that passes, of a look at a live term that goes
--- on, and of one at a live term that is over, whose session's link takes Close.
+-- on, and of one at a live term that is over, whose session's link takes Close; and of the tunnels, which say nothing of sessions.
 pub record Walks (r : Rules) (R : State → State → Type 0) : Type 1 where
   pub same : (s s' : State) → s' ≡ s → R s s'
   pub then : (s s' s'' : State) → R s s' → R s' s'' → R s s''
@@ -50,6 +53,7 @@ pub record Walks (r : Rules) (R : State → State → Type 0) : Type 1 where
   pub lapses : (e : Entry) (s : State) (n : ℕ) (x x' : Session) (outs : List OutRecord) (cause : ℕ) (none : Option ℕ) (asked' : ℕ) → value_at s.sessions n ≡ Some x
       → cause_at (passed_at s.passed x.number) x.lease e.moment ≡ Some cause → Drives r (at_of s e) s.asked (lapsed x) (told r e Close) outs none x' asked'
       → R s (with_driven s n x.lease (Some cause) x' asked')
+  pub tells : (s : State) (t : TunnelsState) → R s (with_tunnels s t)
 
 -- The same by what makes each change: the time that has run out for a session, a frame that its link hears, and discovery, which makes a
 -- session where none stood.
@@ -68,6 +72,7 @@ pub record WalksBy (r : Rules) (R : State → State → Type 0) : Type 0 where
   pub lapses : (e : Entry) (s : State) (n : ℕ) (x x' : Session) (outs : List OutRecord) (cause : ℕ) (none : Option ℕ) (asked' : ℕ) → value_at s.sessions n ≡ Some x
       → cause_at (passed_at s.passed x.number) x.lease e.moment ≡ Some cause → Drives r (at_of s e) s.asked (lapsed x) (told r e Close) outs none x' asked'
       → R s (with_driven s n x.lease (Some cause) x' asked')
+  pub tells : (s : State) (t : TunnelsState) → R s (with_tunnels s t)
 
 pub walks_by : (r : Rules) (R : State → State → Type 0) → Walks r R → WalksBy r R
 walks_by r R w = record {
@@ -80,6 +85,7 @@ walks_by r R w = record {
   passes = w.passes;
   looks = w.looks;
   lapses = w.lapses;
+  tells = w.tells;
 }
 
 -- and of one that the gateway ends
@@ -168,17 +174,23 @@ module _ (r : Rules) (R : State → State → Type 0) (w : WalksBy r R) where
     core (inr (v, is, (fate, decides, inr (stays, h)))) = kept _ h refl
 
     tick : HearsTick r s e d → R s d.next
-    tick (outs, s', ticks, h) = after s' _ h refl (ticks_walk at_once e s outs s' ticks)
+    tick (first, t, spoken, rest, s', ticks, h) = after s' _ h refl (w.then s (with_tunnels s t) s' (w.tells s t) (ticks_walk at_once e (with_tunnels s t) rest s' ticks))
+
+    -- of a datagram of the gateway's end for tunnels
+    tunnel : HearsTunnel r s e d → R s d.next
+    tunnel h =
+        let spoke = tunnel_spoke r s e d h in
+        subst (λ (u : State). R s u) (sym spoke.next) (w.tells s spoke.tunnels)
 
     -- of an End
     pub end_walks_by : Stops R → HearsEnd r s e d → R s d.next
-    end_walks_by stops (outs, s', all, h) = after s' _ h refl (ends_walk stops at_once e s outs s' all)
+    end_walks_by stops (first, next, all, rest, t, spoken, h) = after (with_tunnels next t) _ h refl (w.then s next (with_tunnels next t) (ends_walk stops at_once e s first next all) (w.tells next t))
 
     -- of each other entry that is no verdict
     pub hears_walks_by : (kind : ItemKind) → Hears kind r s limited e d → (kind ≡ Verdict) ⊎ ((kind ≡ End) ⊎ R s d.next)
     hears_walks_by (Access number) h = inr (inr (access number h))
     hears_walks_by Core h = inr (inr (core h))
-    hears_walks_by Tunnel h = inr (inr (kept _ h refl))
+    hears_walks_by Tunnel h = inr (inr (tunnel h))
     hears_walks_by Verdict h = inl refl
     hears_walks_by Change h = inr (inr (kept _ h refl))
     hears_walks_by Tick h = inr (inr (tick h))

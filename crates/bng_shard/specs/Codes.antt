@@ -7,6 +7,8 @@ use Rattle.bng_base.specs.contracts.circuit.TermId.{the_row as term_row}
 use Rattle.bng_base.specs.declared.address.Ip4.{Ip4}
 use Rattle.bng_base.specs.declared.circuit.Circuit.{Circuit}
 use Rattle.bng_base.specs.declared.circuit.TermId.{TermId}
+use Rattle.bng_lns.specs.contracts.tunnels.Tunnels.{the_row as tunnels_row}
+use Rattle.bng_lns.specs.Tunnels.{TunnelsState}
 use Rattle.bng_slots.specs.Sessions.{Sessions, sessions_code}
 use Rattle.bng_shard.specs.contracts.meters.Meters.{the_row as meters_row}
 use Rattle.bng_shard.specs.contracts.session.Session.{the_row}
@@ -27,8 +29,8 @@ tenure_code =
 abbrev pub state_code : Coded State
 state_code =
     code_by
-    (Sessions Session × (ℕ × (ℕ × (List Tenure × (List Tenure × (List ℕ × List Meters))))))
-    (coded× (sessions_code the_row.coded) (coded× coded_ℕ (coded× coded_ℕ (coded× (coded_list tenure_code) (coded× (coded_list tenure_code) (coded× (coded_list coded_ℕ) (coded_list meters_row.coded)))))))
-    (λ s. (s.sessions, (s.begun, (s.asked, (s.terms, (s.news, (s.passed, s.meters)))))))
-    (λ p. record { sessions = p.0; begun = p.1.0; asked = p.1.1.0; terms = p.1.1.1.0; news = p.1.1.1.1.0; passed = p.1.1.1.1.1.0; meters = p.1.1.1.1.1.1 })
+    (Sessions Session × (ℕ × (ℕ × (List Tenure × (List Tenure × (List ℕ × (List Meters × TunnelsState)))))))
+    (coded× (sessions_code the_row.coded) (coded× coded_ℕ (coded× coded_ℕ (coded× (coded_list tenure_code) (coded× (coded_list tenure_code) (coded× (coded_list coded_ℕ) (coded× (coded_list meters_row.coded) tunnels_row.coded)))))))
+    (λ s. (s.sessions, (s.begun, (s.asked, (s.terms, (s.news, (s.passed, (s.meters, s.tunnels))))))))
+    (λ p. record { sessions = p.0; begun = p.1.0; asked = p.1.1.0; terms = p.1.1.1.0; news = p.1.1.1.1.0; passed = p.1.1.1.1.1.0; meters = p.1.1.1.1.1.1.0; tunnels = p.1.1.1.1.1.1.1 })
     (λ _. refl)

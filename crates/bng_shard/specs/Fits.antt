@@ -45,5 +45,5 @@ pub record Fits (a : Inside) : Type 0 where
   pub named : a.profiles.names ≡ names_of a.rules.profiles
   pub booked : length a.profiles.books ≡ length a.rules.profiles
   pub journal_room : length a.journal.items + a.room ≤ a.journal.room
-  pub outs_room : 0 < a.room → length a.outs.items + 10 * a.room + owed a.journal.items + 3 ≤ a.outs.room
+  pub outs_room : 0 < a.room → length a.outs.items + 10 * a.room + owed a.journal.items + 5 ≤ a.outs.room
   pub terms_room : a.room ≤ a.terms.room

@@ -10,6 +10,7 @@ pub mod Opening
 pub mod Controlling
 pub mod Deed
 pub mod Link
+pub mod L2tp
 pub mod Questions
 pub mod Passing
 pub mod Metered

@@ -1,10 +1,11 @@
--- A shard at its opening: the sessions of its provisioned circuits.
+-- A shard at its opening: the sessions of its provisioned circuits, and no tunnel.
 use Rattle.std.specs.Prelude.{ℕ, ◌+◌, ◌*◌, ◌==◌, false, List, [], ◌∷◌, Some, None, length, filter, map, replicate}
 use Rattle.std.specs.List.{flat_map, range_with_len}
 use Rattle.std.specs.FinMap.{from_sorted}
 use Rattle.bng_base.specs.declared.circuit.Circuit.TheVariants.{Pppoe}
 use Rattle.bng_base.specs.declared.book.Profile.{Profile}
 use Rattle.bng_base.specs.declared.settings.Static.{Static}
+use Rattle.bng_lns.specs.Tunnels.{TunnelsState}
 use Rattle.bng_shard.specs.declared.meters.Meters.{Meters}
 use Rattle.bng_shard.specs.declared.session.Lease.{Lease}
 use Rattle.bng_shard.specs.declared.session.Service.TheVariants.{Provisioned}
@@ -73,6 +74,10 @@ circuit_meters profiles now (c ∷ cs) = meters_of (plan_at profiles c.profile) 
 unfoldable pub opened_meters : ℕ → List Profile → List Static → ℕ → List Meters
 opened_meters shard profiles circuits now = map (λ n. circuit_meters profiles now (circuit_at circuits n)) (range_with_len (shard * 1024) 1024)
 
+-- no tunnel was made yet
+abbrev pub no_tunnels : ℕ → TunnelsState
+no_tunnels number = record { shard = number; places = [] }
+
 -- what stands in a shard at its opening, which is at this moment: of each term a Start is formed then
 abbrev pub opened_slots : ℕ → List Profile → List Static → ℕ → State
 opened_slots number profiles circuits now = record {
@@ -83,4 +88,5 @@ opened_slots number profiles circuits now = record {
   news = [];
   passed = none_passed;
   meters = opened_meters number profiles circuits now;
+  tunnels = no_tunnels number;
 }

@@ -1,5 +1,5 @@
--- How octets on PPPoE access ports and to the core are read, and when they are what a charge says.
-use Rattle.std.specs.Prelude.{◌≡◌, ℕ, ◌==◌, Bool, true, false, ◌&&◌, List, Option, Some, None, length, take, drop, cond, MatchOption}
+-- How octets on PPPoE access ports, to the core and to peers of tunnels are read, and when they are what a charge says.
+use Rattle.std.specs.Prelude.{◌≡◌, ℕ, ◌==◌, Bool, true, false, ◌&&◌, ◌||◌, List, Option, Some, None, length, take, drop, cond, MatchOption}
 use Rattle.byteorder.specs.Endian.{big_from}
 use Rattle.bng_base.specs.declared.address.Mac.{Mac}
 use Rattle.bng_base.specs.declared.address.SessionNo.{SessionNo}
@@ -13,6 +13,7 @@ use Rattle.bng_base.specs.declared.outside.Role.TheVariants.{Access, Core, Tunne
 use Rattle.bng_base.specs.Ipv4Grammar.{IsIpv4}
 use Rattle.bng_base.specs.Roles.{is_core, is_access}
 use Rattle.bng_engine.specs.Wire.{WirePacket}
+use Rattle.bng_l2tp_tunnel.specs.Sound.{IsSpelled}
 
 -- a PPPoE session frame (RFC 2516, ETHER_TYPE 8864) whose PPP protocol is IPv4's, 0021 (RFC 1332)
 abbrev pub is_session_data : List ℕ → Bool
@@ -78,11 +79,22 @@ abbrev pub IsInDirection : Bool → Charge → Role → List ℕ → Type 0
 IsInDirection true c role octets = IsInputOf c role octets
 IsInDirection false c role octets = IsOutputOf c role octets
 
--- on an access port, and no packet of a subscriber
+-- to the peer of a tunnel
+abbrev pub is_tunnel : Role → Bool
+is_tunnel (Access n) = false
+is_tunnel Core = false
+is_tunnel Tunnel = true
+is_tunnel Auth = false
+is_tunnel Acct = false
+is_tunnel Coa = false
+is_tunnel Control = false
+
+-- on an access port or to the peer of a tunnel, and no packet of a subscriber: to such a peer go control messages alone
 pub record IsNoPacket (role : Role) (octets : List ℕ) : Type 0 where
-  pub on_port : is_access role ≡ true
+  pub on_way : (is_access role || is_tunnel role) ≡ true
   pub not_core : is_core role ≡ false
   pub not_data : is_access role ≡ true → is_session_data octets ≡ false
+  pub is_control : is_tunnel role ≡ true → IsSpelled octets
 
 -- the octets are a whole packet as the charge says, and no packet of a subscriber where there is no charge
 abbrev pub IsWhole : OutRecord → Type 0

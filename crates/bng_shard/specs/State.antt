@@ -1,4 +1,4 @@
--- What a shard serves: its sessions by number, each on a provisioned circuit or made by discovery.
+-- What a shard serves: its sessions by number, each on a provisioned circuit or made by discovery, and its tunnels.
 use Rattle.std.specs.Prelude.{◌≡◌, ℕ, ◌-◌, ◌==◌, Bool, true, false, not, ◌&&◌, List, [], Option, Some, None, filter, find, length, slice_get, if◌then◌else◌}
 use Rattle.std.specs.FinMap as map
 use Rattle.std.specs.List.{list_any}
@@ -10,6 +10,7 @@ use Rattle.bng_base.specs.declared.circuit.Circuit.{Circuit}
 use Rattle.bng_base.specs.declared.circuit.Circuit.TheVariants.{Pppoe}
 use Rattle.bng_base.specs.declared.settings.AccessPort.{AccessPort}
 use Rattle.bng_discovery.specs.declared.port.PortRules.{PortRules}
+use Rattle.bng_lns.specs.Tunnels.{TunnelsState}
 use Rattle.bng_ppp.specs.PppState.{passes}
 use Rattle.bng_slots.specs.Sessions.{Sessions, value_at, with_value}
 use Rattle.bng_slots.specs.Listed.{values}
@@ -22,7 +23,7 @@ use Rattle.bng_shard.specs.Tenures.{Tenure, closed, has_kept, is_over}
 
 -- The shard's number with its sessions, how many terms began in it, how many questions were asked, the terms that have no Stop yet, in
 -- the order in which they began, and those of whose beginning no Start was formed yet, in the same order. And by session number the moment,
--- in milliseconds, at which its last packet passed, and its meters.
+-- in milliseconds, at which its last packet passed, and its meters. Beside the sessions it has its L2TP tunnels.
 pub record State : Type 0 where
   pub sessions : Sessions Session
   pub begun : ℕ
@@ -31,6 +32,7 @@ pub record State : Type 0 where
   pub news : List Tenure
   pub passed : List ℕ
   pub meters : List Meters
+  pub tunnels : TunnelsState
 
 -- the access port with this number, from 1 on, and what it offers
 abbrev pub port_at : List AccessPort → ℕ → Option AccessPort
@@ -79,6 +81,10 @@ pub record IsTermOf (x : Session) (l : Lease) (t : Tenure) : Type 0 where
   pub address : t.address ≡ l.address
   pub profile : t.profile ≡ l.profile
   pub live : t.cause ≡ None
+
+-- the tunnels are these
+abbrev pub with_tunnels : State → TunnelsState → State
+with_tunnels s t = record s { tunnels = t }
 
 -- a session of this number is another one, or a new one
 abbrev pub with_session : State → ℕ → Session → State

@@ -9,6 +9,7 @@ use Rattle.bng_shard.specs.declared.rules.Rules.{Rules}
 use Rattle.bng_shard.specs.State.{State}
 use Rattle.bng_shard.specs.Deed.{Deed, ignored}
 use Rattle.bng_shard.specs.Frames.{HearsAccess, HearsCore}
+use Rattle.bng_shard.specs.L2tp.{HearsTunnel}
 use Rattle.bng_shard.specs.Timers.{HearsTick, HearsEnd}
 use Rattle.bng_shard.specs.Verdicts.{HearsVerdict}
 
@@ -16,7 +17,7 @@ use Rattle.bng_shard.specs.Verdicts.{HearsVerdict}
 abbrev pub Hears : ItemKind → Rules → State → Bool → Entry → Deed → Type 0
 Hears (Access number) r s limited e d = HearsAccess r s e number d
 Hears Core r s limited e d = HearsCore r s e d
-Hears Tunnel r s limited e d = d ≡ ignored s e
+Hears Tunnel r s limited e d = HearsTunnel r s e d
 Hears Verdict r s limited e d = HearsVerdict r s e limited d
 Hears Change r s limited e d = d ≡ ignored s e
 Hears Tick r s limited e d = HearsTick r s e d

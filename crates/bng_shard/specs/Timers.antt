@@ -4,6 +4,8 @@ use Rattle.bng_base.specs.declared.item.Entry.{Entry}
 use Rattle.bng_base.specs.declared.item.OutRecord.{OutRecord}
 use Rattle.bng_ppp.specs.declared.whole_input.WholeInput.TheVariants.{Timer, Close}
 use Rattle.bng_ppp.specs.LinkRelation.{earliest}
+use Rattle.bng_lns.specs.Timed.{reminded, stopped}
+use Rattle.bng_lns.specs.Tunnels.{TunnelsState}
 use Rattle.bng_ppp.specs.PppState.{PppState}
 use Rattle.bng_slots.specs.Sessions.{value_at, read_at}
 use Rattle.bng_term.specs.Lifetimes.{deadline_of as term_deadline}
@@ -14,8 +16,9 @@ use Rattle.bng_shard.specs.declared.session.Service.{Service}
 use Rattle.bng_shard.specs.declared.session.Service.TheVariants.{Provisioned, Discovered}
 use Rattle.bng_shard.specs.declared.session.Session.{Session}
 use Rattle.bng_base.specs.declared.item.At.{At}
-use Rattle.bng_shard.specs.State.{State, leaves, with_session, with_ended, with_driven}
+use Rattle.bng_shard.specs.State.{State, leaves, with_session, with_ended, with_driven, with_tunnels}
 use Rattle.bng_shard.specs.Deed.{Deed, at_of, handled}
+use Rattle.bng_shard.specs.L2tp.{TellInTurn, tunnels_most}
 use Rattle.bng_shard.specs.Link.{Drives, EndsWith, ended, nas_request, told}
 use Rattle.bng_shard.specs.Passing.{cause_at, lapsed, looked, passed_at}
 
@@ -94,8 +97,11 @@ Ticks (suc k) r e s outs s' =
 abbrev pub at_once : ℕ
 at_once = 64
 
+-- First the timers of each tunnel, by rising number, do what they ask for (RFC 2661 sections 5.5 and 5.8), and then those of sessions.
 abbrev pub HearsTick : Rules → State → Entry → Deed → Type 0
-HearsTick r s e d = (outs : List OutRecord) × (s' : State) × Ticks at_once r e s outs s' × (d ≡ handled s e outs s')
+HearsTick r s e d =
+    (first : List OutRecord) × (t : TunnelsState) × TellInTurn reminded tunnels_most 0 (at_of s e) e.moment s.tunnels first t
+    × (rest : List OutRecord) × (s' : State) × Ticks at_once r e (with_tunnels s t) rest s' × (d ≡ handled s e (first ++ rest) s')
 
 -- discovery made the session, and it has not ended
 abbrev pub lives_in : Service → Bool
@@ -139,5 +145,13 @@ Ends (suc k) r e s outs s' =
     × (padt rest : List OutRecord) × TellsEnd x.service r (at_of s e) x padt
     × Ends k r e (with_ended s n x.lease nas_request (ended x)) rest s' × (outs ≡ padt ++ rest))
 
+-- Once no session stays each tunnel that stands, by rising number, tells its peer that the gateway shuts down (RFC 2661 section 6.4).
+abbrev pub StopsTunnels : At → ℕ → State → List OutRecord → TunnelsState → Type 0
+StopsTunnels a now s outs t =
+    (NoneStays s × TellInTurn stopped tunnels_most 0 a now s.tunnels outs t)
+    ⊎ ((¬ (NoneStays s)) × (outs ≡ []) × (t ≡ s.tunnels))
+
 abbrev pub HearsEnd : Rules → State → Entry → Deed → Type 0
-HearsEnd r s e d = (outs : List OutRecord) × (s' : State) × Ends at_once r e s outs s' × (d ≡ handled s e outs s')
+HearsEnd r s e d =
+    (first : List OutRecord) × (next : State) × Ends at_once r e s first next
+    × (rest : List OutRecord) × (t : TunnelsState) × StopsTunnels (at_of next e) e.moment next rest t × (d ≡ handled s e (first ++ rest) (with_tunnels next t))

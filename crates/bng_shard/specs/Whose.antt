@@ -1,6 +1,7 @@
 -- Which shard an item is for.
-use Rattle.std.specs.Prelude.{◌≡◌, ◌⊎◌, ℕ, ◌/◌, ◌%◌, ◌<◌, ◌≤◌, Option, Some, None, sum}
+use Rattle.std.specs.Prelude.{◌≡◌, ◌≢◌, ◌⊎◌, ℕ, ◌+◌, ◌/◌, ◌%◌, ◌<◌, ◌≤◌, Option, Some, None, sum}
 use Rattle.bng_base.specs.declared.address.Mac.{Mac}
+use Rattle.bng_base.specs.declared.address.Peer.{Peer}
 use Rattle.bng_base.specs.declared.fate.DropCause.TheVariants.{Malformed, NoSession}
 use Rattle.bng_base.specs.declared.fate.Fate.TheVariants.{Consumed, Dropped}
 use Rattle.bng_base.specs.declared.ipv4.Ipv4.{Ipv4}
@@ -10,6 +11,11 @@ use Rattle.bng_base.specs.declared.item.ItemKind.TheVariants.{Access, Core, Tunn
 use Rattle.bng_base.specs.FateOf.{arrival_of}
 use Rattle.bng_base.specs.PppoeGrammar.{PppoeFrame}
 use Rattle.bng_forward.specs.Fates.{IsFrame, NamesSession, IsCorePacket}
+use Rattle.bng_l2tp_wire.specs.Messages.{ControlMessage, DataMessage}
+use Rattle.bng_l2tp_wire.specs.View.{control_of, data_of}
+use Rattle.bng_lns.specs.Datagrams.{IsControlIn, IsDataIn, IsNeither}
+use Rattle.bng_lns.specs.declared.datagram.TunnelDatagram.{TunnelDatagram}
+use Rattle.bng_lns.specs.declared.datagram.TunnelDatagram.TheVariants.{Control, Data}
 use Rattle.bng_pool.specs.Tables.{Table, entry}
 use Rattle.bng_shard.specs.declared.rules.Rules.{Rules}
 use Rattle.bng_shard.specs.declared.whose.Whose.{Whose}
@@ -19,7 +25,11 @@ use Rattle.bng_shard.specs.declared.whose.Whose.TheVariants.{Loose, Stands}
 abbrev pub fold_of : Mac → ℕ
 fold_of mac = sum mac.0
 
--- a session number names a shard that is there, and an index of 1 to 1,022
+-- the sum of the octets of an address, and of a port
+abbrev pub fold_of_peer : Peer → ℕ
+fold_of_peer p = p.ip.0 / 16777216 + p.ip.0 / 65536 % 256 + p.ip.0 / 256 % 256 + p.ip.0 % 256 + p.port
+
+-- a session number or a tunnel number names a shard that is there, and an index of 1 to 1,022
 pub record NamesShard (r : Rules) (number : ℕ) : Type 0 where
   pub shard : number / 1024 < r.shards
   pub low : 1 ≤ number % 1024
@@ -44,6 +54,27 @@ abbrev pub IsForSession : Rules → ℕ → Whose → Type 0
 IsForSession r session whose =
     (NamesShard r session × (whose ≡ Stands (session / 1024))) ⊎ ((¬ (NamesShard r session)) × (whose ≡ Loose Consumed))
 
+-- A message of a tunnel is for the shard of the tunnel's number, and a PPP frame of a call for that of its session's.
+abbrev pub IsForNumber : Rules → ℕ → Whose → Type 0
+IsForNumber r number whose =
+    (NamesShard r number × (whose ≡ Stands (number / 1024))) ⊎ ((¬ (NamesShard r number)) × (whose ≡ Loose (Dropped NoSession)))
+
+-- One without a Tunnel ID is for the shard of its sender.
+abbrev pub IsForMessage : Rules → Peer → ControlMessage → Whose → Type 0
+IsForMessage r from m whose =
+    ((m.tunnel ≡ 0) × (whose ≡ Stands (fold_of_peer from % r.shards))) ⊎ ((m.tunnel ≢ 0) × IsForNumber r m.tunnel whose)
+
+-- one of the two, as it was read
+abbrev pub IsForRead : Rules → Peer → TunnelDatagram → Whose → Type 0
+IsForRead r from (Control m) whose = IsForMessage r from (control_of m) whose
+IsForRead r from (Data m) whose = IsForNumber r (data_of m).session whose
+
+abbrev pub IsForDatagram : Rules → Item → Whose → Type 0
+IsForDatagram r item whose =
+    (IsNeither item.cut item.frame.payload × (whose ≡ Loose (Dropped Malformed)))
+    ⊎ (((m : ControlMessage) × IsControlIn item.cut item.frame.payload m × IsForMessage r item.from m whose)
+    ⊎ ((m : DataMessage) × IsDataIn item.cut item.frame.payload m × IsForNumber r m.session whose))
+
 -- By the kind of the item. What is outside its grammar is loose, and so is what leads to no shard.
 abbrev pub IsForKind : ItemKind → Rules → Table → Item → Whose → Type 0
 IsForKind (Access number) r table item whose =
@@ -52,7 +83,7 @@ IsForKind (Access number) r table item whose =
 IsForKind Core r table item whose =
     (((v : Ipv4) → ¬ (IsCorePacket r.core_peer (arrival_of item) v)) × (whose ≡ Loose (Dropped Malformed)))
     ⊎ ((v : Ipv4) × IsCorePacket r.core_peer (arrival_of item) v × IsForHolder (entry table v.dst.0) whose)
-IsForKind Tunnel r table item whose = whose ≡ Loose (Dropped NoSession)
+IsForKind Tunnel r table item whose = IsForDatagram r item whose
 IsForKind Verdict r table item whose = IsForSession r item.target whose
 IsForKind Change r table item whose = whose ≡ Loose Consumed
 IsForKind Tick r table item whose = IsForTarget r item.target whose

@@ -17,6 +17,7 @@ use crate::data::{hear_core, hear_data};
 use crate::discover::hear_discovery;
 use crate::frames::hear_control;
 use crate::incoming::Incoming;
+use crate::l2tp::hear_tunnel;
 use crate::served::Served;
 use crate::terms::Terms;
 use crate::timers::{end, tick};
@@ -109,7 +110,7 @@ pub(crate) fn hear(
     requires place { incoming.now.at.shard ≡ served.old.sessions.shard }
     requires asked { IsAnswered incoming.now.rules.now served.old incoming.now.item.now limited claim }
     requires begins { (a : Address) → claim ≡ Claim.Claimed a → MayBegin a served.old terms.old }
-    requires room { length outs.old.items + outs_most incoming.now.item.now.kind + 3 ≤ outs.old.room }
+    requires room { length outs.old.items + outs_most incoming.now.item.now.kind + 5 ≤ outs.old.room }
     ensures sums { SumsStay terms.old terms.new }
     ensures does { Does (Step incoming.now.rules.now (whole served.old terms.old) limited) (outs_most incoming.now.item.now.kind) (whole served.old terms.old) (whole served.new terms.new) outs.old.items outs.new.items (entry_with claim incoming.now.at.seat incoming.now.at.place incoming.now.moment incoming.now.item.now) result }
     ensures capacity { outs.new.room ≡ outs.old.room }
@@ -117,7 +118,7 @@ pub(crate) fn hear(
     match incoming.item.kind {
         ItemKind::Access(number) => hear_access(served, terms, incoming, number, outs),
         ItemKind::Core => hear_core(served, terms, incoming, outs),
-        ItemKind::Tunnel => Fate::Consumed,
+        ItemKind::Tunnel => hear_tunnel(served, incoming, outs),
         ItemKind::Verdict => hear_verdict(served, terms, incoming, claim, limited, outs),
         ItemKind::Change => Fate::Consumed,
         ItemKind::Tick => {
@@ -125,7 +126,7 @@ pub(crate) fn hear(
             Fate::Consumed
         }
         ItemKind::End => {
-            end(served, terms, incoming.rules, incoming.at, outs);
+            end(served, terms, incoming, outs);
             Fate::Consumed
         }
     }

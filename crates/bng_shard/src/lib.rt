@@ -1,8 +1,8 @@
-//! One shard of the gateway: the sessions that discovery made and the provisioned circuits of its numbers, stepped one item at a
-//! time. `Shard::step` is a step of the protocol of `specs/Step.antt` (PPPoE discovery by RFC 2516, PPP by RFC 1661, the peer's
-//! authentication by RFC 1334 and RFC 1994, forwarding by RFC 791), and appends one entry to the journal of the round. An Access-Accept
-//! begins a term of a session, with an address of a pool, and the term ends with the link, by a PADT or by an End. `whose_is` says which
-//! shard an item is for. `open` and `prepare` alone take memory.
+//! One shard of the gateway: the sessions that discovery made, the provisioned circuits and the L2TP tunnels of its numbers, stepped one
+//! item at a time. `Shard::step` is a step of the protocol of `specs/Step.antt` (PPPoE discovery by RFC 2516, PPP by RFC 1661, the peer's
+//! authentication by RFC 1334 and RFC 1994, forwarding by RFC 791, tunnels by RFC 2661), and appends one entry to the journal of the round.
+//! An Access-Accept begins a term of a session, with an address of a pool, and the term ends with the link, by a PADT or by an End.
+//! `whose_is` says which shard an item is for. `open` and `prepare` alone take memory.
 #![tactic(auto)]
 
 mod answering;
@@ -13,8 +13,10 @@ mod drive;
 mod frames;
 mod hear;
 mod host_uniq;
+mod in_turn;
 mod incoming;
 mod interims;
+mod l2tp;
 mod laws;
 mod leaving;
 mod limited;
@@ -33,6 +35,7 @@ mod term;
 mod term_rows;
 mod terms;
 mod timers;
+mod tunnels;
 mod verdicts;
 mod whose;
 mod wish;

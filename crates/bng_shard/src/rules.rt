@@ -1,4 +1,4 @@
-use bng_base::{AccessPort, Listed, NamedRange, Peer, Profile};
+use bng_base::{AccessPort, Lac, Listed, NamedRange, Peer, Profile};
 use bng_discovery::PortRules;
 use bng_ppp::LinkRules;
 
@@ -17,8 +17,12 @@ pub struct Rules {
     pub pools: Listed<NamedRange>,
     /// The profiles by which subscribers' packets are counted, 1 to 16 with different names. A term names its own by its place, from 0.
     pub profiles: Listed<Profile>,
-    /// What each session's link is run by.
+    /// What each session's link is run by. Its name is the gateway's Host Name on tunnels.
     pub link: LinkRules,
+    /// The L2TP access concentrators from which tunnels are taken, and the secret that is shared with each.
+    pub lacs: Listed<Lac>,
+    /// Whether the gateway has an end for L2TP tunnels. No step of a shard looks at it.
+    pub serves_tunnels: bool,
 }
 
 impl Drop for Rules {
@@ -31,6 +35,8 @@ impl Drop for Rules {
             pools: _,
             profiles: _,
             link: _,
+            lacs: _,
+            serves_tunnels: _,
         } = self;
     }
 }

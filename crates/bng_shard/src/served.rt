@@ -1,10 +1,10 @@
-//! The sessions of a shard.
+//! The sessions of a shard, and its tunnels beside them.
 ghost use Rattle.std.specs.Prelude.{◌≡◌, ◌≢◌, ◌+◌, ◌<◌, ◌≤◌, ◌^◌, ◌∷◌, [], ℕ, List, IsSome, Some, None as Nothing, true, false, IfOk, IfSome, IfNone, option_map};
 ghost use Rattle.std.specs.List.{AllPairs, All};
 ghost use Rattle.std.specs.Option.{option_and_then, option_copied};
 ghost use Rattle.bng_slots.specs.Sessions.{value_at, without, IsNumberOf};
 ghost use Rattle.bng_shard.specs.Discovery.{IsVacancy, repeated};
-ghost use Rattle.bng_shard.specs.Due.{due_of};
+ghost use Rattle.bng_shard.specs.Due.{sessions_due};
 ghost use Rattle.bng_shard.specs.Interims.{interim_at};
 ghost use Rattle.bng_shard.specs.declared.session.Session.{Session as Seen};
 ghost use Rattle.bng_shard.specs.Surveying.{AreSpaced, IsSurveyed};
@@ -27,6 +27,7 @@ use crate::questions::{Handed, copied, list, lowest_waiting, unlist};
 use crate::session::{Lease, Service, Session};
 use crate::young::{list_young, lowest_repeated, unlist_young};
 use bng_base::{Ip4, Mac, Profile, SessionNo, Static};
+use bng_lns::Tunnels;
 use bng_slots::Slots;
 use bng_term::Lifetime;
 use bng_verdict::{AuthAsk, QuestionNo};
@@ -35,7 +36,7 @@ use std::marker::Model;
 
 /// The sessions of a shard by number, provisioned circuits among them; how many terms began, how many questions were asked, by session
 /// number the moment in milliseconds at which its last packet passed and its meters, the numbers of the sessions that have ended and leave
-/// at the settlement, of those whose question has no verdict yet, and of those for which a request may come again.
+/// at the settlement, of those whose question has no verdict yet, and of those for which a request may come again. And the tunnels.
 pub struct Served {
     pub(crate) sessions: Slots<Session>,
     pub(crate) begun: u64,
@@ -45,6 +46,7 @@ pub struct Served {
     pub(crate) leaving: Vec<SessionNo>,
     pub(crate) asking: Vec<SessionNo>,
     pub(crate) young: Vec<SessionNo>,
+    pub(crate) tunnels: Tunnels,
 }
 
 impl Drop for Served {
@@ -58,6 +60,7 @@ impl Drop for Served {
             leaving: _,
             asking: _,
             young: _,
+            tunnels: _,
         } = self;
     }
 }
@@ -72,7 +75,7 @@ impl Model for Served {
 
     ghost coded = { state_code };
 
-    ghost view = { λ a. record { sessions = a.sessions; begun = a.begun; asked = a.asked; terms = []; news = []; passed = a.passed.items; meters = a.meters.items } };
+    ghost view = { λ a. record { sessions = a.sessions; begun = a.begun; asked = a.asked; terms = []; news = []; passed = a.passed.items; meters = a.meters.items; tunnels = a.tunnels } };
 
     ghost invariant = { Keeps };
 }
@@ -118,8 +121,8 @@ fn provisioned(circuit: &Static, serial: u64) -> Session
 }
 
 impl Served {
-    /// The sessions of these circuits, whose numbers are the shard's. Their terms are numbered from 1 on, by rising session number, and are
-    /// metered by their profiles from this moment on, in milliseconds.
+    /// The sessions of these circuits, whose numbers are the shard's, and no tunnel. Their terms are numbered from 1 on, by rising session
+    /// number, and are metered by their profiles from this moment on, in milliseconds.
     pub(crate) fn open(
         alloc: Global,
         number: u16,
@@ -141,6 +144,7 @@ impl Served {
         let leaving = Vec::with_capacity(alloc, usize::from(NUMBERS) + 1)?;
         let asking = Vec::with_capacity(alloc, usize::from(NUMBERS) + 1)?;
         let young = Vec::with_capacity(alloc, usize::from(NUMBERS) + 1)?;
+        let tunnels = Tunnels::open(alloc, number)?;
         let mut begun = 0;
         let first = number * 1024 + 1;
         for n in first..first + NUMBERS {
@@ -158,6 +162,7 @@ impl Served {
             leaving,
             asking,
             young,
+            tunnels,
         })
     }
 
@@ -286,8 +291,8 @@ impl Served {
     }
 
     /// The earliest deadline of the sessions, in milliseconds; none exactly where no session has one.
-    pub(crate) fn due(&self) -> Option<u64>
-        ensures { result ≡ due_of self.now }
+    pub(crate) fn sessions_due(&self) -> Option<u64>
+        ensures { result ≡ sessions_due self.now }
     {
         let (deadline, _) = self.sessions.earliest()?;
         Some(deadline)

@@ -160,8 +160,8 @@ impl Made {
     }
 }
 
-// The earlier of two moments that may be there.
-fn earlier(a: Option<u64>, b: Option<u64>) -> Option<u64>
+/// The earlier of two moments that may be there.
+pub(crate) fn earlier(a: Option<u64>, b: Option<u64>) -> Option<u64>
     ensures { result ≡ first_of a b }
 {
     match (a, b) {

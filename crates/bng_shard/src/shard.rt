@@ -43,9 +43,9 @@ pub enum ShardError {
     OutOfMemory,
 }
 
-/// The sessions of one shard, with the provisioned circuits whose numbers are the shard's. Contracts see it as the engine does:
-/// its rules and what it serves by them, a row for each term with what it carried, a book for each profile, and of a round that is
-/// going on its allowance of new terms, the journal, what is to be sent, and for how many items more there is room.
+/// The sessions and the L2TP tunnels of one shard, with the provisioned circuits whose numbers are the shard's. Contracts see it as the
+/// engine does: its rules and what it serves by them, a row for each term with what it carried, a book for each profile, and of a round
+/// that is going on its allowance of new terms, the journal, what is to be sent, and for how many items more there is room.
 pub struct Shard {
     rules: Rules,
     pub(crate) served: Served,
@@ -98,11 +98,11 @@ impl Model for Shard {
 /// How many outs an item has at most, a Tick and an End aside.
 const OUTS: usize = 10;
 /// How many a Tick and an End have in all, and the last session of a Tick might have beside them.
-const TIMED_OUTS: usize = 643;
+const TIMED_OUTS: usize = 645;
 
 /// For how many items a round makes room at first: as many as a turn of the desk has at most, so that no later round makes the lists
 /// anew. Of the room only what is used is touched.
-const ITEMS_AT_FIRST: usize = 512;
+const ITEMS_AT_FIRST: usize = 736;
 
 // Makes room for a round of so many items in lists that are empty, and says whether there is.
 fn reserve(journal: &mut Batch<Entry>, outs: &mut Batch<OutRecord>, items: usize) -> bool
@@ -110,7 +110,7 @@ fn reserve(journal: &mut Batch<Entry>, outs: &mut Batch<OutRecord>, items: usize
     requires none { (journal.old.items ≡ []) × (outs.old.items ≡ []) }
     ensures none_still { (journal.new.items ≡ []) × (outs.new.items ≡ []) }
     ensures journal { result ≡ true → items ≤ journal.new.room }
-    ensures outs { result ≡ true → 10 * items + 643 ≤ outs.new.room }
+    ensures outs { result ≡ true → 10 * items + 645 ≤ outs.new.room }
 {
     if journal.reserve(items).is_err() {
         return false;
@@ -124,7 +124,7 @@ fn reserve_amply(journal: &mut Batch<Entry>, outs: &mut Batch<OutRecord>, items:
     requires none { (journal.old.items ≡ []) × (outs.old.items ≡ []) }
     ensures none_still { (journal.new.items ≡ []) × (outs.new.items ≡ []) }
     ensures journal { result ≡ true → items ≤ journal.new.room }
-    ensures outs { result ≡ true → 10 * items + 643 ≤ outs.new.room }
+    ensures outs { result ≡ true → 10 * items + 645 ≤ outs.new.room }
 {
     if items < ITEMS_AT_FIRST && reserve(journal, outs, ITEMS_AT_FIRST) {
         return true;
@@ -147,10 +147,10 @@ fn books_of(alloc: Global, rules: &Rules) -> Result<Profiles, ShardError>
 }
 
 impl Shard {
-    /// A shard with this number, at most 63, that works by these rules, and these circuits. It has no other session. The rules name a
-    /// way to authenticate, what each access port offers, and 1 to 16 profiles with different names. The circuits' session numbers are
-    /// the shard's, no two have the same number or the same address, and each is on an access port and has a profile that are there.
-    /// Their terms begin at this moment in milliseconds, and are numbered from 1 on, by rising session number.
+    /// A shard with this number, at most 63, that works by these rules, and these circuits. It has no other session and no tunnel. The
+    /// rules name a way to authenticate, what each access port offers, and 1 to 16 profiles with different names. The circuits' session
+    /// numbers are the shard's, no two have the same number or the same address, and each is on an access port and has a profile that are
+    /// there. Their terms begin at this moment in milliseconds, and are numbered from 1 on, by rising session number.
     pub fn open(
         alloc: Global,
         number: u16,

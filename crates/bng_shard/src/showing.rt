@@ -42,7 +42,7 @@ impl Shard {
         self.served.count()
     }
 
-    /// The earliest deadline of its sessions, in milliseconds; none exactly where no session has one.
+    /// The earliest deadline of its sessions and its tunnels, in milliseconds; none exactly where none has one.
     pub fn due(&self) -> Option<u64>
         ensures { result ≡ deadline_of self.now.state }
     {

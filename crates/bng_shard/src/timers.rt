@@ -1,5 +1,5 @@
 //! Ticks and Ends.
-ghost use Rattle.std.specs.Prelude.{◌≡◌, ◌+◌, ◌<◌, ◌≤◌, ◌^◌, ◌++◌, ℕ, List, Option as Maybe, Some, length};
+ghost use Rattle.std.specs.Prelude.{◌≡◌, ◌+◌, ◌<◌, ◌≤◌, ◌^◌, ◌++◌, ℕ, List, Option as Maybe, Some, IsSome, length};
 ghost use Rattle.bng_ppp.specs.PppRelation.{PppSteps};
 ghost use Rattle.bng_ppp.specs.declared.whole_input.WholeInput.TheVariants.{Timer};
 ghost use Rattle.bng_base.specs.declared.item.OutRecord.{OutRecord as Out};
@@ -8,12 +8,13 @@ ghost use Rattle.bng_shard.specs.Fits.{ArePlaced};
 ghost use Rattle.bng_shard.specs.Driven.{Driven};
 ghost use Rattle.bng_shard.specs.Passing.{cause_at};
 ghost use Rattle.bng_shard.specs.Serving.{KeepsLease};
-ghost use Rattle.bng_shard.specs.Timed.{LookedOnce, TickedOnce, EndedOnce, Ticked, Ended};
+ghost use Rattle.bng_shard.specs.Timed.{LookedOnce, TickedOnce, EndedOnce, Ticked, Ended, Stopped, TickDone, EndDone};
 ghost use Rattle.bng_shard.specs.Running.{closed_rows, whole, KeepSums};
-ghost use Rattle.bng_shard.specs.State.{made_one, port_at};
+ghost use Rattle.bng_shard.specs.State.{made_one, port_at, with_tunnels};
 ghost use Rattle.bng_shard.specs.Timers.{TellsEnd, at_once};
 
 use crate::drive::{drive, send_padt};
+use crate::in_turn::{remind_tunnels, stop_tunnels};
 use crate::incoming::Incoming;
 use crate::rules::Rules;
 use crate::served::Served;
@@ -49,6 +50,7 @@ fn remind(
     ensures number { session.new.number ≡ session.old.number }
     ensures capacity { outs.new.room ≡ outs.old.room }
     ensures few { length outs.new.items ≤ length outs.old.items + 3 }
+    ensures fewer { IsSome session.new.lease → length outs.new.items ≤ length outs.old.items + 2 }
 {
     let lease = session.lease();
     let (asked, cause) = drive(session, asked, incoming, WholeInput::Timer, outs);
@@ -78,7 +80,7 @@ fn look_at(
     ensures leased { KeepsLease session.new.service session.new.lease }
     ensures number { session.new.number ≡ session.old.number }
     ensures capacity { outs.new.room ≡ outs.old.room }
-    ensures few { length outs.new.items ≤ length outs.old.items + 2 }
+    ensures few { length outs.new.items ≤ length outs.old.items + 1 }
 {
     let Some(cause) = session.look(passed, incoming.moment) else {
         return asked;
@@ -105,7 +107,7 @@ fn tick_once(
     ensures ticked { TickedOnce result incoming.now.rules.now incoming.now.at incoming.now.moment incoming.now.item.now.random (whole served.old terms.old) (whole served.new terms.new) outs.old.items outs.new.items }
     ensures placed { ArePlaced incoming.now.rules.now served.new.sessions }
     ensures capacity { outs.new.room ≡ outs.old.room }
-    ensures few { length outs.new.items ≤ length outs.old.items + 5 }
+    ensures few { length outs.new.items ≤ length outs.old.items + 3 }
 {
     let Some(number) = served.first_due(incoming.moment) else {
         return false;
@@ -163,10 +165,10 @@ fn end_once(
     true
 }
 
-/// Handles the deadlines that are due at a Tick's moment, the earliest first, and of equal ones that of the lower session number
-/// first: at most 64. Each time the session's link takes Timer, and then its live term is looked at: where one of its
-/// timeouts is over it ends (RFC 2865 sections 5.27 and 5.28), and the link takes Close.
-pub(crate) fn tick(
+// Handles the deadlines of sessions that are due at a Tick's moment, the earliest first, and of equal ones that of the lower session
+// number first: at most 64. Each time the session's link takes Timer, and then its live term is looked at: where one of its timeouts
+// is over it ends (RFC 2865 sections 5.27 and 5.28), and the link takes Close.
+fn tick_sessions(
     served: &mut Served,
     terms: &mut Terms,
     incoming: &Incoming<'_>,
@@ -176,7 +178,7 @@ pub(crate) fn tick(
     requires auth { 0 < length incoming.now.rules.now.link.auth.items }
     requires offers { length incoming.now.rules.now.offers ≡ length incoming.now.rules.now.access }
     requires placed { ArePlaced incoming.now.rules.now served.old.sessions }
-    requires room { length outs.old.items + 323 ≤ outs.old.room }
+    requires room { length outs.old.items + 197 ≤ outs.old.room }
     ensures sums { KeepSums terms.old terms.new }
     ensures ticked { Ticked at_once incoming.now.rules.now incoming.now.at incoming.now.moment incoming.now.item.now.random (whole served.old terms.old) (whole served.new terms.new) outs.old.items outs.new.items }
     ensures capacity { outs.new.room ≡ outs.old.room }
@@ -188,8 +190,29 @@ pub(crate) fn tick(
     }
 }
 
-/// Ends the sessions with the lowest numbers, by rising number: at most 64. Those that discovery made are told so by a PADT.
-pub(crate) fn end(
+/// Handles a Tick: the timers of each tunnel do what they ask for, by rising number, and then those of sessions do, of which one
+/// comes after another by its deadline: at most 64.
+pub(crate) fn tick(
+    served: &mut Served,
+    terms: &mut Terms,
+    incoming: &Incoming<'_>,
+    outs: &mut Batch<OutRecord>,
+)
+    requires moment { incoming.now.moment < 2 ^ 60 }
+    requires auth { 0 < length incoming.now.rules.now.link.auth.items }
+    requires offers { length incoming.now.rules.now.offers ≡ length incoming.now.rules.now.access }
+    requires placed { ArePlaced incoming.now.rules.now served.old.sessions }
+    requires room { length outs.old.items + 325 ≤ outs.old.room }
+    ensures sums { KeepSums terms.old terms.new }
+    ensures ticked { TickDone incoming.now.rules.now incoming.now.at incoming.now.moment incoming.now.item.now.random (whole served.old terms.old) (whole served.new terms.new) outs.old.items outs.new.items }
+    ensures capacity { outs.new.room ≡ outs.old.room }
+{
+    remind_tunnels(served, incoming.at, incoming.moment, outs);
+    tick_sessions(served, terms, incoming, outs);
+}
+
+// Ends the sessions with the lowest numbers, by rising number: at most 64. Those that discovery made are told so by a PADT.
+fn end_sessions(
     served: &mut Served,
     terms: &mut Terms,
     rules: &Rules,
@@ -198,7 +221,7 @@ pub(crate) fn end(
 )
     requires offers { length rules.now.offers ≡ length rules.now.access }
     requires placed { ArePlaced rules.now served.old.sessions }
-    requires room { length outs.old.items + 320 ≤ outs.old.room }
+    requires room { length outs.old.items + 64 ≤ outs.old.room }
     ensures sums { KeepSums terms.old terms.new }
     ensures ended { Ended at_once rules.now at (whole served.old terms.old) (whole served.new terms.new) outs.old.items outs.new.items }
     ensures capacity { outs.new.room ≡ outs.old.room }
@@ -208,4 +231,36 @@ pub(crate) fn end(
             return;
         }
     }
+}
+
+// Once no session stays each tunnel tells its peer that the gateway shuts down.
+fn stop_at_last(served: &mut Served, at: At, now: u64, outs: &mut Batch<OutRecord>)
+    requires room { length outs.old.items + 16 ≤ outs.old.room }
+    ensures stopped { Stopped at now served.old served.new.tunnels outs.old.items outs.new.items }
+    ensures others { served.new ≡ with_tunnels served.old served.new.tunnels }
+    ensures capacity { outs.new.room ≡ outs.old.room }
+    ensures few { length outs.new.items ≤ length outs.old.items + 16 }
+{
+    if served.none_stays() {
+        stop_tunnels(served, at, now, outs);
+    }
+}
+
+/// Handles an End: the sessions with the lowest numbers end, at most 64, and once none stays each tunnel tells its peer that the gateway
+/// shuts down.
+pub(crate) fn end(
+    served: &mut Served,
+    terms: &mut Terms,
+    incoming: &Incoming<'_>,
+    outs: &mut Batch<OutRecord>,
+)
+    requires offers { length incoming.now.rules.now.offers ≡ length incoming.now.rules.now.access }
+    requires placed { ArePlaced incoming.now.rules.now served.old.sessions }
+    requires room { length outs.old.items + 320 ≤ outs.old.room }
+    ensures sums { KeepSums terms.old terms.new }
+    ensures ended { EndDone incoming.now.rules.now incoming.now.at incoming.now.moment (whole served.old terms.old) (whole served.new terms.new) outs.old.items outs.new.items }
+    ensures capacity { outs.new.room ≡ outs.old.room }
+{
+    end_sessions(served, terms, incoming.rules, incoming.at, outs);
+    stop_at_last(served, incoming.at, incoming.moment, outs);
 }

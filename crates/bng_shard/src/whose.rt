@@ -1,11 +1,14 @@
 //! Which shard an item is for.
-ghost use Rattle.std.specs.Prelude.{◌≡◌, ◌<◌, ◌≤◌, ◌+◌, ◌*◌, ℕ, [], length};
+ghost use Rattle.std.specs.Prelude.{◌≡◌, ◌<◌, ◌≤◌, ◌+◌, ◌*◌, ◌%◌, ℕ, [], length};
+ghost use Rattle.bng_l2tp_wire.specs.View.{control_of};
 ghost use Rattle.bng_pppoe_wire.specs.View.{frame_of};
-ghost use Rattle.bng_shard.specs.Whose.{IsWhose, IsForKind, IsForSession, IsForTarget, IsForFrame, fold_of, NamesShard};
+ghost use Rattle.bng_shard.specs.Whose.{IsWhose, IsForDatagram, IsForKind, IsForMessage, IsForNumber, IsForRead, IsForSession, IsForTarget, IsForFrame, fold_of, fold_of_peer as peer_fold, NamesShard};
 
 use crate::rules::Rules;
-use bng_base::{DropCause, Fate, Item, ItemKind, Mac};
+use bng_base::{DropCause, Fate, Item, ItemKind, Mac, Peer};
 use bng_forward::{Arrived, frame_at, names_session, packet_from};
+use bng_l2tp_wire::Control;
+use bng_lns::{TunnelDatagram, datagram_of};
 use bng_pool::PlainPool;
 use bng_pppoe_wire::Pppoe;
 
@@ -19,7 +22,8 @@ pub enum Whose {
 }
 
 /// Where an item is handled: a frame that names a session in the shard of that number, another frame in the shard of its
-/// SOURCE_ADDR, a packet of the core in the shard that holds its destination, a Tick and an End in the shard that it is for.
+/// SOURCE_ADDR, a packet of the core in the shard that holds its destination, a message of a tunnel in the shard of its Tunnel ID, or
+/// without one in that of its sender, a PPP frame of a call in that of its Session ID, a Tick and an End in the shard that it is for.
 /// What is outside its grammar or leads to no shard is loose.
 pub fn whose_is(rules: &Rules, pool: &PlainPool, item: &Item) -> Whose
     requires some { 1 ≤ rules.now.shards }
@@ -30,7 +34,7 @@ pub fn whose_is(rules: &Rules, pool: &PlainPool, item: &Item) -> Whose
     match item.kind {
         ItemKind::Access(number) => whose_frame(rules, number, item),
         ItemKind::Core => whose_packet(rules, pool, item),
-        ItemKind::Tunnel => Whose::Loose(Fate::Dropped(DropCause::NoSession)),
+        ItemKind::Tunnel => whose_datagram(rules, item),
         ItemKind::Verdict => whose_session(rules, item.target),
         ItemKind::Change => Whose::Loose(Fate::Consumed),
         ItemKind::Tick | ItemKind::End => whose_target(rules, item.target),
@@ -116,6 +120,73 @@ fn whose_read(rules: &Rules, frame: &Pppoe<'_>) -> Whose
     } else {
         Whose::Loose(Fate::Dropped(DropCause::NoSession))
     }
+}
+
+// A datagram of the gateway's end for tunnels.
+fn whose_datagram(rules: &Rules, item: &Item) -> Whose
+    requires some { 1 ≤ rules.now.shards }
+    ensures is { IsForDatagram rules.now item.now result }
+    ensures inside { (n : ℕ) → result ≡ Whose.Stands n → n < rules.now.shards }
+{
+    match datagram_of(item.cut, item.frame.payload()) {
+        Some(datagram) => whose_sent(rules, item.from, &datagram),
+        None => Whose::Loose(Fate::Dropped(DropCause::Malformed)),
+    }
+}
+
+// One that was read, from this sender.
+fn whose_sent(rules: &Rules, from: Peer, datagram: &TunnelDatagram<'_>) -> Whose
+    requires some { 1 ≤ rules.now.shards }
+    ensures is { IsForRead rules.now from datagram.now result }
+    ensures inside { (n : ℕ) → result ≡ Whose.Stands n → n < rules.now.shards }
+{
+    match datagram {
+        TunnelDatagram::Control(message) => whose_message(rules, from, message),
+        TunnelDatagram::Data(message) => whose_number(rules, message.session),
+    }
+}
+
+// A message of a tunnel, from this sender.
+fn whose_message(rules: &Rules, from: Peer, message: &Control<'_>) -> Whose
+    requires some { 1 ≤ rules.now.shards }
+    ensures is { IsForMessage rules.now from (control_of message.now) result }
+    ensures inside { (n : ℕ) → result ≡ Whose.Stands n → n < rules.now.shards }
+{
+    if message.tunnel == 0 {
+        return Whose::Stands(shard_of(from, rules.shards));
+    }
+    whose_number(rules, message.tunnel)
+}
+
+// What names a shard by its number.
+fn whose_number(rules: &Rules, number: u16) -> Whose
+    ensures is { IsForNumber rules.now number result }
+    ensures inside { (n : ℕ) → result ≡ Whose.Stands n → n < rules.now.shards }
+{
+    let shard = number / 1024;
+    let index = number % 1024;
+    if shard < rules.shards && 1 <= index && index <= 1022 {
+        Whose::Stands(shard)
+    } else {
+        Whose::Loose(Fate::Dropped(DropCause::NoSession))
+    }
+}
+
+// The shard, of so many, of a peer whose tunnel has no number yet.
+fn shard_of(peer: Peer, shards: u16) -> u16
+    requires some { 1 ≤ shards }
+    ensures is { result ≡ peer_fold peer % shards }
+    ensures inside { result < shards }
+{
+    (fold_of_peer(peer) % u32::from(shards)) as u16
+}
+
+// The sum of the octets of an address, and of a port.
+fn fold_of_peer(peer: Peer) -> u32
+    ensures { result ≡ peer_fold peer }
+{
+    let ip = peer.ip.0;
+    ip / 16_777_216 + ip / 65_536 % 256 + ip / 256 % 256 + ip % 256 + u32::from(peer.port)
 }
 
 // The sum of a MAC's octets.

@@ -6,7 +6,7 @@ ghost use Rattle.bng_shard.specs.Sums.{AreLow, IsLow};
 use crate::asserts::{assert_count, assert_holds};
 use arrayvec::ArrayVec;
 use bng_base::{
-    AccessPort, AuthKind, Book, Fate, Frame, Ip4, Item, ItemKind, Listed, Mac, NamedRange,
+    AccessPort, AuthKind, Book, Fate, Frame, Ip4, Item, ItemKind, Lac, Listed, Mac, NamedRange,
     OutRecord, Peer, Profile, Range, Rate, Static,
 };
 use bng_discovery::PortRules;
@@ -23,6 +23,7 @@ mod interims;
 mod logins;
 mod metering;
 mod terms;
+mod tunnels;
 mod verdicts;
 
 const PORT: Mac = Mac([2, 0, 0, 0, 0, 0xfe]);
@@ -134,7 +135,7 @@ fn profiles(alloc: Global) -> Result<Vec<Profile>, AllocError>
     Ok(list)
 }
 
-// One shard, the port 1, these pools, and two profiles.
+// One shard, the port 1, these pools, two profiles, and the access concentrator 127.0.0.1.
 fn rules_over(alloc: Global, pools: Vec<NamedRange>) -> Result<Rules, AllocError>
     ensures auth { IfOk result (λ r. 0 < length r.link.auth.items) }
     ensures access { IfOk result (λ r. length r.access ≡ 1) }
@@ -151,6 +152,11 @@ fn rules_over(alloc: Global, pools: Vec<NamedRange>) -> Result<Rules, AllocError
     let access = Vec::from_array(alloc, [port])?;
     let offers = Vec::from_array(alloc, [offers()])?;
     let profiles = profiles(alloc)?;
+    let lac = Lac {
+        ip: Ip4(0x7f000001),
+        secret: None,
+    };
+    let lacs = Vec::from_array(alloc, [lac])?;
     Ok(Rules {
         shards: 1,
         core_peer: peer(9001),
@@ -159,6 +165,8 @@ fn rules_over(alloc: Global, pools: Vec<NamedRange>) -> Result<Rules, AllocError
         pools: Listed::of(pools),
         profiles: Listed::of(profiles),
         link: links(),
+        lacs: Listed::of(lacs),
+        serves_tunnels: true,
     })
 }
 

@@ -59,6 +59,14 @@ impl Lifetime {
         self.began
     }
 
+    /// How long the term lasts, and how far apart its Interims are.
+    pub fn limits(&self) -> Limits
+        ensures limits { result ≡ self.now.limits }
+        ensures allowed { HasAllowedInterval result }
+    {
+        self.limits
+    }
+
     /// The first moment at which the term has to be looked at. None exactly where it has neither timeout. An Interim is no
     /// reason for one.
     pub fn deadline(&self) -> Option<u64>

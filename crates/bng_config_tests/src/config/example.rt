@@ -1,9 +1,9 @@
 use super::{
     CircuitRow, ProfileRow, assert_addresses, assert_circuits, assert_coa, assert_kinds,
-    assert_lacs, assert_number, assert_peer, assert_pools, assert_ports, assert_profiles,
-    config_of, loopback,
+    assert_lacs, assert_number, assert_pools, assert_ports, assert_profiles, assert_sockets,
+    config_of,
 };
-use crate::asserts::{assert_count, assert_octets, assert_same};
+use crate::asserts::{assert_count, assert_octets};
 use bng_base::{AuthKind, Rate};
 use bng_config::Config;
 use std::process::Abort;
@@ -136,24 +136,11 @@ fn assert_gateway(rt: &impl Abort, config: &Config) {
     assert_number(rt, u64::from(config.echo), 30);
 }
 
-fn assert_sockets(rt: &impl Abort, config: &Config) {
-    assert_peer(rt, config.core_local, 9000);
-    assert_peer(rt, config.core_peer, 9001);
-    assert_peer(rt, config.control_local, 9002);
-    assert_peer(rt, config.auth_local, 9003);
-    assert_peer(rt, config.auth_server, 1812);
-    assert_peer(rt, config.acct_local, 9004);
-    assert_peer(rt, config.acct_server, 1813);
-    assert_octets(rt, config.secret.as_slice(), b"xyzzy5461");
-    assert_number(rt, u64::from(config.tries), 4);
-    assert_same(rt, &config.tunnel_local, &Some(loopback(1701)));
-}
-
 #[test]
 fn the_example_is_read(rt: HostRuntime) {
     let config = config_of(&rt, rt.alloc(), EXAMPLE);
     assert_gateway(&rt, &config);
-    assert_sockets(&rt, &config);
+    assert_sockets(&rt, &config, 4);
     let ends = [(9010, 9011, 0xfe), (9020, 9021, 0xfd)];
     assert_ports(&rt, config.access.as_slice(), &ends);
     let concentrators: [(u32, &[u8]); 2] = [(0xc000_020b, b"tunnel-secret"), (0xc000_020c, b"")];

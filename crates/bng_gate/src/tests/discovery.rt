@@ -94,7 +94,7 @@ last = "10.0.0.101"
 "#;
 
 /// A report of no circuit, with nothing dropped.
-const NOTHING: &[u8] =
+pub(super) const NOTHING: &[u8] =
     b"stopped in=0 out=0\nlive in=0 out=0\ntotal in=0 out=0\nworker 0 in=0 out=0\nprofile default in=0 out=0\ndrop Malformed 0\ndrop NoSession 0\ndrop NotOpen 0\ndrop Expired 0\ndrop Spoofed 0\ndrop TooBig 0\ndrop Exceeded 0\ndrop LinkFailed 0\ndrop WantOfMemory 0\n";
 
 #[test]

@@ -4,7 +4,7 @@ use bng_coa::first_refusal;
 use bng_radius_wire::read;
 use std::test::Fail;
 
-fn profile(name: &[u8]) -> Profile {
+pub(crate) fn profile(name: &[u8]) -> Profile {
     let mut list = ArrayVec::new();
     for octet in name {
         if !list.is_full() {

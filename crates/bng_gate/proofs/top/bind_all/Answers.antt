@@ -1,15 +1,16 @@
-use Rattle.std.proofs.Common.{◌+◌, length}
-use Rattle.bng_gate.proofs.Binding.{acct_after, next_fails}
+use Rattle.std.proofs.Common.{◌∙◌}
+use Rattle.bng_gate.proofs.Binding.{tunnel_after, tunnel_fails}
 use Rattle.bng_gate.proofs.top.bind_all.Goals as goal
 
 pub returns-in-Ok-clause-bound : goal.returns-in-Ok-clause-bound
 returns-in-Ok-clause-bound g c =
     let told = g.P.Plant.told in
-    acct_after c.args.config.now (told c.args.plant.now) (told c.bind_access.new.plant) (told c.bind.new.self)
-    c.in_default.ensures.bound c.in-Ok.ensures.bound c.bind.ensures.heard c.bind.ensures.taken c.bind.ensures.sent c.bind.ensures.cause.later
+    tunnel_after c.args.config.now (told c.args.plant.now) (told c.bind_acct.new.plant) (told c.bind_tunnel.new.plant) c.in_default.ensures.bound (c.bind_tunnel.ensures.bound c.in-Ok.is)
+
+pub returns-in-Ok-clause-unfailed : goal.returns-in-Ok-clause-unfailed
+returns-in-Ok-clause-unfailed g c = c.bind_tunnel.ensures.unfailed c.in-Ok.is ∙ c.in_default.ensures.unfailed
 
 pub returns-in-Failed-clause-failed : goal.returns-in-Failed-clause-failed
 returns-in-Failed-clause-failed g c =
     let told = g.P.Plant.told in
-    next_fails c.args.config.now (3 + length c.args.config.now.access) (told c.args.plant.now) (told c.bind_access.new.plant) (told c.bind.new.self)
-    c.in_default.ensures.bound c.in-Failed.ensures.bound c.bind.ensures.heard c.bind.ensures.taken c.bind.ensures.sent c.bind.ensures.cause.later (c.bind.ensures.cause.cause c.in-Failed.is)
+    tunnel_fails c.args.config.now (told c.args.plant.now) (told c.bind_acct.new.plant) (told c.bind_tunnel.new.plant) c.in_default.ensures.bound (c.bind_tunnel.ensures.failed c.in-Failed.is)

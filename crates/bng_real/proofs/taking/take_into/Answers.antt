@@ -1,11 +1,14 @@
-use Rattle.std.proofs.Common.{◌≡◌, ℕ, min, take, ap, ◌∙◌}
-use Rattle.bng_base.specs.Packet.{Packet}
-use Rattle.bng_real.proofs.Fronts.{is_front}
+use Rattle.std.proofs.Common.{◌≡◌, min, take, ◌∙◌, arith}
+use Rattle.bng_real.proofs.Fronts.{is_front, lent_enough, lent_front}
 use Rattle.bng_real.proofs.taking.take_into.Goals as goal
 
--- the payload is what stands first in the room, and that is the datagram
+pub cut_back-requires : goal.cut_back-requires
+cut_back-requires g c = lent_enough _ c.lend-room.result.now c.take_one.new.room _ (omega arith) (omega arith)
+
+-- the payload is what was received behind the headroom, and that is the datagram
 pub returns-in-Datagram-clause-taken : goal.returns-in-Datagram-clause-taken
 returns-in-Datagram-clause-taken g c =
+    let count = c.in-Datagram.count in
     let room = c.take_one.new.room in
-    let payload : c.set.new.self.payload ≡ take (min c.in-Datagram.count 4096) room = ap (λ (p : Packet). p.payload) c.set.ensures ∙ ap (λ (n : ℕ). take n room) c.min.ensures in
-    is_front c.in-Datagram.count room c.set.new.self.payload c.in-Datagram.from _ _ c.in-Datagram.ensures.next.0 c.in-Datagram.ensures.next.1 payload
+    let payload : c.cut_back.new.self.payload ≡ take (min count 4096) room = c.cut_back.ensures.payload ∙ lent_front count c.lend-room.result.now room _ (omega arith) (omega arith) c.min.result c.min.ensures in
+    is_front count room c.cut_back.new.self.payload c.in-Datagram.from _ _ c.in-Datagram.ensures.next.0 c.in-Datagram.ensures.next.1 payload

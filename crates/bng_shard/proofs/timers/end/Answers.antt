@@ -1,36 +1,17 @@
-use Rattle.std.proofs.Common.{◌≡◌, ◌+◌, ◌≤◌, ℕ, length, subst, arith, rules}
-use Rattle.bng_shard.specs.Timed.{Ended}
+use Rattle.std.proofs.Common.{ap, arith, length, length-append}
 use Rattle.bng_shard.specs.Running.{whole}
-use Rattle.bng_shard.specs.Timers.{at_once}
-use Rattle.bng_shard.proofs.SumsKept.{keeps_same, keeps_then}
-use Rattle.bng_shard.proofs.Timing.{ends_begin, ends_more, ends_done, ends_stop}
+use Rattle.bng_shard.specs.State.{State}
+use Rattle.bng_shard.proofs.Timing.{end_done}
 use Rattle.bng_shard.proofs.timers.end.Goals as goal
 
-pub loop-init : goal.loop-init
-loop-init c = record {
-  on = ends_begin c.args.rules.now c.args.at (whole c.args.served.now c.args.terms.now) c.args.outs.now.items;
-  sums = keeps_same c.args.terms.now;
-  placed = c.requires.placed;
-  capacity = search rules;
-  few = omega arith;
-}
-
-pub loop-preserved : goal.loop-preserved
-loop-preserved c = record {
-  on = ends_more c.args.rules.now c.args.at (whole c.args.served.now c.args.terms.now) (whole c.loop.served c.loop.terms) c.args.outs.now.items c.loop.outs.items c.loop.counter (whole c.end_once.new.served c.end_once.new.terms) c.end_once.new.outs.items c.loop.invariant.on c.if-not-end_once.ensures.ended;
-  sums = keeps_then c.args.terms.now c.loop.terms c.end_once.new.terms c.loop.invariant.sums c.if-not-end_once.ensures.sums;
-  placed = c.if-not-end_once.ensures.placed;
-  capacity = search rules;
-  few = omega arith;
-}
-
-pub returns-then-not-end_once-clause-ended : goal.returns-then-not-end_once-clause-ended
-returns-then-not-end_once-clause-ended c =
-    let few : length c.end_once.new.outs.items ≤ length c.args.outs.now.items + 320 = omega arith in
-    ends_stop c.args.rules.now c.args.at (whole c.args.served.now c.args.terms.now) (whole c.loop.served c.loop.terms) c.args.outs.now.items c.loop.outs.items c.loop.counter at_once (whole c.end_once.new.served c.end_once.new.terms) c.end_once.new.outs.items c.loop-test.true c.loop.invariant.on c.if-not-end_once.ensures.ended few
+pub stop_at_last-requires : goal.stop_at_last-requires
+stop_at_last-requires c =
+    let ended = c.end_sessions.ensures.ended in
+    record { room = omega (arith, c.requires.room, c.end_sessions.ensures.capacity, ended.few, ap length ended.outs_are, length-append c.args.outs.now.items ended.more) }
 
 pub returns-clause-ended : goal.returns-clause-ended
 returns-clause-ended c =
-    let all : c.loop.counter ≡ 64 = omega arith in
-    let few : length c.loop.outs.items ≤ length c.args.outs.now.items + 320 = omega arith in
-    subst (λ (n : ℕ). Ended n c.args.rules.now c.args.at (whole c.args.served.now c.args.terms.now) (whole c.loop.served c.loop.terms) c.args.outs.now.items c.loop.outs.items) all (ends_done c.args.rules.now c.args.at (whole c.args.served.now c.args.terms.now) (whole c.loop.served c.loop.terms) c.args.outs.now.items c.loop.outs.items c.loop.counter c.loop.invariant.on few)
+    let terms = c.end_sessions.new.terms in
+    let stopped = c.stop_at_last.ensures.stopped in
+    end_done c.args.incoming.now.rules.now c.args.incoming.now.at c.args.incoming.now.moment (whole c.args.served.now c.args.terms.now) (whole c.end_sessions.new.served terms) (whole c.stop_at_last.new.served terms) c.stop_at_last.new.served.tunnels
+    c.args.outs.now.items c.end_sessions.new.outs.items c.stop_at_last.new.outs.items stopped.more c.end_sessions.ensures.ended stopped.stops stopped.outs_are c.stop_at_last.ensures.few (ap (λ (q : State). whole q terms) c.stop_at_last.ensures.others)

@@ -1,7 +1,7 @@
 use Rattle.std.proofs.Common.{◌∙◌, ap, arith, length, length-append, Option}
 use Rattle.bng_shard.specs.declared.session.Lease.{Lease}
 use Rattle.bng_shard.specs.Running.{TermsView, closed_rows}
-use Rattle.bng_shard.proofs.FewOuts.{drives_by_timer}
+use Rattle.bng_shard.proofs.FewOuts.{drives_by_timer, leased_by_timer}
 use Rattle.bng_shard.proofs.timers.remind.Goals as goal
 
 pub returns-clause-driven : goal.returns-clause-driven
@@ -13,5 +13,12 @@ pub returns-clause-few : goal.returns-clause-few
 returns-clause-few c =
     let d = c.drive-asked.ensures.driven in
     let most = drives_by_timer c.args.incoming.now.rules.now c.args.incoming.now.at c.args.incoming.now.moment c.args.incoming.now.item.now.random c.args.asked c.args.session.now d.more c.drive-asked.result.1 c.drive-asked.new.session c.drive-asked.result.0 d.drives in
+    let all = length-append c.args.outs.now.items d.more in
+    omega (arith, most, all, ap length d.outs_are)
+
+pub returns-clause-fewer : goal.returns-clause-fewer
+returns-clause-fewer c = λ some.
+    let d = c.drive-asked.ensures.driven in
+    let most = leased_by_timer c.args.incoming.now.rules.now c.args.incoming.now.at c.args.incoming.now.moment c.args.incoming.now.item.now.random c.args.asked c.args.session.now d.more c.drive-asked.result.1 c.drive-asked.new.session c.drive-asked.result.0 d.drives c.drive-asked.ensures.leased some in
     let all = length-append c.args.outs.now.items d.more in
     omega (arith, most, all, ap length d.outs_are)

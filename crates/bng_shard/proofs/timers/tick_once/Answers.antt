@@ -1,4 +1,4 @@
-use Rattle.std.proofs.Common.{◌≡◌, ◌∙◌, ℕ, ap, subst, sym}
+use Rattle.std.proofs.Common.{◌≡◌, ◌∙◌, ℕ, ap, length, refl, subst, sym}
 use Rattle.bng_base.specs.declared.address.SessionNo.{SessionNo}
 use Rattle.bng_ppp.specs.PppRelation.{PppSteps}
 use Rattle.bng_ppp.specs.declared.whole_input.WholeInput.TheVariants.{Timer}
@@ -8,7 +8,7 @@ use Rattle.bng_shard.specs.Fits.{ArePlaced}
 use Rattle.bng_shard.specs.Passing.{cause_at, passed_at}
 use Rattle.bng_shard.specs.State.{State}
 use Rattle.bng_shard.specs.Timed.{LookedOnce}
-use Rattle.bng_shard.proofs.Looking.{looked_apart, looked_port, looked_sums, timed}
+use Rattle.bng_shard.proofs.Looking.{looked_apart, looked_few, looked_port, looked_sums, timed}
 use Rattle.bng_shard.proofs.Replacing.{placed_with, put_back, shares_kept, vacant_back}
 use Rattle.bng_shard.proofs.SumsKept.{closed_keeps, keeps_then}
 use Rattle.bng_shard.proofs.timers.tick_once.Goals as goal
@@ -75,3 +75,9 @@ returns-clause-placed c =
     let next = put_back c.args.served.now c.take-session.new.self c.in-Some.number.0 last.number.0 c.take-session.ensures.after (same_number d) c.put.new.self last c.put.ensures in
     subst (λ (t : State). ArePlaced c.args.incoming.now.rules.now t.sessions) (sym (c.count_asked.ensures ∙ ap (λ (t : State). let u : State = record t { asked = c.look_at-asked.result } in u) next))
     (placed_with c.args.incoming.now.rules.now c.args.served.now c.in-Some.number.0 c.take-session.result last (sym c.take-session.ensures.value) port c.requires.placed)
+
+pub returns-clause-few : goal.returns-clause-few
+returns-clause-few c =
+    let x = c.remind-asked.new.session in
+    looked_few c.args.incoming.now.rules.now c.args.incoming.now.at c.args.incoming.now.moment c.args.incoming.now.item.now.random c.passed_at-passed.result c.remind-asked.result x c.look_at-asked.new.session c.look_at-asked.result c.remind-asked.new.terms c.look_at-asked.new.terms c.remind-asked.new.outs.items c.look_at-asked.new.outs.items
+    x.lease refl (length c.args.outs.now.items) c.look_at-asked.ensures.looked c.remind-asked.ensures.few c.remind-asked.ensures.fewer c.look_at-asked.ensures.few

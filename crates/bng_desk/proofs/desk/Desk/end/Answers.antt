@@ -81,7 +81,7 @@ module _ (g : Over) (c : After-to_end g) where
   draws_are : c.to_end.new.draws ≡ drawn_with (length works.shards.items)
   draws_are = c.to_end.ensures.drawn ∙ ap drawn_with shards_count
 
-  few_drawn : c.to_end.new.draws.drawn ≤ works.draws.drawn + 640
+  few_drawn : c.to_end.new.draws.drawn ≤ works.draws.drawn + 864
   few_drawn = omega (arith, ap (λ (x : Drawn). x.drawn) draws_are, few_draws desk c.self.invariant.0)
 
   are_ends : AreEnds (length works.shards.items) c.to_end.new.items.items

@@ -1,4 +1,4 @@
-use Rattle.std.proofs.Common.{◌≡◌, ℕ, ◌+◌, ◌^◌, ◌<◌, ◌==◌, false, List, [], ◌∷◌, length, map, filter, refl, sym, ap, subst, arith, ◌∙◌}
+use Rattle.std.proofs.Common.{◌≡◌, ℕ, ◌+◌, ◌^◌, ◌<◌, ◌==◌, false, List, [], ◌∷◌, is_some, length, map, filter, refl, sym, ap, subst, arith, ◌∙◌}
 use Rattle.std.specs.List.{All, AllPairs, AllZip, range_with_len}
 use Rattle.std.proofs.lemmas.List.{length-map}
 use Rattle.bng_base.specs.declared.book.Book.{Book}
@@ -50,7 +50,7 @@ module _ (c : After-new-4) where
   abbrev made : Rules
   made = c.in_ok-rules.rules
 
-  made_as : made ≡ record { shards = c.args.config.shards; core_peer = c.args.config.core_peer; access = c.args.config.access; offers = c.in_ok-offers.offers.items; pools = c.args.config.pools; profiles = c.args.config.profiles; link = record { name = c.args.config.name; address = c.args.config.address; dns = dns_of c.args.config.dns.items; auth = c.args.config.auth; echo = c.args.config.echo } }
+  made_as : made ≡ record { shards = c.args.config.shards; core_peer = c.args.config.core_peer; access = c.args.config.access; offers = c.in_ok-offers.offers.items; pools = c.args.config.pools; profiles = c.args.config.profiles; lacs = c.args.config.lacs; serves_tunnels = is_some c.args.config.tunnel_local; link = record { name = c.args.config.name; address = c.args.config.address; dns = dns_of c.args.config.dns.items; auth = c.args.config.auth; echo = c.args.config.echo } }
   made_as = c.in_ok-rules.ensures
 
   circuits : c.into_vec.result.items ≡ c.args.config.statics
@@ -109,6 +109,8 @@ module _ (c : After-new-4) where
     offers = offers_are;
     pools = ap (λ (r : Rules). r.pools) made_as;
     profiles = ap (λ (r : Rules). r.profiles) made_as;
+    lacs = ap (λ (r : Rules). r.lacs) made_as;
+    serves_tunnels = ap (λ (r : Rules). r.serves_tunnels) made_as;
     name = ap (λ (r : Rules). r.link.name.items) made_as;
     address = ap (λ (r : Rules). r.link.address) made_as;
     dns = ap (λ (r : Rules). r.link.dns) made_as;

@@ -1,9 +1,12 @@
-use Rattle.std.proofs.Common.{[], sym, refl}
-use Rattle.bng_shard.proofs.Earliest.{due_is, due_none}
+use Rattle.std.proofs.Common.{ℕ, Option, ap, ◌∙◌}
+use Rattle.bng_lns.specs.Timed.{due_of as tunnels_due}
+use Rattle.bng_ppp.specs.LinkRelation.{earliest}
+use Rattle.bng_shard.specs.Due.{sessions_due}
+use Rattle.bng_shard.specs.State.{State}
 use Rattle.bng_shard.proofs.served.Served.due.Goals as goal
 
-pub returns-in_err-deadline : goal.returns-in_err-deadline
-returns-in_err-deadline c = rw (← c.self.view_is, c.from_residual.ensures) (sym (due_none (record { sessions = c.self.inside.sessions; begun = c.self.inside.begun; asked = c.self.inside.asked; terms = []; news = []; passed = c.self.inside.passed.items; meters = c.self.inside.meters.items }) (c.in_err-deadline.ensures.none.0 refl)))
-
 pub returns : goal.returns
-returns c = rw (← c.self.view_is) (sym (due_is (record { sessions = c.self.inside.sessions; begun = c.self.inside.begun; asked = c.self.inside.asked; terms = []; news = []; passed = c.self.inside.passed.items; meters = c.self.inside.meters.items }) c.in_ok-deadline.deadline c.in_ok-deadline.field-0-1.0 c.in_ok-deadline.ensures.first))
+returns c =
+    c.earlier.ensures
+    ∙ ap (λ (o : Option ℕ). earliest o c.due.result) c.sessions_due.ensures
+    ∙ ap (λ (o : Option ℕ). earliest (sessions_due c.args.self.now) o) (c.due.ensures ∙ ap (λ (s : State). tunnels_due s.tunnels) c.self.view_is)

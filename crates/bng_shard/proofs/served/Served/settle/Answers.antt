@@ -26,6 +26,7 @@ loop-number-init c =
       moments_low = is.passed_low;
       meters = refl;
       metered = is.metered;
+      tunnels = refl;
       room = is.room;
       asking = is.asking;
       asking_counted = is.asking_counted;
@@ -57,6 +58,7 @@ loop-number-preserved c =
       moments_low = was.moments_low;
       meters = was.meters;
       metered = was.metered;
+      tunnels = was.tunnels;
       room = omega (arith, room, same_room);
       asking = was.asking;
       asking_counted = was.asking_counted;
@@ -111,6 +113,7 @@ returns c =
     let asked = was.asked in
     let passed = was.passed in
     let meters = was.meters in
+    let tunnels = was.tunnels in
     let terms = ap (λ (t : State). t.terms) c.self.view_is in
     let news = ap (λ (t : State). t.news) c.self.view_is in
-    λ i. record { sessions = all i; begun = begun i; asked = asked i; terms = terms i; news = news i; passed = passed i; meters = meters i }
+    λ i. record { sessions = all i; begun = begun i; asked = asked i; terms = terms i; news = news i; passed = passed i; meters = meters i; tunnels = tunnels i }

@@ -19,6 +19,7 @@ invariant-loop-number l = record {
   moments_low : All (λ moment. moment < 2 ^ 60) l.self-inside.passed.items;
   meters : l.self-inside.meters.items ≡ l.fn.self.meters;
   metered : length l.self-inside.meters.items ≡ 1024;
+  tunnels : l.self-inside.tunnels ≡ l.fn.self.tunnels;
   room : 1022 < vec_capacity l.self-inside.leaving;
   asking : AreAsking l.fn.self.sessions l.self-inside.asking.items;
   asking_counted : passing_in asks l.fn.self.sessions ≡ length l.self-inside.asking.items;

@@ -2,7 +2,7 @@ use Rattle.std.proofs.Common.{◌≡◌, ◌+◌, ◌≤◌, length}
 use Rattle.bng_shard.specs.Fits.{ArePlaced}
 use Rattle.bng_shard.specs.Running.{KeepSums, whole}
 use Rattle.bng_shard.proofs.Timing.{EndsOn}
-use Rattle.bng_shard.proofs.timers.end.Given as goal
+use Rattle.bng_shard.proofs.timers.end_sessions.Given as goal
 
 abbrev pub invariant-loop : goal.invariant-loop
 invariant-loop l = record {

@@ -2,7 +2,7 @@ use Rattle.std.proofs.Common.{◌≡◌, ◌+◌, ◌*◌, ◌≤◌, length}
 use Rattle.bng_shard.specs.Fits.{ArePlaced}
 use Rattle.bng_shard.specs.Running.{KeepSums, whole}
 use Rattle.bng_shard.proofs.Timing.{TicksOn}
-use Rattle.bng_shard.proofs.timers.tick.Given as goal
+use Rattle.bng_shard.proofs.timers.tick_sessions.Given as goal
 
 abbrev pub invariant-loop : goal.invariant-loop
 invariant-loop l = record {
@@ -10,5 +10,5 @@ invariant-loop l = record {
   sums : KeepSums l.fn.terms l.terms;
   placed : ArePlaced l.incoming.rules.now l.served.sessions;
   capacity : l.outs.room ≡ l.fn.outs.room;
-  few : length l.outs.items ≤ length l.fn.outs.items + 5 * l.counter;
+  few : length l.outs.items ≤ length l.fn.outs.items + 3 * l.counter;
 }

@@ -1,0 +1,45 @@
+use Rattle.std.proofs.Common.{◌++◌, List, [], Option, refl, sym, ap, subst, ◌∙◌, arith, length, append-nil}
+use Rattle.bng_base.specs.Packet.{Packet}
+use Rattle.bng_l2tp_tunnel.specs.View.{payloads}
+use Rattle.bng_lns.specs.Timed.{Telling, reminded}
+use Rattle.bng_shard.specs.L2tp.{TellsIts, tunnel_outs}
+use Rattle.bng_shard.specs.State.{State}
+use Rattle.bng_shard.proofs.Tunnelling.{others_kept, payloads_length}
+use Rattle.bng_shard.proofs.in_turn.remind_one.Goals as goal
+
+pub send_datagrams-requires : goal.send_datagrams-requires
+send_datagrams-requires c =
+    record { room = omega (arith, c.requires.room, c.in-Some.ensures.few, payloads_length c.in-Some.told.step.outs.items, ap length c.as_slice.ensures.value) }
+
+pub returns-in-Some-clause-told : goal.returns-in-Some-clause-told
+returns-in-Some-clause-told c =
+    let told = c.in-Some.told in
+    let frames = payloads told.step.outs.items in
+    record {
+      more = tunnel_outs c.args.at told.peer frames;
+      tells = record {
+        tells = subst (λ (o : Option Telling). TellsIts c.args.at o (tunnel_outs c.args.at told.peer frames)) c.in-Some.ensures.told (c.in-Some.ensures.spelled, refl);
+        after = ap (λ (s : State). s.tunnels) c.remind_tunnel.ensures.after;
+      };
+      outs_are = c.send_datagrams.ensures.items ∙ ap (λ (sent : List Packet). c.args.outs.now.items ++ tunnel_outs c.args.at told.peer (payloads sent)) c.as_slice.ensures.value;
+    }
+
+pub returns-in-Some-clause-others : goal.returns-in-Some-clause-others
+returns-in-Some-clause-others c = others_kept c.args.served.now c.remind_tunnel.new.self (reminded c.args.now c.args.served.now.tunnels c.args.place).after c.remind_tunnel.ensures.after
+
+pub returns-in-Some-clause-few : goal.returns-in-Some-clause-few
+returns-in-Some-clause-few c =
+    omega (arith, c.send_datagrams.ensures.few, c.in-Some.ensures.few, payloads_length c.in-Some.told.step.outs.items, ap length c.as_slice.ensures.value)
+
+pub returns-in-None-clause-told : goal.returns-in-None-clause-told
+returns-in-None-clause-told c = record {
+  more = [];
+  tells = record {
+    tells = subst (λ (o : Option Telling). TellsIts c.args.at o []) c.in-None.ensures.told refl;
+    after = ap (λ (s : State). s.tunnels) c.remind_tunnel.ensures.after;
+  };
+  outs_are = sym (append-nil c.args.outs.now.items);
+}
+
+pub returns-in-None-clause-others : goal.returns-in-None-clause-others
+returns-in-None-clause-others c = others_kept c.args.served.now c.remind_tunnel.new.self (reminded c.args.now c.args.served.now.tunnels c.args.place).after c.remind_tunnel.ensures.after

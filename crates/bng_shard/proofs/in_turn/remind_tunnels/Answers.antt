@@ -1,0 +1,29 @@
+use Rattle.std.proofs.Common.{◌≡◌, refl, ap, ◌∙◌, arith, rules}
+use Rattle.bng_lns.specs.Timed.{reminded}
+use Rattle.bng_shard.specs.State.{State, with_tunnels}
+use Rattle.bng_shard.proofs.Tunnelling.{tells_begin, tells_done, tells_more}
+use Rattle.bng_shard.proofs.in_turn.remind_tunnels.Goals as goal
+
+pub loop-place-init : goal.loop-place-init
+loop-place-init c = record {
+  on = tells_begin reminded c.args.at c.args.now c.args.served.now.tunnels c.args.outs.now.items;
+  others = refl;
+  capacity = search rules;
+  few = omega arith;
+}
+
+pub loop-place-preserved : goal.loop-place-preserved
+loop-place-preserved c = record {
+  on = tells_more reminded c.args.at c.args.now c.args.served.now.tunnels c.loop-place.served.tunnels c.args.outs.now.items c.loop-place.outs.items c.loop-place.place c.remind_one.new.served.tunnels c.remind_one.new.outs.items c.loop-place.invariant.on c.remind_one.ensures.told;
+  others = c.remind_one.ensures.others ∙ ap (λ (s : State). with_tunnels s c.remind_one.new.served.tunnels) c.loop-place.invariant.others;
+  capacity = search rules;
+  few = omega (arith, c.remind_one.ensures.few, c.loop-place.invariant.few);
+}
+
+pub returns-clause-told : goal.returns-clause-told
+returns-clause-told c =
+    let all : c.loop-place.place ≡ 16 = omega (arith, c.loop-place-test.false, c.loop-place.auto.place-end) in
+    tells_done reminded c.args.at c.args.now c.args.served.now.tunnels c.loop-place.served.tunnels c.args.outs.now.items c.loop-place.outs.items c.loop-place.place all c.loop-place.invariant.on
+
+pub returns-clause-few : goal.returns-clause-few
+returns-clause-few c = omega (arith, c.loop-place.invariant.few, c.loop-place.auto.place-end)

@@ -1,0 +1,78 @@
+//! What the tunnels of a shard tell their peers by themselves, one after another (RFC 2661 sections 5.5, 5.8 and 6.4).
+ghost use Rattle.std.specs.Prelude.{◌≡◌, ◌+◌, ◌<◌, ◌≤◌, ◌++◌, length};
+ghost use Rattle.bng_l2tp_tunnel.specs.View.{payloads};
+ghost use Rattle.bng_lns.specs.Timed.{reminded, stopped};
+ghost use Rattle.bng_shard.specs.L2tp.{tunnel_outs};
+ghost use Rattle.bng_shard.specs.State.{with_tunnels};
+ghost use Rattle.bng_shard.specs.Timed.{ToldInTurn, ToldOnce};
+
+use crate::sending::push_out;
+use crate::served::Served;
+use bng_base::{At, Batch, Frame, OutRecord, Peer, Role};
+use bng_lns::TUNNELS_MOST;
+
+/// Appends datagrams to the peer of a tunnel.
+pub(crate) fn send_datagrams(at: At, to: Peer, frames: &[Frame], outs: &mut Batch<OutRecord>)
+    requires room { length outs.old.items + length frames.now ≤ outs.old.room }
+    ensures items { outs.new.items ≡ outs.old.items ++ tunnel_outs at to (payloads frames.now) }
+    ensures capacity { outs.new.room ≡ outs.old.room }
+    ensures few { length outs.new.items ≤ length outs.old.items + length frames.now }
+{
+    for frame in frames {
+        push_out(outs, at, Role::Tunnel, to, frame, None);
+    }
+}
+
+// The timers of the tunnel at this place do what they ask for.
+fn remind_one(served: &mut Served, at: At, place: usize, now: u64, outs: &mut Batch<OutRecord>)
+    requires room { length outs.old.items + 8 ≤ outs.old.room }
+    ensures told { ToldOnce at (reminded now served.old.tunnels place) served.new.tunnels outs.old.items outs.new.items }
+    ensures others { served.new ≡ with_tunnels served.old served.new.tunnels }
+    ensures capacity { outs.new.room ≡ outs.old.room }
+    ensures few { length outs.new.items ≤ length outs.old.items + 8 }
+{
+    match served.remind_tunnel(place, now) {
+        Some(told) => send_datagrams(at, told.peer, told.step.outs.as_slice(), outs),
+        None => {}
+    }
+}
+
+/// The timers of each tunnel do what they ask for, by rising number.
+pub(crate) fn remind_tunnels(served: &mut Served, at: At, now: u64, outs: &mut Batch<OutRecord>)
+    requires room { length outs.old.items + 128 ≤ outs.old.room }
+    ensures told { ToldInTurn reminded at now served.old.tunnels served.new.tunnels outs.old.items outs.new.items }
+    ensures others { served.new ≡ with_tunnels served.old served.new.tunnels }
+    ensures capacity { outs.new.room ≡ outs.old.room }
+    ensures few { length outs.new.items ≤ length outs.old.items + 128 }
+{
+    for place in 0..TUNNELS_MOST {
+        remind_one(served, at, place, now, outs);
+    }
+}
+
+// The tunnel at this place tells its peer that the gateway shuts down.
+fn stop_one(served: &mut Served, at: At, place: usize, now: u64, outs: &mut Batch<OutRecord>)
+    requires room { length outs.old.items < outs.old.room }
+    ensures told { ToldOnce at (stopped now served.old.tunnels place) served.new.tunnels outs.old.items outs.new.items }
+    ensures others { served.new ≡ with_tunnels served.old served.new.tunnels }
+    ensures capacity { outs.new.room ≡ outs.old.room }
+    ensures few { length outs.new.items ≤ length outs.old.items + 1 }
+{
+    match served.stop_tunnel(place, now) {
+        Some(told) => send_datagrams(at, told.peer, told.step.outs.as_slice(), outs),
+        None => {}
+    }
+}
+
+/// Each tunnel that stands tells its peer that the gateway shuts down, by rising number.
+pub(crate) fn stop_tunnels(served: &mut Served, at: At, now: u64, outs: &mut Batch<OutRecord>)
+    requires room { length outs.old.items + 16 ≤ outs.old.room }
+    ensures told { ToldInTurn stopped at now served.old.tunnels served.new.tunnels outs.old.items outs.new.items }
+    ensures others { served.new ≡ with_tunnels served.old served.new.tunnels }
+    ensures capacity { outs.new.room ≡ outs.old.room }
+    ensures few { length outs.new.items ≤ length outs.old.items + 16 }
+{
+    for place in 0..TUNNELS_MOST {
+        stop_one(served, at, place, now, outs);
+    }
+}

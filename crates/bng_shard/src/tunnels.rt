@@ -1,0 +1,100 @@
+//! The tunnels of a shard, beside its sessions (RFC 2661).
+ghost use Rattle.std.specs.Prelude.{◌≡◌, ◌≤◌, IfSome, IsSome, Some, true, false, length, option_map};
+ghost use Rattle.std.specs.List.{AllByRecursion};
+ghost use Rattle.bng_l2tp_wire.specs.View.{control_of};
+ghost use Rattle.bng_l2tp_tunnel.specs.Sound.{IsSpelled};
+ghost use Rattle.bng_l2tp_tunnel.specs.TunnelState.{TunnelState};
+ghost use Rattle.bng_l2tp_tunnel.specs.View.{payloads, said};
+ghost use Rattle.bng_lns.specs.Timed.{reminded, stopped, telling_of};
+ghost use Rattle.bng_lns.specs.Tunnels.{hear as heard_of, IsTaken, answer_of, tunnel_at, with_step};
+ghost use Rattle.bng_shard.specs.Due.{due_of};
+ghost use Rattle.bng_shard.specs.L2tp.{refusal_step};
+ghost use Rattle.bng_shard.specs.State.{with_tunnels};
+ghost use Rattle.bng_shard.specs.Timers.{NoneStays};
+
+use crate::rules::Rules;
+use crate::served::Served;
+use crate::session::earlier;
+use bng_base::{SessionNo, TunnelNo, TunnelStep};
+use bng_l2tp_call::Call;
+use bng_l2tp_wire::Control;
+use bng_lns::{Came, Taken, Told};
+
+impl Served {
+    /// A control message came: the tunnel that it is for takes it, or it asks for a tunnel.
+    pub(crate) fn take_message(
+        &mut self,
+        rules: &Rules,
+        came: &Came,
+        message: &Control<'_>,
+    ) -> Taken
+        ensures answer { answer_of result ≡ (heard_of rules.now.link.name.items rules.now.lacs self.old.tunnels came.now (control_of message.now)).answer }
+        ensures after { self.new ≡ with_tunnels self.old (heard_of rules.now.link.name.items rules.now.lacs self.old.tunnels came.now (control_of message.now)).after }
+        ensures taken { IsTaken (answer_of result) self.new.tunnels }
+    {
+        self.tunnels
+            .hear(&rules.link.name, rules.lacs.as_slice(), came, message)
+    }
+
+    /// The tunnel with this number handed a call's message over, and there is no session to take it. `heard` is what the tunnel said.
+    pub(crate) fn refuse_call(
+        &mut self,
+        number: TunnelNo,
+        heard: TunnelStep,
+        message: &Control<'_>,
+        now: u64,
+    ) -> TunnelStep
+        requires stands { IsSome (tunnel_at self.old.tunnels number.0) }
+        requires few { length (payloads heard.outs.items) ≤ 8 }
+        ensures said { (t : TunnelState) → tunnel_at self.old.tunnels number.0 ≡ Some t
+            → said result ≡ (refusal_step t (said heard) (control_of message.now) now).said }
+        ensures after { (t : TunnelState) → tunnel_at self.old.tunnels number.0 ≡ Some t
+            → self.new ≡ with_tunnels self.old (with_step now self.old.tunnels number.0 (refusal_step t (said heard) (control_of message.now) now).after) }
+        ensures few { length (payloads result.outs.items) ≤ 9 }
+        ensures spelled { AllByRecursion IsSpelled (payloads heard.outs.items) → AllByRecursion IsSpelled (payloads result.outs.items) }
+    {
+        let Some(tunnel) = self.tunnels.get(number) else {
+            unreachable!();
+        };
+        let mut call = Call::new(tunnel.secret(), SessionNo(0));
+        self.tunnels.answer(number, heard, &mut call, message, now)
+    }
+
+    /// The timers of the tunnel at this place, from 0, do what they ask for at that moment, in milliseconds.
+    pub(crate) fn remind_tunnel(&mut self, place: usize, now: u64) -> Option<Told>
+        ensures told { option_map telling_of result ≡ (reminded now self.old.tunnels place).told }
+        ensures after { self.new ≡ with_tunnels self.old (reminded now self.old.tunnels place).after }
+        ensures few { IfSome result (λ t. length (payloads t.step.outs.items) ≤ 8) }
+        ensures spelled { IfSome result (λ t. AllByRecursion IsSpelled (payloads t.step.outs.items)) }
+    {
+        self.tunnels.remind(place, now)
+    }
+
+    /// The tunnel at this place, from 0, tells its peer that the gateway shuts down.
+    pub(crate) fn stop_tunnel(&mut self, place: usize, now: u64) -> Option<Told>
+        ensures told { option_map telling_of result ≡ (stopped now self.old.tunnels place).told }
+        ensures after { self.new ≡ with_tunnels self.old (stopped now self.old.tunnels place).after }
+        ensures one { IfSome result (λ t. length (payloads t.step.outs.items) ≤ 1) }
+        ensures spelled { IfSome result (λ t. AllByRecursion IsSpelled (payloads t.step.outs.items)) }
+    {
+        self.tunnels.stop(place, now)
+    }
+
+    /// The earliest deadline of the sessions and the tunnels, in milliseconds; none exactly where none has one.
+    pub(crate) fn due(&self) -> Option<u64>
+        ensures { result ≡ due_of self.now }
+    {
+        earlier(self.sessions_due(), self.tunnels.due())
+    }
+
+    /// Whether all sessions have ended.
+    pub(crate) fn none_stays(&self) -> bool
+        ensures yes { result ≡ true → NoneStays self.now }
+        ensures no { result ≡ false → ¬ (NoneStays self.now) }
+    {
+        match self.lowest_staying() {
+            Some(_) => false,
+            None => true,
+        }
+    }
+}

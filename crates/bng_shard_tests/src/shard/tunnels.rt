@@ -1,0 +1,127 @@
+ghost use Rattle.std.specs.Prelude.{◌<◌, ◌≤◌, ◌^◌, length};
+
+use super::{Bench, NOTHING, TWO, assert_due, item, octets, open_bench, peer, rules};
+use crate::asserts::{assert_count, assert_octets, assert_same};
+use bng_base::{DropCause, Fate, ItemKind, Role};
+use std::alloc::Global;
+use std::process::Abort;
+use std::test::Fail;
+
+// The access concentrator is 127.0.0.1, without a secret, and its tunnel has the number 5. The shard is 0, whose first tunnel number is 1.
+
+const SCCRQ: &[u8; 56] =
+    b"\xc8\x02\x00\x38\x00\x00\x00\x00\x00\x00\x00\x00\x80\x08\x00\x00\x00\x00\x00\x01\x80\x08\x00\x00\x00\x02\x01\x00\x80\x0a\x00\x00\x00\x03\x00\x00\x00\x03\x80\x0a\x00\x00\x00\x07\x6c\x61\x63\x31\x80\x08\x00\x00\x00\x09\x00\x05";
+
+const SCCRP: &[u8; 64] =
+    b"\xc8\x02\x00\x40\x00\x05\x00\x00\x00\x00\x00\x01\x80\x08\x00\x00\x00\x00\x00\x02\x80\x08\x00\x00\x00\x02\x01\x00\x80\x0a\x00\x00\x00\x03\x00\x00\x00\x03\x80\x0a\x00\x00\x00\x07\x62\x6e\x67\x31\x80\x08\x00\x00\x00\x09\x00\x01\x80\x08\x00\x00\x00\x0a\x00\x08";
+
+const SCCCN: &[u8; 20] =
+    b"\xc8\x02\x00\x14\x00\x01\x00\x00\x00\x01\x00\x01\x80\x08\x00\x00\x00\x00\x00\x03";
+
+// an ICRQ of session 9, and the CDN with Result Code 4 that refuses it
+const ICRQ: &[u8; 48] =
+    b"\xc8\x02\x00\x30\x00\x01\x00\x00\x00\x02\x00\x01\x80\x08\x00\x00\x00\x00\x00\x0a\x80\x08\x00\x00\x00\x0e\x00\x09\x80\x0a\x00\x00\x00\x0f\x00\x00\x00\x01\x80\x0a\x00\x00\x00\x12\x00\x00\x00\x00";
+
+const CDN: &[u8; 36] =
+    b"\xc8\x02\x00\x24\x00\x05\x00\x09\x00\x01\x00\x03\x80\x08\x00\x00\x00\x00\x00\x0e\x80\x08\x00\x00\x00\x0e\x00\x00\x80\x08\x00\x00\x00\x01\x00\x04";
+
+// an LCP frame of the session 1
+const DATA: &[u8; 14] = b"\x00\x02\x00\x01\x00\x01\xff\x03\xc0\x21\x09\x01\x00\x04";
+
+const HELLO: &[u8; 20] =
+    b"\xc8\x02\x00\x14\x00\x05\x00\x00\x00\x01\x00\x02\x80\x08\x00\x00\x00\x00\x00\x06";
+
+// a StopCCN with Result Code 6
+const STOP_CCN: &[u8; 36] =
+    b"\xc8\x02\x00\x24\x00\x05\x00\x00\x00\x01\x00\x02\x80\x08\x00\x00\x00\x00\x00\x04\x80\x08\x00\x00\x00\x09\x00\x01\x80\x08\x00\x00\x00\x01\x00\x06";
+
+// The ZLB with these Ns and Nr.
+fn zlb(ns: u8, nr: u8) -> [u8; 12] {
+    [0xc8, 2, 0, 12, 0, 5, 0, 0, 0, ns, 0, nr]
+}
+
+// The one out for a datagram goes to its sender.
+fn answer(
+    rt: &impl Abort,
+    alloc: Global,
+    bench: &mut Bench,
+    now: u64,
+    datagram: &[u8],
+    wanted: &[u8],
+)
+    requires moment { now < 2 ^ 60 }
+    requires short { length datagram.now ≤ 4096 }
+{
+    let mut tally = NOTHING;
+    let came = item(ItemKind::Tunnel, datagram);
+    let outs = bench.round(rt, alloc, &mut tally, now, came);
+    assert_count(rt, outs.len(), 1);
+    assert_octets(rt, octets(&outs, 0), wanted);
+    if let Some(out) = outs.get(0) {
+        assert_same(rt, &out.role, &Role::Tunnel);
+        assert_same(rt, &out.to, &peer(9011));
+    }
+}
+
+// What a Tick or an End sends first, and how much it sends.
+fn timed(
+    rt: &impl Abort,
+    alloc: Global,
+    bench: &mut Bench,
+    kind: ItemKind,
+    now: u64,
+    count: usize,
+    wanted: &[u8],
+)
+    requires moment { now < 2 ^ 60 }
+{
+    let mut tally = NOTHING;
+    let outs = bench.round(rt, alloc, &mut tally, now, item(kind, &[]));
+    assert_count(rt, outs.len(), count);
+    assert_octets(rt, octets(&outs, 0), wanted);
+}
+
+// A shard with an established tunnel, whose last message came at moment 0.
+fn established(rt: &impl Abort, alloc: Global) -> Result<Bench, Fail> {
+    let mut bench = open_bench(alloc, rules(alloc)?, TWO)?;
+    answer(rt, alloc, &mut bench, 0, SCCRQ, SCCRP);
+    answer(rt, alloc, &mut bench, 0, SCCCN, &zlb(1, 2));
+    Ok(bench)
+}
+
+#[test]
+fn a_tunnel_is_made_once_and_takes_no_call(rt: HostRuntime) -> Result<(), Fail> {
+    let alloc = rt.alloc();
+    let mut bench = open_bench(alloc, rules(alloc)?, TWO)?;
+    answer(&rt, alloc, &mut bench, 0, SCCRQ, SCCRP);
+    answer(&rt, alloc, &mut bench, 1, SCCRQ, &zlb(1, 1));
+    assert_due(&rt, bench.shard.due(), Some(1_000));
+    answer(&rt, alloc, &mut bench, 2, SCCCN, &zlb(1, 2));
+    answer(&rt, alloc, &mut bench, 3, ICRQ, CDN);
+    let mut tally = NOTHING;
+    let (fate, outs) = bench.handled(&rt, alloc, &mut tally, 4, item(ItemKind::Tunnel, DATA));
+    assert_same(&rt, &fate, &Fate::Dropped(DropCause::NoSession));
+    assert_count(&rt, outs.len(), 0);
+    Ok(())
+}
+
+#[test]
+fn a_silent_tunnel_is_asked_by_a_tick(rt: HostRuntime) -> Result<(), Fail> {
+    let alloc = rt.alloc();
+    let mut bench = established(&rt, alloc)?;
+    assert_due(&rt, bench.shard.due(), Some(60_000));
+    timed(&rt, alloc, &mut bench, ItemKind::Tick, 59_999, 0, &[]);
+    timed(&rt, alloc, &mut bench, ItemKind::Tick, 60_000, 1, HELLO);
+    assert_due(&rt, bench.shard.due(), Some(61_000));
+    Ok(())
+}
+
+#[test]
+fn an_end_without_sessions_stops_each_tunnel_once(rt: HostRuntime) -> Result<(), Fail> {
+    let alloc = rt.alloc();
+    let mut bench = established(&rt, alloc)?;
+    timed(&rt, alloc, &mut bench, ItemKind::End, 5, 1, STOP_CCN);
+    timed(&rt, alloc, &mut bench, ItemKind::End, 5, 0, &[]);
+    assert_due(&rt, bench.shard.due(), None);
+    Ok(())
+}

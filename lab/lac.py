@@ -1,0 +1,206 @@
+"""A scripted L2TP access concentrator, and what lab/smoke asks with it: tunnels that are set up, kept and ended.
+
+What is wanted is what RFC 2661 asks, and what docs/ says where it leaves a choice."""
+
+import collections
+import hashlib
+import os
+import time
+
+from gateway import LOOPBACK, PROGRAM, Lab, report, run, udp
+
+SCCRQ, SCCRP, SCCCN, STOP_CCN, HELLO, ICRQ, CDN = 1, 2, 3, 4, 6, 10, 14
+MESSAGE_TYPE, RESULT_CODE, PROTOCOL_VERSION, FRAMING, HOST_NAME, ASSIGNED_TUNNEL = 0, 1, 2, 3, 7, 9
+WINDOW, CHALLENGE, RESPONSE, ASSIGNED_SESSION, SERIAL_NUMBER = 10, 11, 13, 14, 15
+
+# Another address of the loopback, whose secret the configuration of the lab has.
+SHARING, SECRET = "127.0.0.5", b"xyzzy"
+
+Message = collections.namedtuple("Message", "tunnel session ns nr avps")
+
+
+def short(number):
+    """A value of two octets."""
+    return number.to_bytes(2, "big")
+
+
+def avp(kind, value):
+    """An AVP of the IETF that must be known (section 4.1)."""
+    return short(0x8000 | 6 + len(value)) + short(0) + short(kind) + value
+
+
+def text(tunnel, session, ns, nr, avps):
+    """A control message (section 3.1)."""
+    body = b"".join(avp(kind, value) for kind, value in avps)
+    return b"\xc8\x02" + b"".join(map(short, (12 + len(body), tunnel, session, ns, nr))) + body
+
+
+def read(octets):
+    """A control message of the gateway, whose header is the one that RFC 2661 asks for."""
+    if octets[:2] != b"\xc8\x02" or int.from_bytes(octets[2:4], "big") != len(octets):
+        raise RuntimeError(f"no control message: {octets.hex()}")
+    tunnel, session, ns, nr = (int.from_bytes(octets[at:at + 2], "big") for at in (4, 6, 8, 10))
+    avps, at = [], 12
+    while at < len(octets):
+        front = int.from_bytes(octets[at:at + 2], "big")
+        length = front & 0x3FF
+        if front & 0xFC00 != 0x8000 or octets[at + 2:at + 4] != b"\0\0" or length < 6:
+            raise RuntimeError(f"no AVP that must be known: {octets[at:].hex()}")
+        avps.append((int.from_bytes(octets[at + 4:at + 6], "big"), octets[at + 6:at + length]))
+        at += length
+    return Message(tunnel, session, ns, nr, avps)
+
+
+def answer_to(kind, challenge, secret=SECRET):
+    """The answer to a Challenge in a message of this type (section 4.4.3)."""
+    return hashlib.md5(bytes([kind]) + secret + challenge).digest()
+
+
+class Concentrator:
+    """One tunnel of a concentrator at this address, which counts its messages and the gateway's. `own` is its tunnel's number, and `tunnel`
+    the gateway's, 0 until the gateway has told it."""
+
+    def __init__(self, lab, own, address=LOOPBACK):
+        self.lab, self.own, self.end = lab, own, udp(address)
+        self.tunnel = self.ns = self.nr = 0
+
+    def __enter__(self):
+        return self
+
+    def __exit__(self, *_):
+        self.end.close()
+
+    def say(self, kind, *avps, session=0):
+        """Sends the next message."""
+        self.lab.send(text(self.tunnel, session, self.ns, self.nr, [(MESSAGE_TYPE, short(kind)), *avps]), self.end, "tunnel")
+        self.ns += 1
+
+    def acknowledge(self):
+        """Sends a message without AVPs, a ZLB."""
+        self.lab.send(text(self.tunnel, 0, self.ns, self.nr, []), self.end, "tunnel")
+
+    def hear(self):
+        """The gateway's next message, or None where none comes. One with AVPs is counted."""
+        octets, sender = self.lab.receive(self.end)
+        if octets is None:
+            return None
+        if sender != self.lab.ports["tunnel"]:
+            raise RuntimeError("a message came from another socket than that of Tunnel")
+        message = read(octets)
+        if message.avps:
+            self.nr = message.ns + 1
+        return message
+
+    def ask(self, *avps):
+        """Sends an SCCRQ."""
+        host = [(PROTOCOL_VERSION, b"\1\0"), (FRAMING, bytes([0, 0, 0, 3])), (HOST_NAME, b"lac1"), (ASSIGNED_TUNNEL, short(self.own))]
+        self.say(SCCRQ, *host, *avps)
+
+    def zlb(self, ns):
+        """What acknowledges all that was said so far, where the gateway's next message has this number."""
+        return Message(self.own, 0, ns, self.ns, [])
+
+    def told(self, kind, ns, *avps, session=0):
+        """A message of the gateway that acknowledges all that was said so far."""
+        return Message(self.own, session, ns, self.ns, [(MESSAGE_TYPE, short(kind)), *avps])
+
+    def set_up(self, checks, what):
+        """Brings the tunnel up without a secret."""
+        self.ask()
+        got = self.hear()
+        self.tunnel = number_in(got)
+        avps = [(PROTOCOL_VERSION, b"\1\0"), (FRAMING, bytes([0, 0, 0, 3])), (HOST_NAME, b"bng1"), (ASSIGNED_TUNNEL, short(self.tunnel)), (WINDOW, short(8))]
+        checks.same(f"an SCCRP answers the SCCRQ of {what}", got, self.told(SCCRP, 0, *avps))
+        checks.same(f"the number for {what} is one of a shard's sixteen", 1 <= self.tunnel % 1024 <= 16, True)
+        self.say(SCCCN)
+        checks.same(f"a ZLB answers the SCCCN of {what}", self.hear(), self.zlb(1))
+
+    def is_told_of_the_stop(self, checks, what, ns=1):
+        got = self.hear()
+        want = self.told(STOP_CCN, ns, (ASSIGNED_TUNNEL, short(self.tunnel)), (RESULT_CODE, short(6)))
+        checks.same(f"at the stop {what} is told that the gateway shuts down", got, want)
+
+
+def number_in(message):
+    """The Assigned Tunnel ID of a message, or 0 where there is none."""
+    value = dict(message.avps).get(ASSIGNED_TUNNEL, b"") if message else b""
+    return int.from_bytes(value, "big")
+
+
+def challenges(checks, sharing):
+    """A concentrator that shares a secret asks for an answer, and is asked."""
+    asked = os.urandom(16)
+    sharing.ask((CHALLENGE, asked))
+    got = sharing.hear()
+    sharing.tunnel = number_in(got)
+    avps = dict(got.avps) if got else {}
+    checks.same("the gateway answers a Challenge", avps.get(RESPONSE), answer_to(SCCRP, asked))
+    checks.same("and has one of its own", len(avps.get(CHALLENGE, b"")), 16)
+    sharing.say(SCCCN, (RESPONSE, answer_to(SCCCN, avps.get(CHALLENGE, b""))))
+    checks.same("a right answer sets the tunnel up", sharing.hear(), sharing.zlb(1))
+
+
+def is_refused(checks, lab):
+    """A concentrator that answers with another secret, and one that is not configured."""
+    with Concentrator(lab, 9, SHARING) as false:
+        false.ask()
+        avps = dict(false.hear().avps)
+        false.tunnel = int.from_bytes(avps[ASSIGNED_TUNNEL], "big")
+        false.say(SCCCN, (RESPONSE, answer_to(SCCCN, avps[CHALLENGE], b"other")))
+        want = false.told(STOP_CCN, 1, (ASSIGNED_TUNNEL, short(false.tunnel)), (RESULT_CODE, short(4)))
+        checks.same("a wrong answer ends the tunnel", false.hear(), want)
+    with Concentrator(lab, 9, "127.0.0.6") as nobody:
+        nobody.ask()
+        want = Message(9, 0, 0, 1, [(MESSAGE_TYPE, short(STOP_CCN)), (ASSIGNED_TUNNEL, short(0)), (RESULT_CODE, short(4))])
+        checks.same("an address that is not configured gets no tunnel", nobody.hear(), want)
+
+
+def serves_tunnels(checks, command, patience):
+    """Two concentrators set tunnels up, one of them without a secret. A message comes again, a call is refused, and each is told of the stop."""
+    with Lab(tunnels=True) as lab, Concentrator(lab, 5) as plain, Concentrator(lab, 5, SHARING) as sharing:
+        lab.start(command(lab.configuration), patience)
+        plain.set_up(checks, "a concentrator without a secret")
+        challenges(checks, sharing)
+        checks.same("both have tunnels of their own", plain.tunnel != sharing.tunnel or plain.tunnel == 0, True)
+        is_refused(checks, lab)
+        plain.say(HELLO)
+        checks.same("a ZLB answers a HELLO", plain.hear(), plain.zlb(1))
+        lab.send(text(plain.tunnel, 0, plain.ns - 1, plain.nr, [(MESSAGE_TYPE, short(HELLO))]), plain.end, "tunnel")
+        checks.same("and answers it again", plain.hear(), plain.zlb(1))
+        plain.say(ICRQ, (ASSIGNED_SESSION, short(7)), (SERIAL_NUMBER, bytes([0, 0, 0, 1])))
+        want = plain.told(CDN, 1, (ASSIGNED_SESSION, short(0)), (RESULT_CODE, short(4)), session=7)
+        checks.same("a call is refused", plain.hear(), want)
+        # The number is that of another's tunnel, and the second datagram is no message.
+        lab.send(text(plain.tunnel, 0, 9, 0, [(MESSAGE_TYPE, short(HELLO))]), sharing.end, "tunnel")
+        lab.send(b"\xc8\x02", sharing.end, "tunnel")
+        checks.same("stop is answered beside tunnels", lab.stop(), b"stopping\n")
+        plain.is_told_of_the_stop(checks, "the one without a secret", 2)
+        sharing.is_told_of_the_stop(checks, "the one with a secret")
+        status, out, _ = lab.end()
+        checks.same("what led to no tunnel is counted", (status, out), (0, report(Malformed=1, NoSession=1)))
+
+
+def keeps_a_silent_tunnel(checks, command, patience):
+    """After a minute without a message the gateway says HELLO, and once it was acknowledged it says it no more."""
+    with Lab(tunnels=True) as lab, Concentrator(lab, 5) as plain:
+        lab.start(command(lab.configuration), patience)
+        plain.set_up(checks, "a concentrator that falls silent")
+        since = time.monotonic()
+        plain.end.settimeout(63)
+        checks.same("a HELLO comes in a silence", plain.hear(), plain.told(HELLO, 1))
+        checks.same("after a minute of it", 59 < time.monotonic() - since < 62, True)
+        plain.acknowledge()
+        plain.end.settimeout(5)
+        checks.same("and not again once it was acknowledged", plain.hear(), None)
+        lab.stop()
+        plain.is_told_of_the_stop(checks, "the silent one", 2)
+        checks.same("a run with a silent tunnel ends well", lab.end()[0], 0)
+
+
+def says_when_its_end_is_taken(checks):
+    with Lab(tunnels=True) as lab:
+        with open(lab.configuration, encoding="utf-8") as file:
+            good = file.read()
+        ours = lab.control.getsockname()[1]
+        taken = lab.write("taken.toml", good.replace(f":{lab.ports['tunnel']}\"", f":{ours}\""))
+        checks.same("an end for tunnels that is taken", run([PROGRAM, "serve", taken]), (3, "", "bng: cannot open tunnel\n"))
